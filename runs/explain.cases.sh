@@ -119,7 +119,7 @@ for pair in 'host host-missing host-domain host-number host-ipv6 host-code-point
 done
 
 # Several names: one explanation behind the other with an empty line between, in the order of the names, also twice; and
-# nothing where one of them is no name, of which the first is told.
+# nothing where one of them is no name, of which each is told once.
 several='percent not-utf8 no-scheme percent'
 for name in $several; do "$program" explain "$name" >"$room/one.$name" 2>"$room/err"; done
 echo >"$room/empty"
@@ -128,7 +128,11 @@ cat "$room/one.percent" "$room/empty" "$room/one.not-utf8" "$room/empty" "$room/
 "$program" explain $several >"$room/out" 2>"$room/err"
 ends_with 0 $? '' 'explain of several names'
 cmp -s "$room/several" "$room/out" || fail "explain of several names: it wrote $(cat "$room/out")"
-expect 2 '' "urlcheck: no rule is named 'percemt'; the nearest is percent\\n$rules\\nwords\\n" explain no-scheme percemt nothing
+expect 2 '' "urlcheck: no rule is named 'percemt'; the nearest is percent\\nurlcheck: no rule is named 'nothing'\\n$rules\\nwords\\n" \
+    explain no-scheme percemt nothing
+expect 2 '' "urlcheck: no rule is named 'nothing'\\nurlcheck: no rule is named 'not'\\n\
+urlcheck: the rules that begin so: not-utf8 not-located\\nurlcheck: no rule is named '\\0357\\0277\\0275'\\n$rules\\nwords\\n" \
+    explain nothing not nothing percent $'\e' not
 expect 2 '' "urlcheck: no rule is named 'nothing'\\n$rules\\nwords\\n" explain nothing percent
 
 # The output can't be written.

@@ -339,7 +339,6 @@ no_scheme='1:1: error: there is no scheme and no base [no-scheme]\n'
 of_input 1 "a b.txt:$no_scheme" '' 'x\n' -q --stdin-name 'a b.txt' -
 of_input 1 "${other}n:$no_scheme" 'urlcheck: 2 lines, 2 refused\n' 'x\n' other.txt --stdin-name=n -- -
 of_input 1 "n\0357\0277\0275:$no_scheme" '' 'x\n' -q --stdin-name $'n\e' - -
-of_input 1 ":$no_scheme" '' 'x\n' -q --stdin-name= -
 of_input 1 "-:$no_scheme" '' 'x\n' -q --stdin-name=- -
 of_input 0 '' 'urlcheck: 3 lines, 0 refused\n' 'urn:a\n' --stdin-name missing - right.txt
 of_input 1 "::error file=n%0A,line=1,col=1,title=no-scheme::there is no scheme and no base\n" '' 'x\n' -q --format github \
@@ -351,6 +350,9 @@ ends_with 2 $? "${from_folder}urlcheck: 0 lines, 0 refused\\n" 'lint of a standa
 unnamed='urlcheck: --stdin-name is the name of standard input: one of the FILEs has to be -\nwords\n'
 expect 2 '' "$unnamed" lint --stdin-name n other.txt
 expect 2 '' "$unnamed" lint --stdin-name=- ./- --format none --base 'a b'
+empty='urlcheck: --stdin-name is the name of standard input, and may not be empty\nwords\n'
+expect 2 '' "$empty" lint --stdin-name= -
+expect 2 '' "$empty" lint -q --stdin-name '' --format none other.txt
 expect 2 '' "urlcheck: no profile is named 'n'\\nurlcheck: the profiles: standard wide parser\\nwords\\n" \
     lint --stdin-name n --profile n other.txt
 

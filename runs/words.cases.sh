@@ -187,6 +187,40 @@ expect 2 '' "urlcheck: unexpected argument '--format' found\nurlcheck: Usage: $(
 
 of_others lint check --stdin-name x y
 
+# An option that no command takes, with the nearest of the command's own, whatever its case and value, in place of clap's tip.
+# nearest_is OPTION COMMAND WORD.. : these words of a command are refused for the first of them, to which this one is near
+nearest_is() {
+    local near=$1 shown=${3%%=*} ended
+    shift
+    (cd "$room" && "$program" "$@") >"$room/out" 2>"$room/err" </dev/null
+    ended=$?
+    count=$((count + 1))
+    if [ $ended != 2 ] || [ -s "$room/out" ] || [ "$(head -n 1 "$room/err")" != "urlcheck: unexpected argument '$shown' found" ] ||
+        [ "$(tail -n 2 "$room/err")" != "urlcheck: $1 has no option $shown; the nearest is $near"$'\n'words ] ||
+        grep -q 'tip:' "$room/err"; then
+        fail "$*: on standard error: $(cat "$room/err")"
+    fi
+}
+nearest_is --base links --bse http://h/
+nearest_is --base links --bse=http://h/ links.txt
+nearest_is --base links --BASE http://h/
+nearest_is --profile check --porfile wide urn:a
+nearest_is --wide check --wied --format x
+nearest_is --columns lint --colums bytes links.txt
+nearest_is --stdin-name lint --stdin-nam=n -
+nearest_is --only mend --onyl same
+nearest_is --all lint --alll links.txt
+# (of one that isn't near nothing is said, nor that links takes no file; behind -- none is an option)
+for words in '--bogus http://h/' '-x links.txt' '--only= same'; do
+    (cd "$room" && "$program" links $words) >"$room/out" 2>"$room/err" </dev/null
+    ended=$?
+    count=$((count + 1))
+    if [ $ended != 2 ] || grep -q -e 'has no option' -e 'takes no file' "$room/err" || [ "$(tail -n 1 "$room/err")" != words ]; then
+        fail "links $words: on standard error: $(cat "$room/err")"
+    fi
+done
+expect 2 '' "urlcheck: unexpected argument '--bse' found\n$usage$no_file\nwords\n" links -- --bse x
+
 # Each option of the help is one of the commands that have it in their help, and of no other: as vectors says, which has none.
 count=$((count + 1))
 for command in check lint links mend; do

@@ -3,6 +3,7 @@ mod CheckLemmas
 mod LintLemmas
 mod ListLemmas
 mod MendLemmas
+mod NameLemmas
 mod OptionLemmas
 mod ProgramLemmas
 mod ReportLemmas

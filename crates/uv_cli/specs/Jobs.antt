@@ -149,6 +149,7 @@ HasDone (job.Mend text base profile) bytes end input rest old new =
     AtLent base (λ lent. HasMended profile lent (string_bytes text) end old new) × (rest ≡ input)
 HasDone (job.Filter asked) bytes end input rest old new = HasDoneFilter asked end input rest old new
 HasDone job.LintWithoutInput bytes ended input rest old new = (ended ≡ end.Words) × (rest ≡ input) × (new ≡ old)
+HasDone job.LintUnnamed bytes ended input rest old new = (ended ≡ end.Words) × (rest ≡ input) × (new ≡ old)
 HasDone job.FilterOfText bytes ended input rest old new = (ended ≡ end.Words) × (rest ≡ input) × (new ≡ old)
 HasDone (job.Vectors file) bytes end input rest old new = HasRunVectors bytes end old new × (rest ≡ input)
 HasDone (job.Explain rules) bytes end input rest old new =

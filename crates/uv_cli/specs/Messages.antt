@@ -1,6 +1,7 @@
 -- What is reported on standard error before the last line: lines behind the program's name.
-use Rattle.std.specs.Prelude.{ℕ, List, ◌++◌, codes, flat_map, Option, Some, None}
+use Rattle.std.specs.Prelude.{ℕ, ◌==◌, List, [], ◌++◌, codes, flat_map, length, Option, Some, None, if◌then◌else◌}
 use Rattle.uv_report.specs.Escapes.{shown_text}
+use Rattle.uv_cli.specs.Names.{longer_names, nearest, rule_names, unknown_rules}
 
 -- a line, as a terminal may show it
 abbrev pub message_line : List ℕ → List ℕ
@@ -27,3 +28,23 @@ spaced_text names = flat_map (λ name. codes " " ++ name) names
 abbrev pub names_text : List ℕ → List ℕ → List (List ℕ) → List ℕ
 names_text noun which names =
     codes "urlcheck: the " ++ (noun ++ (which ++ (codes ":" ++ (spaced_text names ++ codes "\n"))))
+
+-- the line of names that begin so, of which there may be none
+abbrev pub longer_text : List ℕ → List (List ℕ) → List ℕ
+longer_text noun names = if length names == 0 then [] else names_text noun (codes " that begin so") names
+
+-- a name that none has, with the nearest of these names, and where none is near those that begin so
+abbrev pub told_text : List ℕ → List ℕ → List (List ℕ) → List ℕ → Option (List ℕ) → List ℕ
+told_text one all names name (Some near) = unknown_text one name (Some near)
+told_text one all names name None = unknown_text one name None ++ longer_text all (longer_names name names)
+
+-- names that none has, of the kind that these nouns say, of one and of all: each of them, and then the names that
+-- there are
+abbrev pub unknown_names_text : List ℕ → List ℕ → List (List ℕ) → List (List ℕ) → List ℕ
+unknown_names_text one all names unknown =
+    flat_map (λ name. told_text one all names name (nearest name names)) unknown ++ names_text all [] names
+
+-- what is reported where the rules with these names are to be explained, and some of the names are those of none
+abbrev pub unknown_rules_text : List (List ℕ) → List ℕ
+unknown_rules_text rules =
+    unknown_names_text (codes "rule") (codes "rules") rule_names (unknown_rules rules)

@@ -1,20 +1,38 @@
--- Names that none has: which one of them is told of, and the names that may have been meant.
-use Rattle.std.specs.Prelude.{ℕ, ◌+◌, ◌/◌, ◌&&◌, ◌||◌, ◌==◌, Bool, List, [], ◌∷◌, Option, Some, None, chars, filter}
-use Rattle.std.specs.Prelude.{is_some, length, max, nat_eq, nat_lt, not, unwrap_or, if◌then◌else◌}
-use Rattle.std.specs.List.{starts_with}
-use Rattle.std.specs.Str.{str_to_ascii_lowercase}
+-- Names that none has: which of them are told of, and the names that may have been meant.
+use Rattle.std.specs.Prelude.{ℕ, ◌+◌, ◌/◌, ◌&&◌, ◌||◌, ◌==◌, Bool, List, [], ◌∷◌, Option, Some, None, chars, codes, filter}
+use Rattle.std.specs.Prelude.{◌++◌, is_some, length, map, max, nat_eq, nat_lt, not, unwrap_or, if◌then◌else◌}
+use Rattle.std.specs.List.{list_any, starts_with}
+use Rattle.std.specs.Str.{bytes_eq, str_to_ascii_lowercase}
 use Rattle.strsim.specs.Edits.{osa_table}
-use Rattle.uv_model.specs.Violations.Rule.{named_rule}
+use Rattle.uv_model.specs.Violations.Rule.{named_rule, rule_name, rules_in_order}
 use Rattle.uv_report.specs.LineViolation.{named_violation}
 
 -- the name is that of a rule, or of what else is found with a line
 abbrev pub is_rule : List ℕ → Bool
 is_rule name = is_some (named_rule name) || is_some (named_violation name)
 
--- the first of the names that is none of these, or nothing
-abbrev pub unknown_rule : List (List ℕ) → List ℕ
-unknown_rule [] = []
-unknown_rule (name ∷ rest) = if is_rule name then unknown_rule rest else name
+-- names without those that stand there before
+abbrev pub each_once : List (List ℕ) → List (List ℕ)
+each_once [] = []
+each_once (name ∷ rest) = name ∷ filter (λ other. not (bytes_eq other name)) (each_once rest)
+
+-- names, and a further one where it isn't among them
+abbrev pub with_further : List (List ℕ) → List ℕ → List (List ℕ)
+with_further names name = if list_any (bytes_eq name) names then names else names ++ name ∷ []
+
+-- names, and a further one where it is none of these and isn't among them
+abbrev pub with_unknown : List (List ℕ) → List ℕ → List (List ℕ)
+with_unknown names name = if is_rule name then names else with_further names name
+
+-- the names that are none of these, each once, in their order
+abbrev pub unknown_rules : List (List ℕ) → List (List ℕ)
+unknown_rules names = each_once (filter (λ name. not (is_rule name)) names)
+
+-- the names that are explained: those of the rules, and of what else is found with a line
+abbrev pub rule_names : List (List ℕ)
+rule_names =
+    map rule_name rules_in_order
+    ++ (codes "not-utf8" ∷ codes "line-too-long" ∷ codes "not-located" ∷ [])
 
 -- how many letters have to be changed, taken away, added or swapped with the next one to come from one text to another
 abbrev pub edits_between : List ℕ → List ℕ → ℕ

@@ -1,13 +1,15 @@
--- Options that another command takes: what is reported where a command is given one of them.
+-- Options that a command doesn't take: what is reported where it is given one of them.
 use Rattle.std.specs.Prelude.{ℕ, ◌&&◌, ◌||◌, ◌==◌, Bool, false, List, [], ◌∷◌, ◌++◌, Option, Some, None, codes, filter}
-use Rattle.std.specs.Prelude.{flat_map, length, map, not, if◌then◌else◌}
+use Rattle.std.specs.Prelude.{filter_map, flat_map, length, map, not, option_map, if◌then◌else◌}
 use Rattle.std.specs.List.{before_first, list_any}
 use Rattle.std.specs.Option.{option_map_or}
 use Rattle.std.specs.Str.{bytes_eq}
 use Rattle.clap.specs.Words.{Rule, Shape, Text}
 use Rattle.clap.specs.declared.error.kind.ErrorKind.{ErrorKind}
 use Rattle.clap.specs.declared.error.kind.ErrorKind.TheVariants.{UnknownArgument}
+use Rattle.uv_report.specs.Escapes.{shown_text}
 use Rattle.uv_words.specs.Commands.{urlcheck}
+use Rattle.uv_cli.specs.Names.{nearest}
 
 -- ---- which commands take an option
 
@@ -25,7 +27,15 @@ takes_option word command = list_any (is_given_by word) command.rules
 unfoldable pub takers : Text → List Text
 takers word = map (λ c. c.name) (filter (takes_option word) urlcheck.subs)
 
--- ---- an option of another command
+-- the name by which an option is given: `--` and its long name, where it has one
+abbrev pub long_name : Rule → Option Text
+long_name rule = option_map (λ long. codes "--" ++ long) rule.long
+
+-- the names of what the command with this name takes by name, as the definition of the arguments has them
+unfoldable pub option_names : Text → List Text
+option_names command = flat_map (λ c. filter_map long_name c.rules) (filter (λ c. bytes_eq c.name command) urlcheck.subs)
+
+-- ---- an option that a command doesn't take
 
 -- the name of the option that a word gives: what stands before the first `=`, or all
 abbrev pub option_name : Text → Text
@@ -41,23 +51,19 @@ looks_like_option (b ∷ c ∷ rest) = b == 0x2D
 abbrev pub is_unknown : Text → Text → Bool
 is_unknown command name = looks_like_option name && not (list_any (bytes_eq command) (takers name))
 
--- the option with this name, where a command takes it
-abbrev pub taken : Text → Option Text
-taken name = if length (takers name) == 0 then None else Some name
-
--- the first option among the words that the command doesn't take, where another one does; behind `--` there is none
-abbrev pub foreign_among : Text → List Text → Option Text
-foreign_among command [] = None
-foreign_among command (word ∷ rest) =
+-- the first option among the words that the command doesn't take; behind `--` there is none
+abbrev pub unknown_among : Text → List Text → Option Text
+unknown_among command [] = None
+unknown_among command (word ∷ rest) =
     if bytes_eq word (codes "--") then None
-    else (if is_unknown command (option_name word) then taken (option_name word) else foreign_among command rest)
+    else (if is_unknown command (option_name word) then Some (option_name word) else unknown_among command rest)
 
 -- the same of all words, of which the first is the program's name and the second one the command, where they are
 -- refused for an argument that is unknown
-abbrev pub foreign_option : List Text → ErrorKind → Option Text
-foreign_option (program ∷ command ∷ rest) UnknownArgument =
-    if is_unknown command (option_name command) then taken (option_name command) else foreign_among command rest
-foreign_option words kind = None
+abbrev pub unknown_option : List Text → ErrorKind → Option Text
+unknown_option (program ∷ command ∷ rest) UnknownArgument =
+    if is_unknown command (option_name command) then Some (option_name command) else unknown_among command rest
+unknown_option words kind = None
 
 -- ---- what is said of it
 
@@ -71,7 +77,21 @@ abbrev pub option_text : Text → List ℕ
 option_text name =
     codes "urlcheck: " ++ (name ++ (codes " is an option of " ++ (listed (takers name) ++ codes "\n")))
 
--- the hint at the commands that take an option, or nothing where there is none
-abbrev pub option_hint : Option Text → List ℕ
-option_hint None = []
-option_hint (Some name) = option_text name
+-- the line of an option that no command takes, with the nearest of this command's own options; nothing where none is
+-- near
+abbrev pub near_option_text : Text → Text → Option Text → List ℕ
+near_option_text command name None = []
+near_option_text command name (Some near) =
+    codes "urlcheck: " ++ (command ++ (codes " has no option " ++ (shown_text name
+    ++ (codes "; the nearest is " ++ (near ++ codes "\n")))))
+
+-- the hint at an option that this command doesn't take: at the commands that take it, else at the nearest of its own
+abbrev pub unknown_option_text : Text → Text → List ℕ
+unknown_option_text command name =
+    if length (takers name) == 0 then near_option_text command name (nearest name (option_names command))
+    else option_text name
+
+-- the hint at an option that a command doesn't take, where there are both
+abbrev pub option_hint : Option Text → Option Text → List ℕ
+option_hint (Some command) (Some name) = unknown_option_text command name
+option_hint command name = []

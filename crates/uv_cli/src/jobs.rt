@@ -49,7 +49,7 @@ pub fn run_job<R: Files + Eprint + AllocGlobal, I: Source, S: Sink>(
             profile,
         } => check_text(rt, text.as_str(), base.as_deref(), *extent, *profile, out),
         Job::Lint(asked) => lint_asked(rt, asked, input, out),
-        Job::LintWithoutInput => End::Words,
+        Job::LintWithoutInput | Job::LintUnnamed => End::Words,
         Job::Links { base, profile } => list_links(alloc, base.as_deref(), *profile, input, out),
         Job::Mend {
             text,

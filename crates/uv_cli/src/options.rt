@@ -1,32 +1,34 @@
-//! Options that another command takes: what is reported where a command is given one of them.
+//! Options that a command doesn't take: what is reported where it is given one of them.
 ghost use Rattle.std.specs.List.{before_first, list_any};
 ghost use Rattle.std.specs.Prelude.{◌≡◌, ◌==◌, IfOk, map, option_copied, string_bytes};
 ghost use Rattle.std.specs.Str.{bytes_eq};
-ghost use Rattle.uv_cli.specs.Options.{foreign_among, foreign_option, is_unknown, listed, looks_like_option};
-ghost use Rattle.uv_cli.specs.Options.{option_hint, option_name, option_text, takers, taken};
+ghost use Rattle.uv_cli.specs.Options.{is_unknown, listed, looks_like_option, near_option_text, option_hint, option_name};
+ghost use Rattle.uv_cli.specs.Options.{option_names, option_text, takers, unknown_among, unknown_option, unknown_option_text};
 
+use crate::unknown::nearest;
 use clap::error::ErrorKind;
 use std::alloc::{AllocError, Global};
+use uv_report::push_shown;
 
-/// The first word that is refused as an option that its command doesn't take, where another command takes it: its name,
-/// without a value. The first of all words is the program's name, the second one the command.
-pub(crate) fn foreign_option<'w>(words: &[&'w str], kind: ErrorKind) -> Option<&'w str>
-    ensures { option_copied result ≡ foreign_option (map (λ w. w.now) words.now) kind }
+/// The first word that is refused as an option that its command doesn't take: its name, without a value. The first of
+/// all words is the program's name, the second one the command.
+pub(crate) fn unknown_option<'w>(words: &[&'w str], kind: ErrorKind) -> Option<&'w str>
+    ensures { option_copied result ≡ unknown_option (map (λ w. w.now) words.now) kind }
 {
     match (words, kind) {
         ([_, command, rest @ ..], ErrorKind::UnknownArgument) => {
             if is_unknown(command, option_name(command)) {
-                return taken(option_name(command));
+                return Some(option_name(command));
             }
-            foreign_among(command, rest)
+            unknown_among(command, rest)
         }
         _ => None,
     }
 }
 
 // The same among the words behind the command, of which those behind `--` are no options.
-fn foreign_among<'w>(command: &str, words: &[&'w str]) -> Option<&'w str>
-    ensures { option_copied result ≡ foreign_among command.now (map (λ w. w.now) words.now) }
+fn unknown_among<'w>(command: &str, words: &[&'w str]) -> Option<&'w str>
+    ensures { option_copied result ≡ unknown_among command.now (map (λ w. w.now) words.now) }
 {
     for word in words {
         if *word == "--" {
@@ -34,7 +36,7 @@ fn foreign_among<'w>(command: &str, words: &[&'w str]) -> Option<&'w str>
         }
         let name = option_name(word);
         if is_unknown(command, name) {
-            return taken(name);
+            return Some(name);
         }
     }
     None
@@ -64,22 +66,11 @@ fn looks_like_option(name: &str) -> bool
     matches!(name.as_bytes(), [b'-', _, ..])
 }
 
-// Whether a command is one of these.
-fn is_among(command: &str, commands: &[&str]) -> bool
-    ensures { result ≡ list_any (λ c. bytes_eq command.now c.now) commands.now }
+/// Whether a name is one of these.
+pub(crate) fn is_among(name: &str, names: &[&str]) -> bool
+    ensures { result ≡ list_any (λ n. bytes_eq name.now n.now) names.now }
 {
-    commands.iter().any(|other| command == *other)
-}
-
-// The option with this name, where a command takes it.
-fn taken<'w>(name: &'w str) -> Option<&'w str>
-    ensures { option_copied result ≡ taken name.entry.now }
-{
-    if takers(name).is_empty() {
-        None
-    } else {
-        Some(name)
-    }
+    names.iter().any(|other| name == *other)
 }
 
 // The commands that take the option with this name, in the order of the help.
@@ -97,14 +88,82 @@ fn takers(name: &str) -> &'static [&'static str]
     }
 }
 
-/// The hint at the commands that take an option, or nothing where there is none.
-pub(crate) fn option_hint(alloc: Global, option: Option<&str>) -> Result<String, AllocError>
-    ensures { IfOk result (λ hint. string_bytes hint ≡ option_hint (option_copied option.entry)) }
+// The names of what a command takes by name, in the order of the help.
+#[tactic(auto, unfolding(crate::specs::Options::option_names))]
+fn option_names(command: &str) -> &'static [&'static str]
+    ensures { map (λ o. o.now) result.now ≡ option_names command.now }
 {
-    match option {
-        Some(name) => option_line(alloc, name),
-        None => Ok(String::new(alloc)),
+    match command {
+        "check" => &["--base", "--all", "--profile", "--wide"],
+        "lint" => &[
+            "--base",
+            "--all",
+            "--profile",
+            "--wide",
+            "--format",
+            "--columns",
+            "--located",
+            "--stdin-name",
+            "--quiet",
+        ],
+        "links" => &["--base", "--profile", "--wide"],
+        "mend" => &["--base", "--profile", "--wide", "--only", "--quiet"],
+        _ => &[],
     }
+}
+
+/// The hint at an option that a command doesn't take, or nothing where there is none: at the commands that take it,
+/// else at the nearest of the command's own options.
+pub(crate) fn option_hint(
+    alloc: Global,
+    command: Option<&str>,
+    option: Option<&str>,
+) -> Result<String, AllocError>
+    ensures { IfOk result (λ hint. string_bytes hint
+        ≡ option_hint (option_copied command.entry) (option_copied option.entry)) }
+{
+    match (command, option) {
+        (Some(command), Some(name)) => unknown_option_line(alloc, command, name),
+        _ => Ok(String::new(alloc)),
+    }
+}
+
+// The hint at an option that this command doesn't take.
+fn unknown_option_line(alloc: Global, command: &str, name: &str) -> Result<String, AllocError>
+    ensures { IfOk result (λ line. string_bytes line ≡ unknown_option_text command.now name.now) }
+{
+    if takers(name).is_empty() {
+        near_option_line(
+            alloc,
+            command,
+            name,
+            nearest(alloc, name, option_names(command))?,
+        )
+    } else {
+        option_line(alloc, name)
+    }
+}
+
+// The line of an option that no command takes, with the nearest of the command's own options, or nothing.
+fn near_option_line(
+    alloc: Global,
+    command: &str,
+    name: &str,
+    near: Option<&str>,
+) -> Result<String, AllocError>
+    ensures { IfOk result (λ line. string_bytes line ≡ near_option_text command.now name.now (option_copied near.entry)) }
+{
+    let Some(near) = near else {
+        return Ok(String::new(alloc));
+    };
+    let mut line = String::from_str(alloc, "urlcheck: ")?;
+    line.push_str(command)?;
+    line.push_str(" has no option ")?;
+    push_shown(&mut line, name)?;
+    line.push_str("; the nearest is ")?;
+    line.push_str(near)?;
+    line.push_str("\n")?;
+    Ok(line)
 }
 
 // The line of the commands that take the option with this name.

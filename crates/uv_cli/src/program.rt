@@ -11,7 +11,7 @@ use crate::ends::{End, end_after_output, end_without_file, end_without_job, erro
 use crate::hints::{job_hint, words_hint};
 use crate::jobs::run_job;
 use crate::messages::{message_line, message_lines, say};
-use crate::options::{foreign_option, option_hint};
+use crate::options::{option_hint, unknown_option};
 use crate::reasons::{base_of, profile_of, report_reasons};
 use crate::unknown::unknown_lines;
 use crate::unread::{FileFault, read_vector_file, report_unread};
@@ -186,13 +186,18 @@ fn shown<R: Print + Eprint + AllocGlobal>(rt: &R, words: &[&str], fault: &WordsF
     if fault.asks_to_show() {
         return printed(rt, end, error.print(rt));
     }
-    let option = foreign_option(words, error.kind());
-    say(rt, clap_lines(rt.alloc(), error, option.is_some()));
-    say(rt, option_hint(rt.alloc(), option));
+    // (before the command stands the program's name)
+    let command = words.get(1).copied();
+    let option = unknown_option(words, error.kind());
+    let hint = option_hint(rt.alloc(), command, option);
+    let has_hint = matches!(&hint, Ok(line) if !line.is_empty());
+    say(rt, clap_lines(rt.alloc(), error, has_hint));
+    say(rt, hint);
     if option.is_none() {
-        // (before the command stands the program's name)
-        let (command, last) = (words.get(1).copied(), words.last().copied());
-        say(rt, words_hint(rt.alloc(), command, last, error.kind()));
+        say(
+            rt,
+            words_hint(rt.alloc(), command, words.last().copied(), error.kind()),
+        );
     }
     open(end)
 }

@@ -1,10 +1,13 @@
 //! Names that none has: of a rule, a format, what columns count, a profile or a kind of mended texts.
 ghost use Rattle.std.specs.Prelude.{◌≡◌, ◌++◌, IfOk, OnOk, map, option_copied, string_bytes};
-ghost use Rattle.uv_cli.specs.Messages.{named_text, near_text, names_text, spaced_text, unknown_text};
-ghost use Rattle.uv_cli.specs.Names.{is_longer, is_rule, longer_names, nearest, unknown_rule};
+ghost use Rattle.uv_cli.specs.Messages.{longer_text, named_text, near_text, names_text, spaced_text, told_text};
+ghost use Rattle.uv_cli.specs.Messages.{unknown_names_text, unknown_rules_text, unknown_text};
+ghost use Rattle.uv_cli.specs.Names.{is_longer, is_rule, longer_names, nearest, rule_names, unknown_rules};
+ghost use Rattle.uv_cli.specs.Names.{with_further, with_unknown};
 
 use crate::ends::End;
 use crate::messages::message_line;
+use crate::options::is_among;
 use std::alloc::{AllocError, Global};
 use strsim::osa_distance;
 use uv_mend::MendKind;
@@ -73,6 +76,9 @@ const KIND: Noun = Noun {
 // What is said where the standard input has a name, and isn't read.
 const OF_INPUT: &str = "--stdin-name is the name of standard input: one of the FILEs has to be -";
 
+// What is said where the standard input has an empty name.
+const OF_NO_NAME: &str = "--stdin-name is the name of standard input, and may not be empty";
+
 // What is said where one text is to be mended as lines are.
 const OF_LINES: &str = "--only and --quiet are for the lines of standard input, not for a TEXT";
 
@@ -80,10 +86,7 @@ const OF_LINES: &str = "--only and --quiet are for the lines of standard input, 
 /// near, and the names that there are; and where it asks of a text what is asked of lines.
 pub(crate) fn unknown_lines(alloc: Global, job: &Job, end: End) -> Result<String, AllocError> {
     match job {
-        Job::Explain { rules } if end == End::UnknownRule => {
-            let name = unknown_rule(rules.as_slice());
-            lines(alloc, RULE, name, rule_names(alloc)?.as_slice())
-        }
+        Job::Explain { rules } if end == End::UnknownRule => rule_lines(alloc, rules.as_slice()),
         Job::Lint(asked) if end == End::UnknownFormat => {
             let name = asked.format.as_deref().unwrap_or("");
             lines(alloc, FORMAT, name, format_names(alloc)?.as_slice())
@@ -94,6 +97,7 @@ pub(crate) fn unknown_lines(alloc: Global, job: &Job, end: End) -> Result<String
             lines(alloc, KIND, name, kind_names(alloc)?.as_slice())
         }
         Job::LintWithoutInput => message_line(alloc, OF_INPUT),
+        Job::LintUnnamed => message_line(alloc, OF_NO_NAME),
         Job::FilterOfText => message_line(alloc, OF_LINES),
         Job::UnknownProfile { name } => {
             lines(
@@ -119,17 +123,53 @@ fn unit_lines(alloc: Global, name: &str, end: End) -> Result<String, AllocError>
     }
 }
 
-// The first of the names that is that of no rule, and of nothing else that is found with a line; an empty one where
-// each is one.
-fn unknown_rule(names: &[String]) -> &str
-    ensures { result.now ≡ unknown_rule (map string_bytes names.now) }
+// What is reported where the rules with these names are to be explained, and some of the names are those of none.
+fn rule_lines(alloc: Global, rules: &[String]) -> Result<String, AllocError>
+    ensures { IfOk result (λ text. string_bytes text ≡ unknown_rules_text (map string_bytes rules.now)) }
 {
+    let unknown = unknown_rules(alloc, rules)?;
+    let names = rule_names(alloc)?;
+    all_lines(
+        alloc,
+        RULE.one,
+        RULE.all,
+        unknown.as_slice(),
+        names.as_slice(),
+    )
+}
+
+// The names that are that of no rule, and of nothing else that is found with a line: each once, in their order.
+fn unknown_rules<'n>(alloc: Global, names: &'n [String]) -> Result<Vec<&'n str>, AllocError>
+    ensures { IfOk result (λ unknown. map (λ n. n.now) unknown.items ≡ unknown_rules (map string_bytes names.now)) }
+{
+    let mut unknown = Vec::new(alloc);
     for name in names {
-        if !is_rule(name.as_str()) {
-            return name.as_str();
-        }
+        push_unknown(&mut unknown, name.as_str())?;
     }
-    ""
+    Ok(unknown)
+}
+
+// Pushes a name that is that of no rule, and of nothing else that is found with a line, where it isn't among these.
+fn push_unknown<'n>(unknown: &mut Vec<&'n str>, name: &'n str) -> Result<(), AllocError>
+    ensures { OnOk result (map (λ n. n.now) unknown.new.items
+        ≡ with_unknown (map (λ n. n.now) unknown.old.items) name.now) }
+{
+    if is_rule(name) {
+        return Ok(());
+    }
+    push_once(unknown, name)
+}
+
+// Pushes a name where it isn't among these.
+fn push_once<'n>(names: &mut Vec<&'n str>, name: &'n str) -> Result<(), AllocError>
+    ensures { OnOk result (map (λ n. n.now) names.new.items
+        ≡ with_further (map (λ n. n.now) names.old.items) name.now) }
+{
+    if is_among(name, names.as_slice()) {
+        return Ok(());
+    }
+    names.push(name)?;
+    Ok(())
 }
 
 // Whether a name is that of a rule, or of what else is found with a line.
@@ -140,7 +180,9 @@ fn is_rule(name: &str) -> bool
 }
 
 // The names that are explained: those of the rules, and of what else is found with a line.
-fn rule_names(alloc: Global) -> Result<Vec<&'static str>, AllocError> {
+fn rule_names(alloc: Global) -> Result<Vec<&'static str>, AllocError>
+    ensures { IfOk result (λ names. map (λ n. n.now) names.items ≡ rule_names) }
+{
     let mut names = Vec::new(alloc);
     for rule in &Rule::in_order() {
         names.push(rule.name())?;
@@ -188,13 +230,47 @@ fn profile_names(alloc: Global) -> Result<Vec<&'static str>, AllocError> {
 
 // What is reported of a name that none has, of the kind that the noun says.
 fn lines(alloc: Global, noun: Noun, name: &str, names: &[&str]) -> Result<String, AllocError> {
-    let near = nearest(alloc, name, names)?;
-    let mut text = unknown_line(alloc, noun.one, name, near)?;
-    if near.is_none() {
-        push_longer(alloc, &mut text, noun, name, names)?;
+    all_lines(alloc, noun.one, noun.all, &[name], names)
+}
+
+// What is reported of names that none has, of the kind that these nouns say, of one and of all: each of them, and then
+// the names that there are.
+fn all_lines(
+    alloc: Global,
+    one: &str,
+    all: &str,
+    unknown: &[&str],
+    names: &[&str],
+) -> Result<String, AllocError>
+    ensures { IfOk result (λ text. string_bytes text ≡ unknown_names_text one.now all.now
+        (map (λ n. n.now) names.now) (map (λ n. n.now) unknown.now)) }
+{
+    let mut text = String::new(alloc);
+    for name in unknown {
+        push_told(alloc, &mut text, one, all, name, names)?;
     }
-    push_names(&mut text, noun.all, "", names)?;
+    push_names(&mut text, all, "", names)?;
     Ok(text)
+}
+
+// Pushes what is reported of a name that none has: the nearest one, and where none is near those that begin so.
+fn push_told(
+    alloc: Global,
+    text: &mut String,
+    one: &str,
+    all: &str,
+    name: &str,
+    names: &[&str],
+) -> Result<(), AllocError>
+    ensures { OnOk result (string_bytes text.new ≡ string_bytes text.old ++ told_text one.now all.now
+        (map (λ n. n.now) names.now) name.now (nearest name.now (map (λ n. n.now) names.now))) }
+{
+    let near = nearest(alloc, name, names)?;
+    text.push_str(unknown_line(alloc, one, name, near)?.as_str())?;
+    match near {
+        Some(_) => Ok(()),
+        None => push_longer(text, all, longer_names(alloc, name, names)?.as_slice()),
+    }
 }
 
 // The line of a name that none has, with the nearest one, if one is near.
@@ -235,19 +311,15 @@ fn push_near(text: &mut String, near: Option<&str>) -> Result<(), AllocError>
     text.push_str("\n")
 }
 
-// Pushes the line of the names that begin with a word, if there are any.
-fn push_longer(
-    alloc: Global,
-    text: &mut String,
-    noun: Noun,
-    word: &str,
-    names: &[&str],
-) -> Result<(), AllocError> {
-    let longer = longer_names(alloc, word, names)?;
+// Pushes the line of names that begin so, if there are any.
+fn push_longer(text: &mut String, all: &str, longer: &[&str]) -> Result<(), AllocError>
+    ensures { OnOk result (string_bytes text.new
+        ≡ string_bytes text.old ++ longer_text all.now (map (λ n. n.now) longer.now)) }
+{
     if longer.is_empty() {
         return Ok(());
     }
-    push_names(text, noun.all, " that begin so", longer.as_slice())
+    push_names(text, all, " that begin so", longer)
 }
 
 // Pushes the line of names that there are, of what the noun says, and which of them.
@@ -302,9 +374,13 @@ fn is_longer(name: &[u8], word: &[u8]) -> bool
     !word.is_empty() && name.starts_with(word)
 }
 
-// The nearest of the names, where no more than a third of the word's letters, or one of a shorter word, have to be
-// changed, taken away, added or swapped with the next one, whatever their case.
-fn nearest<'n>(alloc: Global, word: &str, names: &[&'n str]) -> Result<Option<&'n str>, AllocError>
+/// The nearest of the names, where no more than a third of the word's letters, or one of a shorter word, have to be
+/// changed, taken away, added or swapped with the next one, whatever their case.
+pub(crate) fn nearest<'n>(
+    alloc: Global,
+    word: &str,
+    names: &[&'n str],
+) -> Result<Option<&'n str>, AllocError>
     ensures { IfOk result (λ near. option_copied near ≡ nearest word.now (map (λ n. n.now) names.now)) }
 {
     let word = word.to_ascii_lowercase(alloc)?;

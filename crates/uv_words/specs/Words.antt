@@ -52,11 +52,12 @@ pub record FilterRequest : Type 0 where
 -- a command with its texts and options: of a check the text, the base, how many violations and the profile; of a list
 -- the base and the profile; of a mending the text, the base and the profile, or it is asked by what is of a filter
 -- alone; of vectors the file; of an explanation the rules' names; or a profile's name that none has; or a lint is
--- asked by a name of standard input, which it doesn't read
+-- asked by a name of standard input, which it doesn't read, or by an empty one
 pub data Request : Type 0 where
   check : Text → Option Text → Extent → Profile → Request
   lint : LintRequest → Request
   lint_without_input : Request
+  lint_unnamed : Request
   links : Option Text → Profile → Request
   mend : Text → Option Text → Profile → Request
   filter : FilterRequest → Request
@@ -149,16 +150,18 @@ lint_of files rows profile = record {
   quiet = has_flag (codes "quiet") rows;
 }
 
--- the request of a lint of these files: standard input has a name only where it is one of them
-abbrev pub lint_by : Bool → List Text → List Row → Profile → Request
-lint_by false files rows profile = lint (lint_of files rows profile)
-lint_by true files rows profile =
+-- the request of a lint of these files, where standard input may have this name: one that isn't empty, and only where
+-- it is one of the files
+abbrev pub lint_by : Option Text → List Text → List Row → Profile → Request
+lint_by None files rows profile = lint (lint_of files rows profile)
+lint_by (Some []) files rows profile = lint_unnamed
+lint_by (Some name) files rows profile =
     if list_any is_input files then lint (lint_of files rows profile) else lint_without_input
 
 -- the request of a lint, from its entries and by the profile
 abbrev pub lint_in : List Row → Profile → Option Request
 lint_in rows profile =
-    option_map (λ files. lint_by (is_some (first_of (codes "stdin-name") rows)) files rows profile)
+    option_map (λ files. lint_by (first_of (codes "stdin-name") rows) files rows profile)
     (all_of (codes "FILE") rows)
 
 -- the request of a command that judges by a profile
@@ -225,6 +228,7 @@ abbrev pub asked_by : Job → Request
 asked_by (job.Check text base extent profile) = check (string_bytes text) (text_in base) extent profile
 asked_by (job.Lint asked) = lint (request_by asked)
 asked_by job.LintWithoutInput = lint_without_input
+asked_by job.LintUnnamed = lint_unnamed
 asked_by (job.Links base profile) = links (text_in base) profile
 asked_by (job.Mend text base profile) = mend (string_bytes text) (text_in base) profile
 asked_by (job.Filter asked) = filter (filter_by asked)

@@ -33,6 +33,8 @@ pub enum Job {
     Lint(LintJob),
     /// To say it under a name of the standard input, which is none of the files.
     LintWithoutInput,
+    /// To say it under an empty name of the standard input.
+    LintUnnamed,
     /// To report on the lines of the standard input.
     Links {
         /// The base's text, if there is a base.
@@ -325,8 +327,10 @@ fn lint_in(
     let Some(files) = values(entries, "FILE") else {
         return Ok(None);
     };
-    if value(entries, "stdin-name").is_some() && !has_input(files) {
-        return Ok(Some(Job::LintWithoutInput));
+    match value(entries, "stdin-name") {
+        Some("") => return Ok(Some(Job::LintUnnamed)),
+        Some(_) if !has_input(files) => return Ok(Some(Job::LintWithoutInput)),
+        _ => {}
     }
     Ok(Some(Job::Lint(LintJob {
         files: copied_all(alloc, files)?,
