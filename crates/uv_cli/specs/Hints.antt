@@ -33,8 +33,8 @@ text_hint text has_base of_input of_list =
     if bytes_eq text (codes "-") then text_line text of_input
     else (if not has_base && names_file text then text_line text (of_file text of_list) else [])
 
--- the hint behind a lint: where it isn't to be quiet, came to its end, and refused a line of a file that has the name of
--- a document
+-- the hint behind a lint: where it isn't to be quiet, came to its end, and refused a line of a file that has the name
+-- of a document
 abbrev pub lint_hint : linted.Linted → List ℕ
 lint_hint lint =
     if not lint.is_quiet && (not (is_stopped lint) && lint.is_document_refused)

@@ -1,6 +1,6 @@
 -- Names that none has: which of them are told of, and the names that may have been meant.
-use Rattle.std.specs.Prelude.{ℕ, ◌+◌, ◌/◌, ◌&&◌, ◌||◌, ◌==◌, Bool, List, [], ◌∷◌, Option, Some, None, chars, codes, filter}
-use Rattle.std.specs.Prelude.{◌++◌, is_some, length, map, max, nat_eq, nat_lt, not, unwrap_or, if◌then◌else◌}
+use Rattle.std.specs.Prelude.{ℕ, ◌+◌, ◌/◌, ◌&&◌, ◌||◌, ◌==◌, Bool, List, [], ◌∷◌, Option, Some, None, chars}
+use Rattle.std.specs.Prelude.{codes, filter, ◌++◌, is_some, length, map, max, nat_eq, nat_lt, not, unwrap_or, if◌then◌else◌}
 use Rattle.std.specs.List.{list_any, starts_with}
 use Rattle.std.specs.Str.{bytes_eq, str_to_ascii_lowercase}
 use Rattle.strsim.specs.Edits.{osa_table}

@@ -33,7 +33,8 @@ long_name rule = option_map (λ long. codes "--" ++ long) rule.long
 
 -- the names of what the command with this name takes by name, as the definition of the arguments has them
 unfoldable pub option_names : Text → List Text
-option_names command = flat_map (λ c. filter_map long_name c.rules) (filter (λ c. bytes_eq c.name command) urlcheck.subs)
+option_names command =
+    flat_map (λ c. filter_map long_name c.rules) (filter (λ c. bytes_eq c.name command) urlcheck.subs)
 
 -- ---- an option that a command doesn't take
 

@@ -1,7 +1,7 @@
 //! Hints at what was meant, where the arguments ask for something else: what is reported on standard error.
 ghost use Rattle.std.specs.Prelude.{◌≡◌, IfOk, option_copied, string_bytes};
-ghost use Rattle.uv_cli.specs.Hints.{begins_with_hyphen, folder_hint, is_file_of, is_lint, job_hint, lint_hint, of_file};
-ghost use Rattle.uv_cli.specs.Hints.{text_hint, text_line, words_hint};
+ghost use Rattle.uv_cli.specs.Hints.{begins_with_hyphen, folder_hint, is_file_of, is_lint, job_hint, lint_hint};
+ghost use Rattle.uv_cli.specs.Hints.{of_file, text_hint, text_line, words_hint};
 
 use crate::ends::End;
 use crate::file_names::{has_document_end, names_file};
@@ -111,8 +111,8 @@ fn text_line(alloc: Global, text: &str, instead: &str) -> Result<String, AllocEr
     Ok(line)
 }
 
-// The hint behind a lint, or nothing: where it isn't to be quiet, came to its end, and refused a line of a file that has
-// the name of a document.
+// The hint behind a lint, or nothing: where it isn't to be quiet, came to its end, and refused a line of a file that
+// has the name of a document.
 fn lint_hint(alloc: Global, linted: Linted) -> Result<String, AllocError>
     ensures { IfOk result (λ hint. string_bytes hint ≡ lint_hint linted) }
 {

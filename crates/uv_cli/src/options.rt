@@ -2,8 +2,9 @@
 ghost use Rattle.std.specs.List.{before_first, list_any};
 ghost use Rattle.std.specs.Prelude.{◌≡◌, ◌==◌, IfOk, map, option_copied, string_bytes};
 ghost use Rattle.std.specs.Str.{bytes_eq};
-ghost use Rattle.uv_cli.specs.Options.{is_unknown, listed, looks_like_option, near_option_text, option_hint, option_name};
-ghost use Rattle.uv_cli.specs.Options.{option_names, option_text, takers, unknown_among, unknown_option, unknown_option_text};
+ghost use Rattle.uv_cli.specs.Options.{is_unknown, listed, looks_like_option, near_option_text, option_hint};
+ghost use Rattle.uv_cli.specs.Options.{option_name, option_names, option_text, takers, unknown_among, unknown_option};
+ghost use Rattle.uv_cli.specs.Options.{unknown_option_text};
 
 use crate::unknown::nearest;
 use clap::error::ErrorKind;
@@ -151,7 +152,8 @@ fn near_option_line(
     name: &str,
     near: Option<&str>,
 ) -> Result<String, AllocError>
-    ensures { IfOk result (λ line. string_bytes line ≡ near_option_text command.now name.now (option_copied near.entry)) }
+    ensures { IfOk result (λ line. string_bytes line
+        ≡ near_option_text command.now name.now (option_copied near.entry)) }
 {
     let Some(near) = near else {
         return Ok(String::new(alloc));

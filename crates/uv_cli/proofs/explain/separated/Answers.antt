@@ -1,5 +1,6 @@
 -- Joined texts, as their bytes joined.
-use Rattle.std.proofs.Common.{◌≡◌, ◌++◌, ◌∙◌, ℕ, List, [], ◌∷◌, String, Global, ap, codes, flat_map, map, refl, string_bytes}
+use Rattle.std.proofs.Common.{◌≡◌, ◌++◌, ◌∙◌, ℕ, List, [], ◌∷◌, String, Global, ap, codes, flat_map, map}
+use Rattle.std.proofs.Common.{refl, string_bytes}
 use Rattle.std.proofs.lemmas.Result.{IfOk-weaker}
 use Rattle.std.specs.List.{join_by}
 use Rattle.uv_cli.proofs.explain.separated.Goals as goal

@@ -23,4 +23,5 @@ pub returns : goal.returns
 returns c =
     rw (among c.args.name.now c.args.names.now.items c.as_slice.result.now c.is_among.result false
     c.as_slice.ensures.value c.is_among.ensures c.if-is_among.false)
-    (ap (map (λ n. n.now)) c.in_ok-push.ensures.items ∙ map-append (λ n. n.now) c.args.names.now.items (c.args.name ∷ []))
+    (ap (map (λ n. n.now)) c.in_ok-push.ensures.items
+    ∙ map-append (λ n. n.now) c.args.names.now.items (c.args.name ∷ []))

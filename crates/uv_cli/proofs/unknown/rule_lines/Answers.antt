@@ -14,7 +14,8 @@ unfolding texts
 returns c =
     let unknown : texts c.as_slice.result.now ≡ unknown_rules (map string_bytes c.args.rules.now) =
     ap texts c.as_slice.ensures.value ∙ c.in_ok-unknown.ensures in
-    let names : texts c.as_slice-2.result.now ≡ rule_names = ap texts c.as_slice-2.ensures.value ∙ c.in_ok-names.ensures in
+    let names : texts c.as_slice-2.result.now ≡ rule_names =
+    ap texts c.as_slice-2.ensures.value ∙ c.in_ok-names.ensures in
     IfOk-weaker c.all_lines.result
     (λ text. string_bytes text ≡ unknown_names_text (codes "rule") (codes "rules") (texts c.as_slice-2.result.now)
     (texts c.as_slice.result.now))
