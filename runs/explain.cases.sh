@@ -140,4 +140,4 @@ for words in 'explain' 'explain percent' 'explain percent no-scheme'; do
     "$program" $words >/dev/full 2>"$room/err"
     ends_with 3 $? "${no_space}write\\n" "$words to a full device"
 done
-all_cases 61
+all_cases 62
