@@ -3,7 +3,8 @@ use Rattle.std.specs.Prelude.{ℕ, ◌&&◌, ◌==◌, Bool, false, List, [], �
 use Rattle.std.specs.Prelude.{not, string_bytes, if◌then◌else◌}
 use Rattle.std.specs.Str.{bytes_eq}
 use Rattle.clap.specs.declared.error.kind.ErrorKind.{ErrorKind}
-use Rattle.clap.specs.declared.error.kind.ErrorKind.TheVariants.{MissingRequiredArgument, UnknownArgument}
+use Rattle.clap.specs.declared.error.kind.ErrorKind.TheVariants.{InvalidSubcommand, MissingRequiredArgument}
+use Rattle.clap.specs.declared.error.kind.ErrorKind.TheVariants.{UnknownArgument}
 use Rattle.uv_report.specs.Escapes.{shown_text}
 use Rattle.uv_words.specs.declared.words.Job.{Job}
 use Rattle.uv_words.specs.declared.words.Job.TheVariants as job
@@ -73,9 +74,11 @@ abbrev pub is_lint : Option (List ℕ) → Bool
 is_lint (Some command) = bytes_eq command (codes "lint")
 is_lint None = false
 
--- the hint where words of this command, with this last one, are refused for this reason: of `links` with a word too
--- many, whose last one may be a file, and of `lint` without a file
+-- the hint where words of this command, with this last one, are refused for this reason: of no command, in whose place a
+-- text or a file may stand; of `links` with a word too many, whose last one may be a file; and of `lint` without a file
 abbrev pub words_hint : Option (List ℕ) → Option (List ℕ) → ErrorKind → List ℕ
+words_hint command last InvalidSubcommand =
+    codes "urlcheck: check TEXT judges one text, and lint FILE the lines of a file\n"
 words_hint command last UnknownArgument =
     if is_file_of command last
     then codes "urlcheck: links reads standard input, and takes no file: urlcheck links <FILE\n" else []

@@ -39,6 +39,10 @@ const OF_FOLDERS: &str =
 const NO_FILE_OF_LINKS: &str =
     "urlcheck: links reads standard input, and takes no file: urlcheck links <FILE\n";
 
+// What is said where the first word is no command.
+const OF_NO_COMMAND: &str =
+    "urlcheck: check TEXT judges one text, and lint FILE the lines of a file\n";
+
 // What is said where `lint` is given no file.
 const INPUT_OF_LINT: &str = "urlcheck: lint reads standard input as the FILE -\n";
 
@@ -133,8 +137,8 @@ pub(crate) fn folder_hint(why: Unread) -> &'static str
     }
 }
 
-/// The hint where words of this command, with this last one, are refused for this reason, or nothing: of `links` with a
-/// word too many, whose last one doesn't look like an option, and of `lint` without a file.
+/// The hint where words of this command, with this last one, are refused for this reason, or nothing: of no command, of
+/// `links` with a word too many, whose last one doesn't look like an option, and of `lint` without a file.
 pub(crate) fn words_hint(
     alloc: Global,
     command: Option<&str>,
@@ -145,6 +149,7 @@ pub(crate) fn words_hint(
         ≡ words_hint (option_copied command.entry) (option_copied last.entry) kind) }
 {
     match kind {
+        ErrorKind::InvalidSubcommand => String::from_str(alloc, OF_NO_COMMAND),
         ErrorKind::UnknownArgument if is_file_of(command, last) => {
             String::from_str(alloc, NO_FILE_OF_LINKS)
         }
