@@ -146,6 +146,17 @@ expect 1 'refused 7 host-domain\n' '' check http://a_b/page.html
 expect 0 'valid\nscheme http\nhost domain h\nsegment page.html\n' '' check --base http://h/ page.html
 expect 2 '' "$(no_base 0 no-scheme 'it has no scheme')" check --base page.html page.html
 
+# A first word that is no command: a hint at what may have been meant.
+for word in http://h/ links.txt; do
+    (cd "$room" && "$program" "$word") >"$room/out" 2>"$room/err" </dev/null
+    ended=$?
+    count=$((count + 1))
+    if [ $ended != 2 ] || [ -s "$room/out" ] || [ "$(head -n 1 "$room/err")" != "urlcheck: unrecognized subcommand '$word'" ] ||
+        [ "$(tail -n 2 "$room/err")" != $'urlcheck: check TEXT judges one text, and lint FILE the lines of a file\nwords' ]; then
+        fail "$word: status $ended, on standard error: $(cat "$room/err")"
+    fi
+done
+
 # A lint without a file: a hint at standard input.
 expect 2 '' "urlcheck: the following required arguments were not provided:\nurlcheck:   <FILE>...\n\
 urlcheck: Usage: $(basename "$program") lint <FILE>...\nurlcheck: For more information, try '--help'.\n\
@@ -172,7 +183,7 @@ of_others mend lint --only same x
 of_others 'check and lint' mend --all x
 of_others 'lint and mend' check -q x
 of_others 'lint and mend' vectors --quiet
-of_others 'check and lint and links and mend' explain --base x
+of_others 'check, lint, links and mend' explain --base x
 expect 2 '' "urlcheck: unexpected argument '--format' found\n${usage/links \[OPTIONS\]/check --all <TEXT>}\
 urlcheck: --format is an option of lint\nwords\n" check --all --format json x
 expect 2 '' "urlcheck: unexpected argument '--format' found\n${usage/links \[OPTIONS\]/<COMMAND>}\
@@ -227,7 +238,7 @@ for command in check lint links mend; do
     "$program" help $command | sed -n '/^Options:$/,/^$/p' | grep -o -e '--[a-z0-9-]*' -e '-[a-z],' | tr -d , |
         grep -vx -e --help -e -h | sed "s/$/ $command/"
 done | awk '!seen[$0]++' | sort -s -k 1,1 | awk '$1 != option { option = $1; printf "%s%s %s", (NR > 1 ? "\n" : ""), $1, $2; next }
-    { printf " and %s", $2 } END { print "" }' >"$room/options"
+    { printf ", %s", $2 } END { print "" }' | sed 's/, \([a-z]*\)$/ and \1/' >"$room/options"
 [ "$(wc -l <"$room/options")" -gt 8 ] || fail "the help has these options: $(cat "$room/options")"
 while read -r option takers; do
     "$program" vectors $option >"$room/out" 2>"$room/err"

@@ -68,10 +68,16 @@ unknown_option words kind = None
 
 -- ---- what is said of it
 
+-- names behind the first one: ` and ` stands before the last, and a comma before each other
+abbrev pub behind_first : List Text → Text
+behind_first [] = []
+behind_first (last ∷ []) = codes " and " ++ last
+behind_first (name ∷ next ∷ rest) = codes ", " ++ (name ++ behind_first (next ∷ rest))
+
 -- names in a sentence
 abbrev pub listed : List Text → Text
 listed [] = []
-listed (first ∷ rest) = first ++ flat_map (λ name. codes " and " ++ name) rest
+listed (first ∷ rest) = first ++ behind_first rest
 
 -- the line of the commands that take the option with this name
 abbrev pub option_text : Text → List ℕ

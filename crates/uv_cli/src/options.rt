@@ -1,8 +1,9 @@
 //! Options that a command doesn't take: what is reported where it is given one of them.
 ghost use Rattle.std.specs.List.{before_first, list_any};
-ghost use Rattle.std.specs.Prelude.{◌≡◌, ◌==◌, IfOk, map, option_copied, string_bytes};
+ghost use Rattle.std.specs.Prelude.{◌≡◌, ◌++◌, ◌==◌, IfOk, OnOk, codes, flat_map, map, option_copied, string_bytes};
 ghost use Rattle.std.specs.Str.{bytes_eq};
-ghost use Rattle.uv_cli.specs.Options.{is_unknown, listed, looks_like_option, near_option_text, option_hint};
+ghost use Rattle.uv_cli.specs.Options.{behind_first, is_unknown, listed, looks_like_option, near_option_text};
+ghost use Rattle.uv_cli.specs.Options.{option_hint};
 ghost use Rattle.uv_cli.specs.Options.{option_name, option_names, option_text, takers, unknown_among, unknown_option};
 ghost use Rattle.uv_cli.specs.Options.{unknown_option_text};
 
@@ -188,9 +189,31 @@ fn listed(alloc: Global, names: &[&str]) -> Result<String, AllocError>
         return Ok(String::new(alloc));
     };
     let mut text = String::from_str(alloc, first)?;
-    for name in rest {
-        text.push_str(" and ")?;
+    push_behind_first(&mut text, rest)?;
+    Ok(text)
+}
+
+// Pushes names behind the first one: ` and ` before the last, and a comma before each other.
+fn push_behind_first(text: &mut String, names: &[&str]) -> Result<(), AllocError>
+    ensures { OnOk result (string_bytes text.new
+        ≡ string_bytes text.old ++ behind_first (map (λ n. n.now) names.now)) }
+{
+    let Some((last, others)) = names.split_last() else {
+        return Ok(());
+    };
+    push_behind_commas(text, others)?;
+    text.push_str(" and ")?;
+    text.push_str(last)
+}
+
+// Pushes names, each behind a comma.
+fn push_behind_commas(text: &mut String, names: &[&str]) -> Result<(), AllocError>
+    ensures { OnOk result (string_bytes text.new
+        ≡ string_bytes text.old ++ flat_map (λ name. codes ", " ++ name) (map (λ n. n.now) names.now)) }
+{
+    for name in names {
+        text.push_str(", ")?;
         text.push_str(name)?;
     }
-    Ok(text)
+    Ok(())
 }
