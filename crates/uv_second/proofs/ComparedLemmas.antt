@@ -1,6 +1,7 @@
 -- Two texts compared byte by byte.
 use Rattle.std.proofs.Common.{◌≡◌, ◌≢◌, ◌∙◌, ℕ, Bool, true, false, ◌&&◌, not, List, [], ◌∷◌, ◌++◌, append_assoc, ap}
-use Rattle.std.proofs.Common.{zero, suc, nat_le, ◌<◌, ◌==◌, arith, ◌-◌, ◌≤◌, All, drop, length, take, take_all, get_or, inl, inr, refl, subst, sym}
+use Rattle.std.proofs.Common.{zero, suc, nat_le, ◌<◌, ◌==◌, arith, ◌-◌, ◌≤◌, All}
+use Rattle.std.proofs.Common.{drop, length, take, take_all, get_or, inl, inr, refl, subst, sym}
 use Rattle.std.proofs.lemmas.Bool.{and_from, and_parts, cases_Bool, not-true, true≢false}
 use Rattle.std.proofs.lemmas.Bool.Decides.{nat_tests}
 use Rattle.std.proofs.lemmas.List.{append_cancel_left}
@@ -11,7 +12,8 @@ use Rattle.percent_encoding.proofs.PercentLemmas.{All-percent_encode_byte, IsEsc
 use Rattle.url.proofs.SetLemmas.{kept_from_escape}
 use Rattle.uv_second.specs.declared.written.Part.{Part}
 use Rattle.uv_second.specs.declared.written.Part.TheVariants.{Path, Query, Fragment}
-use Rattle.uv_second.specs.Links.{IsCompared, escape_set, is_common, is_escaped, is_mark, is_plain, is_plain_at, part_behind}
+use Rattle.uv_second.specs.Links.{IsCompared, escape_set, is_common, is_escaped, is_mark, is_plain}
+use Rattle.uv_second.specs.Links.{is_plain_at, part_behind}
 use Rattle.uv_second.specs.Links.{written, written_byte}
 
 -- a first byte and what follows it

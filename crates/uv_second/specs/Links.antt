@@ -1,6 +1,7 @@
 -- Texts that the second parser reads part by part as they stand: `https://` or `http://`, a plain name, and a path that
 -- begins with `/` and has no dot segment. What it writes of such a text.
-use Rattle.std.specs.Prelude.{◌≡◌, ◌≢◌, ◌⊎◌, ◌<◌, ℕ, Bool, true, false, not, ◌&&◌, ◌||◌, ◌==◌, nat_le, nat_lt, List, [], ◌∷◌}
+use Rattle.std.specs.Prelude.{◌≡◌, ◌≢◌, ◌⊎◌, ◌<◌, ℕ, Bool, true, false, not, ◌&&◌, ◌||◌, ◌==◌, nat_le}
+use Rattle.std.specs.Prelude.{nat_lt, List, [], ◌∷◌}
 use Rattle.std.specs.Prelude.{◌++◌, ◌-◌, codes, length, slice_index, if◌then◌else◌}
 use Rattle.std.specs.Char.{is_ascii_digit, is_ascii_lowercase}
 use Rattle.percent_encoding.specs.declared.ascii_set.AsciiSet.{AsciiSet}
