@@ -56,6 +56,6 @@ compared() {
 }
 
 compared gnu 4.0
-compared json 21.6
-compared sarif 23.5
+compared json 12.1
+compared sarif 14.0
 exit $failed
