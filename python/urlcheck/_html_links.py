@@ -177,13 +177,15 @@ def has(table: Dict[str, Set[str]], name: str, tag: str) -> bool:
 
 def _values(raw: str, offset: int) -> Iterator[Tuple[str, str, int, bool]]:
     """The attributes of a start tag that begins there: name, value, the value's place, and whether it is verbatim."""
-    name = _TAG_NAME.match(raw)
-    for found in _ATTRIBUTE.finditer(raw, name.end() if name else 0):
-        kind = found.lastgroup or "name"
+    tag = _TAG_NAME.match(raw)
+    for found in _ATTRIBUTE.finditer(raw, tag.end() if tag else 0):
+        name, kind = found["name"].lower(), found.lastgroup or "name"
         if kind == "name":
+            # (without a value it has the empty one, which stands nowhere)
+            yield name, "", offset + found.end(kind), False
             continue
         value = unescaped(found[kind])
-        yield found["name"].lower(), value, offset + found.start(kind), value == found[kind]
+        yield name, value, offset + found.start(kind), value == found[kind]
 
 
 def unescaped(value: str) -> str:

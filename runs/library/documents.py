@@ -101,6 +101,16 @@ class Documents(Texts):
         self.judges("a.html", [("3:48", "code-point"), ("4:11", "code-point"), ("5:49", "code-point"),
                                ("9:26", "code-point"), ("11:40", "code-point")])
 
+    def test_empty_links_of_html(self):
+        """An attribute without a value has the empty one (HTML Standard, section 13.1.2.3); a list of none has no link."""
+        self.finds("a.html", "<a href>\n<a HREF class=x><a href=><a href=''><a href = \"\">\n<img srcset src><a ping>\n",
+                   "1:8:\n2:8:\n2:25:\n2:35:\n2:48:\n3:16:\n")
+        self.judges("a.html", [])
+        self.write("b.html", "<base href><base href='urn:a'><a href=x><a href='y z'>")
+        self.judges("b.html", [("1:51", "code-point")])
+        self.write("c.html", "<base href='urn:a'><a href>")
+        self.judges("c.html", [("1:27", "opaque-base")])
+
     def test_character_references_of_html(self):
         """As the HTML Standard reads them in attributes, sections 13.2.5.72 to 13.2.5.80."""
         for written, read in (
