@@ -133,8 +133,8 @@ def _give(parts: Parts, writer: int) -> None:
 
 
 def has_come() -> None:
-    """Says that the document's bytes have come: from here on processor time counts alone, so that neither other programs
-    nor a slow reader of the report end it."""
+    """Says that the document's bytes have come: from here on processor time counts alone, so that neither other
+    programs nor a slow reader of the report end it."""
     signal.setitimer(signal.ITIMER_REAL, 0)
 
 

@@ -76,6 +76,11 @@ def window(text: str, place: int) -> str:
 _ENCODER = json.JSONEncoder(ensure_ascii=False, check_circular=False, sort_keys=True, separators=(",", ":"))
 
 
+def quoted(text: str) -> str:
+    """A text as JSON."""
+    return _ENCODER.encode(text)
+
+
 def compact(value: Mapping[str, object]) -> str:
     """An object as JSON, with the members in the order of their names."""
     return _ENCODER.encode(value)

@@ -38,8 +38,8 @@ class Judge:
         return self._bases[named]
 
     def _held(self, base: str) -> Base:
-        """A base by the text of its URL. Of a text that the profile doesn't take, as http://h//a of http://h/x/..//a, what
-        stands before its path and a path of /: a verdict asks for no more."""
+        """A base by the text of its URL. Of a text that the profile doesn't take, as http://h//a of http://h/x/..//a,
+        what stands before its path and a path of /: a verdict asks for no more."""
         for text in (base, _PATH.sub("\\1", base)):
             try:
                 return Base(text, self._profile)

@@ -1,12 +1,12 @@
 """Reports as documents of SARIF 2.1.0, as ``urlcheck lint`` writes them."""
 
 import functools
-from typing import Dict, List, NamedTuple, Tuple
+from typing import Dict, NamedTuple, Tuple
 from urllib.parse import quote
 
 from . import RULES, Mended, MendKind, sentence, version
 from ._columns import Unit
-from ._finding import Finding, Region, carried, compact, is_cut
+from ._finding import Finding, Region, carried, compact, is_cut, quoted
 
 Object = Dict[str, object]
 
@@ -123,21 +123,33 @@ def end(is_whole: bool) -> str:
     return '],"invocations":[' + compact(invocation) + "]}]}\n"
 
 
+# Most of a long report is results, so that each is filled in, and no object is made of it.
+_RESULT = (
+    '{%(fixes)s"level":"error","locations":[{"physicalLocation":{"artifactLocation":{"uri":%(uri)s},'
+    '"region":{"startColumn":%(column)d,"startLine":%(line)d}}}],"message":{"text":%(message)s},'
+    '"properties":{"cut":%(cut)s,"text":%(text)s},"ruleId":%(rule)s,"ruleIndex":%(index)d}\n'
+)
+_FIX = (
+    '"fixes":[{"artifactChanges":[{"artifactLocation":{"uri":%(uri)s},"replacements":[{"deletedRegion":'
+    '{"endColumn":%(end_column)d,%(end_line)s"startColumn":%(column)d,"startLine":%(line)d},'
+    '"insertedContent":{"text":%(text)s}}]}],"description":{"text":%(said)s}}],'
+)
+
+
 def result(found: Finding) -> str:
     """What is wrong with a link, with a fix where there is a text to write in its place."""
-    artifact = {"uri": uri_path(found.name)}
-    region = {"startColumn": found.column, "startLine": found.line}
-    members: Object = {
-        "level": "error",
-        "locations": [{"physicalLocation": {"artifactLocation": artifact, "region": region}}],
-        "message": {"text": found.message},
-        "properties": {"cut": is_cut(found.text), "text": carried(found.text, found.place)},
-        "ruleId": found.rule,
-        "ruleIndex": len(_OF_LINES) + RULES.index(found.rule),
+    uri = quoted(uri_path(found.name))
+    return _RESULT % {
+        "fixes": _fixes(uri, found.region, found.mended) if found.region and found.mended else "",
+        "uri": uri,
+        "column": found.column,
+        "line": found.line,
+        "message": quoted(found.message),
+        "cut": "true" if is_cut(found.text) else "false",
+        "text": quoted(carried(found.text, found.place)),
+        "rule": quoted(found.rule),
+        "index": len(_OF_LINES) + RULES.index(found.rule),
     }
-    if found.mended is not None and found.region is not None:
-        members["fixes"] = _fixes(artifact, found.region, found.mended)
-    return compact(members) + "\n"
 
 
 @functools.lru_cache(maxsize=1)
@@ -159,11 +171,14 @@ def _rule(asked: _Asked) -> Object:
     }
 
 
-def _fixes(artifact: Dict[str, str], region: Region, mended: Mended) -> List[Object]:
-    """The fix that writes the mended text where the link stands."""
-    deleted = {"startLine": region.line, "startColumn": region.column, "endColumn": region.end_column}
-    if region.last_line != region.line:
-        deleted["endLine"] = region.last_line
-    replacement = {"deletedRegion": deleted, "insertedContent": {"text": mended.text}}
-    change = {"artifactLocation": artifact, "replacements": [replacement]}
-    return [{"artifactChanges": [change], "description": {"text": _FIXES[mended.kind]}}]
+def _fixes(uri: str, region: Region, mended: Mended) -> str:
+    """The fix that writes the mended text where the link stands, as a member of a result."""
+    return _FIX % {
+        "uri": uri,
+        "end_column": region.end_column,
+        "end_line": "" if region.last_line == region.line else '"endLine":{},'.format(region.last_line),
+        "column": region.column,
+        "line": region.line,
+        "text": quoted(mended.text),
+        "said": quoted(_FIXES[mended.kind]),
+    }

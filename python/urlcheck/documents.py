@@ -174,7 +174,7 @@ class Run:
         places = Places(found.source, self._settings.unit)
         part = Part(1)
         for link in found.links:
-            if found.source.position(link.offset)[0] in found.ignored or self._is_meant(link.text):
+            if self._is_left_out(found, link):
                 part.add_ignored()
             else:
                 part.add(self._said(name, shown, places, link), self._judge is not None)
@@ -208,8 +208,11 @@ class Run:
         has_come()
         return links_in(data, kind)
 
-    def _is_meant(self, text: str) -> bool:
-        return any(it.search(text) for it in self._settings.ignored)
+    def _is_left_out(self, found: Found, link: Link) -> bool:
+        """Whether a comment or a regular expression leaves a link out."""
+        if found.ignored and found.source.position(link.offset)[0] in found.ignored:
+            return True
+        return any(it.search(link.text) for it in self._settings.ignored)
 
 
 def run(words: Optional[List[str]] = None) -> int:
