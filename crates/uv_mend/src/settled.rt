@@ -7,8 +7,8 @@ ghost use Rattle.uv_mend.specs.WebLinks.{IsWebLink};
 
 use crate::web_links::{WebLink, web_link};
 
-/// The parts of a text that is seen to be one of which the URL parser takes nothing off and in which it reads each slash
-/// as it stands; none of another one. Of some such texts that isn't seen.
+/// The parts of a text that is seen to be one of which the URL parser takes nothing off and in which it reads each
+/// slash as it stands; none of another one. Of some such texts that isn't seen.
 pub(crate) fn settled_link(text: &str) -> Option<WebLink<'_>>
     ensures link { IfSome result (IsWebLink text.now) }
     ensures settled { IfSome result (λ link. IsSettled (chars text.now)) }
