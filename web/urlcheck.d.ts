@@ -227,7 +227,7 @@ export interface Example {
 
 /** The base, judged alone, violates a rule; nothing is said of the text. */
 export class BaseRefused extends Error {
-  constructor(rule: RuleName, place: number, index: number)
+  constructor(rule: RuleName, place: number, index: number, why: string)
   readonly rule: RuleName
   readonly place: number
   readonly index: number

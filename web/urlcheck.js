@@ -43,9 +43,10 @@ export class BaseRefused extends Error {
    * @param {RuleName} rule the violated rule
    * @param {number} place where, in code points from 0
    * @param {number} index where, in UTF-16 units: an index of the base's string
+   * @param {string} why what is wrong there
    */
-  constructor(rule, place, index) {
-    super(`the base is refused: ${rule} at ${place}`)
+  constructor(rule, place, index, why) {
+    super(`the base is refused at place ${place}: ${why} [${rule}]`)
     this.name = 'BaseRefused'
     this.rule = rule
     this.place = place
@@ -253,7 +254,9 @@ class Checker {
     if (verdict === MEMORY) room.stopForMemory()
     if (verdict !== BASE_REFUSED || base === undefined) throw new Error(`urlcheck.wasm answers ${verdict}`)
     const index = new UnitWalker(base).indexOf(room.word(BYTE_PLACE))
-    throw new BaseRefused(this.#names[room.word(RULE) - 1], room.word(PLACE), index)
+    const rule = this.#names[room.word(RULE) - 1]
+    const why = rule === 'no-scheme' ? 'it has no scheme' : this.explain(rule).sentence
+    throw new BaseRefused(rule, room.word(PLACE), index, why)
   }
 
   /**

@@ -105,6 +105,7 @@ const tests = {
     assert.equal(urlcheck.resolve('/x', { base }).text, 'file://h/C:/x')
     assert.deepEqual(urlcheck.faults('//C:/x', { base }), [{ rule: 'host-domain', place: 2, index: 2 }])
     assert.throws(() => urlcheck.base('http://256/', { profile }), { name: 'BaseRefused', rule: 'host-number' })
+    assert.throws(() => urlcheck.base('//h'), { message: 'the base is refused at place 0: it has no scheme [no-scheme]' })
   },
 
   async 'a refused base'() {
@@ -113,6 +114,7 @@ const tests = {
       assert.throws(() => urlcheck[call]('x', { base: 'http://h/\u{1f600} ' }), error => {
         assert.ok(error instanceof BaseRefused && error instanceof Error)
         assert.deepEqual([error.rule, error.place, error.index], ['code-point', 10, 11])
+        assert.equal(error.message, 'the base is refused at place 10: this code point may not stand in a URL [code-point]')
         return true
       })
     }
