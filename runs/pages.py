@@ -13,7 +13,7 @@ import subprocess
 import sys
 import tempfile
 
-README_LINES = 200
+README_LINES = 180
 FIRST_SCREEN = 32
 SENTENCE_WORDS = 40
 HEADLINE = (
