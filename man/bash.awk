@@ -18,13 +18,14 @@
 END {
     print "# Completions of urlcheck for bash, made by make-manual."
     print "_urlcheck() {"
-    print "    local word=${COMP_WORDS[COMP_CWORD]} previous=${COMP_WORDS[COMP_CWORD - 1]} command= words= is_value= option= i"
+    print "    local word=${COMP_WORDS[COMP_CWORD]} previous=${COMP_WORDS[COMP_CWORD - 1]} command= words= is_value= option= is_behind= i"
     print "    # A value behind `=` is a word of its own, or with COMP_WORDBREAKS changed a part of the option."
     print "    if [[ $word == = ]]; then word="
     print "    elif [[ $previous == = ]]; then previous=${COMP_WORDS[COMP_CWORD - 2]}"
     print "    elif [[ $word == --*=* ]]; then previous=${word%%=*} option=$previous= word=${word#*=}; fi"
     print "    for ((i = 1; i < COMP_CWORD; i++)); do"
-    print "        if [[ ${COMP_WORDS[i]} != -* ]]; then command=${COMP_WORDS[i]}; break; fi"
+    print "        if [[ ${COMP_WORDS[i]} == -- || $command == help ]]; then is_behind=yes"
+    print "        elif [[ -z $command && ${COMP_WORDS[i]} != -* ]]; then command=${COMP_WORDS[i]}; fi"
     print "    done"
     print "    case $command:$previous in"
     printf "%s", values
@@ -38,6 +39,8 @@ END {
     }
     print "            esac ;;"
     print "    esac"
+    print "    # Behind `--` stand texts and files alone, and behind the command of `help` nothing."
+    print "    if [[ $is_behind ]]; then words= is_value=; fi"
     print "    mapfile -t COMPREPLY < <(compgen -P \"$option\" -W \"$words\" -- \"$word\")"
     for (i = 1; i <= count; i++) if (order[i] in takes_files) files = files (files == "" ? "" : " | ") order[i]
     print "    case $is_value$command in"

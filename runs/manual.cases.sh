@@ -117,6 +117,10 @@ completes 'standard wide parser' links --profile =
 completes '--quiet' lint --q
 completes '-q' lint -q
 completes '-V' -V
+completes '' help check l
+completes '' check -- --ba
+completes 'made' lint --quiet -- ma
+completes '' lint -- --format sa
 . "$top/completions/urlcheck-documents.bash"
 completer=_urlcheck_documents
 completes '--exclude' --ex
@@ -133,4 +137,4 @@ completes 'html markdown xml' --type =
 completes 'code-points bytes utf16 screen' --check --columns =
 completes 'screen' --columns s
 completes '--type=xml' --type=x
-all_cases 59
+all_cases 63
