@@ -66,12 +66,13 @@ function profileNumber(profile) {
 }
 
 /**
- * Stops where a string, say, stands in the place of the options: what it says would be passed over.
+ * Stops where a string, say, or a base stands in the place of the options: what it says would be passed over.
  * @param {unknown} options
  */
 function stopUnlessOptions(options) {
-  if (options == null || typeof options === 'object') return
-  throw new TypeError('the options are no object, such as { base: text, profile: name }')
+  if (options == null) return
+  if (typeof options !== 'object') throw new TypeError('the options are no object, such as { base: text, profile: name }')
+  if (options instanceof HeldBase) throw new TypeError('a base stands in the place of the options: write { base }')
 }
 
 /**

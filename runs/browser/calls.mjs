@@ -184,6 +184,9 @@ const tests = {
       assert.throws(() => urlcheck.base('urn:a', options), wrong)
       for (const call of CALLS) assert.throws(() => urlcheck[call]('urn:a', options), wrong)
     }
+    for (const call of [...CALLS, 'base']) {
+      assert.throws(() => urlcheck[call]('urn:a', held), { name: 'TypeError', message: /^a base stands in the place/ })
+    }
     assert.throws(() => urlcheck.base('urn:a', { profile: 'Wide' }), TypeError)
     for (const call of CALLS) {
       for (const [profile, message] of [['wide', /by the standard profile/], ['Wide', /none of/]]) {
