@@ -12,7 +12,7 @@ _urlcheck_documents() {
         --type) words='html markdown xml' ;;
         --ignore) takes_files=yes ;;
         --base | --exclude) ;;
-        *) words='--check --format --columns --base --profile --type --ignore --exclude --quiet -q --help -h --version'
+        *) words='--check --format --columns --base --profile --type --ignore --exclude --quiet -q --help -h --version -V'
            takes_files=yes ;;
     esac
     mapfile -t COMPREPLY < <(compgen -P "$option" -W "$words" -- "$word")

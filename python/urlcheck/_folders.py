@@ -23,9 +23,22 @@ KINDS = {
 """The kind of a document by its name's end."""
 
 
+LISTS = frozenset(("txt", "csv", "tsv", "json", "links"))
+"""How the name of a list of links ends."""
+
+
 def kind_of(name: str) -> Optional[str]:
     """The kind of a document of that name, if its end says so."""
-    return KINDS.get(os.path.basename(name).rpartition(".")[2].lower())
+    return KINDS.get(_end_of(name))
+
+
+def is_list(name: str) -> bool:
+    """Whether a name's end says that it may be that of a list of links."""
+    return _end_of(name) in LISTS
+
+
+def _end_of(name: str) -> str:
+    return os.path.basename(name).rpartition(".")[2].lower()
 
 
 class Excluded(NamedTuple):

@@ -1,6 +1,7 @@
 """The text of a document, and the links that are found in it."""
 
 import bisect
+import codecs
 import re
 from typing import Iterator, List, NamedTuple, Optional, Tuple
 
@@ -62,6 +63,28 @@ class Source:
         start = self._starts[number - 1]
         end = self._starts[number] - 1 if number < len(self._starts) else len(self.text)
         return self.text[start:end]
+
+
+class Foreign(ValueError):
+    """That a text isn't UTF-8 behind its longest beginning that is."""
+
+    def __init__(self, before: Source) -> None:
+        super().__init__("this isn't UTF-8")
+        self.before = before
+
+
+def without_mark(data: bytes) -> bytes:
+    """The bytes behind a byte order mark, which is no part of the first line."""
+    return data[len(codecs.BOM_UTF8) :] if data.startswith(codecs.BOM_UTF8) else data
+
+
+def decoded(data: bytes) -> Source:
+    """The text of these bytes, without a byte order mark at its start. Raises ``Foreign``."""
+    data = without_mark(data)
+    try:
+        return Source(data.decode("utf-8"))
+    except UnicodeDecodeError as error:
+        raise Foreign(Source(data[: error.start].decode("utf-8"))) from None
 
 
 def stripped(value: str, offset: int, is_verbatim: bool, base: Optional[str] = None) -> Link:

@@ -29,11 +29,16 @@ def closed() -> OSError:
 
 
 def tell(line: str) -> None:
-    """Writes a line to standard error, in one piece: others may write there at the same time. Where that takes nothing
+    """Writes a line to standard error, behind the program's name."""
+    say("urlcheck-documents: " + line + "\n")
+
+
+def say(lines: str) -> None:
+    """Writes lines to standard error, in one piece: others may write there at the same time. Where that takes nothing
     the status stands alone."""
     try:
         if sys.stderr is not None:
-            sys.stderr.write("urlcheck-documents: " + line + "\n")
+            sys.stderr.write(lines)
     except OSError:
         write_nowhere(2)
 

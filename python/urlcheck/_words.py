@@ -8,8 +8,10 @@ from . import Profile, version
 from ._columns import Unit
 from ._folders import KINDS, Excluded
 from ._judge import SOMEWHERE
-from ._report import FORMATS, Format
-from ._streams import reason_of, stop, tell
+from ._report import FORMATS, Format, named
+from ._source import Foreign, decoded
+from ._streams import reason_of, stop
+from ._wrong import Parser, chosen
 
 
 class Settings(NamedTuple):
@@ -33,6 +35,10 @@ class Asked(NamedTuple):
     is_judged: bool
     is_quiet: bool
 
+
+_UNITS = [it.value for it in Unit]
+_PROFILES = [it.name.lower() for it in Profile]
+_KINDS = list(dict.fromkeys(KINDS.values()))
 
 _ABOUT = """\
 Prints the links of HTML, XML and Markdown as lines FILE:LINE:COLUMN:LINK, which
@@ -66,27 +72,30 @@ def asked(words: List[str]) -> Asked:
     for."""
     parser = _parser()
     given = _given(parser, words)
-    if given.format and not given.check:
-        parser.error("argument --format: not allowed without argument --check")
+    format = "gnu" if given.format is None else chosen(given.format, list(FORMATS), "format")
+    unit = _unit(given.columns, format)
+    profile = chosen(given.profile, _PROFILES, "profile")
+    kind = None if given.kind is None else chosen(given.kind, _KINDS, "kind")
+    if given.format is not None and not given.check:
+        parser.error("--format is for --check")
     settings = Settings(
-        given.kind,
+        kind,
         given.base,
-        Profile[given.profile.upper()],
+        Profile[profile.upper()],
         tuple(pattern for name in given.ignore for pattern in _patterns(name)),
         tuple(Excluded.by(it) for it in given.exclude),
-        FORMATS[given.format or "gnu"],
-        _unit(given.columns, given.format or "gnu"),
+        FORMATS[format],
+        unit,
     )
     return Asked(given.files, settings, given.check, given.quiet)
 
 
-def _given(parser: argparse.ArgumentParser, words: List[str]) -> argparse.Namespace:
+def _given(parser: Parser, words: List[str]) -> argparse.Namespace:
     """What the words give: options stand anywhere before ``--``, and behind that each word is a FILE."""
     end = words.index("--") if "--" in words else len(words)
     given, unknown = parser.parse_known_intermixed_args(words[:end])
     if unknown:
-        name = next((it for it in unknown if it.startswith("-")), unknown[0])
-        parser.error("there is no option " + name.partition("=")[0])
+        parser.no_option(next((it for it in unknown if it.startswith("-")), unknown[0]))
     given.files = given.files + words[end + 1 :]
     if not given.files:
         parser.error("there is no FILE; - is standard input")
@@ -96,32 +105,32 @@ def _given(parser: argparse.ArgumentParser, words: List[str]) -> argparse.Namesp
 def _unit(name: str, format: str) -> Unit:
     """What columns count, by its name and that of the format. Raises ``SystemExit`` where the format has no word for
     it."""
-    unit, units = Unit(name), FORMATS[format].units
-    if unit not in units:
-        tell("no column unit of {} is named '{}'".format(format, name))
-        raise SystemExit(stop("the column units of {}: {}".format(format, " ".join(it.value for it in units))))
-    return unit
+    units = [it.value for it in FORMATS[format].units]
+    return Unit(chosen(chosen(name, _UNITS, "column unit"), units, "column unit", " of " + format))
 
 
-def _parser() -> argparse.ArgumentParser:
-    parser = argparse.ArgumentParser(
+def _parser() -> Parser:
+    parser = Parser(
         prog="urlcheck-documents",
         usage="urlcheck-documents [OPTIONS] FILE..",
         description=_ABOUT,
         epilog=_NOTES,
         formatter_class=argparse.RawDescriptionHelpFormatter,
+        add_help=False,
+        allow_abbrev=False,
     )
     add = parser.add_argument
     add("files", nargs="*", metavar="FILE", help="a document, a folder of documents, or - for standard input")
     add("--check", action="store_true", help="judge the links, and report those that are refused")
-    add("--format", choices=list(FORMATS), help="how --check reports them; without it gnu, as compilers do")
-    units = [it.value for it in Unit]
-    add("--columns", choices=units, default="code-points", help="what columns count; without it code-points")
-    add("--base", metavar="URL", help="what the documents' references are relative to, without a base of their own")
-    names = [it.name.lower() for it in Profile]
-    add("--profile", choices=names, default="standard", help="the profile to judge by; without it standard")
-    kinds = sorted(set(KINDS.values()))
-    add("--type", dest="kind", choices=kinds, help="the kind of all documents; without it by their names")
+    helped = "how --check reports them: {}; without it gnu, as compilers do"
+    add("--format", metavar="FORMAT", help=helped.format(_listed(list(FORMATS))))
+    helped = "what columns count: {}; without it code-points"
+    add("--columns", default="code-points", metavar="UNIT", help=helped.format(_listed(_UNITS)))
+    add("--base", metavar="URL", help="what references are relative to where their document names no base")
+    helped = "the profile to judge by: {}; without it standard"
+    add("--profile", default="standard", metavar="PROFILE", help=helped.format(_listed(_PROFILES)))
+    helped = "the kind of all documents: {}; without it by their names"
+    add("--type", dest="kind", metavar="KIND", help=helped.format(_listed(_KINDS)))
     add(
         "--ignore",
         action="append",
@@ -138,24 +147,36 @@ def _parser() -> argparse.ArgumentParser:
         "folder, matches; it may be given more than once",
     )
     add("-q", "--quiet", action="store_true", help="leave out the counts on standard error")
-    add("--version", action="version", version="urlcheck-documents " + version())
+    add("-h", "--help", action="help", help="print this help")
+    add("-V", "--version", action="version", version="urlcheck-documents " + version(), help="print the version")
     return parser
+
+
+def _listed(names: List[str]) -> str:
+    """Names as a sentence has them."""
+    return "{} or {}".format(", ".join(names[:-1]), names[-1])
 
 
 def _patterns(name: str) -> Tuple["re.Pattern[str]", ...]:
     """The regular expressions of a file, one a line; a line that begins with ``#`` is a comment."""
-    try:
-        with open(name, encoding="utf-8") as file:
-            lines = [line.rstrip("\r\n") for line in file]
-    except OSError as error:
-        raise SystemExit(stop("{}: can't be read: {}".format(name, reason_of(error))))
-    except UnicodeDecodeError:
-        raise SystemExit(stop("{}: isn't UTF-8".format(name))) from None
+    shown = named(name) or "''"
     patterns = []
-    for number, line in enumerate(lines, 1):
+    for number, line in enumerate(_lines(name, shown), 1):
         if line.strip() and not line.startswith("#"):
             try:
                 patterns.append(re.compile(line))
             except re.error as error:
-                raise SystemExit(stop("{}:{}: no regular expression: {}".format(name, number, error)))
+                raise SystemExit(stop("{}:{}: no regular expression: {}".format(shown, number, error)))
     return tuple(patterns)
+
+
+def _lines(name: str, shown: str) -> List[str]:
+    """The lines of a file, which is shown as that. Raises ``SystemExit`` where it can't be read."""
+    try:
+        with open(name, "rb") as file:
+            return re.split("\r\n|\r|\n", decoded(file.read()).text)
+    except OSError as error:
+        raise SystemExit(stop("{}: can't be read: {}".format(shown, reason_of(error))))
+    except Foreign as foreign:
+        line, column = foreign.before.position(len(foreign.before.text))
+        raise SystemExit(stop("{}:{}:{}: {}".format(shown, line, column, foreign))) from None

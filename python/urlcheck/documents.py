@@ -5,7 +5,7 @@ each link, as ``rg --vimgrep -o`` does; with ``--check`` it judges them, and rep
 those that ``urlcheck lint --located -`` reads, which judges them too.
 """
 
-import codecs
+import errno
 import os
 import re
 import resource
@@ -17,11 +17,11 @@ from . import BaseRefused, Profile, check
 from . import _html_links, _markdown_links, _xml_links
 from ._apart import MOST_MEMORY, Part, Taken, apart, has_come, nothing
 from ._columns import Places
-from ._folders import documents_of, kind_of, no_document
+from ._folders import documents_of, is_list, kind_of, no_document
 from ._judge import Judge
 from ._message import message
 from ._report import Report, named
-from ._source import Broken, Link, Source
+from ._source import Broken, Foreign, Link, Source, decoded, without_mark
 from ._streams import closed, flush, reason_of, stop, tell, write, write_nowhere
 from ._words import Settings, asked
 
@@ -37,6 +37,9 @@ _GZIP = b"\x1f\x8b"
 
 _URL = re.compile("[A-Za-z][A-Za-z0-9+.-]*://")
 """How a URL begins that is no name of a file."""
+
+_COMMANDS = ("check", "lint")
+"""The commands of ``urlcheck`` for what ``--check`` does."""
 
 
 class Unread(Exception):
@@ -78,20 +81,15 @@ class Found(NamedTuple):
 
 
 def links_in(data: bytes, kind: str) -> Found:
-    """The links of a document. Raises ``Unread`` where it can't be read at all. A byte order mark at its start is no
-    part of its first line."""
+    """The links of a document. Raises ``Unread`` where it can't be read at all, and ``Foreign`` where it isn't UTF-8. A
+    byte order mark at its start is no part of its first line."""
     if len(data) > MOST_BYTES:
         raise Unread("has more than {} MiB".format(MOST_BYTES >> 20))
     if data.startswith(_GZIP):
         raise Unread("is compressed: gzip -dc unpacks it, and - reads what that writes")
-    mark = len(codecs.BOM_UTF8) if data.startswith(codecs.BOM_UTF8) else 0
-    data = data[mark:]
+    source = decoded(data)
     try:
-        source = Source(data.decode("utf-8"))
-    except UnicodeDecodeError as error:
-        raise Unread("isn't UTF-8 at byte {}".format(mark + error.start)) from None
-    try:
-        return _found(source, data, kind)
+        return _found(source, without_mark(data), kind)
     except ImportError:
         raise Unread("is Markdown, which needs " + MARKDOWN) from None
     except (Unread, MemoryError, RecursionError, SystemError):
@@ -121,10 +119,15 @@ def located(name: str, places: Places, link: Link) -> str:
     return "{}:{}:{}:{}".format(name, line, column, re.sub("[\r\n]", "\t", link.text))
 
 
+def _placed(places: Places, offset: int, said: str) -> str:
+    """What is said behind a document's name of a place in it."""
+    line, column = places.position(offset)
+    return ":{}:{}: {}".format(line, column, said)
+
+
 def _stopped(places: Places, broken: Broken) -> str:
     """What is said behind a document's name where its reader stopped."""
-    line, column = places.position(broken.offset)
-    return ":{}:{}: can't be read from here on: {}".format(line, column, broken.reason)
+    return _placed(places, broken.offset, "can't be read from here on: " + broken.reason)
 
 
 def read_document(name: str) -> bytes:
@@ -138,8 +141,15 @@ def read_document(name: str) -> bytes:
         with open(name, "rb") as file:
             return file.read(MOST_BYTES + 1)
     except OSError as error:
-        more = ", and no URL is fetched" if _URL.match(name) else ""
-        raise Unread("can't be read: {}{}".format(reason_of(error), more)) from None
+        raise Unread("can't be read: {}{}".format(reason_of(error), _meant(name, error))) from None
+
+
+def _meant(name: str, error: OSError) -> str:
+    """What is said of a name that can't be read, where it was perhaps meant otherwise: a URL, or a command as those of
+    ``urlcheck``."""
+    if _URL.match(name):
+        return ", and no URL is fetched"
+    return "; --check judges the links" if name in _COMMANDS and error.errno == errno.ENOENT else ""
 
 
 class Run:
@@ -167,6 +177,10 @@ class Run:
             found = self._read(name, shown)
         except Unread as reason:
             yield nothing(str(reason))
+            return
+        except Foreign as foreign:
+            before = foreign.before
+            yield Part(0).taken(_placed(Places(before, self._settings.unit), len(before.text), str(foreign)))
             return
         except RecursionError:
             yield nothing("is nested too deeply")
@@ -198,7 +212,8 @@ class Run:
             if name != "-" and not os.path.exists(name):
                 read_document(name)
             says = "it has no name that says its kind" if name == "-" else "its name's end says no kind"
-            raise Unread(says + ": give --type html, xml or markdown")
+            more = "; urlcheck lint judges a list of links" if is_list(name) else ""
+            raise Unread(says + ": give --type html, xml or markdown" + more)
         if self._judge is None and shown != name:
             raise Unread("its name has a control, which no located line can hold")
         place = _PLACE.search(name + ":1:1:")

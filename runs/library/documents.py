@@ -319,7 +319,7 @@ class Documents(Texts):
         if importlib.util.find_spec("markdown_it"):
             self.finds("a.md", "\ufeff[a]: x\n", "1:6:x\n")
         self.write("b.html", b"\xef\xbb\xbfa\xff")
-        self.assertIn("isn't UTF-8 at byte 4", self.run_on("b.html")[2])
+        self.assertIn("b.html:1:2: this isn't UTF-8\n", self.run_on("b.html")[2])
 
 
 if __name__ == "__main__":

@@ -35,9 +35,35 @@ class Limits(Texts):
         for word in ("missing.html: can't be read: there is no such file",
                      "missing: can't be read: there is no such file",
                      "urlcheck-documents: '': can't be read: there is no such file",
-                     "utf16.html: isn't UTF-8 at byte 0", "broken.xml:2:26: can't be read from here on: mismatched tag",
+                     "utf16.html:1:1: this isn't UTF-8\n",
+                     "broken.xml:2:26: can't be read from here on: mismatched tag",
                      "a.txt: its name's end says no kind"):
             self.assertIn(word, said)
+
+    def test_what_is_not_utf8(self):
+        """The place of the first byte that isn't, in each unit; nothing of the document is judged."""
+        before = "<a href='x y'>\n\u65e5e\u0301\U0001f600\t".encode()
+        for data, places in (
+            (b"<p>caf\xe9", ("1:7",) * 4),
+            (before + b"\xff", ("2:6", "2:12", "2:7", "2:9")),
+            (b"\xef\xbb\xbf" + before + b"\xf0\x9f\x98z", ("2:6", "2:12", "2:7", "2:9")),
+            (b"\xef\xbb\xbf\xe9\n<a href='x y'>\xff", ("1:1",) * 4),
+            (b"a\r\n\xed\xa0\x80", ("2:1",) * 4),
+            (b"a\n\xc3", ("2:1",) * 4),
+        ):
+            self.write("a.html", data)
+            for unit, place in zip(("code-points", "bytes", "utf16", "screen"), places):
+                with self.subTest(data=data, unit=unit):
+                    wanted = "urlcheck-documents: {}:" + place + ": this isn't UTF-8\n"
+                    for words in (["a.html"], ["--check", "a.html"], ["--check", "--type", "xml", "a.html"]):
+                        found = self.run_on("-q", "--columns", unit, *words)
+                        self.assertEqual(found, (2, "", wanted.format("a.html")))
+                    found = self.run_on("-q", "--columns", unit, "--type", "html", "-", stdin=data)
+                    self.assertEqual(found, (2, "", wanted.format("-")))
+        self.write("b.html", "<a href=x>")
+        counts = "urlcheck-documents: 1 document, 1 link, 0 ignored\n"
+        wanted = "urlcheck-documents: a.html:2:1: this isn't UTF-8\n" + counts
+        self.assertEqual(self.run_on("a.html", "b.html"), (2, "b.html:1:9:x\n", wanted))
 
     def test_what_is_no_document(self):
         """What is compressed is named as such, and so is a URL: both look like a document to a new user."""
@@ -60,7 +86,7 @@ class Limits(Texts):
             (["a.html/b.html"], "a.html/b.html: can't be read: a part of its path is no folder"),
             (["--ignore", ".", "a.html"], ".: can't be read: it is a folder"),
             (["--ignore", "missing", "a.html"], "missing: can't be read: there is no such file"),
-            (["--ignore", "wrong", "a.html"], "wrong: isn't UTF-8"),
+            (["--ignore", "wrong", "a.html"], "wrong:1:2: this isn't UTF-8"),
         ):
             status, _, said = self.run_on("--quiet", *words)
             self.assertEqual((status, said), (2, "urlcheck-documents: {}\n".format(wanted)))

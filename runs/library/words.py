@@ -136,31 +136,111 @@ class Words(Texts):
     def test_wrong_words(self):
         self.write("a.html", "<a href='x y'>")
         for words, wanted in (
-            ("", "there is no FILE; - is standard input\n"),
-            ("--check", "there is no FILE; - is standard input\n"),
-            ("--check --", "there is no FILE; - is standard input\n"),
-            ("a.html --base -- a.html", "argument --base: expected one argument"),
+            ("", "there is no FILE; - is standard input"),
+            ("--check", "there is no FILE; - is standard input"),
+            ("--check --", "there is no FILE; - is standard input"),
+            ("--base", "--base needs a value"),
+            ("a.html --base -- a.html", "--base needs a value"),
+            ("--ignore --check a.html", "--ignore needs a value"),
+            ("--format -q a.html", "--format needs a value"),
+            ("--check=x a.html", "--check takes no value"),
+            ("--quiet=yes a.html", "--quiet takes no value"),
+            ("--check= a.html", "--check takes no value"),
+            ("a.html --version=2", "--version takes no value"),
+            ("--help=check a.html", "--help takes no value"),
+            ("--format json a.html", "--format is for --check"),
+            ("--format=gnu -q a.html", "--format is for --check"),
             ("a.html --all a.html", "there is no option --all"),
             ("a.html --wide=yes --all", "there is no option --wide"),
             ("-x a.html", "there is no option -x"),
-            ("a.html --profile wider", "argument --profile: invalid choice: 'wider' (choose from "),
+            ("--chek a.html", "there is no option --chek; the nearest is --check"),
+            ("a.html --Quite=1", "there is no option --Quite; the nearest is --quiet"),
+            ("a.html -v", "there is no option -v; the nearest is --version"),
+            ("--\x1b[31m a.html", "there is no option --\ufffd[31m"),
+            ("--- a.html", "there is no option ---"),
         ):
             with self.subTest(words):
                 status, out, said = self.run_on(*words.split())
-                usage = "usage: urlcheck-documents [OPTIONS] FILE..\nurlcheck-documents: error: "
-                self.assertEqual((status, out, said[: len(usage + wanted)]), (2, "", usage + wanted))
+                usage = "usage: urlcheck-documents [OPTIONS] FILE..\nurlcheck-documents: "
+                self.assertEqual((status, out, said), (2, "", usage + wanted + "\n"))
+
+    def test_shortened_options(self):
+        """An option is written whole: a beginning of its name is none."""
+        self.write("a.html", "<a href='x y'>")
+        for words, option, nearest in (
+            ("--check --form json a.html", "--form", "--format"),
+            ("--ch a.html", "--ch", "--check"),
+            ("--check --prof=wide a.html", "--prof", "--profile"),
+            ("--quie a.html", "--quie", "--quiet"),
+            ("--c a.html", "--c", None),
+        ):
+            wanted = "there is no option " + option + ("; the nearest is " + nearest if nearest else "")
+            with self.subTest(words):
+                status, out, said = self.run_on(*words.split())
+                self.assertEqual((status, out, said.splitlines()[1:]), (2, "", ["urlcheck-documents: " + wanted]))
+
+    def test_wrong_names(self):
+        """A name that there isn't is told as by `urlcheck`, with the nearest one and all that there are."""
+        self.write("a.html", "<a href='x y'>")
+        formats = "the formats: gnu caret json github sarif checkstyle"
+        units = "the column units: code-points bytes utf16 screen"
+        profiles, kinds = "the profiles: standard wide parser", "the kinds: html xml markdown"
+        for words, wanted, names in (
+            (["--check", "--format", "sarfi"], "no format is named 'sarfi'; the nearest is sarif", formats),
+            (["--check", "--format=JSON"], "no format is named 'JSON'; the nearest is json", formats),
+            (["--check", "--format", "junit"], "no format is named 'junit'", formats),
+            (["--check", "--format="], "no format is named ''", formats),
+            (["--format", "xml"], "no format is named 'xml'", formats),
+            (["--columns", "utf-16"], "no column unit is named 'utf-16'; the nearest is utf16", units),
+            (["--columns", "points"], "no column unit is named 'points'; the nearest is code-points", units),
+            (["--columns", "code"], "no column unit is named 'code'; the nearest is code-points", units),
+            (["--columns", "\x1b[31m\n"], "no column unit is named '\ufffd[31m\ufffd'", units),
+            (["--check", "--format", "sarif", "--columns", "byte"],
+             "no column unit is named 'byte'; the nearest is bytes", units),
+            (["--check", "--format", "sarif", "--columns", "bytes"],
+             "no column unit of sarif is named 'bytes'", "the column units of sarif: code-points utf16"),
+            (["--profile", "wider"], "no profile is named 'wider'; the nearest is wide", profiles),
+            (["--profile", ""], "no profile is named ''", profiles),
+            (["--type", "htm"], "no kind is named 'htm'; the nearest is html", kinds),
+            (["--type", "pdf"], "no kind is named 'pdf'", kinds),
+            (["--type", ""], "no kind is named ''", kinds),
+        ):
+            with self.subTest(words):
+                lines = "urlcheck-documents: {}\nurlcheck-documents: {}\n".format(wanted, names)
+                self.assertEqual(self.run_on(*words, "a.html"), (2, "", lines))
+
+    def test_what_is_meant_by_a_name(self):
+        """A command of `urlcheck` that is no file, and a list of links, are told of."""
+        self.write("a.html", "<a href='x y'>")
+        missing, more = "{}: can't be read: there is no such file", "; --check judges the links"
+        for name, wanted in (("check", missing + more), ("lint", missing + more), ("mend", missing),
+                             ("./check", missing), ("check.html", missing)):
+            status, out, said = self.run_on("-q", name, "a.html")
+            wanted = "urlcheck-documents: {}\n".format(wanted.format(name))
+            self.assertEqual((status, out, said), (2, "a.html:1:10:x y\n", wanted))
+        no_kind = "{}: its name's end says no kind: give --type html, xml or markdown"
+        more = "; urlcheck lint judges a list of links"
+        for name, wanted in (
+            ("l.txt", no_kind + more), ("l.csv", no_kind + more), ("l.TSV", no_kind + more), ("l.text", no_kind),
+            ("a.b.json", no_kind + more), ("x.links", no_kind + more), ("txt.d", no_kind), ("check", no_kind),
+        ):
+            self.write(name, "a b\n")
+            for words in (["-q", name], ["-q", "--check", name]):
+                said = "urlcheck-documents: {}\n".format(wanted.format(name))
+                self.assertEqual(self.run_on(*words), (2, "", said))
 
     def test_options(self):
         """The manual page, the completions and the page have the options of the help, and no other."""
         shown = subprocess.run([*PROGRAM, "--help"], capture_output=True).stdout.decode()
-        wanted = {name for names in re.findall(r"^  (?:(-[a-z]), )?(--[a-z]+)", shown, re.M) for name in names if name}
-        self.assertLessEqual({"-h", "-q", "--exclude", "--version"}, wanted)
+        found = re.findall(r"^  (?:(-[A-Za-z]), )?(--[a-z]+)", shown, re.M)
+        wanted = {name for names in found for name in names if name}
+        self.assertLessEqual({"-h", "-q", "--exclude", "-V", "--version"}, wanted)
         for path, part, name in (
-            ("docs/DOCUMENTS.md", r"^\| (`-.*?) \|", r"`(--?[a-z]+)"),
-            ("man/urlcheck-documents.1", r"^\.B[IR]* (\\-.*)", r"(?<![a-z-])--?[a-z]+"),
+            ("docs/DOCUMENTS.md", r"^\| (`-.*?) \|", r"`(--?[A-Za-z]+)"),
+            ("man/urlcheck-documents.1", r"^\.B[IR]* (\\-.*)", r"(?<![a-z-])--?[A-Za-z]+"),
             ("completions/urlcheck-documents.bash", r"^ *\*\) words='(.*?)'", r"\S+"),
-            ("completions/_urlcheck-documents", r"^    (.*)", r"(?<=[',{*])--?[a-z]+(?=[\[=,}])"),
-            ("completions/urlcheck-documents.fish", r"^complete -c urlcheck-documents(.*) -d", r" (-[sl] [a-z]+)"),
+            ("completions/_urlcheck-documents", r"^    (.*)", r"(?<=[',{*])--?[A-Za-z]+(?=[\[=,}])"),
+            ("completions/urlcheck-documents.fish", r"^complete -c urlcheck-documents(.*) -d", r" (-[sl] [A-Za-z]+)"),
         ):
             with self.subTest(path), open(os.path.join(TOP, path), encoding="utf-8") as file:
                 parts = "\n".join(re.findall(part, file.read(), re.M)).replace("\\-", "-")
@@ -169,10 +249,11 @@ class Words(Texts):
 
     def test_values_of_options(self):
         """The completions have the values that the help names, of each option that takes one of several."""
-        shown = self.run_on("--help")[1]
-        wanted = {name: set(values.split(",")) for name, values in re.findall(r"^  --([a-z]+) \{(.*)\}", shown, re.M)}
+        helped = re.split(r"^  (?=-)", self.run_on("--help")[1], flags=re.M)
+        shown = [re.match(r"--([a-z]+) [A-Z]+ .*?: (.*); without it ", " ".join(it.split())) for it in helped]
+        wanted = {it.group(1): set(re.split(", | or ", it.group(2))) for it in shown if it}
         self.assertEqual(wanted["columns"], {"code-points", "bytes", "utf16", "screen"})
-        self.assertLessEqual({"format", "profile", "type"}, set(wanted))
+        self.assertEqual({"columns", "format", "profile", "type"}, set(wanted))
         for path, pattern in (
             ("completions/urlcheck-documents.bash", r"--([a-z]+)\) words='(.*?)'"),
             ("completions/_urlcheck-documents", r"--([a-z]+)=\[.*?\]:[A-Z]+:\((.*?)\)"),
@@ -214,6 +295,24 @@ class Words(Texts):
         self.assertIn("1 ignored", self.run_on("--ignore", "patterns", "a.html")[2])
         self.write("wrong", "(\n")
         self.assertEqual(self.run_on("--ignore", "wrong", "a.html")[0], 2)
+
+    def test_the_file_of_ignored_links(self):
+        """A byte order mark is no part of its first line; a line ends with LF, CR LF or CR; a place is told."""
+        self.write("a.html", '<a href="{{ a }}"><a href="b c"><a href="\ufeffd">')
+        for patterns, count in (("\ufeff^\\{\\{\n", 1), ("\ufeff# ^b\n^b", 1), ("\ufeff\n", 0), ("^b\r\n^\\{\r\n", 2),
+                                ("^b\r^\\{", 2), ("\n\ufeff\n", 1), ("b\x0b\n", 0), ("", 0)):
+            with self.subTest(patterns):
+                self.write("patterns", patterns)
+                counts = "urlcheck-documents: 1 document, 3 links, {} ignored\n".format(count)
+                self.assertEqual(self.run_on("--ignore", "patterns", "a.html")[2], counts)
+        for data, wanted in (
+            (b"\xef\xbb\xbf(", "1: no regular expression: "), (b"a\r\n(\r\n", "2: no regular expression: "),
+            (b"\xef\xbb\xbf\xc3\xa9\xff", "1:2: this isn't UTF-8"), (b"\n\xc3", "2:1: this isn't UTF-8"),
+        ):
+            self.write("p\x1b", data)
+            status, out, said = self.run_on("--ignore", "p\x1b", "a.html")
+            wanted = "urlcheck-documents: p\ufffd:" + wanted
+            self.assertEqual((status, out, said[: len(wanted)], said.count("\n")), (2, "", wanted, 1))
 
     def test_several_files_of_ignored_links(self):
         """Each file counts, as one file of all their lines would."""
