@@ -12,16 +12,16 @@ _HIDDEN = re.compile("[\x00-\x08\x0a-\x1f\x7f-\x9f\u061c\u200e\u200f\u2028-\u202
 
 def result(found: Finding) -> str:
     """The lines on a link that is refused."""
-    shown = window(found.text, found.place)
+    link = window(found.text, found.place)
     at = found.place if len(found.text) <= MOST_SHOWN else min(found.place, MOST_SHOWN // 2)
-    lines = [found.as_line(_shown(readable(found.name))), _shown(shown), _below(shown[:at]) + "^"]
+    lines = [found.as_line(shown(readable(found.name))), shown(link), _below(link[:at]) + "^"]
     if found.mended is not None:
-        lines.append("help: write " + _shown(window(found.mended.text, found.place)))
+        lines.append("help: write " + shown(window(found.mended.text, found.place)))
     return "".join(line + "\n" for line in lines)
 
 
-def _shown(text: str) -> str:
-    """A text as a screen may show it: U+FFFD stands for what is hidden."""
+def shown(text: str) -> str:
+    """A text as a screen may show it: U+FFFD stands for a control but the tab, and for what turns its direction."""
     return _HIDDEN.sub("\ufffd", text)
 
 

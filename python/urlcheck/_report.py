@@ -1,6 +1,5 @@
 """Reports on links that are refused, in each format, as ``urlcheck lint`` writes them."""
 
-import re
 from typing import Callable, Dict, NamedTuple, Tuple
 
 from . import _caret, _sarif
@@ -32,8 +31,8 @@ class Format(NamedTuple):
 
 
 def named(name: str) -> str:
-    """A document's name as lines show it: U+FFFD stands for a control."""
-    return re.sub("[\x00-\x1f\x7f-\x9f]", "\ufffd", name)
+    """A document's name as lines show it, in the place of whose controls and turns of direction U+FFFD stands."""
+    return _caret.shown(name)
 
 
 def _gnu(found: Finding) -> str:

@@ -108,6 +108,9 @@ def _found(source: Source, data: bytes, kind: str) -> Found:
     return Found(source, *_markdown_links.links_of(source), None)
 
 
+_CONTROL = re.compile("[\x00-\x1f\x7f-\x9f]")
+"""What no located line can hold in the name of its file."""
+
 _PLACE = re.compile(":[0-9]+:[0-9]+:")
 """What ends the name of the file in a located line."""
 
@@ -164,17 +167,17 @@ class Run:
     def take(self, name: str) -> None:
         """Writes the located links of a document or, with a judge, what is wrong with them."""
         shown = named(name)
-        for taken in apart(lambda: self._parts(name, shown)):
+        for taken in apart(lambda: self._parts(name)):
             self.counts.add(taken)
             self._report.add(taken.lines)
             if taken.fault is not None:
                 is_input = name == "-" and taken.fault.startswith(": ")
                 tell(("standard input" if is_input else shown or "''") + taken.fault)
 
-    def _parts(self, name: str, shown: str) -> Iterator[Taken]:
+    def _parts(self, name: str) -> Iterator[Taken]:
         """What a document gives, part by part."""
         try:
-            found = self._read(name, shown)
+            found = self._read(name)
         except Unread as reason:
             yield nothing(str(reason))
             return
@@ -191,20 +194,20 @@ class Run:
             if self._is_left_out(found, link):
                 part.add_ignored()
             else:
-                part.add(self._said(name, shown, places, link), self._judge is not None)
+                part.add(self._said(name, places, link), self._judge is not None)
             if part.is_full():
                 yield part.taken()
                 part = Part(0)
         yield part.taken(None if found.broken is None else _stopped(places, found.broken))
 
-    def _said(self, name: str, shown: str, places: Places, link: Link) -> str:
+    def _said(self, name: str, places: Places, link: Link) -> str:
         """The lines on a link: none where a judge finds it valid."""
         if self._judge is None:
-            return located(shown, places, link) + "\n"
+            return located(name, places, link) + "\n"
         finding = self._judge.finding(name, places, link)
         return self._settings.format.said(finding) if finding else ""
 
-    def _read(self, name: str, shown: str) -> Found:
+    def _read(self, name: str) -> Found:
         if os.path.isdir(name):
             raise Unread(no_document(name, not self._settings.excluded))
         kind = self._settings.kind or kind_of(name)
@@ -214,7 +217,7 @@ class Run:
             says = "it has no name that says its kind" if name == "-" else "its name's end says no kind"
             more = "; urlcheck lint judges a list of links" if is_list(name) else ""
             raise Unread(says + ": give --type html, xml or markdown" + more)
-        if self._judge is None and shown != name:
+        if self._judge is None and _CONTROL.search(name):
             raise Unread("its name has a control, which no located line can hold")
         place = _PLACE.search(name + ":1:1:")
         if self._judge is None and place is not None and place.start() != len(name):

@@ -7,6 +7,7 @@
 import importlib.util
 import json
 import os
+import re
 import subprocess
 import sys
 import unittest
@@ -236,7 +237,8 @@ class Alone(Reported):
         """A control in a name, and what isn't UTF-8: as each format writes them, and in `gnu` as without a format."""
         for name, gnu, text, path, attribute in (
             ("a\nb.html", "a\ufffdb.html", "a\nb.html", "a%0Ab.html", "a&#10;b.html"),
-            ("\t\x1b\x7f.html", "\ufffd\ufffd\ufffd.html", "\t\x1b\x7f.html", "%09%1B%7F.html", "&#9;\ufffd\x7f.html"),
+            ("\t\x1b\x7f.html", "\t\ufffd\ufffd.html", "\t\x1b\x7f.html", "%09%1B%7F.html", "&#9;\ufffd\x7f.html"),
+            ("a\u202eb.html", "a\ufffdb.html", "a\u202eb.html", "a%E2%80%AEb.html", "a\u202eb.html"),
             (b"\xff\xe9.html", os.fsdecode(b"\xff\xe9.html"), "\ufffd\ufffd.html", "%FF%E9.html", "\ufffd\ufffd.html"),
         ):
             self.write(name, "<a href='a b'>")
@@ -250,7 +252,7 @@ class Alone(Reported):
                 place = self.results(name)[0]["locations"][0]["physicalLocation"]
                 self.assertEqual(place["artifactLocation"]["uri"], path)
                 self.assertIn('<file name="{}">\n'.format(attribute), self.reported("checkstyle", name))
-                shown = text.replace("\n", "\ufffd").replace("\x1b", "\ufffd").replace("\x7f", "\ufffd")
+                shown = re.sub("[\n\x1b\x7f\u202e]", "\ufffd", text)
                 self.assertTrue(self.reported("caret", name).startswith(shown + ":1:11: error: "))
 
     def test_documents_that_are_not_read(self):
