@@ -10,7 +10,7 @@ from ._folders import KINDS, Excluded
 from ._judge import SOMEWHERE
 from ._report import FORMATS, Format, named
 from ._source import Foreign, decoded
-from ._streams import reason_of, stop
+from ._streams import flush, reason_of, stop, write
 from ._wrong import Parser, chosen
 
 
@@ -147,9 +147,22 @@ def _parser() -> Parser:
         "folder, matches; it may be given more than once",
     )
     add("-q", "--quiet", action="store_true", help="leave out the counts on standard error")
-    add("-h", "--help", action="help", help="print this help")
-    add("-V", "--version", action="version", version="urlcheck-documents " + version(), help="print the version")
+    add("-h", "--help", action=_Printed, help="print this help")
+    add("-V", "--version", action=_Printed, const="urlcheck-documents " + version() + "\n", help="print the version")
     return parser
+
+
+class _Printed(argparse.Action):
+    """An option that prints a text, or the help, and ends the program. (Argparse's own hold their peace where that can't be
+    written.)"""
+
+    def __init__(self, option_strings: List[str], dest: str, const: Optional[str] = None, help: str = "") -> None:
+        super().__init__(option_strings, argparse.SUPPRESS, 0, const, argparse.SUPPRESS, help=help)
+
+    def __call__(self, parser: argparse.ArgumentParser, *given: object) -> None:
+        write((self.const or parser.format_help()).encode())
+        flush()
+        raise SystemExit(0)
 
 
 def _listed(names: List[str]) -> str:

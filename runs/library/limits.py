@@ -152,17 +152,18 @@ class Limits(Texts):
 
     def test_full_output(self):
         self.write("a.html", "<a href=x>")
-        with open("/dev/full", "wb") as full:
-            ran = subprocess.run([*PROGRAM, "a.html"], cwd=self.room, stdout=full, stderr=subprocess.PIPE)
-        self.assertEqual(ran.returncode, 3)
-        self.assertIn(b"urlcheck-documents: standard output: can't be written: no space is left\n", ran.stderr)
+        for words in (["a.html"], ["--help"], ["-V"]):
+            with open("/dev/full", "wb") as full:
+                ran = subprocess.run([*PROGRAM, *words], cwd=self.room, stdout=full, stderr=subprocess.PIPE)
+            self.assertEqual(ran.returncode, 3)
+            self.assertIn(b"urlcheck-documents: standard output: can't be written: no space is left\n", ran.stderr)
 
     def test_closed_files(self):
         """Where a file of the three was closed before the start: a status of the page, and no traceback."""
         self.write("a.html", "<a href='x y'>")
         for closed, words, wanted in (
-            ("0", "--type html -", 2), ("1", "a.html", 3), ("1", "--check a.html", 3), ("2", "--check a.html", 1),
-            ("12", "a.html", 3), ("012", "--type html -", 2), ("02", "a.html", 0),
+            ("0", "--type html -", 2), ("1", "a.html", 3), ("1", "--help", 3), ("1", "--check a.html", 3),
+            ("2", "--check a.html", 1), ("12", "a.html", 3), ("012", "--type html -", 2), ("02", "a.html", 0),
         ):
             with self.subTest(closed=closed, words=words):
                 shut = "".join(" {}>&-".format(number) for number in closed)
