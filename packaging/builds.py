@@ -1,11 +1,18 @@
 """The builds of the crates: which crate stands on which, which libraries are built, and building them side by side.
 
 It is called at the top of the repository, by ./build-program and packaging/build-crate.
+
+A crate is built in one of two ways. Each proves it. The first way is for whoever wants the program or a library: it
+leaves of each library its statements, which is what the crates above it cite, so these don't load its proofs. The
+second is for whoever works on the crates: `rt` takes from their folders out/ what earlier checks kept, and keeps there
+what it proves. It is taken where a check has kept anything.
 """
 
 import fcntl
+import functools
 import os
 import shutil
+import signal
 import subprocess
 import sys
 import tempfile
@@ -14,8 +21,11 @@ from concurrent.futures import FIRST_COMPLETED, ThreadPoolExecutor, wait
 
 PROGRAM = "urlcheck"
 
-# The folders in which crates are built: no check looks below an out/.
+# The folders in which crates are built by `rt`: no check looks below an out/.
 BUILDS = f"crates/{PROGRAM}/out/builds"
+
+# What a check of one crate takes at most, in bytes.
+MEMORY = 2_400_000_000
 
 
 def listed():
@@ -137,61 +147,149 @@ def take(name):
     shutil.rmtree(f"{BUILDS}/{name}", ignore_errors=True)
 
 
-def build(needs, name, jobs):
-    """Proves and builds one crate. Returns whether that went well, how long it took, and what was said."""
-    command = ["rt", "lib", "--jobs", str(jobs)]
-    if name == PROGRAM:
-        # (its check reads all that it links, which more jobs would each do again)
-        command = ["rt", "run", "--jobs", "1", "--", "check", "urn:isbn:0451450523"]
-    started = time.monotonic()
-    folder = apart(needs, name)
+@functools.cache
+def kit():
+    """The toolchain's folder."""
+    said = subprocess.run(["rt", "doc"], stdout=subprocess.PIPE, text=True, check=True).stdout
+    return os.path.dirname(said.strip())
+
+
+def words_of(needs, name):
+    """The words that tell `rattle build` what the crate consists of and stands on, as `rt` gives them."""
+    kind, uses = listed()[name]
+    at = {it: os.path.abspath(rlib(it)) for it in needs}
+    root = "src/main.rt" if os.path.exists(f"crates/{name}/src/main.rt") else "src/lib.rt"
+    words = ["--crate-name", name, root]
+    words += ["--crate-type", "staticlib"] if kind == ["staticlib"] else []
+    for it in ["std", *uses]:
+        words += ["--extern", f"{it}={at.get(it, f'{kit()}/rlibs/{it}.rlib')}"]
+    for folder in [f"{kit()}/rlibs", *(os.path.dirname(at[it]) for it in below(needs, name)[:-1])]:
+        words += ["-L", f"dependency={folder}"]
+    words += ["--antt-project", f"{kit()}/rattle/logic/antt-project.json", "--logic-built", f"{kit()}/logic_built"]
+    return [*words, "--links", f"{name}="]
+
+
+def said_by(command, folder):
+    """Runs a command in a folder. Returns its status and what it said."""
     with tempfile.TemporaryFile("w+", errors="replace") as said:
         ran = subprocess.run(command, cwd=folder, stdin=subprocess.DEVNULL, stdout=said, stderr=subprocess.STDOUT)
-        if ran.returncode == 0:
-            take(name)
         said.seek(0)
-        return ran.returncode == 0, time.monotonic() - started, said.read()
+        return ran.returncode, said.read()
+
+
+def build_statements(needs, name, jobs):
+    """Proves a crate over the statements of those below it, and builds it. Returns the status, and what was said."""
+    folder = f"crates/{name}"
+    shutil.rmtree(f"{folder}/out/rlib", ignore_errors=True)
+    os.makedirs(f"{folder}/out/rlib")
+    command = [f"{kit()}/bin/rattle", "build", *words_of(needs, name)]
+    if name == PROGRAM:
+        command += ["--toolchain", f"{kit()}/toolchain", "-o", f"out/{name}.o"]
+    else:
+        command += ["--statements", "-o", f"out/rlib/{name}.rlib"]
+    status, said = said_by([*command, "--jobs", str(jobs)], folder)
+    if status == -signal.SIGKILL and jobs > 1:
+        # (most likely for want of memory)
+        status, said = said_by([*command, "--jobs", "1"], folder)
+    if status == 0 and name == PROGRAM:
+        status, said = linked(name)
+    return status, said
+
+
+def linked(name):
+    """Links the program. Returns the status, and what was said."""
+    command = [f"{kit()}/bin/rattle-link", "--target", "x86_64-unknown-linux-gnu", "--toolchain", f"{kit()}/toolchain"]
+    libraries = [f"{kit()}/c/libos_c.a", f"{kit()}/c/liblibc_c.a"]
+    return said_by([*command, "-o", f"out/{name}", f"out/{name}.o", *libraries], f"crates/{name}")
+
+
+def build_over_kept(needs, name, jobs):
+    """Proves and builds a crate by `rt`, over what earlier checks kept. Returns the status, and what was said."""
+    command = ["rt", "lib", "--jobs", str(jobs)]
+    if name == PROGRAM:
+        # (its check reads all that it links, with all proofs, which more jobs would each do again)
+        command = ["rt", "run", "--jobs", "1", "--", "check", "urn:isbn:0451450523"]
+    status, said = said_by(command, apart(needs, name))
+    if status == 0:
+        take(name)
+    return status, said
+
+
+def are_kept(names):
+    """Whether a check has kept in any of these libraries what a later one takes."""
+    kept = [f"crates/{it}/out/incremental" for it in names if it != PROGRAM]
+    return any(os.path.isdir(it) and os.listdir(it) for it in kept)
+
+
+def stale(needs, names):
+    """The crates of these that have to be built, lowest first: a source of theirs is newer, or one below them is built."""
+    found = []
+    for name in names:
+        made = f"crates/{name}/out/{name}" if name == PROGRAM else rlib(name)
+        if set(needs[name]) & set(found) or not is_fresh(made, below(needs, name)):
+            found.append(name)
+    return found
+
+
+def lanes():
+    """How many checks may run side by side: one a processor, as far as memory allows."""
+    processors = len(os.sched_getaffinity(0))
+    with open("/proc/meminfo", encoding="ascii") as file:
+        available = next((int(line.split()[1]) * 1024 for line in file if line.startswith("MemAvailable:")), 0)
+    return max(1, min(processors, available // MEMORY))
 
 
 def minutes(seconds):
     return f"{int(seconds) // 60} min {int(seconds) % 60:02} s" if seconds >= 60 else f"{int(seconds)} s"
 
 
-def build_in_lanes(needs, names):
+def build(way, needs, name, jobs):
+    """Builds a crate so. Returns whether that went well, how long it took, and what was said."""
+    started = time.monotonic()
+    status, said = way(needs, name, jobs)
+    return status == 0, time.monotonic() - started, said
+
+
+def build_in_lanes(needs, names, way):
     """Builds the crates, each once those below it are built. Returns a crate that failed and what was said, if one did."""
-    cost, left, done, running, started = chains(needs, names), list(names), set(), {}, time.monotonic()
-    lanes = len(os.sched_getaffinity(0))
-    with ThreadPoolExecutor(lanes) as pool:
+    cost, left, running, started = chains(needs, names), list(names), {}, time.monotonic()
+    most = lanes()
+    print(f"urlcheck: crates to prove and build: {len(names)}, {most} side by side", file=sys.stderr, flush=True)
+    with ThreadPoolExecutor(most) as pool:
         while left or running:
-            ready = sorted((it for it in left if done.issuperset(needs[it])), key=lambda it: -cost[it])
-            idle = lanes - sum(jobs for _, jobs in running.values())
+            waited = {*left, *(it for it, _ in running.values())}
+            ready = sorted((it for it in left if waited.isdisjoint(needs[it])), key=lambda it: -cost[it])
+            idle = most - sum(jobs for _, jobs in running.values())
             # the crate that most others wait for gets half of the processors, and what the others leave it; each of them
             # takes one
             is_longest = not running or bool(ready) and cost[ready[0]] > max(cost[it] for it, _ in running.values())
             while ready and idle > 0:
                 name = ready.pop(0)
-                jobs = min(idle, max(1, lanes // 2, idle - len(ready))) if is_longest else 1
+                jobs = min(idle, max(1, most // 2, idle - len(ready))) if is_longest else 1
                 is_longest = False
                 idle -= jobs
                 left.remove(name)
-                running[pool.submit(build, needs, name, jobs)] = name, jobs
+                running[pool.submit(build, way, needs, name, jobs)] = name, jobs
             for task in wait(running, return_when=FIRST_COMPLETED).done:
                 name, _ = running.pop(task)
                 is_well, took, said = task.result()
                 if not is_well:
                     pool.shutdown(wait=False, cancel_futures=True)
                     return name, said
-                done.add(name)
+                count = f"{len(names) - len(left) - len(running)} of {len(names)}"
                 so_far = f"{minutes(time.monotonic() - started)} so far"
-                said = f"urlcheck: {len(done)} of {len(names)}: {name} in {minutes(took)}, {so_far}"
-                print(said, file=sys.stderr, flush=True)
+                print(f"urlcheck: {count}: {name} in {minutes(took)}, {so_far}", file=sys.stderr, flush=True)
     return None
 
 
-def build_all(needs, names):
-    """Builds the crates side by side, and returns whether all are built. Standard error says what failed."""
+def build_all(needs, names, keeps=False):
+    """Builds these crates side by side, and keeps what later checks take, where that is asked for or they kept anything.
+    Returns whether all are built. Standard error says what failed.
+    """
+    keeps = keeps or are_kept(names)
+    some, way = (names, build_over_kept) if keeps else (stale(needs, names), build_statements)
     try:
-        failed = build_in_lanes(needs, names)
+        failed = build_in_lanes(needs, some, way)
     finally:
         shutil.rmtree(BUILDS, ignore_errors=True)
     if failed:
