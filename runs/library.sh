@@ -90,7 +90,7 @@ if command -v pkg-config >/dev/null && command -v cc >/dev/null; then
 else
     echo "library: the lines that build a program are left out, since pkg-config or cc isn't installed"
 fi
-for tests in documents words limits errors; do
+for tests in documents standards words limits errors; do
     python3 $tests.py >"$room/tests" 2>&1 || { cat "$room/tests"; exit 1; }
 done
 # What is said of a link in each format is what `lint` says of it where it stands.

@@ -14,6 +14,20 @@ MOST_MEMORY = 480 * 1024 * 1024
 """How many bytes of memory the program may have."""
 
 
+class Fault(NamedTuple):
+    """Why a document wasn't read to its end."""
+
+    reason: str
+    line: Optional[int] = None
+    """The line where its reader stopped, from 1, if it had begun."""
+    column: Optional[int] = None
+    """The column there, from 1."""
+
+    def behind(self) -> str:
+        """What is said behind the document's name."""
+        return ": " + self.reason if self.line is None else ":{}:{}: {}".format(self.line, self.column, self.reason)
+
+
 class Taken(NamedTuple):
     """What a part of a document has given."""
 
@@ -23,8 +37,8 @@ class Taken(NamedTuple):
     refused: int
     ignored: int
     lines: bytes
-    fault: Optional[str] = None
-    """What is said behind its name where it wasn't read to its end: the place where the reader stopped, and why."""
+    fault: Optional[Fault] = None
+    """Why it wasn't read to its end, if it wasn't."""
 
 
 class Part:
@@ -52,7 +66,7 @@ class Part:
         """Whether it has as many bytes as a part is to have."""
         return len(self._lines) >= _ENOUGH
 
-    def taken(self, fault: Optional[str] = None) -> Taken:
+    def taken(self, fault: Optional[Fault] = None) -> Taken:
         """What it has given."""
         return Taken(self._documents, self._links, self._refused, self._ignored, bytes(self._lines), fault)
 
@@ -66,7 +80,7 @@ Parts = Callable[[], Iterator[Taken]]
 
 def nothing(reason: str) -> Taken:
     """What a document gives that isn't read."""
-    return Taken(0, 0, 0, 0, b"", ": " + reason)
+    return Taken(0, 0, 0, 0, b"", Fault(reason))
 
 
 def apart(parts: Parts) -> Iterator[Taken]:

@@ -5,7 +5,7 @@ from html.entities import html5
 from html.parser import HTMLParser
 from typing import Dict, Iterator, List, Match, Optional, Set, Tuple
 
-from ._source import IGNORE, SPACES, Broken, Link, Source, base_of, stripped, words_of
+from ._source import IGNORE, SPACES, Broken, Link, NamedBase, Source, Written, base_of, read, words_of
 
 URLS: Dict[str, Set[str]] = {
     "action": {"form"},
@@ -15,7 +15,7 @@ URLS: Dict[str, Set[str]] = {
     "itemid": set(),
     "manifest": {"html"},
     "poster": {"video"},
-    "src": {"audio", "embed", "iframe", "image", "img", "input", "script", "source", "track", "video"},
+    "src": {"audio", "embed", "frame", "iframe", "image", "img", "input", "script", "source", "track", "video"},
     "href": set(),
     "xlink:href": set(),
 }
@@ -39,8 +39,17 @@ _REFERENCE = re.compile(
     r"&(?:#(?P<digits>[0-9]+);?|#[xX](?P<hex>[0-9A-Fa-f]+);?|(?P<name>[A-Za-z][A-Za-z0-9]*)(?P<end>[;=]?))"
 )
 _TAG_NAME = re.compile(r"<[A-Za-z][^ \t\n\f\r/>]*")
-_REFRESH = re.compile(r"\s*[0-9.]*\s*[;,]?\s*(?:url\s*=\s*)?(?P<quote>[\"']?)", re.IGNORECASE)
-_DESCRIPTORS = re.compile(r"(?:\([^)]*\)?|[^,(])*,?")
+# What stands before the URL of a refresh: a time, what ends it, and perhaps `url=` and a quote.
+_REFRESH = re.compile(
+    r"{0}*(?:[0-9]|(?=\.))[0-9.]*(?=[{1};,]){0}*[;,]?{0}*(?:url{0}*={0}*)?(?P<quote>[\"']?)".format(
+        "[" + SPACES + "]", SPACES
+    ),
+    re.IGNORECASE,
+)
+# The descriptors of an image candidate, up to a comma, and one of them: parentheses keep spaces and commas.
+_DESCRIPTORS = re.compile(r"(?:\([^)]*\)?|[^,(])*")
+_DESCRIPTOR = re.compile(r"(?:\([^)]*\)?|[^,(" + SPACES + "])+")
+_LIKE_DESCRIPTOR = re.compile(r"[-+]?[0-9.]+(?:e[-+]?[0-9]+)?[a-z]{0,2}|[wxh][0-9.]*", re.IGNORECASE)
 
 
 MOST_OUTSIDE_QUOTES = 1024 * 1024
@@ -81,7 +90,7 @@ class _Reader(HTMLParser):
         self._source = source
         self._first_line, column = source.position(start)
         self._first_column = column - 1
-        self._base: Optional[str] = None
+        self._base: Optional[NamedBase] = None
 
     def _offset(self) -> int:
         """Where what is being read begins in the source."""
@@ -93,18 +102,18 @@ class _Reader(HTMLParser):
             return
         seen: Set[str] = set()
         content, is_refresh = None, False
-        for name, value, offset, is_verbatim in _values(self.get_starttag_text() or "", self._offset()):
+        for name, value, written in _values(self.get_starttag_text() or "", self._offset()):
             if name in seen:
                 continue
             seen.add(name)
             if name == "content":
-                content = value, offset, is_verbatim
+                content = value, written
             elif name == "http-equiv":
                 is_refresh = value.strip(SPACES).lower() == "refresh"
             else:
-                self._take(tag, name, value, offset, is_verbatim)
+                self._take(tag, name, value, written)
         if tag == "meta" and is_refresh and content:
-            self._take_refresh(*content)
+            self.links += refreshes(*content, self._base)
 
     def handle_startendtag(self, tag: str, attrs: List[Tuple[str, Optional[str]]]) -> None:
         self.handle_starttag(tag, attrs)
@@ -114,34 +123,18 @@ class _Reader(HTMLParser):
             line, _ = self._source.position(self._offset())
             self.ignored.add(line + data.count("\n") + 1)
 
-    def _take(self, tag: str, name: str, value: str, offset: int, is_verbatim: bool) -> None:
+    def _take(self, tag: str, name: str, value: str, written: Written) -> None:
         """Takes the links of an attribute's value."""
         if has(URLS, name, tag):
-            link = stripped(value, offset, is_verbatim, None if tag == "base" else self._base)
+            link = written.stripped(value, None if tag == "base" else self._base)
             self.links.append(link)
             # The first base with an href counts.
             if tag == "base" and name == "href" and self._base is None:
                 self._base = base_of(link.text)
         elif has(LISTS, name, tag):
-            for word, at in words_of(value):
-                self._add(word, at, offset, is_verbatim)
+            self.links += [written.link(word, at, self._base) for word, at in words_of(value)]
         elif has(CANDIDATES, name, tag):
-            for word, at in candidates(value):
-                self._add(word, at, offset, is_verbatim)
-
-    def _take_refresh(self, value: str, offset: int, is_verbatim: bool) -> None:
-        """Takes the link of a refresh: what follows the time, ``;`` and ``url=``."""
-        found = _REFRESH.match(value)
-        assert found
-        link = value[found.end() :]
-        if found["quote"] and found["quote"] in link:
-            link = link[: link.index(found["quote"])]
-        if link.strip(SPACES):
-            self._add(link.rstrip(SPACES), found.end(), offset, is_verbatim)
-
-    def _add(self, word: str, at: int, offset: int, is_verbatim: bool) -> None:
-        """Adds a link that begins at a place of a value."""
-        self.links.append(Link(word, offset + at if is_verbatim else offset, is_verbatim, self._base))
+            self.links += [written.link(word, at, self._base) for word, at in candidates(value)]
 
     # What has no end reaches to the document's end, as in the HTML Standard's tokenizer; so nothing is read twice.
 
@@ -175,23 +168,34 @@ def has(table: Dict[str, Set[str]], name: str, tag: str) -> bool:
     return name in table and (not table[name] or tag in table[name])
 
 
-def _values(raw: str, offset: int) -> Iterator[Tuple[str, str, int, bool]]:
-    """The attributes of a start tag that begins there: name, value, the value's place, and whether it is verbatim."""
+def refreshes(value: str, written: Written, base: Optional[NamedBase]) -> List[Link]:
+    """The link of a refresh, as the HTML Standard finds it in section 4.2.5.3, or none."""
+    found = _REFRESH.match(value)
+    if not found:
+        return []
+    link = value[found.end() :]
+    if found["quote"]:
+        link = link.partition(found["quote"])[0]
+    at = found.end() + len(link) - len(link.lstrip(SPACES))
+    return [written.link(link.strip(SPACES), at, base)] if link.strip(SPACES) else []
+
+
+def _values(raw: str, offset: int) -> Iterator[Tuple[str, str, Written]]:
+    """The attributes of a start tag that begins there: name, value, and where the value stands."""
     tag = _TAG_NAME.match(raw)
     for found in _ATTRIBUTE.finditer(raw, tag.end() if tag else 0):
         name, kind = found["name"].lower(), found.lastgroup or "name"
         if kind == "name":
             # (without a value it has the empty one, which stands nowhere)
-            yield name, "", offset + found.end(kind), False
-            continue
-        value = unescaped(found[kind])
-        yield name, value, offset + found.start(kind), value == found[kind]
+            yield name, "", Written(offset + found.end(kind), False)
+        else:
+            yield (name, *unescaped(found[kind], offset + found.start(kind)))
 
 
-def unescaped(value: str) -> str:
-    """An attribute's value with its character references read, as the HTML Standard reads them in attributes: a name
-    that no ``;`` ends stays where ``=``, a letter or a digit follows, as in ``?a=1&lt=2``."""
-    return _REFERENCE.sub(_referred, value) if "&" in value else value
+def unescaped(raw: str, offset: int) -> Tuple[str, Written]:
+    """An attribute's value that stands there, with its character references read as the HTML Standard reads them in
+    attributes: a name that no ``;`` ends stays where ``=``, a letter or a digit follows, as in ``?a=1&lt=2``."""
+    return read(raw, offset, _REFERENCE, _referred) if "&" in raw else (raw, Written(offset, True))
 
 
 def _referred(found: Match[str]) -> str:
@@ -216,7 +220,12 @@ def _numbered(number: int) -> str:
 
 
 def candidates(value: str) -> Iterator[Tuple[str, int]]:
-    """The URLs of image candidates, each with where it begins: a URL, spaces, descriptors, a comma."""
+    """The links of image candidates, each with where it begins. A list is taken apart as the HTML Standard parses a
+    ``srcset``: commas and spaces, a URL, and descriptors up to a comma; a URL that ends in a comma has none.
+
+    Words that are no descriptors belong to the link, as of ``my photo.png 1x``: the Standard has no such candidate, and
+    its author meant a URL with a space.
+    """
     at = 0
     while at < len(value):
         if value[at] in SPACES + ",":
@@ -225,9 +234,17 @@ def candidates(value: str) -> Iterator[Tuple[str, int]]:
         start = at
         while at < len(value) and value[at] not in SPACES:
             at += 1
-        url = value[start:at].rstrip(",")
-        yield url, start
-        if len(url) == at - start:
-            # (spaces and parentheses alone keep a comma from ending the candidate)
+        end = start + len(value[start:at].rstrip(","))
+        if end == at:
             found = _DESCRIPTORS.match(value, at)
             at = found.end() if found else at
+            for word in _DESCRIPTOR.finditer(value, end, at):
+                if _is_like_descriptor(word.group()):
+                    break
+                end = word.end()
+        yield value[start:end], start
+
+
+def _is_like_descriptor(word: str) -> bool:
+    """Whether a word is a descriptor, or was perhaps to be one: a number, perhaps with a unit, or with parentheses."""
+    return word.endswith(")") or _LIKE_DESCRIPTOR.fullmatch(word) is not None

@@ -1,13 +1,13 @@
 """What is wrong with the links of documents."""
 
 import re
-from typing import Dict, Optional
+from typing import Dict, List, Optional
 
 from . import Base, BaseRefused, Mended, Profile, check, mend, resolve
 from ._columns import Places
 from ._finding import Finding, Region
 from ._message import message
-from ._source import Link
+from ._source import Link, NamedBase
 
 SOMEWHERE = "https://example.com/"
 """What a reference is judged against where neither the document nor the caller names a base."""
@@ -15,8 +15,8 @@ SOMEWHERE = "https://example.com/"
 MOST_MENDED = 65_536
 """How many bytes a link may have for which a text is sought to write in its place."""
 
-_PATH = re.compile("([^:]*:(?://[^/?#]*)?/).*")
-"""A URL whose path isn't opaque, and what stands up to its path's first ``/``."""
+_HEAD = re.compile("[^:]*:(?://[^/?#]*)?")
+"""What a URL's text begins with: its scheme and, where it has one, its host."""
 
 
 class Judge:
@@ -26,26 +26,33 @@ class Judge:
         self._outer = Base(base or SOMEWHERE, profile)
         self._profile = profile
         self._has_mended = has_mended
-        self._bases: Dict[str, Base] = {}
+        self._bases: Dict[NamedBase, Base] = {}
 
-    def _base(self, named: Optional[str]) -> Base:
-        """What a link is judged against: the base that its document names, read against the caller's, if valid."""
-        if named is None:
-            return self._outer
-        if named not in self._bases:
-            found = resolve(named, self._outer, self._profile)
-            self._bases[named] = self._held(found) if isinstance(found, str) else self._outer
-        return self._bases[named]
+    def _base(self, named: Optional[NamedBase]) -> Base:
+        """What a link is judged against: each base that its document names is read against the one around it, and the
+        outermost against the caller's. One that isn't valid is passed over."""
+        inner: List[NamedBase] = []
+        while named is not None and named not in self._bases:
+            inner.append(named)
+            named = named.around
+        base = self._outer if named is None else self._bases[named]
+        for named in reversed(inner):
+            found = resolve(named.text, base, self._profile)
+            base = self._held(found, base) if isinstance(found, str) else base
+            self._bases[named] = base
+        return base
 
-    def _held(self, base: str) -> Base:
-        """A base by the text of its URL. Of a text that the profile doesn't take, as http://h//a of http://h/x/..//a,
-        what stands before its path and a path of /: a verdict asks for no more."""
-        for text in (base, _PATH.sub("\\1", base)):
-            try:
-                return Base(text, self._profile)
-            except BaseRefused:
-                pass
-        return self._outer
+    def _held(self, text: str, around: Base) -> Base:
+        """A base by the text of its URL. Where the path isn't opaque, a path of / is held in its place: a verdict asks
+        for no more. So bases within bases get no longer, and a path that no profile takes, as that of http://h//a by
+        http://h/x/..//a, is none."""
+        head = _HEAD.match(text)
+        if head and ("/" in head[0] or text.startswith("/", head.end())):
+            text = head[0] + "/"
+        try:
+            return Base(text, self._profile)
+        except BaseRefused:
+            return around
 
     def finding(self, name: str, places: Places, link: Link) -> Optional[Finding]:
         """What is wrong with a link of the document of that name, if something is."""
@@ -53,8 +60,7 @@ class Judge:
         answer = check(link.text, base, self._profile)
         if answer:
             return None
-        offset = link.offset + answer.place if link.is_verbatim else link.offset
-        line, column = places.position(offset)
+        line, column = places.position(link.place(answer.place))
         said = message(link.text, answer.rule, answer.place, self._profile)
         mended = self._mended(link.text, base)
         region = None if mended is None else _region(places, link)

@@ -127,7 +127,7 @@ class _Reader:
 
     def _take_html(self, start: int, end: int) -> None:
         links, ignored, _ = _html_links.links_of(self._source, start, end)
-        self.links += [Link(link.text, link.offset, link.is_verbatim) for link in links]
+        self.links += [link._replace(base=None) for link in links]
         self.ignored |= ignored
 
     def _offset(self, line: int, content: str, at: int) -> Optional[int]:

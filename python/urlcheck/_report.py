@@ -1,8 +1,9 @@
 """Reports on links that are refused, in each format, as ``urlcheck lint`` writes them."""
 
-from typing import Callable, Dict, NamedTuple, Tuple
+from typing import Callable, Dict, NamedTuple, Optional, Tuple
 
 from . import _caret, _sarif
+from ._apart import Fault
 from ._columns import Unit
 from ._finding import Finding, carried, compact, is_cut, readable
 
@@ -24,6 +25,8 @@ class Format(NamedTuple):
     """Whether it says what to write in place of a link."""
     units: Tuple[Unit, ...] = tuple(Unit)
     """What its columns may count."""
+    unread: Callable[[str, Fault], str] = lambda name, fault: ""
+    """What is said of a document of that name that isn't read to its end: whole lines, without a separator."""
 
     def said(self, found: Finding) -> str:
         """What is said of a link, behind the separator."""
@@ -63,12 +66,21 @@ _IN_PROPERTY = {**_IN_MESSAGE, ":": "%3A", ",": "%2C"}
 
 def _github(found: Finding) -> str:
     """A workflow command of GitHub."""
-    return "::error file={},line={},col={},title={}::{}\n".format(
-        _escaped(readable(found.name), _IN_PROPERTY),
-        found.line,
-        found.column,
-        _escaped(found.rule, _IN_PROPERTY),
-        _escaped(found.message, _IN_MESSAGE),
+    return _command(found.name, (found.line, found.column), found.rule, found.message)
+
+
+def _github_unread(name: str, fault: Fault) -> str:
+    """The same of a document that isn't read to its end, which GitHub shows at the first line of its file or where the
+    reader stopped."""
+    place = None if fault.line is None or fault.column is None else (fault.line, fault.column)
+    return _command(name, place, "not-read", fault.reason)
+
+
+def _command(name: str, place: Optional[Tuple[int, int]], title: str, message: str) -> str:
+    file = _escaped(readable(name), _IN_PROPERTY)
+    at = "" if place is None else ",line={},col={}".format(*place)
+    return "::error file={}{},title={}::{}\n".format(
+        file, at, _escaped(title, _IN_PROPERTY), _escaped(message, _IN_MESSAGE)
     )
 
 
@@ -96,7 +108,7 @@ FORMATS = {
     "gnu": Format(_gnu),
     "caret": Format(_caret.result, has_mended=True),
     "json": Format(_json, has_mended=True),
-    "github": Format(_github),
+    "github": Format(_github, unread=_github_unread),
     "sarif": Format(
         _sarif.result, _sarif.begin, _sarif.end, separator=",", has_mended=True, units=tuple(_sarif.COLUMN_KINDS)
     ),

@@ -3,7 +3,8 @@
 import bisect
 import codecs
 import re
-from typing import Iterator, List, NamedTuple, Optional, Tuple
+import sys
+from typing import Callable, Iterator, List, Match, NamedTuple, Optional, Pattern, Tuple
 
 SPACES = " \t\n\f\r"
 """What HTML and XML allow around a URL: ASCII whitespace."""
@@ -12,6 +13,17 @@ IGNORE = "urlcheck: ignore"
 """What a comment says on the line before a link that is meant as it is."""
 
 _WORD = re.compile("[^" + SPACES + "]+")
+
+
+class NamedBase:
+    """A base that a document names. Each one is equal to itself alone."""
+
+    __slots__ = ("text", "around")
+
+    def __init__(self, text: str, around: "Optional[NamedBase]" = None) -> None:
+        self.text = text
+        self.around = around
+        """The base that the document names around it, which its text is relative to."""
 
 
 class Link(NamedTuple):
@@ -23,8 +35,73 @@ class Link(NamedTuple):
     """Where it begins in the source, in code points from 0."""
     is_verbatim: bool
     """Whether it stands in the source as it is, so that a place within it is one of the source."""
-    base: Optional[str] = None
-    """What the document says that it is relative to, alone or against the document's own address."""
+    base: Optional[NamedBase] = None
+    """What the document says that it is relative to."""
+    pieces: "Pieces" = ()
+    """Of a link that isn't verbatim its pieces, if they are known."""
+
+    def place(self, at: int) -> int:
+        """Where a place of the link stands in the source, or its beginning where that isn't known."""
+        if self.is_verbatim:
+            return self.offset + at
+        return _place(self.pieces, at) if self.pieces else self.offset
+
+
+Pieces = Tuple[Tuple[int, int], ...]
+"""Where a text stands in the source that is written otherwise than it is read: each piece of it by the places where it
+begins in the text and in the source, the first at 0."""
+
+
+def _place(pieces: Pieces, at: int) -> int:
+    """Where a place of a text stands in the source."""
+    begin, offset = pieces[bisect.bisect_right(pieces, (at, sys.maxsize)) - 1]
+    return offset + at - begin
+
+
+class Written(NamedTuple):
+    """Where a value stands in the source."""
+
+    offset: int
+    is_verbatim: bool
+    pieces: Pieces = ()
+
+    def link(self, text: str, at: int = 0, base: Optional[NamedBase] = None) -> Link:
+        """The link that begins at a place of the value."""
+        if self.is_verbatim:
+            return Link(text, self.offset + at, True, base)
+        if not self.pieces:
+            return Link(text, self.offset, False, base)
+        first = bisect.bisect_right(self.pieces, (at, sys.maxsize))
+        last = bisect.bisect_right(self.pieces, (at + len(text), sys.maxsize))
+        offset = _place(self.pieces, at)
+        inner = tuple((begin - at, place) for begin, place in self.pieces[first:last])
+        return Link(text, offset, False, base, ((0, offset), *inner))
+
+    def stripped(self, value: str, base: Optional[NamedBase] = None) -> Link:
+        """The link of the whole value, without the spaces around it."""
+        return self.link(value.strip(SPACES), len(value) - len(value.lstrip(SPACES)), base)
+
+
+MOST_REFERENCES = 10_000
+"""How many character references a value may have whose places are kept."""
+
+
+def read(raw: str, offset: int, reference: "Pattern[str]", text_of: "Callable[[Match[str]], str]") -> Tuple[str, Written]:
+    """A value that stands there in the source, with its references read, and where its code points stand."""
+    texts: List[str] = []
+    pieces, most = [(0, offset)], 2 * MOST_REFERENCES + 1
+    length = last = 0
+    for found in reference.finditer(raw):
+        text = text_of(found)
+        texts += raw[last : found.start()], text
+        at = length + found.start() - last
+        length, last = at + len(text), found.end()
+        if len(pieces) <= most:
+            pieces += (at, offset + found.start()), (length, offset + last)
+    value = "".join(texts) + raw[last:]
+    if value == raw:
+        return value, Written(offset, True)
+    return value, Written(offset, False, tuple(pieces) if len(pieces) <= most else ())
 
 
 class Broken(ValueError):
@@ -87,22 +164,14 @@ def decoded(data: bytes) -> Source:
         raise Foreign(Source(data[: error.start].decode("utf-8"))) from None
 
 
-def stripped(value: str, offset: int, is_verbatim: bool, base: Optional[str] = None) -> Link:
-    """The link of a value that begins there, without the spaces around it."""
-    link = value.strip(SPACES)
-    if is_verbatim:
-        offset += len(value) - len(value.lstrip(SPACES))
-    return Link(link, offset, is_verbatim, base)
-
-
 _NO_BASE = re.compile("(?:data|javascript):", re.IGNORECASE)
 """How the text of a ``base`` begins that says nothing."""
 
 
-def base_of(text: str) -> str:
-    """What a ``base`` of a page says, as the HTML Standard has it in section 4.2.3: one whose scheme is ``data`` or
+def base_of(text: str) -> NamedBase:
+    """What a ``base`` of a page names, as the HTML Standard has it in section 4.2.3: one whose scheme is ``data`` or
     ``javascript`` says nothing, and no further one counts."""
-    return "" if _NO_BASE.match(text) else text
+    return NamedBase("" if _NO_BASE.match(text) else text)
 
 
 def words_of(value: str) -> Iterator[Tuple[str, int]]:

@@ -1,11 +1,12 @@
 """The links of an XML document, by Python's own ``xml.parsers.expat``: sitemaps, RSS, Atom, XHTML, SVG and XLink."""
 
 import re
+from itertools import accumulate
 from typing import Dict, List, Optional, Set, Tuple
 from xml.parsers import expat
 
 from . import _html_links
-from ._source import IGNORE, Broken, Link, Source, base_of, stripped, words_of
+from ._source import IGNORE, Broken, Link, NamedBase, Pieces, Source, Written, base_of, read, words_of
 
 Name = Tuple[str, str]
 """A namespace and a local name."""
@@ -42,6 +43,7 @@ ATTRIBUTES: Dict[Name, Set[str]] = {
     (MEDIA, "thumbnail"): {"url"},
     (ATOM, "link"): {"href"},
     (ATOM, "content"): {"src"},
+    (ATOM, "generator"): {"uri"},
 }
 """The attributes of no namespace whose value is a URL, by their element."""
 
@@ -50,6 +52,8 @@ QUALIFIED = {(XLINK, "href"), (RDF, "about"), (RDF, "resource")}
 
 OF_PAGES = {XHTML, SVG, MATHML}
 """The namespaces of the elements that a page may have, whose links are relative to the ``base`` of XHTML."""
+
+_REFERENCE = re.compile("&[^;]*;|\r\n")
 
 # The start of a start tag, and an attribute of it; both are well-formed.
 _NAME = re.compile(r"<[^\s/>]+")
@@ -92,9 +96,10 @@ class _Reader:
         self._is_ascii = len(data) == len(source.text)
         self._seen_bytes = 0
         self._seen_points = 0
-        # What `xml:base` says of each element that isn't ended, and what the first `base` of XHTML says.
-        self._bases: List[Optional[str]] = [None]
-        self._page_base: Optional[str] = None
+        # What `xml:base` names for each element that isn't ended, and what the first `base` of XHTML names.
+        self._bases: List[Optional[NamedBase]] = [None]
+        self._page_base: Optional[NamedBase] = None
+        self._named: Dict[Tuple[str, Optional[NamedBase]], NamedBase] = {}
         self._is_rss = False
         # The text of the element that is being read, if it is a URL: its pieces with their places.
         self._pieces: Optional[List[Tuple[str, int]]] = None
@@ -145,40 +150,43 @@ class _Reader:
             base = self._take_attributes(element, names, attributes[1::2])
         self._bases.append(base)
 
-    def _take_attributes(self, element: Name, names: List[Name], values: List[str]) -> Optional[str]:
-        """Takes the links of a start tag, and gives what ``xml:base`` says within the element."""
+    def _take_attributes(self, element: Name, names: List[Name], values: List[str]) -> Optional[NamedBase]:
+        """Takes the links of a start tag, and gives what ``xml:base`` names within the element."""
         base = self._bases[-1]
-        if not any(_is_url(element, it) or it == (XML, "base") for it in names):
+        is_meta = element == (XHTML, "meta")
+        if not is_meta and not any(_is_url(element, it) or it == (XML, "base") for it in names):
             return base
-        places = self._places(self._offset())
-        for name, value, (raw, offset) in zip(names, values, places):
+        places = self._places(self._offset(), values)
+        for name, value, written in zip(names, values, places):
             if name == (XML, "base"):
-                self.links.append(stripped(value, offset, raw == value, base))
-                base = self.links[-1].text
-        for name, value, place in zip(names, values, places):
+                around = self._of_element(element, base)
+                self.links.append(written.stripped(value, around))
+                key = self.links[-1].text, around
+                base = self._named.setdefault(key, NamedBase(*key))
+        for name, value, written in zip(names, values, places):
             if _is_url(element, name):
-                self._take(element, name[1], value, place, base)
+                self._take(element, name[1], value, written, base)
+            elif is_meta and name == ("", "content") and _is_refresh(names, values):
+                self.links += _html_links.refreshes(value, written, self._of_element(element, base))
         return base
 
-    def _take(self, element: Name, name: str, value: str, place: Tuple[str, int], base: Optional[str]) -> None:
-        """Takes the links of an attribute's value, which is written so in the source, at that place."""
-        tag, (raw, offset) = element[1], place
-        is_verbatim = raw == value
+    def _of_element(self, element: Name, base: Optional[NamedBase]) -> Optional[NamedBase]:
+        """What is named for an element by ``xml:base`` around it, else by the ``base`` of its page."""
+        return self._page_base if base is None and element[0] in OF_PAGES else base
+
+    def _take(self, element: Name, name: str, value: str, written: Written, base: Optional[NamedBase]) -> None:
+        """Takes the links of an attribute's value."""
         if (element, name) == ((XHTML, "base"), "href"):
-            self._take_base(stripped(value, offset, is_verbatim, base))
+            # (which is relative to the document's address, whatever stands around it)
+            self._take_base(written.stripped(value))
             return
-        if base is None and element[0] in OF_PAGES:
-            base = self._page_base
-        words = None
-        if element[0] == XHTML and _html_links.has(_html_links.LISTS, name, tag):
-            words = words_of(value)
-        elif element[0] == XHTML and _html_links.has(_html_links.CANDIDATES, name, tag):
-            words = _html_links.candidates(value)
-        if words is None:
-            self.links.append(stripped(value, offset, is_verbatim, base))
-            return
-        for word, at in words:
-            self.links.append(Link(word, offset + at if is_verbatim else offset, is_verbatim, base))
+        base = self._of_element(element, base)
+        if element[0] == XHTML and _html_links.has(_html_links.LISTS, name, element[1]):
+            self.links += [written.link(word, at, base) for word, at in words_of(value)]
+        elif element[0] == XHTML and _html_links.has(_html_links.CANDIDATES, name, element[1]):
+            self.links += [written.link(word, at, base) for word, at in _html_links.candidates(value)]
+        else:
+            self.links.append(written.stripped(value, base))
 
     def _take_base(self, link: Link) -> None:
         """Takes what a ``base`` of XHTML says: the first one counts."""
@@ -186,15 +194,15 @@ class _Reader:
         if self._page_base is None:
             self._page_base = base_of(link.text)
 
-    def _places(self, start: int) -> List[Tuple[str, int]]:
-        """The values of the start tag at that place, but for namespaces: each as it is written, and where it begins."""
-        places = []
+    def _places(self, start: int, values: List[str]) -> List[Written]:
+        """Where the values of the start tag at that place stand, but for namespaces."""
+        places: List[Written] = []
         name = _NAME.match(self._source.text, start)
         found = name and _ATTRIBUTE.match(self._source.text, name.end())
         while found:
             if found["name"] != "xmlns" and not found["name"].startswith("xmlns:"):
                 kind = found.lastgroup or "double"
-                places.append((found[kind], found.start(kind)))
+                places.append(_written(found[kind], found.start(kind), values[len(places)]))
             found = _ATTRIBUTE.match(self._source.text, found.end())
         return places
 
@@ -208,18 +216,38 @@ class _Reader:
             self._pieces = None
             return
         value = "".join(piece for piece, _ in self._pieces)
-        first = next((place + len(piece) - len(piece.lstrip()) for piece, place in self._pieces if piece.strip()), None)
-        if first is not None:
-            link = value.strip()
-            is_verbatim = self._source.text.startswith(link, first)
-            self.links.append(Link(link, first, is_verbatim, base))
+        link = Written(0, False, _places_of(self._pieces)).stripped(value, base)
         self._pieces = None
+        if link.text:
+            is_verbatim = self._source.text.startswith(link.text, link.offset)
+            self.links.append(Link(link.text, link.offset, True, base) if is_verbatim else link)
+
+
+def _places_of(read_pieces: List[Tuple[str, int]]) -> Pieces:
+    """Where a text stands that was read in these pieces, each with its place."""
+    lengths = accumulate((len(piece) for piece, _ in read_pieces[:-1]), initial=0)
+    return tuple(zip(lengths, (place for _, place in read_pieces)))
+
+
+def _written(raw: str, offset: int, value: str) -> Written:
+    """Where an attribute's value stands, which is written so."""
+    if raw == value:
+        return Written(offset, True)
+    # (each reference stands for a code point, and so does the end of a line)
+    text, found = read(raw, offset, _REFERENCE, lambda _: "x")
+    pieces = ((0, offset),) if found.is_verbatim else found.pieces
+    return Written(offset, False, pieces if len(text) == len(value) else ())
 
 
 def _split(name: str) -> Name:
     """A name's namespace and local name."""
     namespace, _, local = name.rpartition(" ")
     return namespace, local
+
+
+def _is_refresh(names: List[Name], values: List[str]) -> bool:
+    """Whether the attributes are those of a refresh."""
+    return any(name == ("", "http-equiv") and value.lower() == "refresh" for name, value in zip(names, values))
 
 
 def _is_url(element: Name, name: Name) -> bool:

@@ -15,7 +15,7 @@ from typing import Iterator, List, NamedTuple, Optional, Set
 
 from . import BaseRefused, Profile, check
 from . import _html_links, _markdown_links, _xml_links
-from ._apart import MOST_MEMORY, Part, Taken, apart, has_come, nothing
+from ._apart import MOST_MEMORY, Fault, Part, Taken, apart, has_come, nothing
 from ._columns import Places
 from ._folders import documents_of, is_list, kind_of, no_document
 from ._judge import Judge
@@ -122,14 +122,13 @@ def located(name: str, places: Places, link: Link) -> str:
     return "{}:{}:{}:{}".format(name, line, column, re.sub("[\r\n]", "\t", link.text))
 
 
-def _placed(places: Places, offset: int, said: str) -> str:
-    """What is said behind a document's name of a place in it."""
-    line, column = places.position(offset)
-    return ":{}:{}: {}".format(line, column, said)
+def _placed(places: Places, offset: int, reason: str) -> Fault:
+    """Why a document can't be read to its end, which is found at a place of it."""
+    return Fault(reason, *places.position(offset))
 
 
-def _stopped(places: Places, broken: Broken) -> str:
-    """What is said behind a document's name where its reader stopped."""
+def _stopped(places: Places, broken: Broken) -> Fault:
+    """Why a document can't be read from where its reader stopped."""
     return _placed(places, broken.offset, "can't be read from here on: " + broken.reason)
 
 
@@ -171,8 +170,9 @@ class Run:
             self.counts.add(taken)
             self._report.add(taken.lines)
             if taken.fault is not None:
-                is_input = name == "-" and taken.fault.startswith(": ")
-                tell(("standard input" if is_input else shown or "''") + taken.fault)
+                self._report.add(self._settings.format.unread(name, taken.fault).encode("utf-8"))
+                is_input = name == "-" and taken.fault.line is None
+                tell(("standard input" if is_input else shown or "''") + taken.fault.behind())
 
     def _parts(self, name: str) -> Iterator[Taken]:
         """What a document gives, part by part."""

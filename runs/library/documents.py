@@ -98,7 +98,7 @@ NOTES_LINKS = """1:13:http://h/a%20b
 class Documents(Texts):
     def test_html(self):
         self.finds("a.html", PAGE, PAGE_LINKS)
-        self.judges("a.html", [("3:48", "code-point"), ("4:11", "code-point"), ("5:49", "code-point"),
+        self.judges("a.html", [("3:48", "code-point"), ("4:18", "code-point"), ("5:49", "code-point"),
                                ("9:26", "code-point"), ("11:40", "code-point")])
 
     def test_empty_links_of_html(self):

@@ -206,20 +206,22 @@ class Alone(Reported):
             {"deletedRegion": deleted, "insertedContent": {"text": text}}]}], "description": {"text": said[kind]}}
 
     def test_character_references(self):
-        """The place is the value's beginning, the texts are those that were read, and no fix writes them."""
+        """The place is that in the source, the texts are those that were read, and no fix writes them."""
         self.write("a.html", "<a href='a&amp;b c'><a href='?a&b c'>")
         first, second = self.reported("json", "a.html").splitlines()
-        self.assertEqual(first, '{"column":10,"cut":false,"file":"a.html","kind":"same","line":1,"mended":"a&b%20c",'
+        self.assertEqual(first, '{"column":17,"cut":false,"file":"a.html","kind":"same","line":1,"mended":"a&b%20c",'
                          '"message":"U+0020 SPACE may not stand in a URL","rule":"code-point","text":"a&b c"}')
         self.assertEqual(json.loads(second)["column"], 34)
         first, second = self.results("a.html")
-        self.assertEqual(first["locations"][0]["physicalLocation"]["region"], {"startColumn": 10, "startLine": 1})
+        self.assertEqual(first["locations"][0]["physicalLocation"]["region"], {"startColumn": 17, "startLine": 1})
         self.assertEqual((first["properties"]["text"], "fixes" in first), ("a&b c", False))
         self.assertEqual(second["fixes"], [self.fix("a.html", (1, 30, 1, 36), "?a&b%20c", "same")])
         caret = self.reported("caret", "a.html").splitlines()
         self.assertEqual(caret[1:4], ["a&b c", "   ^", "help: write a&b%20c"])
         self.write("b.xml", "<urlset><loc>http://h/?a&amp;b c</loc></urlset>")
-        self.assertNotIn("fixes", self.results("b.xml")[0])
+        (found,) = self.results("b.xml")
+        self.assertNotIn("fixes", found)
+        self.assertEqual(found["locations"][0]["physicalLocation"]["region"], {"startColumn": 31, "startLine": 1})
         # Without the tab `&amp;` would stand there, which is read as another link.
         self.write("c.html", "<a href='a&am\tp;'>")
         self.assertEqual(json.loads(self.reported("json", "c.html"))["mended"], "a&amp;")
@@ -307,8 +309,8 @@ class Alone(Reported):
                 self.assertEqual(self.run_on(*words, "a.html")[1].split(b":")[2], str(link).encode())
                 self.assertEqual(self.run_on(*words, "--check", "a.html")[1].split(b":")[2], str(place).encode())
                 found = [json.loads(self.reported("json", "--columns", unit, name)) for name in ("a.html", "b.html")]
-                # (where the value has references, the place is its beginning)
-                self.assertEqual([it["column"] for it in found], [place, link])
+                # (a reference of five code points of ASCII stands before the second)
+                self.assertEqual([it["column"] for it in found], [place, place + 5])
                 self.assertIn(",col={},".format(place), self.reported("github", "--columns", unit, "a.html"))
                 self.assertIn(' column="{}" '.format(place), self.reported("checkstyle", "--columns", unit, "a.html"))
                 if unit in UNITS_OF_SARIF:

@@ -65,6 +65,39 @@ class Limits(Texts):
         wanted = "urlcheck-documents: a.html:2:1: this isn't UTF-8\n" + counts
         self.assertEqual(self.run_on("a.html", "b.html"), (2, "b.html:1:9:x\n", wanted))
 
+    def test_what_github_shows(self):
+        """A document that isn't read to its end has an annotation behind those of its links, and a line as by all formats."""
+        self.write("a,b.html", "<a href='x y'>")
+        self.write("broken.xml", "<urlset>\n<loc>http://h/ a</loc><b></urlset>")
+        self.write("c.html", b"<a href='x y'>\n\xff")
+        self.write("d.html", "<a href='x y'>\n<p \U0001f600 " + "<a " * 400_000 + ">")
+        os.mkdir(os.path.join(self.room, "100%"))
+        at = ["::error file=a%2Cb.html,line=1,col=11,title=code-point::U+0020 SPACE may not stand in a URL",
+              "::error file=missing.html,title=not-read::can't be read: there is no such file",
+              "::error file=broken.xml,line=2,col=15,title=code-point::U+0020 SPACE may not stand in a URL",
+              "::error file=broken.xml,line=2,col=28,title=not-read::can't be read from here on: mismatched tag",
+              "::error file=c.html,line=2,col=1,title=not-read::this isn't UTF-8",
+              "::error file=d.html,line=1,col=11,title=code-point::U+0020 SPACE may not stand in a URL",
+              "::error file=d.html,line=2,col=1,title=not-read::can't be read from here on: a tag has more than 1048576 "
+              "code points",
+              "::error file=100%25,title=not-read::has no document: no name in this folder ends in .html, "]
+        status, out, said = self.run_on("-q", "--check", "--format", "github", "a,b.html", "missing.html", "broken.xml",
+                                        "c.html", "d.html", "100%")
+        lines = out.splitlines()
+        self.assertEqual((status, len(lines), lines[:-1]), (2, len(at), at[:-1]))
+        self.assertEqual(lines[-1][:len(at[-1])], at[-1])
+        self.assertEqual(said.count("\n"), 5)
+        self.assertIn("urlcheck-documents: broken.xml:2:28: can't be read from here on: mismatched tag\n", said)
+        # (a name with a line's end is one annotation)
+        found = self.run_on("-q", "--check", "--format", "github", "x\ny.html")
+        self.assertEqual(found[1], "::error file=x%0Ay.html,title=not-read::can't be read: there is no such file\n")
+        found = self.run_on("-q", "--check", "--format", "github", "-")
+        self.assertEqual(found[1], "::error file=-,title=not-read::it has no name that says its kind: give --type html, "
+                         "xml or markdown\n")
+        # The other formats have no line for it.
+        for form in ("gnu", "caret", "json"):
+            self.assertEqual(self.run_on("-q", "--check", "--format", form, "missing.html")[:2], (2, ""))
+
     def test_what_is_no_document(self):
         """What is compressed is named as such, and so is a URL: both look like a document to a new user."""
         packed = gzip.compress(b"<urlset><loc>http://h/ a</loc></urlset>")
@@ -250,10 +283,10 @@ class Limits(Texts):
             (lambda: iter([]), 0, None),
         ):
             with self.subTest(fault):
-                faults = [] if fault is None else [": " + fault]
+                faults = [] if fault is None else [_apart.Fault(fault)]
                 self.assertEqual(self.taken(parts), (PART.lines * count, faults))
         _, (fault,) = self.taken(busy)
-        self.assertRegex(fault, "^: takes more than 1 seconds (of processor time )?to read$")
+        self.assertRegex(fault.behind(), "^: takes more than 1 seconds (of processor time )?to read$")
 
     def test_a_slow_reader(self):
         """A report that is read slowly takes no processor time."""
