@@ -143,11 +143,32 @@ class Source:
 
 
 class Foreign(ValueError):
-    """That a text isn't UTF-8 behind its longest beginning that is."""
+    """That a text isn't UTF-8 behind its longest beginning that is, and the encoding that it names, if it does."""
 
-    def __init__(self, before: Source) -> None:
-        super().__init__("this isn't UTF-8")
+    def __init__(self, before: Source, encoding: Optional[str] = None) -> None:
+        super().__init__("this isn't UTF-8" + (_REMEDY.format(encoding) if encoding else ""))
         self.before = before
+
+
+_REMEDY = ", and the document names {0}: iconv -f {0} -t UTF-8 makes it UTF-8, and - reads what that writes"
+
+_ENCODING = re.compile(
+    rb"""\A<\?xml[^>]*?\sencoding\s*=\s*["']([\w.:-]{1,40})["']|<meta\s[^>]*?\bcharset\s*=\s*["']?([\w.:-]{1,40})["'\s/>;]""",
+    re.IGNORECASE,
+)
+"""What names the encoding of a document of XML or HTML."""
+
+_MOST_BEFORE_ENCODING = 1024
+"""How many bytes of a document may stand up to the end of what names its encoding, as in the HTML Standard."""
+
+
+def encoding_of(data: bytes) -> Optional[str]:
+    """The encoding that a document names, if that isn't UTF-8."""
+    if data.startswith((codecs.BOM_UTF16_LE, codecs.BOM_UTF16_BE)):
+        return "UTF-16"
+    found = _ENCODING.search(data[:_MOST_BEFORE_ENCODING])
+    name = (found[1] or found[2]).decode("ascii") if found else ""
+    return name if name.lower() not in ("", "utf-8", "utf8") else None
 
 
 def without_mark(data: bytes) -> bytes:

@@ -21,6 +21,7 @@ XML = "http://www.w3.org/XML/1998/namespace"
 RSS_1 = "http://purl.org/rss/1.0/"
 ITUNES = "http://www.itunes.com/dtds/podcast-1.0.dtd"
 MEDIA = "http://search.yahoo.com/mrss/"
+VIDEO = "http://www.google.com/schemas/sitemap-video/1.1"
 NOWHERE = " "
 """Stands for no namespace, where that means nothing: outside RSS."""
 
@@ -31,6 +32,7 @@ TEXTS: Set[Name] = {
     *(("", name) for name in ("link", "guid", "comments", "docs", "url")),
     *((RSS_1, name) for name in ("link", "url")),
     *((ATOM, name) for name in ("icon", "logo", "uri")),
+    *((VIDEO, name) for name in ("thumbnail_loc", "content_loc", "player_loc")),
 }
 """The elements whose text is a URL, by namespace and name (those of no namespace within ``rss``); and ``loc`` in any
 namespace, for sitemaps and their extensions."""

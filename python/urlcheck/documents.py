@@ -21,7 +21,7 @@ from ._folders import documents_of, is_list, kind_of, no_document
 from ._judge import Judge
 from ._message import message
 from ._report import Report, named
-from ._source import Broken, Foreign, Link, Source, decoded, without_mark
+from ._source import Broken, Foreign, Link, Source, decoded, encoding_of, without_mark
 from ._streams import closed, flush, reason_of, stop, tell, write, write_nowhere
 from ._words import Settings, asked
 
@@ -87,7 +87,10 @@ def links_in(data: bytes, kind: str) -> Found:
         raise Unread("has more than {} MiB".format(MOST_BYTES >> 20))
     if data.startswith(_GZIP):
         raise Unread("is compressed: gzip -dc unpacks it, and - reads what that writes")
-    source = decoded(data)
+    try:
+        source = decoded(data)
+    except Foreign as foreign:
+        raise Foreign(foreign.before, encoding_of(data)) from None
     try:
         return _found(source, without_mark(data), kind)
     except ImportError:

@@ -67,6 +67,13 @@ PODCAST = """<rss xmlns:itunes="http://www.itunes.com/dtds/podcast-1.0.dtd" xmln
 </rss>
 """
 
+VIDEOS = """<urlset xmlns="http://www.sitemaps.org/schemas/sitemap/0.9"
+ xmlns:v="http://www.google.com/schemas/sitemap-video/1.1"><url>
+<v:video><v:thumbnail_loc>http://h/t</v:thumbnail_loc><v:title>no link</v:title>
+<v:content_loc> http://h/ c</v:content_loc>
+<v:player_loc> p</v:player_loc><content_loc>no link</content_loc></v:video></url></urlset>
+"""
+
 NOTES = """# Title [a](http://h/a%20b "t") and <http://h/%4>
 
 > quote [b](<http://h/a b>) text ![img](http://[::1)
@@ -130,6 +137,7 @@ class Documents(Texts):
         self.finds("a.rss", FEED, FEED_LINKS)
         self.judges("a.rss", [("3:18", "code-point"), ("4:51", "port-range"), ("5:62", "percent"), ("6:60", "code-point")])
         self.finds("sitemap.xml", SITEMAP, "2:3:http://h/ b\n")
+        self.finds("videos.xml", VIDEOS, "3:27:http://h/t\n4:17:http://h/ c\n5:16:p\n")
         self.finds("podcast.rss", PODCAST, "2:21:http://h/ b\n4:28:http://h/c\n5:20:d.png\n")
 
     @unittest.skipUnless(importlib.util.find_spec("markdown_it"), "markdown-it-py isn't installed")

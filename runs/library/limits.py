@@ -35,7 +35,7 @@ class Limits(Texts):
         for word in ("missing.html: can't be read: there is no such file",
                      "missing: can't be read: there is no such file",
                      "urlcheck-documents: '': can't be read: there is no such file",
-                     "utf16.html:1:1: this isn't UTF-8\n",
+                     "utf16.html:1:1: this isn't UTF-8, and the document names UTF-16: iconv -f UTF-16 -t UTF-8 makes ",
                      "broken.xml:2:26: can't be read from here on: mismatched tag",
                      "a.txt: its name's end says no kind"):
             self.assertIn(word, said)
@@ -97,6 +97,31 @@ class Limits(Texts):
         # The other formats have no line for it.
         for form in ("gnu", "caret", "json"):
             self.assertEqual(self.run_on("-q", "--check", "--format", form, "missing.html")[:2], (2, ""))
+
+    def test_the_encoding_that_a_document_names(self):
+        """It is said where the document isn't UTF-8, with what makes it so: the place is that of what iconv writes."""
+        remedy = ", and the document names {0}: iconv -f {0} -t UTF-8 makes it UTF-8, and - reads what that writes"
+        for text, place, encoding in (
+            ("<?xml version='1.0' encoding='ISO-8859-1'?>\n<urlset><loc>\xe9 x</loc></urlset>", "2:14", "ISO-8859-1"),
+            ("<!DOCTYPE html>\n<meta charset=windows-1252>\xe9", "2:28", "windows-1252"),
+            ("<META http-equiv='Content-Type' content='text/html; charset=iso-8859-15'>\n\xe9", "2:1", "iso-8859-15"),
+            ("<meta charset='utf-8'>\xe9", "1:23", None),
+            ("<p>\xe9</p><meta name=charset>", "1:4", None),
+            ("<!--" + " " * 1000 + "--><meta charset=latin1>\xe9", "1:1029", None),
+            ("<meta charset='\x1b[31m'>\xe9", "1:23", None),
+        ):
+            wanted = ":{}: this isn't UTF-8{}\n".format(place, remedy.format(encoding) if encoding else "")
+            with self.subTest(text):
+                self.write("a.html", text.encode("latin-1"))
+                self.assertEqual(self.run_on("-q", "a.html"), (2, "", "urlcheck-documents: a.html" + wanted))
+        self.write("a.html", "<a href='x y'>".encode("utf-16-be").join((b"\xfe\xff", b"")))
+        self.assertIn("a.html:1:1: this isn't UTF-8" + remedy.format("UTF-16"), self.run_on("-q", "a.html")[2])
+        # (of a FILE of --ignore there is no such word)
+        self.assertEqual(self.run_on("-q", "--ignore", "a.html", "b.html"),
+                         (2, "", "urlcheck-documents: a.html:1:1: this isn't UTF-8\n"))
+        # What iconv writes is read, whatever it says of itself.
+        latin = "<?xml version='1.0' encoding='ISO-8859-1'?>\n<urlset><loc>\xe9 x</loc></urlset>".encode()
+        self.assertEqual(self.run_on("-q", "--check", "--type", "xml", "-", stdin=latin)[1].split(": error")[0], "-:2:15")
 
     def test_what_is_no_document(self):
         """What is compressed is named as such, and so is a URL: both look like a document to a new user."""
