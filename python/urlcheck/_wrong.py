@@ -31,7 +31,14 @@ class Parser(argparse.ArgumentParser):
         """Says that there is no such option, and which one is near to it."""
         name = named(word.partition("=")[0])
         options = [it for action in self._actions for it in action.option_strings if it.startswith("--")]
-        self.error("there is no option {}{}".format(name, _nearest(name, options)))
+        self.error("there is no option {}{}".format(name, _OF_LINT.get(name) or _nearest(name, options)))
+
+
+_OF_LINT = {
+    "--wide": "; --profile wide is what it stands for",
+    "--all": "; urlcheck lint --located --all - takes the links that are written without --check",
+}
+"""What is said of options of ``urlcheck lint`` for which there is something else."""
 
 
 def chosen(name: str, names: List[str], noun: str, of: str = "") -> str:

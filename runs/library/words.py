@@ -150,8 +150,10 @@ class Words(Texts):
             ("--help=check a.html", "--help takes no value"),
             ("--format json a.html", "--format is for --check"),
             ("--format=gnu -q a.html", "--format is for --check"),
-            ("a.html --all a.html", "there is no option --all"),
-            ("a.html --wide=yes --all", "there is no option --wide"),
+            ("a.html --all a.html", "there is no option --all; urlcheck lint --located --all - takes the links that are "
+             "written without --check"),
+            ("a.html --wide=yes --all", "there is no option --wide; --profile wide is what it stands for"),
+            ("a.html --located", "there is no option --located"),
             ("-x a.html", "there is no option -x"),
             ("--chek a.html", "there is no option --chek; the nearest is --check"),
             ("a.html --Quite=1", "there is no option --Quite; the nearest is --quiet"),
