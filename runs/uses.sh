@@ -83,6 +83,32 @@ if [ $# = 1 ] && has rg; then
     ends 0 'right links in text files' bash -o pipefail ../text.sh
     cd "$room" || exit 1
 fi
+
+# Links of tables and of JSON, in which a wrong one is named, and a file that is none isn't taken for a right one.
+if [ $# = 1 ]; then
+    in_folder tables
+    recipe 'Links in tables and JSON' bash >../table.sh
+    recipe 'Links in tables and JSON' bash 2 >../json.sh
+    printf '\357\273\277url,name\r\nhttps://example.com/,"two\r\nlines"\r\n"http://h/a b",c\r\n' >links.csv
+    ends 1 'links in a table' bash ../table.sh
+    says 'links in a table' 'links.csv:4:11: error: U+0020 SPACE may not stand in a URL [code-point]' \
+        'urlcheck: 2 lines, 1 refused'
+    printf 'name,url\na,https://example.com/\n' >links.csv
+    ends 0 'right links in a table' bash ../table.sh
+    printf 'name,link\na,https://example.com/\n' >links.csv
+    ends any 'a table without the column' bash ../table.sh
+    if has jq; then
+        echo '{"a": ["http://h/b", {"c": "http://h/a b"}], "d": "no link"}' >links.json
+        ends 1 'links in JSON' bash ../json.sh
+        says 'links in JSON' 'links.json:2:11: error: U+0020 SPACE may not stand in a URL [code-point]' \
+            'urlcheck: 2 lines, 1 refused'
+        echo '["http://h/b"]' >links.json
+        ends 0 'right links in JSON' bash ../json.sh
+        echo '["http://h/b"' >links.json
+        ends any 'what is no JSON' bash ../json.sh
+    fi
+    cd "$room" || exit 1
+fi
 if [ -n "${URLCHECK_LIBRARY:-}" ]; then
     in_folder pages
     printf '#!/bin/sh\nPYTHONPATH=%s exec python3 -m urlcheck.documents "$@"\n' "$top/python" >../path/urlcheck-documents
