@@ -47,8 +47,8 @@ _REFRESH = re.compile(
     re.IGNORECASE,
 )
 # The descriptors of an image candidate, up to a comma, and one of them: parentheses keep spaces and commas.
-_DESCRIPTORS = re.compile(r"(?:\([^)]*\)?|[^,(])*")
-_DESCRIPTOR = re.compile(r"(?:\([^)]*\)?|[^,(" + SPACES + "])+")
+_DESCRIPTORS = re.compile(r"(?:\([^)]*\)?|[^,(]+)*")
+_DESCRIPTOR = re.compile(r"(?:\([^)]*\)?|[^,(" + SPACES + "]+)+")
 _LIKE_DESCRIPTOR = re.compile(r"[-+]?[0-9.]+(?:e[-+]?[0-9]+)?[a-z]{0,2}|[wxh][0-9.]*", re.IGNORECASE)
 
 

@@ -342,6 +342,8 @@ class Limits(Texts):
             "unended.html": ("<a " * (10 << 20), 0),
             "attributes.html": ("<a " * (10 << 20) + ">", 2),
             "comments.html": ("<!--" * (7 << 20), 0),
+            "candidates.html": ("<img srcset='a " + "b (c) " * (1 << 20) + "'>", 1),
+            "references.html": ("<a href='" + "&amp;" * (2 << 20) + " x'>", 1),
             "sections.html": ("<![" * (9 << 20) + "><a href='a b'>", 1),
             "big.html": ("x" * (33 << 20), 2),
             "nul.html": ("<a href='a\0b'>", 1),
