@@ -46,9 +46,8 @@ _REFRESH = re.compile(
     ),
     re.IGNORECASE,
 )
-# The descriptors of an image candidate, up to a comma, and one of them: parentheses keep spaces and commas.
-_DESCRIPTORS = re.compile(r"(?:\([^)]*\)?|[^,(]+)*")
-_DESCRIPTOR = re.compile(r"(?:\([^)]*\)?|[^,(" + SPACES + "]+)+")
+# What ends a descriptor of an image candidate, or begins a part of one that no space and no comma ends.
+_BREAK = re.compile("[(," + SPACES + "]")
 _LIKE_DESCRIPTOR = re.compile(r"[-+]?[0-9.]+(?:e[-+]?[0-9]+)?[a-z]{0,2}|[wxh][0-9.]*", re.IGNORECASE)
 
 
@@ -236,13 +235,26 @@ def candidates(value: str) -> Iterator[Tuple[str, int]]:
             at += 1
         end = start + len(value[start:at].rstrip(","))
         if end == at:
-            found = _DESCRIPTORS.match(value, at)
-            at = found.end() if found else at
-            for word in _DESCRIPTOR.finditer(value, end, at):
-                if _is_like_descriptor(word.group()):
-                    break
-                end = word.end()
+            at, end = _ends(value, at)
         yield value[start:end], start
+
+
+def _ends(value: str, at: int) -> Tuple[int, int]:
+    """Where the descriptors end that follow a URL, which ends there, and where the link ends with words of them."""
+    end = start = at
+    is_link = True
+    while True:
+        found = _BREAK.search(value, at)
+        at = found.start() if found else len(value)
+        if found and found.group() == "(":
+            at = value.find(")", at) + 1 or len(value)
+            continue
+        if is_link and start < at:
+            is_link = not _is_like_descriptor(value[start:at])
+            end = at if is_link else end
+        if not found or found.group() == ",":
+            return at, end
+        at = start = at + 1
 
 
 def _is_like_descriptor(word: str) -> bool:
