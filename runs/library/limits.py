@@ -216,6 +216,14 @@ class Limits(Texts):
             self.assertEqual(ran.returncode, 3)
             self.assertIn(b"urlcheck-documents: standard output: can't be written: no space is left\n", ran.stderr)
 
+    def test_a_closed_pipe(self):
+        """Where a reader of the report ends before it, that is the status, and nothing is said of it."""
+        self.write("a.html", "<a href='x y'>\n" * 20_000)
+        for words in ("a.html", "--check a.html", "--check --format sarif a.html"):
+            line = '"{}" -m urlcheck.documents {} | head -c 1 >/dev/null; echo "${{PIPESTATUS[0]}}"'
+            ran = subprocess.run(["bash", "-c", line.format(sys.executable, words)], cwd=self.room, capture_output=True)
+            self.assertEqual((ran.stdout, ran.stderr), (b"3\n", b""), words)
+
     def test_closed_files(self):
         """Where a file of the three was closed before the start: a status of the page, and no traceback."""
         self.write("a.html", "<a href='x y'>")
