@@ -1,6 +1,6 @@
 -- Two texts compared byte by byte.
-use Rattle.std.proofs.Common.{◌≡◌, ◌≢◌, ◌∙◌, ℕ, Bool, true, false, ◌&&◌, not, List, [], ◌∷◌, ◌++◌, append_assoc, ap}
-use Rattle.std.proofs.Common.{zero, suc, nat_le, ◌<◌, ◌==◌, arith, ◌-◌, ◌≤◌, All}
+use Rattle.std.proofs.Common.{◌≡◌, ◌≢◌, ◌∙◌, ℕ, Bool, true, false, ◌&&◌, not, List, [], ◌∷◌, ◌++◌, append-nil, append_assoc, ap}
+use Rattle.std.proofs.Common.{◌||◌, zero, suc, nat_le, ◌<◌, ◌==◌, arith, ◌-◌, ◌≤◌, All}
 use Rattle.std.proofs.Common.{drop, length, take, take_all, get_or, inl, inr, refl, subst, sym}
 use Rattle.std.proofs.lemmas.Bool.{and_from, and_parts, cases_Bool, not-true, true≢false}
 use Rattle.std.proofs.lemmas.Bool.Decides.{nat_tests}
@@ -9,11 +9,13 @@ use Rattle.std.proofs.lemmas.List.Elements.{All-head, All-tail}
 use Rattle.percent_encoding.specs.AsciiSet.{should_percent_encode}
 use Rattle.percent_encoding.specs.Percent.{percent_encode_byte}
 use Rattle.percent_encoding.proofs.PercentLemmas.{All-percent_encode_byte, IsEscapeByte}
+use Rattle.url.specs.Ascii.{backslash, dot, percent_sign, slash}
+use Rattle.url.specs.Path.{dot_len}
 use Rattle.url.proofs.SetLemmas.{kept_from_escape}
 use Rattle.uv_second.specs.declared.written.Part.{Part}
 use Rattle.uv_second.specs.declared.written.Part.TheVariants.{Path, Query, Fragment}
 use Rattle.uv_second.specs.Links.{IsCompared, escape_set, is_common, is_escaped, is_mark, is_plain}
-use Rattle.uv_second.specs.Links.{is_plain_at, part_behind}
+use Rattle.uv_second.specs.Links.{is_plain_at, is_plain_behind, may_follow, part_behind}
 use Rattle.uv_second.specs.Links.{written, written_byte}
 
 -- a first byte and what follows it
@@ -91,6 +93,45 @@ compared_run text other part same (suc count) (b ∷ rest) (c ∷ other_rest) wi
     compared_run text other part same count rest other_rest (omega (arith, within)) (omega (arith, other_within))
     (λ k below. equal (suc k) (omega (arith, below))) (λ k below. common (suc k) (omega (arith, below)))
     (subst (λ p. IsCompared text other p same rest other_rest) (same_part part b (common_no_mark part b here)) next)
+
+-- ---- the same bytes to the ends
+
+-- a byte that may follow another one stands before plain bytes
+pub plain_follows : (before b : ℕ) (rest : List ℕ) → may_follow before b ≡ true → is_plain_behind b rest ≡ true
+    → is_plain_behind before (b ∷ rest) ≡ true
+unfolding is_plain_at
+plain_follows before b rest may plain =
+    let shown = and_parts (nat_le 32 b) _ may in
+    let parts = and_parts (not (b == backslash)) _ shown.1 in
+    let more = and_parts (not (b == slash) || (dot_len rest == 0)) (is_plain rest) plain in
+    let here : is_plain (b ∷ rest) ≡ true =
+    and_from _ _ (and_from _ _ shown.0 (and_from _ _ parts.0 more.0)) more.1 in
+    and_from _ _ (no_dot before b rest parts.1) here
+  where
+    no_dot : (before b : ℕ) (rest : List ℕ)
+        → (not (before == slash) || (not (b == dot) && not (b == percent_sign))) ≡ true
+        → (not (before == slash) || (dot_len (b ∷ rest) == 0)) ≡ true
+    no_dot before b rest may = elim (cases_Bool (before == slash)) [
+      | inr other ↦ rw other refl
+      | inl same ↦
+          let none = and_parts (not (b == dot)) (not (b == percent_sign)) (rw same at may) in
+          rw (same, not-true (b == dot) none.0, not-true (b == percent_sign) none.1) refl
+    ]
+
+-- two texts that end with the same plain bytes are compared to their ends
+pub compared_same : (text other : List ℕ) (part : Part) (same : Bool) (rest : List ℕ) → is_plain rest ≡ true
+    → IsCompared text other part same rest rest → IsCompared text other part same [] []
+compared_same text other part same rest plain so_far = record {
+  plain = λ none. so_far.plain plain;
+  other_plain = λ none. so_far.other_plain plain;
+  alike = λ is.
+      let before = so_far.alike is in (
+        before.0 ++ written part rest,
+        before.1 ∙ sym (append-nil (before.0 ++ written part rest)),
+        before.2 ∙ sym (append-nil (before.0 ++ written part rest)),
+      );
+  differing = so_far.differing;
+}
 
 -- ---- escapes
 

@@ -8,7 +8,7 @@ use Rattle.percent_encoding.specs.declared.ascii_set.AsciiSet.{AsciiSet}
 use Rattle.percent_encoding.specs.AsciiSet.{should_percent_encode}
 use Rattle.percent_encoding.specs.Percent.{encode_byte}
 use Rattle.url.specs.declared.sets.TheConstants.{FRAGMENT, PATH, SPECIAL_QUERY}
-use Rattle.url.specs.Ascii.{backslash, dot, hyphen, number_sign, question_mark, slash, space}
+use Rattle.url.specs.Ascii.{backslash, dot, hyphen, number_sign, percent_sign, question_mark, slash, space}
 use Rattle.url.specs.Host.{IsDomain}
 use Rattle.url.specs.Path.{dot_len}
 use Rattle.uv_second.specs.declared.links.Link.{Link}
@@ -61,6 +61,27 @@ is_common b =
 abbrev pub is_plain : List ℕ → Bool
 is_plain [] = true
 is_plain (b ∷ rest) = is_plain_at b rest && is_plain rest
+
+-- the byte is no control and no backslash, and behind a slash no dot and no start of an escape
+abbrev pub may_follow : ℕ → ℕ → Bool
+may_follow before b =
+    nat_le 32 b && (not (b == backslash)
+    && (not (before == slash) || (not (b == dot) && not (b == percent_sign))))
+
+-- bytes are plain behind another one
+abbrev pub is_plain_behind : ℕ → List ℕ → Bool
+is_plain_behind before rest = (not (before == slash) || (dot_len rest == 0)) && is_plain rest
+
+-- the last of bytes behind another one, which it is where there are none
+abbrev pub last_behind : ℕ → List ℕ → ℕ
+last_behind before [] = before
+last_behind before (b ∷ rest) = last_behind b rest
+
+-- behind another byte the bytes go on plain before any others that are plain behind their last one
+abbrev pub GoesOnPlain : ℕ → List ℕ → Type 0
+GoesOnPlain before bytes =
+    (rest : List ℕ) → is_plain_behind (last_behind before bytes) rest ≡ true
+    → is_plain_behind before (bytes ++ rest) ≡ true
 
 -- a text cut behind its name
 pub record IsLink (text : List ℕ) (link : Link) : Type 0 where

@@ -121,7 +121,8 @@ fn step(state: Compared<'_>) -> Option<Compared<'_>>
         return None;
     };
     if first != second {
-        return escape_step(state);
+        let behind = escape_step(state)?;
+        return Some(behind_same(behind));
     }
     if !is_plain_at(*first, rest) || !is_plain_at(*first, other) {
         return None;
@@ -154,6 +155,92 @@ fn escape_step(state: Compared<'_>) -> Option<Compared<'_>>
         rest,
         other,
     })
+}
+
+// What is left where both go on with the same bytes to their ends: nothing, if these are seen to be plain.
+fn behind_same(state: Compared<'_>) -> Compared<'_>
+    ensures further { (text other : List ℕ)
+        → IsCompared text other state.entry.part state.entry.same state.entry.rest.now state.entry.other.now
+        → IsCompared text other result.part result.same result.rest.now result.other.now }
+    ensures shorter { length result.rest.now ≤ length state.entry.rest.now }
+{
+    if state.rest == state.other && stays_plain(state.rest) {
+        Compared {
+            part: state.part,
+            same: state.same,
+            rest: &[],
+            other: &[],
+        }
+    } else {
+        state
+    }
+}
+
+// Whether bytes are seen to be plain. Of some that are that isn't seen. What is left behind 32 bytes at a time is looked
+// at byte by byte, which costs less than a walk that is made for many.
+fn stays_plain(bytes: &[u8]) -> bool
+    ensures { IsTrue result → is_plain bytes.now ≡ true }
+{
+    let (front, back) = bytes.split_at(bytes.len() - bytes.len() % 32);
+    let (follow, last) = follow_by_lanes(front);
+    follow && follow_by_bytes(last, back)
+}
+
+// Whether bytes are plain behind another one, if each is seen to be.
+fn follow_by_bytes(before: u8, bytes: &[u8]) -> bool
+    ensures { IsTrue result → spec.is_plain_behind before bytes.now ≡ true }
+{
+    let mut before = before;
+    for &byte in bytes {
+        if !may_follow_at_once(before, byte) {
+            return false;
+        }
+        before = byte;
+    }
+    true
+}
+
+// Whether a byte may follow another one, as a small letter may, which is tried first.
+fn may_follow_at_once(before: u8, byte: u8) -> bool
+    ensures { IsTrue result → spec.may_follow before byte ≡ true }
+{
+    byte > b'\\' || may_follow(before, byte)
+}
+
+// Whether bytes go on with plain ones wherever these may follow the last of them, and that last one.
+fn follow_by_lanes(bytes: &[u8]) -> (bool, u8)
+    ensures follow { IsTrue result.0 → spec.GoesOnPlain 0 bytes.now }
+    ensures last { result.1 ≡ spec.last_behind 0 bytes.now }
+{
+    // Each byte is looked at, also behind one that isn't plain: so many are looked at at once.
+    let mut seen = 0;
+    let mut before = 0;
+    for &byte in bytes {
+        seen = behind_pair(seen, before, byte);
+        before = byte;
+    }
+    (seen == 0, before)
+}
+
+// What was seen up to a byte and with it, behind the one before: 0 where each may follow.
+fn behind_pair(seen: u8, before: u8, byte: u8) -> u8
+    ensures { (result == 0) ≡ ((seen == 0) && spec.may_follow before byte) }
+{
+    seen | pair_bit(before, byte)
+}
+
+// 0 for a byte that may follow another one.
+fn pair_bit(before: u8, byte: u8) -> u8
+    ensures { (result == 0) ≡ spec.may_follow before byte }
+{
+    if may_follow(before, byte) { 0 } else { 1 }
+}
+
+// Whether a byte is no control and no backslash, and behind a slash no dot and no start of an escape.
+fn may_follow(before: u8, byte: u8) -> bool
+    ensures { result ≡ spec.may_follow before byte }
+{
+    byte >= b' ' && byte != b'\\' && (before != b'/' || (byte != b'.' && byte != b'%'))
 }
 
 // What stands behind the escape of a byte with which a text begins.
