@@ -3,7 +3,8 @@
 
 use std::process::Abort;
 use std::test::Fail;
-use uv_mend::{MendKind, Mending, mend};
+use uv_grammar::{Verdict, check};
+use uv_mend::{MendKind, Mending, mend, mend_refused};
 use uv_model::{Profile, Rule};
 
 // The text is mended so.
@@ -37,6 +38,23 @@ fn leaves_what_is_valid_or_has_no_edit(rt: HostRuntime) -> Result<(), Fail> {
             assert!(rt; refusal.place == 9 && refusal.rule == Rule::PortDigit);
         }
         _ => panic!(rt; "another answer"),
+    }
+    Ok(())
+}
+
+#[test]
+fn mends_a_text_that_is_known_to_be_refused(rt: HostRuntime) -> Result<(), Fail> {
+    let refused = "http://h/a b";
+    match check(rt.alloc(), refused, None, Profile::Standard)? {
+        Verdict::No(refusal) => {
+            match mend_refused(rt.alloc(), refused, None, Profile::Standard, refusal)? {
+                Mending::Mended { text, kind } => {
+                    assert!(rt; text.as_str() == "http://h/a%20b" && kind == MendKind::Same);
+                }
+                _ => panic!(rt; "another answer"),
+            }
+        }
+        Verdict::Yes(_) => panic!(rt; "a valid text"),
     }
     Ok(())
 }

@@ -1,12 +1,19 @@
 -- A text that is refused, with its edit or without one.
-use Rattle.std.proofs.Common.{◌≡◌, ℕ, suc, List, Option, Some, None, refl}
+use Rattle.std.proofs.Common.{◌≡◌, ℕ, zero, suc, List, Option, Some, None, refl}
 use Rattle.uv_model.specs.declared.profile.Profile.{Profile}
 use Rattle.uv_model.specs.declared.rule.Refusal.{Refusal}
 use Rattle.uv_model.specs.Violations.Violation.{Violation}
 use Rattle.uv_model.specs.Violations.Refusal.{IsLeast}
 use Rattle.uv_model.specs.Records.Url.{Url}
+use Rattle.uv_model.proofs.Violations.ViolationsExcludeParts.{faultless}
 use Rattle.uv_mend.specs.Edits.{edit_of}
-use Rattle.uv_mend.specs.Repairs.{Repairs}
+use Rattle.uv_mend.specs.Repairs.{IsValid, Repairs}
+
+-- nothing is wrong with a valid text
+silent : (profile : Profile) (base : Option Url) (text : List ℕ) → IsValid profile base text
+    → IsLeast (Violation profile base text) None
+silent profile base text valid place rule violation =
+    faultless profile base text place rule violation valid.0 valid.1
 
 -- what further edits make of its edit
 pub repairs-edited : (edits : ℕ) (profile : Profile) (base : Option Url) (text next : List ℕ)
@@ -20,3 +27,9 @@ pub repairs-stuck : (edits : ℕ) (profile : Profile) (base : Option Url) (text 
     (refusal : Refusal) → IsLeast (Violation profile base text) (Some refusal)
     → edit_of base text refusal ≡ None → Repairs (suc edits) profile base text None
 repairs-stuck edits profile base text refusal least is = (Some refusal, least, rw is refl)
+
+-- a valid text is its own answer
+pub repairs-valid : (edits : ℕ) (profile : Profile) (base : Option Url) (text : List ℕ) → IsValid profile base text
+    → Repairs edits profile base text (Some text)
+repairs-valid zero profile base text valid = (None, silent profile base text valid, refl)
+repairs-valid (suc edits) profile base text valid = (None, silent profile base text valid, refl)

@@ -2,6 +2,7 @@
 #![tactic(auto)]
 
 mod answer;
+mod by_escapes;
 mod code_points;
 mod edits;
 mod escaped;
@@ -20,5 +21,5 @@ mod unit_text;
 mod web_links;
 
 pub use answer::Mending;
-pub use mender::mend;
+pub use mender::{mend, mend_refused};
 pub use uv_model::MendKind;

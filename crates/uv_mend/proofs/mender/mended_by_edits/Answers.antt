@@ -3,7 +3,7 @@ use Rattle.std.proofs.Common.{◌≡◌, Some, chars, option_copied, string_byte
 use Rattle.uv_mend.specs.Edits.{cleaned}
 use Rattle.uv_mend.specs.Kinds.{IsKind}
 use Rattle.uv_mend.specs.Repairs.{Repairs, decoded}
-use Rattle.uv_mend.proofs.mender.mend_refused.Goals as goal
+use Rattle.uv_mend.proofs.mender.mended_by_edits.Goals as goal
 
 pub returns-in_ok-kind-in-Some : goal.returns-in_ok-kind-in-Some
 returns-in_ok-kind-in-Some c =
