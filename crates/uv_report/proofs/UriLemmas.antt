@@ -1,12 +1,13 @@
 -- The set of bytes that the code hands to the library is that of the bytes that a path can't hold as they are.
 use Rattle.std.proofs.Common.{◌≡◌, ◌∙◌, ℕ, ◌<◌, ◌≤◌, ◌/◌, ◌%◌, Bool, true, false, not, ◌&&◌, ◌||◌, List, [], ◌∷◌, ◌++◌}
-use Rattle.std.proofs.Common.{refl, sym, ap, inl, inr, arith, lt-ltb, le-ltb, ne_eqb}
+use Rattle.std.proofs.Common.{All, refl, sym, ap, inl, inr, arith, lt-ltb, le-ltb, ne_eqb}
 use Rattle.std.specs.Prelude.{if◌then◌else◌, ◌≢◌, Option, Some, None, MatchOption, option_map}
 use Rattle.std.specs.Borrow.{Bor}
 use Rattle.std.specs.Fmt.{digit_glyph}
 use Rattle.std.specs.List.{list_all}
 use Rattle.std.proofs.lemmas.Bool.{agree_below_at, cases_Bool, cases_lt, cases_eq, false≢true}
 use Rattle.std.proofs.lemmas.Bool.Decides.{nat_tests}
+use Rattle.std.proofs.lemmas.List.Elements.{All-head, All-tail}
 use Rattle.std.proofs.lemmas.List.Folds.{list_all-append}
 use Rattle.percent_encoding.specs.AsciiSet.{contains, should_percent_encode}
 use Rattle.percent_encoding.specs.Percent.{percent_encode_byte, encode_byte, percent_encode}
@@ -43,6 +44,15 @@ unfolding percent_encode uri_part
 percent_encode-uri [] = refl
 percent_encode-uri (b ∷ name) =
     rw (encode_byte-uri b) (ap (λ rest. uri_byte b ++ rest) (percent_encode-uri name))
+
+-- a name of which each byte stays
+pub part_stays : (name : List ℕ) → All (λ b. stays b ≡ true) name → uri_part name ≡ name
+unfolding uri_part
+part_stays [] all = refl
+part_stays (b ∷ name) all =
+    let here : stays b ≡ true = All-head (λ c. stays c ≡ true) b name all in
+    let rest = part_stays name (All-tail (λ c. stays c ≡ true) b name all) in
+    rw here (ap (λ t. b ∷ t) rest)
 
 -- what follows a `/`, by what the library's search says
 pub behind_slash-is : (name : List ℕ) (result : Option (Bor (List ℕ)))

@@ -1,5 +1,5 @@
 //! Diagnostics as compilers write them.
-ghost use Rattle.std.specs.Prelude.{◌≡◌, ◌++◌, OnOk, decimal, string_bytes};
+ghost use Rattle.std.specs.Prelude.{◌≡◌, ◌++◌, ◌+◌, ◌<◌, OnOk, decimal, string_bytes};
 ghost use Rattle.uv_report.specs.Gnu.{gnu_position, gnu_text, gnu_words};
 
 use crate::diagnostic::Diagnostic;
@@ -64,6 +64,39 @@ fn push_words(
 
 /// Pushes a number in decimal digits.
 pub(crate) fn push_number(text: &mut String, number: u64) -> Result<(), AllocError>
+    ensures { OnOk result (string_bytes text.new ≡ string_bytes text.old ++ decimal number) }
+{
+    if number < 100 {
+        push_small_number(text, number)
+    } else {
+        push_large_number(text, number)
+    }
+}
+
+// The same of a number below 100, as columns mostly are.
+fn push_small_number(text: &mut String, number: u64) -> Result<(), AllocError>
+    requires { number < 100 }
+    ensures { OnOk result (string_bytes text.new ≡ string_bytes text.old ++ decimal number) }
+{
+    if number < 10 {
+        text.push(digit(number))?;
+        return Ok(());
+    }
+    text.push(digit(number / 10))?;
+    text.push(digit(number % 10))?;
+    Ok(())
+}
+
+// The digit of a number below 10.
+fn digit(number: u64) -> char
+    requires { number < 10 }
+    ensures { result ≡ 48 + number }
+{
+    (b'0' + number as u8) as char
+}
+
+// The same of any number.
+fn push_large_number(text: &mut String, number: u64) -> Result<(), AllocError>
     ensures { OnOk result (string_bytes text.new ≡ string_bytes text.old ++ decimal number) }
 {
     let mut buffer = Buffer::new();

@@ -13,8 +13,7 @@ ghost use Rattle.uv_report.specs.Window as shown;
 use crate::diagnostic::Diagnostic;
 use crate::gnu::push_number;
 use crate::line_violation::LineViolation;
-use crate::message::message;
-use crate::quoted::{push_plain, push_quoted};
+use crate::quoted::{push_plain, push_quoted, push_quoted_message};
 use crate::window::{is_cut, window};
 use std::alloc::{AllocError, Global};
 use uv_model::{MendKind, Profile};
@@ -29,7 +28,7 @@ pub(crate) fn push_json(
     ensures { OnOk result (string_bytes text.new ≡ string_bytes text.old ++ json_text diagnostic.now) }
 {
     push_object(alloc, text, diagnostic)?;
-    text.push_str("\n")?;
+    text.push('\n')?;
     Ok(())
 }
 
@@ -48,16 +47,17 @@ fn push_object(
     push_kind(text, diagnostic)?;
     push_number_member(text, ",\"line\":", diagnostic.line)?;
     push_mended(alloc, text, diagnostic)?;
-    push_message(
+    push_message_member(
         alloc,
         text,
+        ",\"message\":",
         diagnostic.profile,
         diagnostic.text,
         diagnostic.violation,
     )?;
     push_rule(text, diagnostic.violation)?;
     push_link(alloc, text, diagnostic.text, diagnostic.violation)?;
-    text.push_str("}")?;
+    text.push('}')?;
     Ok(())
 }
 
@@ -156,19 +156,21 @@ fn push_mended(
     }
 }
 
-// Pushes what is reported of a line.
-fn push_message(
+/// Pushes what stands before what is reported of a line, and that as a string of JSON.
+pub(crate) fn push_message_member(
     alloc: Global,
     text: &mut String,
+    before: &str,
     profile: Profile,
     line: &str,
     violation: LineViolation,
 ) -> Result<(), AllocError>
     ensures { OnOk result (string_bytes text.new
-        ≡ string_bytes text.old ++ (codes ",\"message\":" ++ quoted (reported.message profile line.now violation))) }
+        ≡ string_bytes text.old ++ (before.now ++ quoted (reported.message profile line.now violation))) }
 {
-    let message = message(alloc, profile, line, violation)?;
-    push_text_member(alloc, text, ",\"message\":", message.as_str())
+    text.push_str(before)?;
+    push_quoted_message(alloc, text, profile, line, violation)?;
+    Ok(())
 }
 
 // Pushes the name of a violation.

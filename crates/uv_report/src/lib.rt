@@ -38,4 +38,6 @@ pub use line_violation::LineViolation;
 pub use located_fault::LocatedFault;
 pub use mended::Mended;
 pub use message::push_message;
-pub use report::{end_of, push_begin, push_diagnostic, push_file_begin, push_file_end};
+pub use report::{
+    end_of, push_begin, push_diagnostic, push_file_begin, push_file_end, put_diagnostic,
+};

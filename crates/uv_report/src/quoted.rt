@@ -1,10 +1,14 @@
 //! Texts as strings of JSON.
-ghost use Rattle.std.specs.Prelude.{◌≡◌, ◌++◌, ◌&&◌, ◌==◌, OnOk, string_bytes, true};
+ghost use Rattle.std.specs.Prelude.{◌≡◌, ◌++◌, ◌&&◌, ◌==◌, ◌∷◌, IfOk, OnOk, string_bytes, true};
 ghost use Rattle.std.specs.List.{list_all};
+ghost use Rattle.uv_report.specs.Message as reported;
 ghost use Rattle.uv_report.specs.Quoted.{is_plain, quoted};
 
+use crate::line_violation::LineViolation;
+use crate::message::{message, push_message};
 use serde_json::Value;
 use std::alloc::{AllocError, Global};
+use uv_model::Profile;
 
 /// Pushes a text as a string of JSON.
 pub(crate) fn push_quoted(alloc: Global, text: &mut String, value: &str) -> Result<(), AllocError>
@@ -17,14 +21,69 @@ pub(crate) fn push_quoted(alloc: Global, text: &mut String, value: &str) -> Resu
     }
 }
 
+/// Pushes what is reported of a line as a string of JSON. It is pushed where it is to stand, since each byte of it
+/// mostly stands there as it is; else it is made anew.
+pub(crate) fn push_quoted_message(
+    alloc: Global,
+    text: &mut String,
+    profile: Profile,
+    line: &str,
+    violation: LineViolation,
+) -> Result<(), AllocError>
+    ensures { OnOk result (string_bytes text.new
+        ≡ string_bytes text.old ++ quoted (reported.message profile line.now violation)) }
+{
+    let start = text.as_str().len();
+    if push_bare_message(alloc, text, profile, line, violation)? {
+        text.push('"')?;
+        return Ok(());
+    }
+    text.truncate(start);
+    push_value_message(alloc, text, profile, line, violation)
+}
+
+// Pushes `"` and what is reported of a line. Gives whether each byte of that stands in a string of JSON as it is.
+fn push_bare_message(
+    alloc: Global,
+    text: &mut String,
+    profile: Profile,
+    line: &str,
+    violation: LineViolation,
+) -> Result<bool, AllocError>
+    ensures text { IfOk result (λ plain. string_bytes text.new
+        ≡ string_bytes text.old ++ 34 ∷ reported.message profile line.now violation) }
+    ensures plain { IfOk result (λ plain. plain ≡ list_all is_plain (reported.message profile line.now violation)) }
+{
+    text.push('"')?;
+    let start = text.as_str().len();
+    push_message(alloc, text, profile, line, violation)?;
+    let (_, said) = text.as_bytes().split_at(start);
+    Ok(is_plain_text(said))
+}
+
+// Pushes what is reported of a line as a string of JSON by a text of its own.
+fn push_value_message(
+    alloc: Global,
+    text: &mut String,
+    profile: Profile,
+    line: &str,
+    violation: LineViolation,
+) -> Result<(), AllocError>
+    ensures { OnOk result (string_bytes text.new
+        ≡ string_bytes text.old ++ quoted (reported.message profile line.now violation)) }
+{
+    let message = message(alloc, profile, line, violation)?;
+    push_value(alloc, text, message.as_str())
+}
+
 /// Pushes a text as a string of JSON, where each of its bytes stands as it is.
 pub(crate) fn push_plain(text: &mut String, value: &str) -> Result<(), AllocError>
     requires { list_all is_plain value.now ≡ true }
     ensures { OnOk result (string_bytes text.new ≡ string_bytes text.old ++ quoted value.now) }
 {
-    text.push_str("\"")?;
+    text.push('"')?;
     text.push_str(value)?;
-    text.push_str("\"")?;
+    text.push('"')?;
     Ok(())
 }
 

@@ -1,6 +1,6 @@
 //! Reports in any format. A report is a beginning, then for each file its own beginning, its diagnostics and its end,
 //! and then an end.
-ghost use Rattle.std.specs.Prelude.{◌≡◌, ◌++◌, IfOk, OnErr, OnOk, string_bytes};
+ghost use Rattle.std.specs.Prelude.{◌≡◌, ◌++◌, [], IfOk, OnErr, OnOk, string_bytes};
 ghost use Rattle.uv_report.specs.Report.{begin_text, diagnostic_text, end_text, file_begin_text, file_end_text};
 
 use crate::caret::push_caret;
@@ -78,30 +78,54 @@ pub fn push_diagnostic(
         ≡ string_bytes text.old ++ diagnostic_text format is_first diagnostic.now) }
     ensures err { OnErr result (string_bytes text.new ≡ string_bytes text.old) }
 {
-    let reported = text_of(alloc, format, diagnostic, is_first)?;
+    let mut reported = String::new(alloc);
+    put_diagnostic(alloc, &mut reported, format, diagnostic, is_first)?;
     text.push_str(reported.as_str())
 }
 
-// The text of a diagnostic.
-fn text_of(
+/// Puts a diagnostic in the place of what stands in a text, whose memory is kept for it. Where an allocation fails, the
+/// text is empty.
+pub fn put_diagnostic(
     alloc: Global,
+    text: &mut String,
     format: Format,
     diagnostic: &Diagnostic<'_>,
     is_first: bool,
-) -> Result<String, AllocError>
-    ensures { IfOk result (λ reported. string_bytes reported ≡ diagnostic_text format is_first diagnostic.now) }
+) -> Result<(), AllocError>
+    ensures ok { OnOk result (string_bytes text.new ≡ diagnostic_text format is_first diagnostic.now) }
+    ensures err { OnErr result (string_bytes text.new ≡ []) }
+{
+    text.clear();
+    match push_piecewise(alloc, text, format, diagnostic, is_first) {
+        Ok(()) => Ok(()),
+        Err(AllocError) => {
+            text.clear();
+            Err(AllocError)
+        }
+    }
+}
+
+// Pushes a diagnostic piece by piece. Where an allocation fails, a beginning of it was pushed.
+fn push_piecewise(
+    alloc: Global,
+    text: &mut String,
+    format: Format,
+    diagnostic: &Diagnostic<'_>,
+    is_first: bool,
+) -> Result<(), AllocError>
+    ensures { OnOk result (string_bytes text.new
+        ≡ string_bytes text.old ++ diagnostic_text format is_first diagnostic.now) }
 {
     // Room for most diagnostics: what grows piece by piece is moved at many of them.
-    let mut reported = String::with_capacity(alloc, 1_000)?;
+    text.reserve(1_000)?;
     match format {
-        Format::Gnu => push_gnu(alloc, &mut reported, diagnostic)?,
-        Format::Caret => push_caret(alloc, &mut reported, diagnostic)?,
-        Format::Json => push_json(alloc, &mut reported, diagnostic)?,
-        Format::Github => push_github(alloc, &mut reported, diagnostic)?,
-        Format::Sarif => push_sarif(alloc, &mut reported, diagnostic, is_first)?,
-        Format::Checkstyle => push_checkstyle(alloc, &mut reported, diagnostic)?,
+        Format::Gnu => push_gnu(alloc, text, diagnostic),
+        Format::Caret => push_caret(alloc, text, diagnostic),
+        Format::Json => push_json(alloc, text, diagnostic),
+        Format::Github => push_github(alloc, text, diagnostic),
+        Format::Sarif => push_sarif(alloc, text, diagnostic, is_first),
+        Format::Checkstyle => push_checkstyle(alloc, text, diagnostic),
     }
-    Ok(reported)
 }
 
 /// Pushes what stands behind the diagnostics of a file: an end tag in the format of Checkstyle, and nothing in another.

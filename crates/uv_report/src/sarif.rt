@@ -3,26 +3,26 @@ ghost use Rattle.std.specs.Prelude.{◌≡◌, ◌++◌, IfOk, OnOk, Some, codes
 ghost use Rattle.serde_json.specs.Data.{boolean};
 ghost use Rattle.serde_json.specs.View.{view};
 ghost use Rattle.serde_json.specs.Written.{compact_text};
-ghost use Rattle.uv_report.specs.LineViolation.{violation_index, violation_name};
-ghost use Rattle.uv_report.specs.Message as reported;
+ghost use Rattle.uv_report.specs.LineViolation.{violation_index, violation_name, violation_place};
 ghost use Rattle.uv_report.specs.Quoted.{quoted};
 ghost use Rattle.uv_report.specs.Uri.{uri_path};
 ghost use Rattle.uv_report.specs.Sarif as spec;
+ghost use Rattle.uv_report.specs.Window as shown;
 
 use crate::column::Columns;
 use crate::completion::Completion;
 use crate::diagnostic::Diagnostic;
-use crate::json::{push_link, push_number_member, push_plain_member};
+use crate::json::{
+    push_link, push_message_member, push_number_member, push_plain_member, push_text_member,
+};
 use crate::line_violation::LineViolation;
 use crate::located_fault::LocatedFault;
 use crate::mended::Mended;
-use crate::message::message;
-use crate::quoted::push_quoted;
 use crate::uri::push_uri_path;
 use crate::window::is_cut;
 use serde_json::{Value, json};
 use std::alloc::{AllocError, Global};
-use uv_model::{MendKind, Profile, Refusal, Rule};
+use uv_model::{MendKind, Refusal, Rule};
 
 /// Pushes the document up to its results: the version, what columns count, the tool and its rules.
 #[tactic(auto, unfolding(crate::specs::Sarif::sarif_begin))]
@@ -148,11 +148,12 @@ pub(crate) fn push_sarif(
     let separator = if is_first { "" } else { "," };
     text.push_str(separator)?;
     push_result(alloc, text, diagnostic)?;
-    text.push_str("\n")?;
+    text.push('\n')?;
     Ok(())
 }
 
-// Pushes the result of a diagnostic, with a fix where there is a mended text.
+// Pushes the result of a diagnostic, with a fix where there is a mended text. What stands between two values is pushed
+// at once, since each piece costs a call.
 fn push_result(
     alloc: Global,
     text: &mut String,
@@ -162,21 +163,24 @@ fn push_result(
         ≡ string_bytes text.old ++ compact_text (spec.result_value diagnostic.now)) }
 {
     push_result_begin(alloc, text, diagnostic)?;
-    text.push_str("\"level\":\"error\",\"locations\":")?;
-    push_locations(text, diagnostic)?;
-    text.push_str(",\"message\":")?;
-    push_said(
+    text.push_str(
+        "\"level\":\"error\",\"locations\":[{\"physicalLocation\":{\"artifactLocation\":{\"uri\":",
+    )?;
+    push_uri(text, diagnostic.file)?;
+    push_number_member(text, "},\"region\":{\"startColumn\":", diagnostic.column)?;
+    push_number_member(text, ",\"startLine\":", diagnostic.line)?;
+    push_message_member(
         alloc,
         text,
+        "}}}],\"message\":{\"text\":",
         diagnostic.profile,
         diagnostic.text,
         diagnostic.violation,
     )?;
-    text.push_str(",\"properties\":")?;
-    push_link_object(alloc, text, diagnostic.text, diagnostic.violation)?;
+    push_link_begin(alloc, text, diagnostic.text, diagnostic.violation)?;
     push_rule_id(text, diagnostic.violation)?;
     push_rule_index(text, diagnostic.violation)?;
-    text.push_str("}")?;
+    text.push('}')?;
     Ok(())
 }
 
@@ -190,13 +194,13 @@ fn push_result_begin(
         ≡ string_bytes text.old ++ spec.result_begin diagnostic.now diagnostic.now.mended) }
 {
     match diagnostic.mended {
-        Some(mended) => push_fixes(alloc, text, diagnostic, mended),
+        Some(mended) => push_fix(alloc, text, diagnostic, mended),
         None => text.push_str("{"),
     }
 }
 
-// Pushes the fix that writes a mended text, before further members.
-fn push_fixes(
+// Pushes the fix that writes a mended text, alone in an array, before further members.
+fn push_fix(
     alloc: Global,
     text: &mut String,
     diagnostic: &Diagnostic<'_>,
@@ -205,135 +209,81 @@ fn push_fixes(
     ensures { OnOk result (string_bytes text.new
         ≡ string_bytes text.old ++ spec.result_begin diagnostic.now (Some mended.entry)) }
 {
-    text.push_str("{\"fixes\":[")?;
-    push_fix(alloc, text, diagnostic, mended)?;
-    text.push_str("],")?;
+    text.push_str("{\"fixes\":[{\"artifactChanges\":[{\"artifactLocation\":{\"uri\":")?;
+    push_uri(text, diagnostic.file)?;
+    push_number_member(
+        text,
+        "},\"replacements\":[{\"deletedRegion\":{\"endColumn\":",
+        mended.end,
+    )?;
+    push_number_member(text, ",\"startColumn\":", mended.start)?;
+    push_number_member(text, ",\"startLine\":", diagnostic.line)?;
+    push_text_member(alloc, text, "},\"insertedContent\":{\"text\":", mended.text)?;
+    text.push_str(fix_end(mended.kind))?;
     Ok(())
 }
 
-// Pushes where the diagnostic is, alone in an array.
-fn push_locations(text: &mut String, diagnostic: &Diagnostic<'_>) -> Result<(), AllocError>
-    ensures { OnOk result (string_bytes text.new
-        ≡ string_bytes text.old ++ compact_text (spec.single (spec.location_value diagnostic.now))) }
+// What follows the mended text in a fix, up to further members: what it does.
+fn fix_end(kind: MendKind) -> &'static str
+    ensures { result.now ≡ codes "}}]}],\"description\":"
+        ++ (compact_text (spec.message (spec.fix_sentence kind)) ++ codes "}],") }
 {
-    text.push_str("[")?;
-    push_location(text, diagnostic)?;
-    text.push_str("]")?;
-    Ok(())
-}
-
-// Pushes where the diagnostic is.
-fn push_location(text: &mut String, diagnostic: &Diagnostic<'_>) -> Result<(), AllocError>
-    ensures { OnOk result (string_bytes text.new
-        ≡ string_bytes text.old ++ compact_text (spec.location_value diagnostic.now)) }
-{
-    text.push_str("{\"physicalLocation\":")?;
-    push_physical(text, diagnostic)?;
-    text.push_str("}")?;
-    Ok(())
-}
-
-// Pushes the file and the region of a diagnostic.
-fn push_physical(text: &mut String, diagnostic: &Diagnostic<'_>) -> Result<(), AllocError>
-    ensures { OnOk result (string_bytes text.new
-        ≡ string_bytes text.old ++ compact_text (spec.physical_value diagnostic.now)) }
-{
-    text.push_str("{\"artifactLocation\":")?;
-    push_artifact(text, diagnostic.file)?;
-    text.push_str(",\"region\":")?;
-    push_region(text, diagnostic)?;
-    text.push_str("}")?;
-    Ok(())
-}
-
-// Pushes a file, by its name as the path of a URI reference.
-fn push_artifact(text: &mut String, file: &str) -> Result<(), AllocError>
-    ensures { OnOk result (string_bytes text.new
-        ≡ string_bytes text.old ++ compact_text (spec.artifact_value file.now)) }
-{
-    text.push_str("{\"uri\":")?;
-    push_uri(text, file)?;
-    text.push_str("}")?;
-    Ok(())
+    match kind {
+        MendKind::Same => {
+            "}}]}],\"description\":{\"text\":\"write the same URL as a valid URL string\"}}],"
+        }
+        MendKind::Escaped => {
+            "}}]}],\"description\":{\"text\":\"percent-encode what may not stand in a URL string\"}}],"
+        }
+        MendKind::Changed => {
+            "}}]}],\"description\":{\"text\":\"write a valid URL string, which may be another URL\"}}],"
+        }
+    }
 }
 
 // Pushes the path of a file's name as a string: no byte of a path is escaped by JSON.
 fn push_uri(text: &mut String, file: &str) -> Result<(), AllocError>
     ensures { OnOk result (string_bytes text.new ≡ string_bytes text.old ++ quoted (uri_path file.now)) }
 {
-    text.push_str("\"")?;
+    text.push('"')?;
     push_uri_path(text, file)?;
-    text.push_str("\"")?;
+    text.push('"')?;
     Ok(())
 }
 
-// Pushes the line and the column of a diagnostic.
-fn push_region(text: &mut String, diagnostic: &Diagnostic<'_>) -> Result<(), AllocError>
-    ensures { OnOk result (string_bytes text.new
-        ≡ string_bytes text.old ++ compact_text (spec.region_value diagnostic.now)) }
-{
-    push_number_member(text, "{\"startColumn\":", diagnostic.column)?;
-    push_number_member(text, ",\"startLine\":", diagnostic.line)?;
-    text.push_str("}")?;
-    Ok(())
-}
-
-// Pushes what is reported of a line.
-fn push_said(
-    alloc: Global,
-    text: &mut String,
-    profile: Profile,
-    line: &str,
-    violation: LineViolation,
-) -> Result<(), AllocError>
-    ensures { OnOk result (string_bytes text.new
-        ≡ string_bytes text.old ++ compact_text (spec.message (reported.message profile line.now violation))) }
-{
-    let message = message(alloc, profile, line, violation)?;
-    push_text_object(alloc, text, message.as_str())
-}
-
-// Pushes an object with a text alone.
-fn push_text_object(alloc: Global, text: &mut String, value: &str) -> Result<(), AllocError>
-    ensures { OnOk result (string_bytes text.new
-        ≡ string_bytes text.old ++ compact_text (spec.message value.now)) }
-{
-    text.push_str("{\"text\":")?;
-    push_quoted(alloc, text, value)?;
-    text.push_str("}")?;
-    Ok(())
-}
-
-// Pushes the link that a diagnostic is about, and whether it is cut.
-fn push_link_object(
+// Pushes the link that a diagnostic is about, and whether it is cut, behind the end of what is reported.
+fn push_link_begin(
     alloc: Global,
     text: &mut String,
     line: &str,
     violation: LineViolation,
 ) -> Result<(), AllocError>
-    ensures { OnOk result (string_bytes text.new
-        ≡ string_bytes text.old ++ compact_text (spec.link_of line.now violation)) }
+    ensures { OnOk result (string_bytes text.new ≡ string_bytes text.old
+        ++ (codes "},\"properties\":{\"cut\":" ++ (compact_text (boolean (shown.is_cut line.now))
+        ++ (codes ",\"text\":" ++ quoted (shown.carried line.now (violation_place violation)))))) }
 {
-    text.push_str("{\"cut\":")?;
-    text.push_str(flag(is_cut(line)))?;
+    text.push_str(cut_begin(is_cut(line)))?;
     push_link(alloc, text, line, violation)?;
-    text.push_str("}")?;
     Ok(())
 }
 
-// A truth value of JSON.
-fn flag(value: bool) -> &'static str
-    ensures { result.now ≡ compact_text (boolean value) }
+// The end of what is reported, and whether the link is cut.
+fn cut_begin(cut: bool) -> &'static str
+    ensures { result.now ≡ codes "},\"properties\":{\"cut\":" ++ compact_text (boolean cut) }
 {
-    if value { "true" } else { "false" }
+    if cut {
+        "},\"properties\":{\"cut\":true"
+    } else {
+        "},\"properties\":{\"cut\":false"
+    }
 }
 
-// Pushes the name of a violation as the one of its rule.
+// Pushes the name of a violation as the one of its rule, behind the end of the link.
 fn push_rule_id(text: &mut String, violation: LineViolation) -> Result<(), AllocError>
     ensures { OnOk result (string_bytes text.new
-        ≡ string_bytes text.old ++ (codes ",\"ruleId\":" ++ quoted (violation_name violation))) }
+        ≡ string_bytes text.old ++ (codes "},\"ruleId\":" ++ quoted (violation_name violation))) }
 {
-    push_plain_member(text, ",\"ruleId\":", violation.name())
+    push_plain_member(text, "},\"ruleId\":", violation.name())
 }
 
 // Pushes where the rule of a violation stands among all.
@@ -342,121 +292,4 @@ fn push_rule_index(text: &mut String, violation: LineViolation) -> Result<(), Al
         ≡ string_bytes text.old ++ (codes ",\"ruleIndex\":" ++ decimal (violation_index violation))) }
 {
     push_number_member(text, ",\"ruleIndex\":", violation.index())
-}
-
-// Pushes the fix of a diagnostic, and what it does.
-fn push_fix(
-    alloc: Global,
-    text: &mut String,
-    diagnostic: &Diagnostic<'_>,
-    mended: Mended<'_>,
-) -> Result<(), AllocError>
-    ensures { OnOk result (string_bytes text.new
-        ≡ string_bytes text.old ++ compact_text (spec.fix_value diagnostic.now mended.entry)) }
-{
-    text.push_str("{\"artifactChanges\":")?;
-    push_changes(alloc, text, diagnostic, mended)?;
-    text.push_str(",\"description\":")?;
-    push_description(text, mended.kind)?;
-    text.push_str("}")?;
-    Ok(())
-}
-
-// Pushes what a fix does.
-fn push_description(text: &mut String, kind: MendKind) -> Result<(), AllocError>
-    ensures { OnOk result (string_bytes text.new
-        ≡ string_bytes text.old ++ compact_text (spec.message (spec.fix_sentence kind))) }
-{
-    text.push_str(fix_text(kind))
-}
-
-// What a fix does, alone in an object.
-fn fix_text(kind: MendKind) -> &'static str
-    ensures { result.now ≡ compact_text (spec.message (spec.fix_sentence kind)) }
-{
-    match kind {
-        MendKind::Same => "{\"text\":\"write the same URL as a valid URL string\"}",
-        MendKind::Escaped => "{\"text\":\"percent-encode what may not stand in a URL string\"}",
-        MendKind::Changed => "{\"text\":\"write a valid URL string, which may be another URL\"}",
-    }
-}
-
-// Pushes the change of the diagnostic's file, alone in an array.
-fn push_changes(
-    alloc: Global,
-    text: &mut String,
-    diagnostic: &Diagnostic<'_>,
-    mended: Mended<'_>,
-) -> Result<(), AllocError>
-    ensures { OnOk result (string_bytes text.new
-        ≡ string_bytes text.old ++ compact_text (spec.single (spec.change_value diagnostic.now mended.entry))) }
-{
-    text.push_str("[")?;
-    push_change(alloc, text, diagnostic, mended)?;
-    text.push_str("]")?;
-    Ok(())
-}
-
-// Pushes the change of the diagnostic's file.
-fn push_change(
-    alloc: Global,
-    text: &mut String,
-    diagnostic: &Diagnostic<'_>,
-    mended: Mended<'_>,
-) -> Result<(), AllocError>
-    ensures { OnOk result (string_bytes text.new
-        ≡ string_bytes text.old ++ compact_text (spec.change_value diagnostic.now mended.entry)) }
-{
-    text.push_str("{\"artifactLocation\":")?;
-    push_artifact(text, diagnostic.file)?;
-    text.push_str(",\"replacements\":")?;
-    push_replacements(alloc, text, diagnostic.line, mended)?;
-    text.push_str("}")?;
-    Ok(())
-}
-
-// Pushes the replacement of a text in the line with this number, alone in an array.
-fn push_replacements(
-    alloc: Global,
-    text: &mut String,
-    line: u64,
-    mended: Mended<'_>,
-) -> Result<(), AllocError>
-    ensures { OnOk result (string_bytes text.new
-        ≡ string_bytes text.old ++ compact_text (spec.single (spec.replacement_value line mended.entry))) }
-{
-    text.push_str("[")?;
-    push_replacement(alloc, text, line, mended)?;
-    text.push_str("]")?;
-    Ok(())
-}
-
-// Pushes the mended text in place of the text that it replaces, in the line with this number.
-fn push_replacement(
-    alloc: Global,
-    text: &mut String,
-    line: u64,
-    mended: Mended<'_>,
-) -> Result<(), AllocError>
-    ensures { OnOk result (string_bytes text.new
-        ≡ string_bytes text.old ++ compact_text (spec.replacement_value line mended.entry)) }
-{
-    text.push_str("{\"deletedRegion\":")?;
-    push_deleted_region(text, line, mended)?;
-    text.push_str(",\"insertedContent\":")?;
-    push_text_object(alloc, text, mended.text)?;
-    text.push_str("}")?;
-    Ok(())
-}
-
-// Pushes where the replaced text stands.
-fn push_deleted_region(text: &mut String, line: u64, mended: Mended<'_>) -> Result<(), AllocError>
-    ensures { OnOk result (string_bytes text.new
-        ≡ string_bytes text.old ++ compact_text (spec.deleted_region_value line mended.entry)) }
-{
-    push_number_member(text, "{\"endColumn\":", mended.end)?;
-    push_number_member(text, ",\"startColumn\":", mended.start)?;
-    push_number_member(text, ",\"startLine\":", line)?;
-    text.push_str("}")?;
-    Ok(())
 }

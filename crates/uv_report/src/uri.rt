@@ -1,5 +1,5 @@
 //! File names as paths of URI references.
-ghost use Rattle.std.specs.Prelude.{◌≡◌, ◌++◌, OnOk, option_map, string_bytes};
+ghost use Rattle.std.specs.Prelude.{◌≡◌, ◌++◌, IsTrue, OnOk, option_map, string_bytes};
 ghost use Rattle.uv_report.specs.Uri as spec;
 
 use percent_encoding::{AsciiSet, NON_ALPHANUMERIC, ascii_set, utf8_percent_encode};
@@ -46,6 +46,35 @@ fn behind_slash(name: &str) -> Option<&str>
 
 // Pushes a part of a name.
 fn push_uri_part(text: &mut String, name: &str) -> Result<(), AllocError>
+    ensures { OnOk result (string_bytes text.new ≡ string_bytes text.old ++ spec.uri_part name.now) }
+{
+    if all_stay(name.as_bytes()) {
+        text.push_str(name)
+    } else {
+        push_escaped_part(text, name)
+    }
+}
+
+// Whether each byte of a name stands as it is, as in most names.
+fn all_stay(bytes: &[u8]) -> bool
+    ensures { IsTrue result → spec.uri_part bytes.now ≡ bytes.now }
+{
+    bytes.iter().all(|&byte| stays(byte))
+}
+
+fn stays(byte: u8) -> bool
+    ensures { result ≡ spec.stays byte }
+{
+    byte.is_ascii_alphanumeric()
+        || byte == b'-'
+        || byte == b'.'
+        || byte == b'_'
+        || byte == b'~'
+        || byte == b'/'
+}
+
+// Pushes a part of a name byte by byte.
+fn push_escaped_part(text: &mut String, name: &str) -> Result<(), AllocError>
     ensures { OnOk result (string_bytes text.new ≡ string_bytes text.old ++ spec.uri_part name.now) }
 {
     utf8_percent_encode(name, ESCAPED).append_to(text)

@@ -1,11 +1,13 @@
--- The pieces of the object.
-use Rattle.std.proofs.Common.{string_bytes}
-use Rattle.serde_json.proofs.OnLiterals.{serde_json_on_literals}
-use Rattle.uv_report.proofs.PieceLemmas.{five_pieces}
+-- The pieces of the fix.
+use Rattle.std.proofs.Common.{◌∙◌, ◌++◌, ap, string_bytes}
+use Rattle.uv_report.proofs.SarifLemmas.{fix_pieces}
+use Rattle.uv_report.proofs.PieceLemmas.{seven_pieces}
 use Rattle.uv_report.proofs.sarif.push_fix.Goals as goal
 
 pub returns : goal.returns
-unfolding serde_json_on_literals
 returns c =
-    five_pieces (string_bytes c.args.text.now) _ _ _ _ _
-    c.in_ok-push_str.ensures.bytes c.in_ok-push_changes.ensures c.in_ok-push_str-2.ensures.bytes c.in_ok-push_description.ensures c.in_ok-push_str-3.ensures.bytes
+    let start = string_bytes c.args.text.now in
+    seven_pieces start _ _ _ _ _ _ _ c.in_ok-push_str.ensures.bytes c.in_ok-push_uri.ensures
+    c.in_ok-push_number_member.ensures c.in_ok-push_number_member-2.ensures c.in_ok-push_number_member-3.ensures
+    c.in_ok-push_text_member.ensures c.in_ok-push_str-2.ensures.bytes
+    ∙ ap (λ pieces. start ++ pieces) (fix_pieces c.args.diagnostic.now c.args.mended c.fix_end.result.now c.fix_end.ensures)

@@ -1,7 +1,7 @@
 -- Each sentence is written out.
 use Rattle.std.proofs.Common.{refl}
 use Rattle.serde_json.proofs.OnLiterals.{serde_json_on_literals}
-use Rattle.uv_report.proofs.sarif.fix_text.Goals as goal
+use Rattle.uv_report.proofs.sarif.fix_end.Goals as goal
 
 pub returns-in-Same : goal.returns-in-Same
 unfolding serde_json_on_literals

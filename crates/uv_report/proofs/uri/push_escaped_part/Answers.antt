@@ -1,6 +1,6 @@
 -- The library's text, in our words.
 use Rattle.uv_report.proofs.UriLemmas.{percent_encode-uri}
-use Rattle.uv_report.proofs.uri.push_uri_part.Goals as goal
+use Rattle.uv_report.proofs.uri.push_escaped_part.Goals as goal
 
 pub returns : goal.returns
 returns c =
