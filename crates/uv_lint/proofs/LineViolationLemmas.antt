@@ -1,5 +1,7 @@
 -- What is found with a text, by the verdict on it.
-use Rattle.std.proofs.Common.{◌≡◌, ℕ, List, [], ◌∷◌, Option, refl}
+use Rattle.std.proofs.Common.{◌≡◌, ℕ, List, [], ◌∷◌, Option, Some, None, chars, inl, inr, map, refl}
+use Rattle.std.specs.Str.Lossy.{utf8_lossy}
+use Rattle.std.proofs.lemmas.Str.{utf8_lossy-IsUtf8}
 use Rattle.uv_model.specs.declared.profile.Profile.{Profile}
 use Rattle.uv_model.specs.declared.rule.Refusal.{Refusal}
 use Rattle.uv_model.specs.Violations.Violation.{Violation}
@@ -7,10 +9,16 @@ use Rattle.uv_model.specs.Parts.{Parts}
 use Rattle.uv_model.specs.Records.Url.{Url}
 use Rattle.uv_model.proofs.Violations.AllViolationsLemmas.{lists_none}
 use Rattle.uv_grammar.specs.Verdict.{IsAccepted, IsRefused}
+use Rattle.uv_report.specs.declared.line_violation.LineViolation.{LineViolation}
 use Rattle.uv_report.specs.declared.line_violation.LineViolation.TheVariants.{Refused}
 use Rattle.uv_model.specs.declared.extent.Extent.{Extent}
 use Rattle.uv_model.specs.declared.extent.Extent.TheVariants.{First, All}
-use Rattle.uv_lint.specs.LineViolations.{AreReported, AreTextViolations, FileSetting}
+use Rattle.uv_lint.specs.declared.setting.LineForm.{LineForm}
+use Rattle.uv_lint.specs.declared.setting.LineForm.TheVariants.{Plain, Located}
+use Rattle.uv_lint.specs.Findings.{IsRefusedFirst, text_by}
+use Rattle.uv_lint.specs.LineViolations.{AreBytesViolations, AreReported, AreTextViolations, AreViolationsBy}
+use Rattle.uv_lint.specs.LineViolations.{AreWholeViolations, FileSetting, Judges}
+use Rattle.uv_lint.specs.Located.{LocatedLink}
 
 -- nothing is found with a valid text
 reported_none : (extent : Extent) (profile : Profile) (base : Option Url) (text : List ℕ) (parts : Parts)
@@ -41,3 +49,42 @@ least_violation setting text refusal first refused = record {
   reported = rw first refl;
   are = refl;
 }
+
+-- ---- the text is refused by the first violation
+
+-- a text
+refused_text : (setting : FileSetting) (bytes : List ℕ) (violations : List LineViolation)
+    → AreTextViolations setting (chars bytes) violations
+    → IsRefusedFirst setting.profile setting.base violations bytes
+refused_text setting bytes violations are =
+    rw are.are (refused_first are.refusals are.judges)
+  where
+    refused_first : (refusals : List Refusal) → Judges setting.profile setting.base (chars bytes) refusals
+        → IsRefusedFirst setting.profile setting.base (map Refused refusals) bytes
+    refused_first [] judges = tt {0}
+    refused_first (refusal ∷ rest) judges = judges
+
+-- bytes, as they are shown
+refused_bytes : (setting : FileSetting) (bytes : List ℕ) (violations : List LineViolation)
+    → AreBytesViolations setting bytes violations
+    → IsRefusedFirst setting.profile setting.base violations (utf8_lossy bytes)
+refused_bytes setting bytes violations (inl are) =
+    rw (utf8_lossy-IsUtf8 bytes are.0) (refused_text setting bytes violations are.1)
+refused_bytes setting bytes violations (inr are) = rw are.1 (tt {0})
+
+-- a line that isn't empty
+refused_whole : (form : LineForm) (setting : FileSetting) (line : List ℕ) (violations : List LineViolation)
+    → AreWholeViolations form setting line violations
+    → IsRefusedFirst setting.profile setting.base violations (utf8_lossy line)
+refused_whole Plain setting line violations are = refused_bytes setting line violations are
+refused_whole Located setting line violations (inl are) = rw are.1 (tt {0})
+refused_whole Located setting line violations (inr are) = rw are.1 (tt {0})
+
+-- a line, by its link where it has one
+pub refused_line : (setting : FileSetting) (link : Option LocatedLink) (line : Option (List ℕ))
+    (violations : List LineViolation) → AreViolationsBy setting link line violations
+    → IsRefusedFirst setting.profile setting.base violations (text_by link line)
+refused_line setting (Some link) line violations are = refused_bytes setting link.link violations are
+refused_line setting None None violations are = rw are (tt {0})
+refused_line setting None (Some []) violations are = rw are (tt {0})
+refused_line setting None (Some (x ∷ xs)) violations are = refused_whole setting.form setting (x ∷ xs) violations are

@@ -23,10 +23,6 @@ pub on_appended : (answer : Result (Unit {0}) AllocError) (old more new : List �
 on_appended (Ok u) old more new B is holds = holds is
 on_appended (Err e) old more new B is holds = tt {0}
 
--- what was appended to an empty text is the text
-pub appended_to_none : (before more new : List ℕ) → before ≡ [] → new ≡ before ++ more → new ≡ more
-appended_to_none before more new none is = is ∙ ap (λ t. t ++ more) none
-
 -- ---- what comes to what waits
 
 -- nothing comes
@@ -56,7 +52,7 @@ on_ok (Err e) A B is holds = tt {0}
 -- ---- a line
 
 -- the text that is reported of a line is the one that it is judged by
-reported_text : (file : List ℕ) (number : ℕ) (line : Option (List ℕ)) (link : Option LocatedLink)
+pub reported_text : (file : List ℕ) (number : ℕ) (line : Option (List ℕ)) (link : Option LocatedLink)
     → (reported_by file number line link).text ≡ text_by link line
 reported_text file number line (Some link) = refl
 reported_text file number line None = refl

@@ -1,9 +1,12 @@
 -- What is found with a line: what is wrong with it, and what to write in place of its text.
-use Rattle.std.specs.Prelude.{◌≡◌, ℕ, Bool, true, false, ◌&&◌, List, [], ◌∷◌, Option, Some, None, string_bytes}
+use Rattle.std.specs.Prelude.{◌≡◌, ℕ, Bool, true, false, ◌&&◌, List, [], ◌∷◌, Option, Some, None, chars, IfSome}
+use Rattle.std.specs.Prelude.{is_some, string_bytes}
 use Rattle.std.specs.Str.Lossy.{utf8_lossy}
 use Rattle.uv_model.specs.declared.profile.Profile.{Profile}
+use Rattle.uv_model.specs.declared.rule.Refusal.{Refusal}
 use Rattle.uv_model.specs.Records.Url.{Url}
 use Rattle.uv_model.specs.declared.mend_kind.MendKind.{MendKind}
+use Rattle.uv_grammar.specs.Verdict.{IsRefused}
 use Rattle.uv_mend.specs.declared.answer.Mending.{Mending}
 use Rattle.uv_mend.specs.declared.answer.Mending.TheVariants as answer
 use Rattle.uv_mend.specs.Mending.{IsMending}
@@ -58,10 +61,19 @@ abbrev pub IsAnswered : Profile → Option Url → List ℕ → Option MendedTex
 IsAnswered profile base text mended =
     (answer : Mending) × IsMending profile base text answer × (mended ≡ mended_of answer)
 
+-- the refusal that is found first, where a rule of valid URL strings is violated
+abbrev pub first_refusal : List LineViolation → Option Refusal
+first_refusal (Refused refusal ∷ rest) = Some refusal
+first_refusal _ = None
+
 -- a rule of valid URL strings is violated
 abbrev pub is_refused : List LineViolation → Bool
-is_refused (Refused refusal ∷ rest) = true
-is_refused _ = false
+is_refused violations = is_some (first_refusal violations)
+
+-- where a rule is violated, the text, by its bytes, is refused so
+abbrev pub IsRefusedFirst : Profile → Option Url → List LineViolation → List ℕ → Type 0
+IsRefusedFirst profile base violations text =
+    IfSome (first_refusal violations) (λ refusal. IsRefused profile base (chars text) refusal)
 
 -- that, where it is asked for, else nothing
 abbrev pub IsMendedWhere : Bool → Profile → Option Url → List ℕ → Option MendedText → Type 0

@@ -1,14 +1,15 @@
 //! What to write in place of the text of a line.
 ghost use Rattle.std.specs.Prelude.{◌≡◌, IfOk, option_copied, option_map};
 ghost use Rattle.uv_lint.specs.Findings as spec;
-ghost use Rattle.uv_lint.specs.Findings.{IsMended, mended_of};
+ghost use Rattle.uv_lint.specs.Findings.{IsMended, IsRefusedFirst, mended_of};
 ghost use Rattle.uv_lint.specs.Report.{end_column, mended_at};
 ghost use Rattle.uv_lint.specs.ReportedView.{lent_if_mended, mended_line_view};
 
 use crate::code_points::count;
 use crate::setting::LintSetting;
 use std::alloc::{AllocError, Global};
-use uv_mend::{MendKind, Mending, mend};
+use uv_mend::{MendKind, Mending, mend_refused};
+use uv_model::Refusal;
 use uv_report::{ColumnCounter, Columns, LineViolation, Mended};
 
 /// A valid text, and how it stands to the refused one.
@@ -38,24 +39,26 @@ pub(crate) fn mended_line(
     violations: &[LineViolation],
     text: &str,
 ) -> Result<Option<MendedLine>, AllocError>
+    requires { IsRefusedFirst setting.profile (option_copied setting.base) violations.now text.now }
     ensures { IfOk result (λ mended. IsMended setting.entry.format setting.entry.profile
         (option_copied setting.entry.base) violations.now text.now (option_map mended_line_view mended)) }
 {
-    if is_refused(violations) && setting.format.shows_mended() {
-        let mending = mend(alloc, text, setting.base, setting.profile)?;
-        Ok(MendedLine::of(mending))
-    } else {
-        Ok(None)
+    match first_refusal(violations) {
+        Some(refusal) if setting.format.shows_mended() => {
+            let mending = mend_refused(alloc, text, setting.base, setting.profile, refusal)?;
+            Ok(MendedLine::of(mending))
+        }
+        _ => Ok(None),
     }
 }
 
-// Whether a rule of valid URL strings is violated.
-fn is_refused(violations: &[LineViolation]) -> bool
-    ensures { result ≡ spec.is_refused violations.now }
+// The refusal that is found first, where a rule of valid URL strings is violated.
+fn first_refusal(violations: &[LineViolation]) -> Option<Refusal>
+    ensures { result ≡ spec.first_refusal violations.now }
 {
     match violations {
-        [LineViolation::Refused(_), ..] => true,
-        _ => false,
+        [LineViolation::Refused(refusal), ..] => Some(*refusal),
+        _ => None,
     }
 }
 
@@ -80,9 +83,14 @@ pub(crate) fn mended_in_place<'l>(
     }
 }
 
-// The column behind a text that begins in this one.
+// The column behind a text that begins in this one. Where columns count code points, it isn't walked by them.
 fn end_column(columns: Columns, start: u64, text: &str) -> u64
     ensures { result ≡ end_column columns start text.now }
 {
-    ColumnCounter::new(columns, start, text).column(count(text))
+    match columns {
+        Columns::CodePoints => start.saturating_add(count(text) as u64),
+        Columns::Bytes | Columns::Utf16 | Columns::Screen => {
+            ColumnCounter::new(columns, start, text).column(count(text))
+        }
+    }
 }

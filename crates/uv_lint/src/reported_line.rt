@@ -21,7 +21,7 @@ use uv_lines::{ReportFault, end_part};
 use uv_model::{DeviceFault, Profile, Sink};
 use uv_report::{
     ColumnCounter, Diagnostic, LineViolation, Mended, push_diagnostic, push_file_begin,
-    push_file_end,
+    push_file_end, put_diagnostic,
 };
 
 /// A line, or the link of one, with the place where it stands.
@@ -193,28 +193,27 @@ fn append_framed(
         (diagnostic_text setting.entry.format is_first diagnostic.now)) }
     ensures none { OnErr result (text.new.items ≡ text.old.items) }
 {
-    reported.clear();
-    push_framed(alloc, reported, setting, diagnostic, is_first)?;
+    put_framed(alloc, reported, setting, diagnostic, is_first)?;
     text.extend_from_slice(reported.as_bytes())
 }
 
-// Pushes a diagnostic. Where lines say where their links stand, what stands round the diagnostics of its file stands
-// round it.
-fn push_framed(
+// Puts a diagnostic in the place of what stands in a text. Where lines say where their links stand, what stands round
+// the diagnostics of its file stands round it.
+fn put_framed(
     alloc: Global,
     reported: &mut String,
     setting: LintSetting<'_>,
     diagnostic: &Diagnostic<'_>,
     is_first: bool,
 ) -> Result<(), AllocError>
-    ensures { OnOk result (string_bytes reported.new ≡ string_bytes reported.old ++ framed_text setting.entry.form
-        setting.entry.format diagnostic.now.file.now
-        (diagnostic_text setting.entry.format is_first diagnostic.now)) }
+    ensures { OnOk result (string_bytes reported.new ≡ framed_text setting.entry.form setting.entry.format
+        diagnostic.now.file.now (diagnostic_text setting.entry.format is_first diagnostic.now)) }
 {
     let format = setting.format;
     match setting.form {
-        LineForm::Plain => push_diagnostic(alloc, reported, format, diagnostic, is_first),
+        LineForm::Plain => put_diagnostic(alloc, reported, format, diagnostic, is_first),
         LineForm::Located => {
+            reported.clear();
             push_file_begin(alloc, reported, format, diagnostic.file)?;
             push_diagnostic(alloc, reported, format, diagnostic, is_first)?;
             push_file_end(reported, format)

@@ -3,7 +3,8 @@ ghost use Rattle.std.specs.Prelude.{◌≡◌, ◌+◌, ◌-◌, ◌^◌, ◌<�
 ghost use Rattle.std.specs.Prelude.{string_bytes};
 ghost use Rattle.uv_lines.specs.Fault.{failed_within};
 ghost use Rattle.uv_lines.specs.Waiting.{LeavesParts};
-ghost use Rattle.uv_lint.specs.LineViolations.{file_setting};
+ghost use Rattle.uv_lint.specs.Findings.{IsRefusedFirst};
+ghost use Rattle.uv_lint.specs.LineViolations.{AreViolations, file_setting};
 ghost use Rattle.uv_lint.specs.Report.{judged_of, none_counted};
 ghost use Rattle.uv_lint.specs.Report as spec;
 ghost use Rattle.uv_lint.specs.ReportedView.{shown_at};
@@ -125,6 +126,7 @@ impl<'a> LintReporter<'a> {
     ) -> Result<(), ReportFault<AllocError>>
         requires few { self.old.lines < 2 ^ 64 - 1 }
         requires writes { W.failed writer.old < 2 ^ 64 - 1 }
+        requires found { AreViolations self.old.setting (option_copied line) violations.now }
         ensures text { OnOk result (HasReportedLine self.old (option_copied line.entry) violations.now
             text.old.items (W.contents writer.old) (W.contents writer.new) text.new.items) }
         ensures same { self.new ≡ self.old }
@@ -154,7 +156,8 @@ impl<'a> LintReporter<'a> {
         text: &mut Vec<u8>,
         writer: &mut W,
     ) -> Result<(), ReportFault<AllocError>>
-        requires { W.failed writer.old < 2 ^ 64 - 1 }
+        requires writes { W.failed writer.old < 2 ^ 64 - 1 }
+        requires refused { IsRefusedFirst self.old.setting.profile self.old.setting.base violations.now shown.now }
         ensures text { OnOk result (HasReported self.old (shown_at place.entry shown.entry.now) violations.now
             text.old.items (W.contents writer.old) (W.contents writer.new) text.new.items) }
         ensures same { self.new ≡ self.old }

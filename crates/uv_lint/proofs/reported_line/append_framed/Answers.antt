@@ -1,6 +1,6 @@
 -- The diagnostic stands alone in the room for one, and is appended.
 use Rattle.std.proofs.Common.{◌++◌, ◌∙◌, ap}
-use Rattle.uv_lint.proofs.ReporterLemmas.{appended_to_none, on_appended}
+use Rattle.uv_lint.proofs.ReporterLemmas.{on_appended}
 use Rattle.uv_lint.proofs.reported_line.append_framed.Goals as goal
 
 pub returns-clause-text : goal.returns-clause-text
@@ -8,5 +8,4 @@ returns-clause-text c =
     let old = c.args.text.now.items in
     on_appended c.extend_from_slice.result old c.as_bytes.result.now c.extend_from_slice.new.self.items _
     c.extend_from_slice.ensures.items
-    (λ added. added ∙ ap (λ t. old ++ t) (c.as_bytes.ensures.value
-    ∙ appended_to_none _ _ _ c.clear.ensures.bytes c.in_ok-push_framed.ensures))
+    (λ added. added ∙ ap (λ t. old ++ t) (c.as_bytes.ensures.value ∙ c.in_ok-put_framed.ensures))

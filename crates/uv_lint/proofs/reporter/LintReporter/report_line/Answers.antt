@@ -1,11 +1,29 @@
 -- What is shown of a text that stands there is what is shown of the line.
-use Rattle.std.proofs.Common.{◌≡◌, ◌+◌, ◌∙◌, option_copied, ap}
+use Rattle.std.proofs.Common.{◌≡◌, ◌+◌, ◌∙◌, option_copied, ap, subst, sym}
+use Rattle.uv_lint.specs.Findings.{IsRefusedFirst, text_by}
 use Rattle.uv_lint.specs.LineViolations.{link_of}
 use Rattle.uv_lint.specs.Report.{reported_by}
 use Rattle.uv_lint.specs.ReportedView.{place_view}
 use Rattle.uv_lint.specs.Reporting.{HasBegunLine}
-use Rattle.uv_lint.proofs.ReporterLemmas.{line_begun, parts_left}
+use Rattle.uv_lint.proofs.LineViolationLemmas.{refused_line}
+use Rattle.uv_lint.proofs.ReporterLemmas.{line_begun, parts_left, reported_text}
 use Rattle.uv_lint.proofs.reporter.LintReporter.report_line.Goals as goal
+
+pub report_text-requires-clause-refused : goal.report_text-requires-clause-refused
+report_text-requires-clause-refused g c =
+    let before = c.args.self.now in
+    let line = option_copied c.args.line in
+    let link = link_of before.setting.form line in
+    let inside = c.self.inside in
+    let stands : place_view c.of-place.result ≡ reported_by before.setting.file (before.lines + 1) line link =
+    c.of-place.ensures
+    ∙ ap (λ l. reported_by inside.file.now (inside.lines + 1) line l) c.link_of-link.ensures
+    ∙ ap (λ r. reported_by r.setting.file (r.lines + 1) line (link_of r.setting.form line)) c.self.view_is in
+    let is : c.as_str.result.now ≡ text_by link line =
+    c.as_str.ensures.value ∙ c.in-Ok.ensures ∙ ap (λ r. r.text) stands
+    ∙ reported_text before.setting.file (before.lines + 1) line link in
+    subst (λ t. IsRefusedFirst before.setting.profile before.setting.base c.args.violations.now t) (sym is)
+    (refused_line before.setting link line c.args.violations.now c.requires.found)
 
 pub returns-clause-fault : goal.returns-clause-fault
 returns-clause-fault g c =
