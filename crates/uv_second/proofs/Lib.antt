@@ -4,3 +4,4 @@ mod NameLemmas
 mod PlainLemmas
 mod LinkLemmas
 mod ComparedLemmas
+mod OwnTextLemmas

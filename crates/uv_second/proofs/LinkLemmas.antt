@@ -1,16 +1,17 @@
 -- A link is read by its parts, and written with the escapes of each.
-use Rattle.std.proofs.Common.{◌≡◌, ◌≢◌, ◌∙◌, ℕ, ◌-◌, ◌+◌, ◌<◌, ◌≤◌, true, false, not, ◌||◌, ◌==◌, ltb, List, []}
+use Rattle.std.proofs.Common.{◌≡◌, ◌≢◌, ◌∙◌, ℕ, ◌-◌, ◌+◌, ◌<◌, ◌≤◌, true, false, not, ◌&&◌, ◌||◌, ◌==◌, ltb, List, []}
 use Rattle.std.proofs.Common.{◌∷◌, ◌++◌, All, Bool, Ok, Err, cond, None, Some, Option, ap, append-nil, append_assoc}
 use Rattle.std.proofs.Common.{arith, drop, drop_at, get_or, inl, inr}
 use Rattle.std.proofs.Common.{length, length-append, refl, subst, sym, take, take_all, take_at}
-use Rattle.std.specs.Prelude.{◌↔◌, IsTrue, if◌then◌else◌, codes, nat_le, option_map, reverse, unwrap_or}
+use Rattle.std.specs.Prelude.{◌↔◌, IsTrue, if◌then◌else◌, bytes_eq, codes, nat_le, option_map, reverse, unwrap_or}
 use Rattle.std.specs.List.{list_all, prefix_len}
 use Rattle.std.proofs.Math.Nat.{sub-zero}
-use Rattle.std.proofs.lemmas.Bool.{and_parts, and_right, cond-false, cond-true, lt-leb, ne_eqb}
+use Rattle.std.proofs.lemmas.Bool.{and_parts, and_right, cases_Bool, cond-false, cond-true, lt-leb, ne_eqb}
 use Rattle.std.proofs.lemmas.Bool.Decides.{nat_tests}
 use Rattle.std.proofs.lemmas.List.{append_cancel_left, get_or-append-add, get_or-reverse, length-reverse}
 use Rattle.std.proofs.lemmas.List.Elements.{All-append, All-cons, All-head, All-nil, All-tail, All-weaker}
 use Rattle.std.proofs.lemmas.Option.{same_Some}
+use Rattle.std.proofs.lemmas.Slice.Eq.{bytes_eq-Decides}
 use Rattle.percent_encoding.specs.Percent.{percent_encode}
 use Rattle.url.specs.declared.host.Host.TheVariants.{Domain}
 use Rattle.url.specs.declared.scheme.SchemeType.TheVariants.{SpecialNotFile}
@@ -21,10 +22,11 @@ use Rattle.url.specs.Head.{with_authority}
 use Rattle.url.specs.Host.{parse_host}
 use Rattle.url.specs.Input.{is_c0_control_or_space, is_empty, is_tab_or_new_line, lowercase, rsplit_once, split_once}
 use Rattle.url.specs.Input.{strip_tabs_and_new_lines, trim_c0_control_and_space}
-use Rattle.url.specs.Parser.{Parsed, after_double_slash, and_then, before_tail, lacks_host, parse_authority}
+use Rattle.url.specs.Parser.{Parsed, after_double_slash, and_then, base_for_scheme, before_tail, lacks_host, leading_slashes}
+use Rattle.url.specs.Parser.{parse_authority, parse_relative}
 use Rattle.url.specs.Parser.{parse_body, parse_by_scheme, parse_parts}
 use Rattle.url.specs.Parser.{parse_port, parse_url, skip_slashes, split_port, split_scheme, with_path, with_tail}
-use Rattle.url.specs.Parts.{Parts, serialize}
+use Rattle.url.specs.Parts.{Parts, kind_of, serialize}
 use Rattle.url.specs.Path.{parse_path_start, segment_len}
 use Rattle.url.specs.Scheme.{default_port, is_file, is_slash, is_special, scheme_len, scheme_type}
 use Rattle.url.proofs.HostRoundTrip.{host_len-host_text, parse_special_host-host_text}
@@ -37,7 +39,7 @@ use Rattle.uv_second.specs.declared.written.Part.TheVariants.{Path}
 use Rattle.uv_second.specs.declared.links.Link.{Link}
 use Rattle.uv_second.specs.Links.{IsBehindStart, IsBounded, IsLink, IsName, IsNameCut, IsWebScheme, is_plain}
 use Rattle.uv_second.specs.Links.{is_plain_at, link_front, written}
-use Rattle.uv_second.specs.Second.{ReadsSame, parsed, reading, second_serial}
+use Rattle.uv_second.specs.Second.{ReadsSame, parsed, reading, second_serial, text_against}
 use Rattle.uv_second.proofs.PlainLemmas.{plain_at, plain_front, plain_path}
 use Rattle.uv_second.proofs.WrittenLemmas.{fragment_text, query_text, written_path}
 
@@ -268,6 +270,40 @@ read_body scheme name path body query fragment web named plain =
     ∙ ap (λ r. and_then r (λ u. Ok (with_tail (before_tail u query fragment) query fragment))) read
     ∙ ap (λ (u : Parts). Ok (with_tail u query fragment)) (before_special url query fragment (ap is_special kind))
 
+-- two slashes are read against a base of the scheme as without one
+same_body : (base : Parts) (scheme name rest : List ℕ) → IsWebScheme scheme → base.scheme ≡ scheme
+    → let behind = slash ∷ slash ∷ (name ++ rest) in
+    parse_body scheme (Some base) behind ≡ parse_body scheme None behind
+unfolding parse_body parse_relative leading_slashes
+same_body base scheme name rest web same =
+    let kind = web_kind scheme web in
+    let base_kind : kind_of base ≡ SpecialNotFile = ap scheme_type same ∙ kind in
+    cond-false _ _ _ (ap is_file kind) ∙ rw (base_kind, same) refl
+    ∙ sym (cond-false _ _ _ (ap is_file kind) ∙ cond-true _ _ _ (ap is_special kind))
+
+-- two slashes are no empty text
+not_empty : (rest : List ℕ) → is_empty (slash ∷ slash ∷ rest) ≡ false
+not_empty rest = grind (arith, nat_tests)
+
+-- so they leave a base no say
+no_base : (base : Option Parts) (scheme name rest : List ℕ) (query fragment : Option (List ℕ)) → IsWebScheme scheme
+    → let behind = slash ∷ slash ∷ (name ++ rest) in
+    parse_parts scheme (base_for_scheme base scheme) behind query fragment ≡ parse_parts scheme None behind query fragment
+unfolding parse_parts
+no_base None scheme name rest query fragment web = refl
+no_base (Some base) scheme name rest query fragment web =
+    let behind = slash ∷ slash ∷ (name ++ rest) in
+    elim (cases_Bool (is_special (kind_of base) && bytes_eq base.scheme scheme)) [
+      | inr other ↦ ap (λ b. parse_parts scheme b behind query fragment) (cond-false _ _ _ other)
+      | inl both ↦
+          let same = (bytes_eq-Decides base.scheme scheme).0
+          (and_parts (is_special (kind_of base)) (bytes_eq base.scheme scheme) both).1 in
+          ap (λ b. parse_parts scheme b behind query fragment) (cond-true _ _ _ both)
+          ∙ cond-false _ _ _ (not_empty (name ++ rest))
+          ∙ ap (λ r. and_then r (λ u. Ok (with_tail (before_tail u query fragment) query fragment)))
+          (same_body base scheme name rest web same)
+    ]
+
 -- its text
 link_text : (scheme name path : List ℕ) (query fragment : Option (List ℕ)) → scheme_type scheme ≡ SpecialNotFile
     → serialize (link_url scheme name path query fragment)
@@ -278,13 +314,13 @@ link_text scheme name path None (Some fragment) kind = simp (append_assoc, appen
 link_text scheme name path (Some query) None kind = rw kind (simp (append_assoc, append-nil))
 link_text scheme name path (Some query) (Some fragment) kind = rw kind (simp (append_assoc, append-nil))
 
--- a link is read as a URL of this text
-read_link : (scheme name rest text : List ℕ) → IsWebScheme scheme → IsName name
+-- a link is read as a URL of this text, against any base
+read_link : (base : Option Parts) (scheme name rest text : List ℕ) → IsWebScheme scheme → IsName name
     → text ≡ link_front scheme name ++ slash ∷ rest → is_plain (slash ∷ rest) ≡ true
     → get_or (slash ∷ rest) (length (slash ∷ rest) - 1) 0 ≢ space
-    → option_map second_serial (reading None text) ≡ Some (link_front scheme name ++ written Path (slash ∷ rest))
-unfolding parse_url split_once reading second_serial
-read_link scheme name rest text web named joined plain ends =
+    → text_against base text ≡ Some (link_front scheme name ++ written Path (slash ∷ rest))
+unfolding parse_url split_once text_against second_serial
+read_link base scheme name rest text web named joined plain ends =
     let front = link_front scheme name in
     let hash = split_once number_sign rest in
     let question = split_once question_mark hash.0 in
@@ -301,30 +337,35 @@ read_link scheme name rest text web named joined plain ends =
     let question_is = ap (λ r. split_once question_mark r.0) hash_is
     ∙ split_behind question_mark front (slash ∷ hash.0) no_question in
     let scheme_is = ap (λ r. split_scheme r.0) question_is ∙ web_split scheme name (slash ∷ question.0) web in
-    let read : parse_url None (front ++ slash ∷ rest) ≡ Ok (link_url scheme name question.0 question.1 hash.1) =
-    (λ i. parse_by_scheme (scheme_is i) None (question_is i).0 (question_is i).1 (hash_is i).1)
+    let behind = slash ∷ slash ∷ (name ++ slash ∷ question.0) in
+    let read : parse_url base (front ++ slash ∷ rest) ≡ Ok (link_url scheme name question.0 question.1 hash.1) =
+    (λ i. parse_by_scheme (scheme_is i) base (question_is i).0 (question_is i).1 (hash_is i).1)
+    ∙ ap (λ s. parse_parts s (base_for_scheme base s) behind question.1 hash.1) (web_lower scheme web)
+    ∙ no_base base scheme name (slash ∷ question.0) question.1 hash.1 web
+    ∙ ap (λ s. parse_parts s None behind question.1 hash.1) (sym (web_lower scheme web))
     ∙ read_body scheme name question.0 (front ++ slash ∷ question.0) question.1 hash.1 web named path in
-    ap (λ t. option_map second_serial (parsed (parse_url None t))) joined
+    ap (λ t. option_map second_serial (parsed (parse_url base t))) joined
     ∙ ap (λ r. option_map second_serial (parsed r)) read
     ∙ ap Some (link_text scheme name question.0 question.1 hash.1 (web_kind scheme web)
     ∙ ap (λ t. front ++ t) (sym (written_path (slash ∷ rest))))
 
 -- the same of what stands behind the name
-read_bounded : (scheme name text behind : List ℕ) → IsWebScheme scheme → IsName name
+pub read_bounded : (base : Option Parts) (scheme name text behind : List ℕ) → IsWebScheme scheme → IsName name
     → text ≡ link_front scheme name ++ behind → IsBounded behind → is_plain behind ≡ true
-    → option_map second_serial (reading None text) ≡ Some (link_front scheme name ++ written Path behind)
-read_bounded scheme name text behind web named joined bounded plain =
+    → text_against base text ≡ Some (link_front scheme name ++ written Path behind)
+read_bounded base scheme name text behind web named joined bounded plain =
     let front = link_front scheme name in
     let is = bounded.begins in
-    read_link scheme name bounded.rest text web named (joined ∙ ap (λ t. front ++ t) is)
+    read_link base scheme name bounded.rest text web named (joined ∙ ap (λ t. front ++ t) is)
     (subst (λ t. is_plain t ≡ true) is plain) (subst (λ t. get_or t (length t - 1) 0 ≢ space) is bounded.ends)
     ∙ ap (λ t. Some (front ++ written Path t)) (sym is)
 
 -- two links with one front are read as one URL exactly where the same is written of what stands behind it
 same_links : (front first second text other : List ℕ)
-    → option_map second_serial (reading None text) ≡ Some (front ++ first)
-    → option_map second_serial (reading None other) ≡ Some (front ++ second)
+    → text_against None text ≡ Some (front ++ first)
+    → text_against None other ≡ Some (front ++ second)
     → (first ≡ second → ReadsSame None text other) × (ReadsSame None text other → first ≡ second)
+unfolding reading text_against
 same_links front first second text other reads other_reads = (
   λ same. record {
     url = front ++ first;
@@ -345,9 +386,9 @@ pub seen_same : (text other : List ℕ) (link : Link) (other_behind : List ℕ) 
 seen_same text other link other_behind is other_is bounded other_bounded plain other_plain same told =
     let front = link_front is.scheme is.name in
     let behind = link.behind.now in
-    let first = read_bounded is.scheme is.name text behind is.web is.named (is.joined ∙ ap (λ t. t ++ behind) is.front)
-    bounded plain in
-    let second = read_bounded is.scheme is.name other other_behind is.web is.named
+    let joined : text ≡ front ++ behind = is.joined ∙ ap (λ t. t ++ behind) is.front in
+    let first = read_bounded None is.scheme is.name text behind is.web is.named joined bounded plain in
+    let second = read_bounded None is.scheme is.name other other_behind is.web is.named
     (other_is ∙ ap (λ t. t ++ other_behind) is.front) other_bounded other_plain in
     let both = same_links front (written Path behind) (written Path other_behind) text other first second in
     (λ yes. both.0 (told.0 yes), λ reads. told.1 (both.1 reads))

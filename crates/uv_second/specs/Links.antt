@@ -116,6 +116,13 @@ part_behind Fragment b = Fragment
 unfoldable pub is_escaped : Part → ℕ → Bool
 is_escaped part b = not (is_mark part b) && should_percent_encode (escape_set part) b
 
+-- the byte is written as it stands, in whichever part
+abbrev pub is_kept : ℕ → Bool
+is_kept b =
+    nat_lt space b && (nat_lt b 0x7F
+    && (not (b == 0x22) && (not (b == 0x27) && (not (b == 0x3C) && (not (b == 0x3E)
+    && (not (b == 0x5E) && (not (b == 0x60) && (not (b == 0x7B) && not (b == 0x7D)))))))))
+
 -- what is written of a byte
 abbrev pub written_byte : Part → ℕ → List ℕ
 written_byte part b = if is_mark part b then b ∷ [] else encode_byte (escape_set part) b

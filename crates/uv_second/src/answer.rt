@@ -4,6 +4,7 @@ ghost use Rattle.url.specs.Parser.{Gives, parse_url};
 ghost use Rattle.uv_second.specs.Second.{IsReadAs, parsed, room_fault, second_serial, text_against};
 
 use crate::fault::RoomFault;
+use crate::own_text::is_own_text;
 use std::alloc::Global;
 use url::{ParseError, ParseResult, Url};
 
@@ -28,9 +29,26 @@ pub fn read_as(
     }
 }
 
-/// Whether the second parser makes of a text, alone or against a base, a URL that has the written text.
-#[tactic(auto, unfolding(crate::specs::Second::second_serial, crate::specs::Second::text_against))]
+/// Whether the second parser makes of a text, alone or against a base, a URL that has the written text. Most links that
+/// are the text of their URL are seen to be so, and aren't parsed.
 pub fn reads_as(
+    alloc: Global,
+    base: Option<&Url>,
+    text: &str,
+    written: &str,
+) -> Result<bool, RoomFault>
+    ensures { IfOk result (λ same.
+        IsTrue same ↔ (text_against (option_copied base.entry) text.now ≡ Some written.now)) }
+{
+    if text == written && is_own_text(text) {
+        return Ok(true);
+    }
+    parses_as(alloc, base, text, written)
+}
+
+// The same by a parse.
+#[tactic(auto, unfolding(crate::specs::Second::second_serial, crate::specs::Second::text_against))]
+fn parses_as(
     alloc: Global,
     base: Option<&Url>,
     text: &str,

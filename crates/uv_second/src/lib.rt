@@ -4,6 +4,7 @@
 mod answer;
 mod fault;
 mod links;
+mod own_text;
 mod readings;
 mod same;
 mod written;

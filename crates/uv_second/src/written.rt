@@ -176,9 +176,9 @@ fn behind_same(state: Compared<'_>) -> Compared<'_>
     }
 }
 
-// Whether bytes are seen to be plain. Of some that are that isn't seen. What is left behind 32 bytes at a time is looked
-// at byte by byte, which costs less than a walk that is made for many.
-fn stays_plain(bytes: &[u8]) -> bool
+/// Whether bytes are seen to be plain. Of some that are that isn't seen. What is left behind 32 bytes at a time is
+/// looked at byte by byte, which costs less than a walk that is made for many.
+pub(crate) fn stays_plain(bytes: &[u8]) -> bool
     ensures { IsTrue result → is_plain bytes.now ≡ true }
 {
     let (front, back) = bytes.split_at(bytes.len() - bytes.len() % 32);

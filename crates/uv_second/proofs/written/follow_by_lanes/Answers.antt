@@ -1,5 +1,5 @@
 -- A byte that may follow the one before stands before the bytes that are left.
-use Rattle.std.proofs.Common.{◌≡◌, ◌∙◌, ◌==◌, ◌&&◌, ◌++◌, ◌+◌, ap, drop, get_or, subst, sym, true}
+use Rattle.std.proofs.Common.{◌≡◌, ◌∙◌, ◌==◌, ◌++◌, ◌+◌, ap, drop, get_or, subst, sym, true}
 use Rattle.std.proofs.lemmas.Bool.{and_parts}
 use Rattle.std.proofs.lemmas.List.{drop_more}
 use Rattle.uv_second.specs.Links.{is_plain_behind, last_behind, may_follow}
