@@ -46,7 +46,7 @@ fn serializes_texts(rt: HostRuntime) -> Result<(), ResolveFault> {
 }
 
 // Texts whose parts show that they are the text of their own URL, and texts that aren't that text.
-const OWN_URLS: [(&str, bool); 12] = [
+const OWN_URLS: [(&str, bool); 26] = [
     ("https://h.example/a/b?x=1#f", true),
     ("http://h.example/", true),
     ("http://h.example/a.b/c%20d", true),
@@ -59,6 +59,20 @@ const OWN_URLS: [(&str, bool); 12] = [
     ("http://h.example:80/", false),
     ("http://h.example/?'", false),
     ("http://h.example/\u{E9}", false),
+    ("http://[2001:db8::1]/", true),
+    ("http://[::]/", true),
+    ("http://[1234:567:89:a:b:c:d:e0f]/", true),
+    ("http://[1:0:0:2::3]/", true),
+    ("http://[1::2:0:0:3:4]/", true),
+    ("http://[1:0:2:3:4:5:6:7]/", true),
+    ("http://[2001:DB8::1]/", false),
+    ("http://[2001:0db8::1]/", false),
+    ("http://[0::1]/", false),
+    ("http://[1::2:3:4:5:6:7]/", false),
+    ("http://[1::2:0:0:0:3]/", false),
+    ("http://[1:0:0:2::3:4]/", false),
+    ("http://[1:0:0:2:3:4:5:6]/", false),
+    ("http://[::ffff:192.0.2.1]/", false),
 ];
 
 // Whether a valid text is lent as the text of its own URL; none for another text.

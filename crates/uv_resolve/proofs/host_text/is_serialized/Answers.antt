@@ -26,3 +26,10 @@ unfolding serial_host
 returns-in-Empty c = λ empty ascii.
     no_chars c.args.text.now (sym c.is_empty.ensures ∙ empty)
     ∙ sym (ap (λ h. serial_host (referred h)) c.in-Empty.is)
+
+pub returns-in-V6 : goal.returns-in-V6
+unfolding serial_host
+returns-in-V6 c = λ same ascii.
+    sym (ascii_bytes c.args.text.now c.utf8.text ascii)
+    ∙ sym c.as_bytes-in-V6.ensures.value ∙ c.is_ipv6.ensures same
+    ∙ sym (ap (λ h. serial_host (referred h)) c.in-V6.is)
