@@ -1,5 +1,5 @@
 pub mod AbsoluteTextLemmas
-pub mod HostTextLemmas
+pub mod Ipv6TextLemmas
 pub mod KeptPathLemmas
 pub mod OwnAuthorityLemmas
 pub mod OwnTextLemmas

@@ -1,6 +1,6 @@
 pub mod AbsoluteText
 pub mod Base
-pub mod HostText
+pub mod Ipv6Text
 pub mod Laws
 pub mod ParserAnswer
 pub mod OwnAuthority

@@ -4,7 +4,7 @@ ghost use Rattle.std.specs.Prelude.{◌≡◌, ◌<◌, ◌++◌, IfOk, IfSome, 
 ghost use Rattle.std.specs.List.{list_all};
 ghost use Rattle.uv_model.specs.Encoding.{encoded};
 ghost use Rattle.uv_model.specs.Parts.{written_behind};
-ghost use Rattle.uv_model.specs.Records.Serialize.{serial_host, serial_ipv4, serial_ipv6, serial_port};
+ghost use Rattle.uv_model.specs.Records.Serialize.{serial_host, serial_ipv4, serial_port};
 ghost use Rattle.uv_grammar.specs.PartsHost.{referred};
 ghost use Rattle.uv_grammar.specs.Slices.{chars_of_option};
 ghost use Rattle.uv_resolve.specs.AbsoluteText as spec;
@@ -12,9 +12,9 @@ ghost use Rattle.uv_resolve.specs.AbsoluteText.{AreSomeParts, HasLowerScheme, Is
 ghost use Rattle.uv_resolve.specs.OwnText.{is_kept_segment};
 
 use crate::encoded_parts::push_encoded_part;
+use crate::ipv6_text::push_ipv6;
 use itoa::Buffer;
 use std::alloc::{AllocError, Global};
-use std::net::Ipv6Addr;
 use uv_grammar::{Form, HostRef, Parts, Segments};
 use uv_model::{is_double_dot, is_name, is_single_dot};
 
@@ -151,7 +151,7 @@ fn push_host(alloc: Global, out: &mut String, host: &HostRef<'_>) -> Result<(), 
     match host {
         HostRef::Domain(form) => out.push_str(form.as_str()),
         HostRef::V4(value) => push_ipv4(out, *value),
-        HostRef::V6(pieces) => push_ipv6(out, *pieces),
+        HostRef::V6(pieces) => push_ipv6(out, pieces),
         HostRef::Empty => Ok(()),
         _ => out.push_str(host.copy(alloc)?.text(alloc)?.as_str()),
     }
@@ -168,14 +168,6 @@ fn push_ipv4(out: &mut String, value: u32) -> Result<(), AllocError>
     push_number(out, value / 256 % 256)?;
     out.push_str(".")?;
     push_number(out, value % 256)
-}
-
-// An IPv6 address in brackets.
-fn push_ipv6(out: &mut String, pieces: [u16; 8]) -> Result<(), AllocError>
-    ensures { OnOk result (string_bytes out.new ≡ string_bytes out.old ++ serial_ipv6 pieces) }
-{
-    let groups = Ipv6Addr::from_segments(pieces).hex_groups();
-    write!(out, "[{groups}]")
 }
 
 /// The port behind a `:`, where there is one.

@@ -7,6 +7,7 @@ mod base;
 mod encoded_parts;
 mod fault;
 mod host_text;
+mod ipv6_text;
 pub mod laws;
 mod own_authority;
 mod own_text;

@@ -1,7 +1,7 @@
 -- The run that begins at this piece, and the longest of those from it on.
 use Rattle.std.proofs.Common.{◌≡◌, ◌+◌, ◌≤◌, length, drop}
 use Rattle.std.specs.Net.Text.{zero_run, longest_zero_run}
-use Rattle.uv_resolve.proofs.host_text.longest_zero_run.Given as goal
+use Rattle.uv_resolve.proofs.ipv6_text.longest_zero_run.Given as goal
 
 abbrev pub invariant-loop-at : goal.invariant-loop-at
 invariant-loop-at l =

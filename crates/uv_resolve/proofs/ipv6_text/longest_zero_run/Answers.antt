@@ -1,7 +1,7 @@
 -- Each piece begins a run or ends one.
 use Rattle.std.proofs.Common.{arith}
 use Rattle.std.proofs.lemmas.Grind.{common_steps}
-use Rattle.uv_resolve.proofs.host_text.longest_zero_run.Goals as goal
+use Rattle.uv_resolve.proofs.ipv6_text.longest_zero_run.Goals as goal
 
 pub loop-at-init : goal.loop-at-init
 loop-at-init c = grind (arith, common_steps)
