@@ -1,9 +1,9 @@
 -- The text of the URL that an absolute text of a special scheme denotes.
 use Rattle.std.proofs.Common.{◌≡◌, ◌≢◌, ℕ, Bool, true, false, List, [], ◌∷◌, ◌++◌, Option, Some, None, codes, refl, sym, ap}
-use Rattle.std.proofs.Common.{◌∙◌, inl, inr, append_assoc, chars}
+use Rattle.std.proofs.Common.{◌∙◌, subst, inl, inr, append_assoc, chars}
 use Rattle.std.specs.Prelude.{option_map}
 use Rattle.std.specs.List.{list_all}
-use Rattle.std.specs.Str.{bytes_eq}
+use Rattle.std.specs.Str.{IsAscii, bytes_eq}
 use Rattle.std.proofs.lemmas.Slice.Eq.{bytes_eq-Decides}
 use Rattle.std.proofs.lemmas.Str.{chars-IsAscii}
 use Rattle.uv_model.specs.declared.profile.Profile.{Profile}
@@ -24,10 +24,11 @@ use Rattle.uv_model.specs.Setting.{scheme_or}
 use Rattle.uv_model.specs.Valid.{Valid}
 use Rattle.uv_model.proofs.SchemeLemmas.{scheme_class-lowercase}
 use Rattle.uv_model.proofs.Texts.AsciiLemmas.{IsAscii-from_test}
-use Rattle.uv_resolve.specs.AbsoluteText.{AreSomeParts, HasLowerScheme, IsLowerScheme, path_or_slash, written_parts}
-use Rattle.uv_resolve.specs.OwnText.{is_kept_segment, is_never_encoded}
+use Rattle.uv_resolve.specs.AbsoluteText.{AreSomeParts, HasLowerScheme, IsLowerScheme, KeepsSegments, path_or_slash}
+use Rattle.uv_resolve.specs.AbsoluteText.{written_parts}
+use Rattle.uv_resolve.specs.OwnText.{has_no_dots, is_kept_segment, is_never_encoded}
 use Rattle.uv_resolve.proofs.KeptPathLemmas.{authority_path-encoded, authority_path-none, serial_segments-encoded}
-use Rattle.uv_resolve.proofs.KeptPathLemmas.{slashed_text, special_path}
+use Rattle.uv_resolve.proofs.KeptPathLemmas.{kept-segments, slashed_text, special_path}
 use Rattle.uv_resolve.proofs.OwnTextLemmas.{encoded-kept, never_encoded-IsAscii}
 use Rattle.uv_resolve.proofs.RecordLemmas.{denote-fields, fields}
 
@@ -49,6 +50,21 @@ path-serial class segments text special (inr path) kept =
     in
     ap serial_segments (authority_path-encoded class segments some kept) ∙ serial_segments-encoded segments
     ∙ sym (ap (encoded false) whole)
+
+-- a walk keeps the segments of a path in which none begins as a dot segment does
+pub keeps-no_dots : (segments : List (List ℕ)) (text : List ℕ) → has_no_dots false text ≡ true
+    → KeepsSegments segments text
+keeps-no_dots [] text no_dots slashed = refl
+keeps-no_dots (segment ∷ rest) text no_dots slashed =
+    let some : segment ∷ rest ≢ [] = λ none. absurd cc in
+    kept-segments (segment ∷ rest)
+    (subst (λ t. has_no_dots false t ≡ true) (slashed_text (segment ∷ rest) text some slashed) no_dots)
+
+-- so it is said of the code points of a text that is ASCII
+pub no_dots-chars : (bytes : List ℕ) → IsAscii bytes → has_no_dots false bytes ≡ true
+    → has_no_dots false (chars bytes) ≡ true
+no_dots-chars bytes ascii no_dots =
+    subst (λ t. has_no_dots false t ≡ true) (sym (chars-IsAscii bytes ascii)) no_dots
 
 -- the serializer writes a URL with a host and segments so
 serial-parts : (name : List ℕ) (host : Host) (port : Option ℕ) (segments : List (List ℕ))
@@ -75,9 +91,9 @@ query-encoded base Other query special = absurd (special refl)
 absolute-schemed : (profile : Profile) (base : Option Url) (text : List ℕ) (parts : Parts) (scheme name : List ℕ)
     (host : Host) (any : Option Url) → Valid profile base text parts → parts.form ≡ SchemeAuthority
     → parts.scheme ≡ Some scheme → IsLowerScheme scheme name → parts.host ≡ Some host
-    → list_all is_kept_segment parts.segments ≡ true
+    → KeepsSegments parts.segments parts.path_text
     → written_parts name host parts ≡ serial (denote any parts)
-absolute-schemed profile base text parts scheme name host any valid formed schemed is hosted kept =
+absolute-schemed profile base text parts scheme name host any valid formed schemed is hosted keeps =
     let class = scheme_class scheme in
     let segments = authority_path class parts.segments in
     let query = option_map (encoded true) parts.query in
@@ -85,7 +101,7 @@ absolute-schemed profile base text parts scheme name host any valid formed schem
     let slashed = special_path profile base text parts scheme valid formed schemed is.special in
     ap (λ p. name ++ (codes "://" ++ (serial_host host ++ (serial_port parts.port ++ (p
     ++ (written_behind question_mark query ++ written_behind number_sign fragment))))))
-    (sym (path-serial class parts.segments parts.path_text is.special slashed kept))
+    (sym (path-serial class parts.segments parts.path_text is.special slashed (keeps slashed)))
     ∙ serial-parts name host parts.port segments query fragment
     ∙ ap serial (denote-fields any parts class name (Some host) parts.port (Segments segments) query fragment
     (sym (ap (λ s. scheme_class (scheme_or any s)) schemed))
@@ -99,9 +115,9 @@ absolute-schemed profile base text parts scheme name host any valid formed schem
 -- what such parts of a valid text are written as is the text of the URL that they denote
 pub absolute_written : (parts : Parts) (name : List ℕ) (host : Host) → AreSomeParts parts
     → parts.form ≡ SchemeAuthority → HasLowerScheme parts.scheme name → parts.host ≡ Some host
-    → list_all is_kept_segment parts.segments ≡ true → (any : Option Url)
+    → KeepsSegments parts.segments parts.path_text → (any : Option Url)
     → written_parts name host parts ≡ serial (denote any parts)
-absolute_written parts name host some formed lower hosted kept any = go parts.scheme refl lower
+absolute_written parts name host some formed lower hosted keeps any = go parts.scheme refl lower
   where
     go : (scheme : Option (List ℕ)) → parts.scheme ≡ scheme → HasLowerScheme scheme name
         → written_parts name host parts ≡ serial (denote any parts)
@@ -109,7 +125,7 @@ absolute_written parts name host some formed lower hosted kept any = go parts.sc
     go (Some scheme) e is =
         let (base, some_text) = some in
         let (profile, text, valid) = some_text in
-        absolute-schemed profile base text parts scheme name host any valid formed e is hosted kept
+        absolute-schemed profile base text parts scheme name host any valid formed e is hosted keeps
 
 -- ---- what the code sees
 

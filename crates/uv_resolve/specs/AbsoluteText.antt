@@ -1,14 +1,17 @@
 -- Absolute texts of special schemes, and the URLs that they denote against any base (URL Standard, sections 4.3 to
 -- 4.5).
 use Rattle.std.specs.Prelude.{◌≡◌, ◌≢◌, ℕ, false, true, List, [], ◌∷◌, ◌++◌, codes, Option, Some, None, option_map}
+use Rattle.std.specs.List.{list_all}
 use Rattle.uv_model.specs.declared.host.Host.{Host}
 use Rattle.uv_model.specs.declared.scheme.Class.TheVariants.{Other}
 use Rattle.uv_model.specs.Ascii.{number_sign, question_mark, slash}
 use Rattle.uv_model.specs.Encoding.{encoded}
 use Rattle.uv_model.specs.Parts.{Parts, written_behind}
+use Rattle.uv_model.specs.Path.{MayBePathSlashed}
 use Rattle.uv_model.specs.Records.Serialize.{serial_host, serial_port}
 use Rattle.uv_model.specs.Records.Url.{Url}
 use Rattle.uv_model.specs.Scheme.{lowercase, scheme_class}
+use Rattle.uv_resolve.specs.OwnText.{is_kept_segment}
 use Rattle.uv_resolve.specs.PlainReference.{IsSerialWhere}
 use Rattle.uv_resolve.specs.Resolve.{HaveValidText}
 
@@ -29,6 +32,10 @@ pub record IsLowerScheme (scheme name : List ℕ) : Type 0 where
 abbrev pub HasLowerScheme : Option (List ℕ) → List ℕ → Type 0
 HasLowerScheme None name = ⊥
 HasLowerScheme (Some scheme) name = IsLowerScheme scheme name
+
+-- of a path of these segments a walk keeps each
+abbrev pub KeepsSegments : List (List ℕ) → List ℕ → Type 0
+KeepsSegments segments text = MayBePathSlashed segments text → list_all is_kept_segment segments ≡ true
 
 -- a path, which is `/` where the text has none: a special URL has one segment at least
 abbrev pub path_or_slash : List ℕ → List ℕ

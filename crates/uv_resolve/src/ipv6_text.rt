@@ -139,12 +139,12 @@ fn push_pieces(out: &mut String, pieces: &[u16]) -> Result<(), AllocError>
     ensures { OnOk result (string_bytes out.new ≡ string_bytes out.old ++ address.hex_groups_text pieces.now) }
 {
     let (start, count) = longest_zero_run(pieces);
-    if count < 2 {
-        return push_groups(out, pieces);
+    if count > 1 {
+        push_groups(out, &pieces[..start])?;
+        out.push_str("::")?;
+        return push_groups(out, &pieces[start + count..]);
     }
-    push_groups(out, &pieces[..start])?;
-    out.push_str("::")?;
-    push_groups(out, &pieces[start + count..])
+    push_groups(out, pieces)
 }
 
 // Groups with `:` between each two.
