@@ -3,7 +3,7 @@ use Rattle.std.proofs.Common.{◌≡◌, ◌≢◌, ℕ, Bool, true, false, List
 use Rattle.std.proofs.Common.{◌∙◌, subst, inl, inr, append_assoc, chars}
 use Rattle.std.specs.Prelude.{option_map}
 use Rattle.std.specs.List.{list_all}
-use Rattle.std.specs.Str.{IsAscii, bytes_eq}
+use Rattle.std.specs.Str.{IsUtf8, bytes_eq}
 use Rattle.std.proofs.lemmas.Slice.Eq.{bytes_eq-Decides}
 use Rattle.std.proofs.lemmas.Str.{chars-IsAscii}
 use Rattle.uv_model.specs.declared.profile.Profile.{Profile}
@@ -28,7 +28,7 @@ use Rattle.uv_resolve.specs.AbsoluteText.{AreSomeParts, HasLowerScheme, IsLowerS
 use Rattle.uv_resolve.specs.AbsoluteText.{written_parts}
 use Rattle.uv_resolve.specs.OwnText.{has_no_dots, is_kept_segment, is_never_encoded}
 use Rattle.uv_resolve.proofs.KeptPathLemmas.{authority_path-encoded, authority_path-none, serial_segments-encoded}
-use Rattle.uv_resolve.proofs.KeptPathLemmas.{kept-segments, slashed_text, special_path}
+use Rattle.uv_resolve.proofs.KeptPathLemmas.{kept-segments, no_dots-chars, slashed_text, special_path}
 use Rattle.uv_resolve.proofs.OwnTextLemmas.{encoded-kept, never_encoded-IsAscii}
 use Rattle.uv_resolve.proofs.RecordLemmas.{denote-fields, fields}
 
@@ -52,7 +52,7 @@ path-serial class segments text special (inr path) kept =
     ∙ sym (ap (encoded false) whole)
 
 -- a walk keeps the segments of a path in which none begins as a dot segment does
-pub keeps-no_dots : (segments : List (List ℕ)) (text : List ℕ) → has_no_dots false text ≡ true
+keeps-no_dots : (segments : List (List ℕ)) (text : List ℕ) → has_no_dots false text ≡ true
     → KeepsSegments segments text
 keeps-no_dots [] text no_dots slashed = refl
 keeps-no_dots (segment ∷ rest) text no_dots slashed =
@@ -60,11 +60,16 @@ keeps-no_dots (segment ∷ rest) text no_dots slashed =
     kept-segments (segment ∷ rest)
     (subst (λ t. has_no_dots false t ≡ true) (slashed_text (segment ∷ rest) text some slashed) no_dots)
 
--- so it is said of the code points of a text that is ASCII
-pub no_dots-chars : (bytes : List ℕ) → IsAscii bytes → has_no_dots false bytes ≡ true
-    → has_no_dots false (chars bytes) ≡ true
-no_dots-chars bytes ascii no_dots =
-    subst (λ t. has_no_dots false t ≡ true) (sym (chars-IsAscii bytes ascii)) no_dots
+-- so it is seen of the bytes of the path
+pub keeps-bytes : (segments : List (List ℕ)) (text bytes : List ℕ) → IsUtf8 bytes → chars bytes ≡ text
+    → has_no_dots false bytes ≡ true → KeepsSegments segments text
+keeps-bytes segments text bytes utf8 is no_dots =
+    keeps-no_dots segments text (subst (λ t. has_no_dots false t ≡ true) is (no_dots-chars bytes utf8 no_dots))
+
+-- and of segments that are seen one by one
+pub keeps-each : (segments : List (List ℕ)) (text : List ℕ) → list_all is_kept_segment segments ≡ true
+    → KeepsSegments segments text
+keeps-each segments text kept slashed = kept
 
 -- the serializer writes a URL with a host and segments so
 serial-parts : (name : List ℕ) (host : Host) (port : Option ℕ) (segments : List (List ℕ))

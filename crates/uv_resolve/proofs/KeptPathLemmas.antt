@@ -1,13 +1,15 @@
 -- Paths of segments that a walk keeps: what is denoted is each of them percent-encoded.
 use Rattle.std.proofs.Common.{◌≡◌, ◌≢◌, ℕ, Bool, true, false, not, List, [], ◌∷◌, ◌++◌, Option, Some, None, refl}
 use Rattle.std.proofs.Common.{sym, ap, ◌∙◌, subst, inl, inr, append_assoc, append-nil, map}
-use Rattle.std.proofs.Common.{◌==◌, ◌&&◌, codes, arith}
+use Rattle.std.proofs.Common.{◌==◌, ◌&&◌, ◌<◌, ◌≤◌, codes, arith}
 use Rattle.std.specs.Char.{to_ascii_lowercase}
-use Rattle.std.specs.Str.{bytes_eq}
+use Rattle.std.specs.Str.{IsUtf8, bytes_eq, chars}
+use Rattle.std.proofs.Math.Utf8.{encode, encodes}
 use Rattle.std.specs.List.{join_with_byte, list_all}
 use Rattle.std.proofs.lemmas.Slice.Eq.{bytes_eq-Decides}
+use Rattle.std.proofs.lemmas.Str.{encode_ascii, encodes-chars}
 use Rattle.std.proofs.lemmas.Bool.Decides.{nat_tests}
-use Rattle.std.proofs.lemmas.Bool.{and_parts, and_from, false_from_ne_true, false≢true, not-true}
+use Rattle.std.proofs.lemmas.Bool.{and_parts, and_from, cases_lt, false_from_ne_true, false≢true, not-true}
 use Rattle.uv_model.specs.declared.profile.Profile.{Profile}
 use Rattle.uv_model.specs.declared.scheme.Class.{Class}
 use Rattle.uv_model.specs.declared.scheme.Class.TheVariants.{File, Other, Special}
@@ -174,3 +176,40 @@ kept-segments [] h = refl
 kept-segments (segment ∷ rest) h =
     and_from _ _ (kept-first segment (serial_segments rest) h)
     (kept-segments rest (no_dots-behind true segment (serial_segments rest) h))
+
+-- ---- the bytes of a text
+
+-- a code point beyond ASCII begins no dot segment, and is no `/`
+beyond_mark : (c : ℕ) → 128 ≤ c → is_dot_mark c ≡ false
+beyond_mark c h = grind (arith, nat_tests)
+
+beyond_slash : (c : ℕ) → 128 ≤ c → (c == slash) ≡ false
+beyond_slash c h = grind (arith, nat_tests)
+
+-- so it is wherever a segment begins
+no_mark : (begins mark : Bool) → mark ≡ false → not (begins && mark) ≡ true
+no_mark false mark other = refl
+no_mark true mark other = ap not other
+
+-- where no segment begins so in the bytes of a text, none does in its code points
+no_dots-encoded : (begins : Bool) (text : List ℕ) → has_no_dots begins (encodes text) ≡ true
+    → has_no_dots begins text ≡ true
+no_dots-encoded begins [] h = refl
+no_dots-encoded begins (c ∷ rest) h =
+    let later = λ (b : Bool). no_dots-encoded b rest in
+    elim (cases_lt c 128) [
+      | inl small ↦
+          let one = subst (λ t. has_no_dots begins (t ++ encodes rest) ≡ true) (encode_ascii c small) h in
+          let parts = and_parts (not (begins && is_dot_mark c)) (has_no_dots (c == slash) (encodes rest)) one in
+          and_from _ _ parts.0 (later (c == slash) parts.1)
+      | inr beyond ↦
+          and_from _ _ (no_mark begins (is_dot_mark c) (beyond_mark c beyond))
+          (subst (λ b. has_no_dots b rest ≡ true) (sym (beyond_slash c beyond))
+          (later false (no_dots-behind begins (encode c) (encodes rest) h)))
+    ]
+
+pub no_dots-chars : (bytes : List ℕ) → IsUtf8 bytes → has_no_dots false bytes ≡ true
+    → has_no_dots false (chars bytes) ≡ true
+no_dots-chars bytes utf8 no_dots =
+    no_dots-encoded false (chars bytes)
+    (subst (λ t. has_no_dots false t ≡ true) (sym (encodes-chars bytes utf8)) no_dots)

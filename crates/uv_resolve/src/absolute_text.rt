@@ -1,7 +1,7 @@
 //! Absolute texts of special schemes without dot segments: each of their parts is written as its URL has it, and no
 //! record has to be made of them.
-ghost use Rattle.std.specs.Prelude.{◌≡◌, ◌<◌, ◌++◌, IfOk, IfSome, IsTrue, OnOk, chars, decimal, false};
-ghost use Rattle.std.specs.Prelude.{option_map, string_bytes, true};
+ghost use Rattle.std.specs.Prelude.{◌≡◌, ◌<◌, ◌++◌, IfOk, IfSome, IsTrue, OnOk, chars, decimal, option_map};
+ghost use Rattle.std.specs.Prelude.{string_bytes};
 ghost use Rattle.std.specs.List.{list_all};
 ghost use Rattle.uv_model.specs.Encoding.{encoded};
 ghost use Rattle.uv_model.specs.Parts.{written_behind};
@@ -11,11 +11,11 @@ ghost use Rattle.uv_grammar.specs.Slices.{chars_of_option};
 ghost use Rattle.uv_resolve.specs.AbsoluteText as spec;
 ghost use Rattle.uv_resolve.specs.AbsoluteText.{AreSomeParts, HasLowerScheme, IsLowerScheme, IsSerialOnAnyBase};
 ghost use Rattle.uv_resolve.specs.AbsoluteText.{KeepsSegments};
-ghost use Rattle.uv_resolve.specs.OwnText.{has_no_dots, is_kept_segment};
+ghost use Rattle.uv_resolve.specs.OwnText.{is_kept_segment};
 
 use crate::encoded_parts::push_encoded_part;
 use crate::ipv6_text::push_ipv6;
-use crate::own_text::is_without_dots;
+use crate::own_text::{is_dot_mark, is_without_dots};
 use itoa::Buffer;
 use std::alloc::{AllocError, Global};
 use uv_grammar::{Form, HostRef, Parts, Segments};
@@ -77,18 +77,16 @@ fn special_name(scheme: &str) -> Option<&'static str>
     None
 }
 
-// Whether a walk keeps each segment of the path. Where no segment begins as a dot segment does, they aren't cut.
+// Whether a walk keeps each segment of the path. They are cut only where one begins as a dot segment does: of the first
+// one that is seen at once.
 fn keeps_path(parts: &Parts<'_>) -> bool
     ensures { IsTrue result → KeepsSegments parts.now.segments parts.now.path_text }
 {
-    has_no_dot_mark(parts.path_text()) || keeps_each(parts.segments())
-}
-
-// Whether a path is ASCII in which no segment begins as a dot segment does.
-fn has_no_dot_mark(text: &str) -> bool
-    ensures { IsTrue result → has_no_dots false (chars text.now) ≡ true }
-{
-    text.is_ascii() && is_without_dots(false, text.as_bytes())
+    let path = parts.path_text().as_bytes();
+    match path {
+        [_, second, ..] if is_dot_mark(*second) => keeps_each(parts.segments()),
+        _ => is_without_dots(false, path) || keeps_each(parts.segments()),
+    }
 }
 
 // Whether a walk keeps each segment.

@@ -146,8 +146,8 @@ fn is_without_dots_within(path: &[u8]) -> bool
     !has_dots
 }
 
-// Whether a dot segment may begin with a byte.
-fn is_dot_mark(byte: u8) -> bool
+/// Whether a dot segment may begin with a byte.
+pub(crate) fn is_dot_mark(byte: u8) -> bool
     ensures { result ≡ is_dot_mark byte }
 {
     (byte == b'.') | (byte == b'%')
