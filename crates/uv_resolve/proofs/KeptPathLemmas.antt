@@ -1,7 +1,7 @@
 -- Paths of segments that a walk keeps: what is denoted is each of them percent-encoded.
 use Rattle.std.proofs.Common.{◌≡◌, ◌≢◌, ℕ, Bool, true, false, not, List, [], ◌∷◌, ◌++◌, Option, Some, None, refl}
 use Rattle.std.proofs.Common.{sym, ap, ◌∙◌, subst, inl, inr, append_assoc, append-nil, map}
-use Rattle.std.proofs.Common.{◌==◌, ◌&&◌, ◌<◌, ◌≤◌, codes, arith}
+use Rattle.std.proofs.Common.{◌==◌, ◌&&◌, ◌≤◌, codes, arith}
 use Rattle.std.specs.Char.{to_ascii_lowercase}
 use Rattle.std.specs.Str.{IsUtf8, bytes_eq, chars}
 use Rattle.std.proofs.Math.Utf8.{encode, encodes}
