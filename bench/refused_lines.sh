@@ -56,6 +56,6 @@ compared() {
 }
 
 compared gnu 4.0
-compared json 12.1
-compared sarif 14.0
+compared json 8.8
+compared sarif 9.6
 exit $failed
