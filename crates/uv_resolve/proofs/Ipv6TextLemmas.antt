@@ -31,6 +31,9 @@ one_digit n below =
     let two : n < 0x100 = omega arith in
     rw (lt-leb _ n three, lt-leb _ n two, lt-leb _ n below) refl
 
+-- the digits that a piece is written by
+pub ruleset shown_digits = (four_digits, three_digits, two_digits, one_digit)
+
 -- the table of hex digits
 pub hex_digits : (d : ℕ) → d < 16 → get_or (codes "0123456789abcdef") d 0 ≡ digit_char d
 hex_digits zero h = refl
@@ -49,4 +52,5 @@ hex_digits (suc (suc (suc (suc (suc (suc (suc (suc (suc (suc (suc (suc zero)))))
 hex_digits (suc (suc (suc (suc (suc (suc (suc (suc (suc (suc (suc (suc (suc zero))))))))))))) h = refl
 hex_digits (suc (suc (suc (suc (suc (suc (suc (suc (suc (suc (suc (suc (suc (suc zero)))))))))))))) h = refl
 hex_digits (suc (suc (suc (suc (suc (suc (suc (suc (suc (suc (suc (suc (suc (suc (suc zero))))))))))))))) h = refl
-hex_digits (suc (suc (suc (suc (suc (suc (suc (suc (suc (suc (suc (suc (suc (suc (suc (suc n)))))))))))))))) h = absurd (omega arith)
+hex_digits (suc (suc (suc (suc (suc (suc (suc (suc (suc (suc (suc (suc (suc (suc (suc (suc n)))))))))))))))) h =
+    absurd (omega arith)

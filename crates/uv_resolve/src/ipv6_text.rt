@@ -1,5 +1,6 @@
 //! IPv6 addresses as the host serializer writes them: found at the start of a text, and written behind one.
-ghost use Rattle.std.specs.Prelude.{◌≡◌, ◌+◌, ◌/◌, ◌%◌, ◌<◌, ◌≤◌, ◌++◌, ◌∷◌, [], IfSome, IsTrue, OnOk, length, string_bytes};
+ghost use Rattle.std.specs.Prelude.{◌≡◌, ◌+◌, ◌/◌, ◌%◌, ◌<◌, ◌≤◌, ◌++◌, ◌∷◌, [], IfSome, IsTrue, OnOk};
+ghost use Rattle.std.specs.Prelude.{length, string_bytes};
 ghost use Rattle.std.specs.Char.{digit_char};
 ghost use Rattle.std.specs.Net.Text as address;
 ghost use Rattle.uv_model.specs.Records.Serialize.{serial_ipv6};
@@ -65,7 +66,7 @@ fn behind_later_groups<'t>(text: &'t [u8], pieces: &[u16]) -> Option<&'t [u8]>
 }
 
 // What stands behind a piece in lower-case hex, without leading zeros.
-#[tactic(auto, using(crate::proofs::Ipv6TextLemmas::four_digits, crate::proofs::Ipv6TextLemmas::three_digits, crate::proofs::Ipv6TextLemmas::two_digits, crate::proofs::Ipv6TextLemmas::one_digit))]
+#[tactic(auto, using(crate::proofs::Ipv6TextLemmas::shown_digits))]
 #[inline(always)]
 fn behind_group<'t>(text: &'t [u8], piece: u16) -> Option<&'t [u8]>
     ensures { IfSome result (λ rest. text.now ≡ address.hex piece ++ rest.now) }
@@ -172,7 +173,7 @@ fn push_later_groups(out: &mut String, pieces: &[u16]) -> Result<(), AllocError>
 }
 
 // A piece in lower-case hex, without leading zeros.
-#[tactic(auto, using(crate::proofs::Ipv6TextLemmas::four_digits, crate::proofs::Ipv6TextLemmas::three_digits, crate::proofs::Ipv6TextLemmas::two_digits, crate::proofs::Ipv6TextLemmas::one_digit))]
+#[tactic(auto, using(crate::proofs::Ipv6TextLemmas::shown_digits))]
 fn push_group(out: &mut String, piece: u16) -> Result<(), AllocError>
     ensures { OnOk result (string_bytes out.new ≡ string_bytes out.old ++ address.hex piece) }
 {
