@@ -72,12 +72,45 @@ of_list 1 "list:1:8: $(in_domain '0020 SPACE')\nlist:2:8: $none\nlist:3:8: $(in_
 list:5:8: $(in_domain '0009 CHARACTER TABULATION')\n" "$(counted 5 4)" \
     'http://x_y! z/\nhttp://a..%20/\nhttp://%<>/\nhttp://a..b/\nhttp://a\tb/\n' --profile parser
 
-# What stands before a scheme: a space, a C0 control or a byte order mark. Of another code point nothing is said.
-of_list 1 'list:1:1: error: U+0020 SPACE stands before the scheme [no-scheme]
-list:2:1: error: U+0009 CHARACTER TABULATION stands before the scheme [no-scheme]
-list:3:1: error: U+001F INFORMATION SEPARATOR ONE stands before the scheme [no-scheme]
-'"list:4:1: $scheme\nlist:5:1: $scheme\n" "$(counted 5 5)" \
-    ' https://a/\n\thttp://h/\n\x1furn:a\n\xc2\xa0urn:a\n:a\n'
+# What stands before a scheme: a control, a space, or another code point of which nothing is seen, as a no-break space, a
+# zero width space, a line separator, a soft hyphen, an ideographic space, a word joiner or a tag. Of another code point
+# nothing is said.
+# before CODE_POINT : that it stands before the scheme
+before() { echo "error: U+$1 stands before the scheme [no-scheme]"; }
+of_list 1 "list:1:1: $(before '0020 SPACE')\nlist:2:1: $(before '0009 CHARACTER TABULATION')
+list:3:1: $(before '001F INFORMATION SEPARATOR ONE')\nlist:4:1: $(before '007F DELETE')\nlist:5:1: $(before 0085)
+list:6:1: $(before 00A0)\nlist:7:1: $(before 200B)\nlist:8:1: $(before 2028)\nlist:9:1: $(before 00AD)
+list:10:1: $(before 3000)\nlist:11:1: $(before 2060)\nlist:12:1: $(before E0001)
+list:13:1: $scheme\nlist:14:1: $scheme\nlist:15:1: $scheme\n" "$(counted 15 15)" \
+    ' https://a/\n\thttp://h/\n\x1furn:a\n\x7furn:a\n\xc2\x85urn:a\n\xc2\xa0urn:a\n\xe2\x80\x8burn:a\n\xe2\x80\xa8urn:a
+\xc2\xadurn:a\n\xe3\x80\x80urn:a\n\xe2\x81\xa0urn:a\n\xf3\xa0\x80\x81urn:a\n\xc3\xa9urn:a\n:a\n\xe2\x80\x90urn:a\n'
+
+# A noncharacter is told as one, by its number alone, and nothing stands behind the number of what isn't seen.
+of_list 1 'list:1:10: error: U+FFFE <noncharacter> may not stand in a URL [code-point]
+list:2:6: error: U+FDD0 <noncharacter> may not stand in a URL [code-point]
+list:3:11: error: U+10FFFF <noncharacter> is no digit of a port [port-digit]
+list:4:11: error: U+200B is no digit of a port [port-digit]
+list:5:10: error: U+0663 \xd9\xa3 is no digit of a port [port-digit]\n' "$(counted 5 5)" \
+    'http://h/\xef\xbf\xbe\nurn:a\xef\xb7\x90\nhttp://h:8\xf4\x8f\xbf\xbf/\nhttp://h:8\xe2\x80\x8b/\nhttp://h:\xd9\xa3/\n'
+
+# A file link has no port, and its drive letter stands behind `file:///` and is written with `:`. An IPv6 address stands in
+# brackets, whatever rule its text violates without them; a text that is no address isn't told as one.
+port='U+003A COLON may not stand in a domain: a file URL has no port [host-domain]'
+drive='error: a drive letter stands behind file:///, and not in the place of a host [host-domain]'
+bar='error: U+007C VERTICAL LINE may not stand in a URL'
+of_list 1 "list:1:8: error: $port\nlist:2:8: error: $port\nlist:3:8: $drive\nlist:4:8: $drive\nlist:5:8: error: $port
+list:6:10: $bar: a drive letter is written with : [code-point]\nlist:7:10: $bar: a drive letter is written with : [code-point]
+list:8:10: $bar [code-point]\nlist:9:12: $bar [code-point]\nlist:10:10: $bar [code-point]\n" "$(counted 10 10)" \
+    'file://h:80/\nFile://h:\nfile://C:/x\nfile://c|\nfile://CC:/x\nfile:///C|/x\nFILE:///z|
+file:///C|x\nfile:///x/C|/\nhttp://h/|/\n'
+brackets='error: a host that is an IPv6 address stands in brackets'
+of_list 1 "list:1:8: $brackets [host-number]\nlist:2:8: $brackets [host-missing]\nlist:3:14: $brackets [port-digit]
+list:4:7: $brackets [host-missing]\nlist:5:8: $brackets [host-domain]\nlist:6:8: $brackets [host-missing]
+list:7:10: error: U+003A COLON is no digit of a port [port-digit]
+list:8:8: error: a host has to stand here [host-missing]
+list:9:8: error: the host that begins here is no IPv6 address in brackets [host-ipv6]\n" "$(counted 9 9)" \
+    'http://2001:db8::1/\nhttp://::1/\nhttps://fe80::1?x:80\nfoo://::1\nfile://::1/x\nhttp://::ffff:1.2.3.4#\nhttp://h::1/
+http://::01.2.3.4/\nhttp://[::1/\n'
 
 # The least violation, or all.
 of_list 1 "list:1:11: $space\nlist:2:8: $credentials\n" "$(counted 2 2)" 'http://h/a b%zz\nhttp://u@h/a b\n'
@@ -198,4 +231,4 @@ ends_with 1 $? "$(counted 7 4)" 'results of SARIF of three files'
 grep '"ruleIndex":' "$room/out" | cmp -s - "$room/twice" || fail "results of SARIF of three files: $(cat "$room/out")"
 rm -f "$room/wanted" "$room/twice" "$room/right"
 
-all_cases 54
+all_cases 57

@@ -96,8 +96,8 @@ cmp -s "$room/explained" "$room/each" || fail 'explain: each rule is explained o
 
 # What a line may be wrong by beside the rules; and words that name nothing.
 expect 0 "rule not-utf8\nmeans this line isn't UTF-8\nasks A line is a text in UTF-8.\n" '' explain not-utf8
-expect 0 'rule line-too-long\nmeans this line has more than 65536 bytes\nasks A line has at most 65536 bytes.\n' '' \
-    explain line-too-long
+long='A line has at most 65536 bytes. A longer link may be valid: check and the libraries have no such limit.'
+expect 0 "rule line-too-long\nmeans this line has more than 65536 bytes\nasks $long\n" '' explain line-too-long
 located="A located line is FILE:LINE:COLUMN:LINK. FILE isn't empty; LINE and COLUMN are from 1 to 4294967295."
 expect 0 "rule not-located\nmeans this line isn't FILE:LINE:COLUMN:LINK\nasks $located\n" '' explain not-located
 rules='urlcheck: the rules:'

@@ -1,6 +1,7 @@
 """What is said of a link that is refused, as ``urlcheck lint`` says it: code points are named, what is wrong with a
 host, and credentials."""
 
+import ipaddress
 import re
 import unicodedata
 from typing import Callable, Dict, List, Tuple
@@ -8,6 +9,16 @@ from typing import Callable, Dict, List, Tuple
 from . import Profile, sentence
 
 _CREDENTIALS = "a URL string has no credentials: no user name, password or @ before its host"
+
+_BARE_IPV6 = "a host that is an IPv6 address stands in brackets"
+
+_DRIVE_FOR_HOST = "a drive letter stands behind file:///, and not in the place of a host"
+
+_DRIVE_NOTE = ": a drive letter is written with :"
+"""What is said behind the mark of a drive letter that may not stand there."""
+
+_PORT_NOTE = ": a file URL has no port"
+"""What is said behind the colon of a port that may not stand there."""
 
 _OF_AUTHORITY = {
     "host-missing",
@@ -63,27 +74,42 @@ _CONTROLS = (
 ).split(",")
 """The names of the controls below U+0020, which ``unicodedata`` doesn't have."""
 
-_HIDDEN = re.compile("[\x00-\x1f\x7f-\x9f\u061c\u200e\u200f\u2028-\u202e\u2066-\u2069\ufeff]")
-"""The controls, what turns the direction of a text or ends its line, and the byte order mark, which shows nothing."""
+_UNSEEN = re.compile(
+    "[\x00-\x20\x7f-\xa0\xad\u061c\u1680\u180e\u2000-\u200f\u2028-\u202f\u205f-\u206f\u3000\ufeff\ufff9-\ufffb"
+    "\U000e0001-\U000e007f]"
+)
+"""The code points of which nothing is seen: controls, spaces, and what turns the direction of a text, ends its line, or
+draws nothing."""
 
 
 def message(text: str, rule: str, place: int, profile: Profile) -> str:
     """What is wrong with a text that a profile refuses by this rule at this place."""
     if rule in _OF_AUTHORITY and _has_credentials(text, place):
         return _CREDENTIALS
+    if rule in _OF_AUTHORITY and _has_bare_ipv6(text):
+        return _BARE_IPV6
     if rule == "host-domain":
-        return _of_domain(re.split("[/?#:]", text[place:], maxsplit=1)[0], profile)
+        return _of_host(text, place, profile)
     said = _SAID_OF_POINT.get(rule)
     if said is None or place >= len(text):
         return sentence(rule)
-    return "{} {}".format(_named(text[place]), said)
+    return "{} {}{}".format(_named(text[place]), said, _DRIVE_NOTE if _marks_drive(text, rule, place) else "")
+
+
+def _of_host(text: str, place: int, profile: Profile) -> str:
+    """Why the host at a place is no valid domain: that it is a drive letter, else what is said of the domain. In a ``file``
+    link it doesn't end at a colon."""
+    is_file = _is_file_link(text)
+    host = re.split("[/?#]" if is_file else "[/?#:]", text[place:], maxsplit=1)[0]
+    return _DRIVE_FOR_HOST if is_file and re.fullmatch("[A-Za-z][:|]", host) else _of_domain(host, profile)
 
 
 def _of_domain(host: str, profile: Profile) -> str:
     """Why a host is no valid domain: the first code point that may not stand in it, else what is wrong with a label."""
     foreign = _FOREIGN[profile].search(host)
     if foreign:
-        return "{} may not stand in a domain".format(_named(foreign.group()))
+        note = _PORT_NOTE if foreign.group() == ":" else ""
+        return "{} may not stand in a domain{}".format(_named(foreign.group()), note)
     labels = (host[:-1] if host.endswith(".") else host).split(".")
     for said, is_wrong in _REFUSES[profile]:
         if any(map(is_wrong, labels)):
@@ -102,8 +128,37 @@ def _has_credentials(text: str, place: int) -> bool:
     return end is not None and end.group() == "@"
 
 
+def _has_bare_ipv6(text: str) -> bool:
+    """Whether the authority, which begins behind the first two ``/``, is an IPv6 address."""
+    behind = text.split("/", 2)[2:]
+    return bool(behind) and _is_ipv6(re.split("[/?#]", behind[0], maxsplit=1)[0])
+
+
+def _is_ipv6(text: str) -> bool:
+    """Whether a text is an IPv6 address as the URL Standard writes it: of an IPv4 address at its end no number has zeros
+    before it, and no zone follows."""
+    if not re.fullmatch("[0-9A-Fa-f:.]+", text) or re.search("(?:[.]|:(?=[0-9]+[.]))0[0-9]", text):
+        return False
+    try:
+        ipaddress.IPv6Address(text)
+    except ValueError:
+        return False
+    return True
+
+
+def _is_file_link(text: str) -> bool:
+    """Whether what stands before the first colon is ``file``."""
+    return text.partition(":")[0].lower() == "file"
+
+
+def _marks_drive(text: str, rule: str, place: int) -> bool:
+    """Whether the place is that of the mark of a drive letter, which isn't ``:``: behind ``file:///`` and the letter."""
+    return rule == "code-point" and place == 9 and bool(re.match(r"[Ff][Ii][Ll][Ee]:///[A-Za-z][|:](?:[/?#]|\Z)", text))
+
+
 def _named(point: str) -> str:
-    """A code point by ``U+``, its number and its name; beyond ASCII as it is, where a terminal may show it."""
+    """A code point by ``U+``, its number and its name; beyond ASCII a noncharacter by that word, and another one as it is,
+    where it is seen."""
     number = "U+{:04X}".format(ord(point))
     if point < " ":
         return "{} {}".format(number, _CONTROLS[ord(point)])
@@ -111,4 +166,6 @@ def _named(point: str) -> str:
         return number + " DELETE"
     if point < "\x7f":
         return "{} {}".format(number, unicodedata.name(point))
-    return number if _HIDDEN.match(point) else "{} {}".format(number, point)
+    if "\ufdd0" <= point <= "\ufdef" or ord(point) % 0x10000 >= 0xFFFE:
+        return number + " <noncharacter>"
+    return number if _UNSEEN.match(point) else "{} {}".format(number, point)

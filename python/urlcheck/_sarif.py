@@ -26,7 +26,7 @@ _OF_LINES: Tuple[_Asked, ...] = (
     _Asked(
         "line-too-long",
         "this line has more than 65536 bytes",
-        "A line has at most 65536 bytes.",
+        "A line has at most 65536 bytes. A longer link may be valid: check and the libraries have no such limit.",
         "valid-url-string",
     ),
     _Asked(

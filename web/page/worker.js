@@ -13,7 +13,7 @@ const TELLING = 100
 /** What is said of lines that aren't judged. */
 const UNJUDGED = {
   'not-utf8': { sentence: "this line isn't UTF-8", asks: 'A line is a text in UTF-8.' },
-  'line-too-long': { sentence: 'this line has more than 65536 bytes', asks: 'A line has at most 65536 bytes.' },
+  'line-too-long': { sentence: 'this line has more than 65536 bytes', asks: 'A line has at most 65536 bytes. A longer link may be valid.' },
   memory: { sentence: 'out of memory for this line', asks: 'A text fits into the memory of the page.' }
 }
 

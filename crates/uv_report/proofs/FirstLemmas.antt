@@ -1,7 +1,8 @@
--- What stands before the first element that passes, by where that is.
-use Rattle.std.proofs.Common.{◌≡◌, ◌≤◌, ℕ, Bool, true, false, List, length, take, nat_lt, Option, Some, None}
-use Rattle.std.proofs.Common.{ap, arith, refl, if◌then◌else◌, sym, take_all}
-use Rattle.std.specs.List.{before_first, position_or_len}
+-- What stands before and behind the first element that passes, by where that is.
+use Rattle.std.proofs.Common.{◌≡◌, ◌≤◌, ◌+◌, ◌==◌, ℕ, Bool, true, false, List, [], length, take, nat_lt, Option, Some}
+use Rattle.std.proofs.Common.{None, ap, arith, refl, if◌then◌else◌, sym, take_all}
+use Rattle.std.proofs.lemmas.List.{drop_all}
+use Rattle.std.specs.List.{after_first, before_first, position_or_len}
 
 -- the place where there is one
 place_of : (there : Bool) (n place : ℕ) → Some place ≡ (if there then Some n else None) → place ≡ n
@@ -30,3 +31,11 @@ before_none p text is =
     let past = not_there (nat_lt n (length text)) n is in
     let long : length text ≤ n = grind (arith, past) in
     sym (take_all n text long)
+
+-- nothing stands behind the first `c` of a text that has none
+pub behind_none : (c : ℕ) (text : List ℕ) → position_or_len (λ b. b == c) text ≡ length text
+    → [] ≡ after_first (λ b. b == c) text
+behind_none c text none =
+    let n = position_or_len (λ b. b == c) text in
+    let long : length text ≤ n + 1 = omega (arith, none) in
+    sym (drop_all (n + 1) text long)

@@ -1,6 +1,7 @@
 pub mod PieceLemmas
 mod ColumnLemmas
-mod FirstLemmas
+pub mod FirstLemmas
+mod Ipv6Lemmas
 mod JsonLemmas
 mod NameLemmas
 mod NumberLemmas

@@ -2,6 +2,7 @@
 use Rattle.std.proofs.Common.{refl}
 use Rattle.std.specs.Fmt.{char_count, digits, padded_integral}
 use Rattle.std.specs.Char.{encode_utf8}
+use Rattle.std.specs.Net.Reader.{read_ipv4, read_ipv6, read_number, read_octet, read_segment, read_segments}
 use Rattle.std.specs.Str.{chars}
 use Rattle.idna.specs.Validity.{has_ace_prefix}
 use Rattle.percent_encoding.specs.Percent.{percent_encode_byte}
@@ -9,6 +10,7 @@ use Rattle.unicode_width.specs.Width.{char_width}
 use Rattle.uv_report.specs.CodePoint.{ascii_names, capital_names, control_names, digit_names, last_names, mark_names}
 use Rattle.uv_report.specs.CodePoint.{point_name, point_text, sign_names, small_names}
 use Rattle.uv_report.specs.Domain.{domain_sentence}
+use Rattle.uv_report.specs.Ipv6.{is_ipv6}
 use Rattle.uv_report.specs.Message.{refusal_message}
 use Rattle.uv_report.specs.Rows.{ColumnRows, DomainRows, MessageRows, PointRows, UriRows, WindowRows}
 use Rattle.uv_report.specs.Uri.{uri_part, uri_path}
@@ -26,6 +28,10 @@ point_rows = record {
   beyond = refl;
   hidden = refl;
   byte_order_mark = refl;
+  no_break_space = refl;
+  zero_width = refl;
+  noncharacter = refl;
+  plane_end = refl;
   digits = refl;
 }
 
@@ -48,15 +54,21 @@ column_rows = record {
 pub message_rows : MessageRows
 unfolding refusal_message point_text point_name ascii_names control_names sign_names digit_names capital_names
     mark_names small_names last_names digits padded_integral char_count encode_utf8 chars
+    is_ipv6 read_ipv6 read_segments read_segment read_number read_ipv4 read_octet
 message_rows = record {
   point = refl;
   port = refl;
   space = refl;
   byte_order_mark = refl;
+  no_break_space = refl;
   relative = refl;
   user = refl;
   password = refl;
   path = refl;
+  address = refl;
+  two_colons = refl;
+  drive = refl;
+  bar = refl;
   located = refl;
 }
 
@@ -64,6 +76,7 @@ message_rows = record {
 pub domain_rows : DomainRows
 unfolding refusal_message domain_sentence has_ace_prefix point_text point_name ascii_names control_names sign_names
     digit_names capital_names mark_names small_names last_names digits padded_integral char_count encode_utf8 chars
+    is_ipv6 read_ipv6 read_segments read_segment read_number read_ipv4 read_octet
 domain_rows = record {
   mark = refl;
   wide = refl;
@@ -76,6 +89,8 @@ domain_rows = record {
   inner = refl;
   punycode = refl;
   hyphens = refl;
+  port = refl;
+  drive = refl;
   decoded = refl;
 }
 

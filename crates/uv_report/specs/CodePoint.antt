@@ -1,7 +1,9 @@
 -- How a code point is named: by `U+` and its number, and by its name, where it is an ASCII code point.
-use Rattle.std.specs.Prelude.{ℕ, ◌-◌, ◌^◌, ◌||◌, ◌==◌, true, false, List, [], ◌∷◌, ◌++◌, codes, encode_utf8}
+use Rattle.std.specs.Prelude.{ℕ, ◌-◌, ◌^◌, ◌||◌, ◌==◌, Bool, true, false, List, [], ◌∷◌, ◌++◌, codes, encode_utf8}
 use Rattle.std.specs.Prelude.{if◌then◌else◌, Option, Some, None, slice_get}
+use Rattle.std.specs.Int.{is_in_range}
 use Rattle.std.specs.Fmt.{digits, format_spec, padded_integral}
+use Rattle.uv_model.specs.Units.{is_noncharacter}
 use Rattle.uv_report.specs.Escapes.{is_hidden}
 
 -- ---- the names of the ASCII code points (Unicode Character Database, UnicodeData.txt)
@@ -78,15 +80,39 @@ unfoldable pub ascii_names : List (List ℕ)
 ascii_names =
     control_names ++ (sign_names ++ (digit_names ++ (capital_names ++ (mark_names ++ (small_names ++ last_names)))))
 
+-- ---- code points of which nothing is seen
+
+-- a space (Unicode Character Database, general category Zs)
+abbrev pub is_space : ℕ → Bool
+is_space c =
+    (c == 0x20) || ((c == 0xA0) || ((c == 0x1680) || ((c == 0x202F) || ((c == 0x205F) || ((c == 0x3000)
+    || is_in_range 0x2000 0x200A c)))))
+
+-- a format code point that draws nothing (general category Cf): U+00AD SOFT HYPHEN, U+180E MONGOLIAN VOWEL SEPARATOR,
+-- U+FEFF, which is a byte order mark too, those of zero width, the invisible operators, and the tags
+abbrev pub is_invisible : ℕ → Bool
+is_invisible c =
+    (c == 0xAD) || ((c == 0x180E) || ((c == 0xFEFF)
+    || (is_in_range 0x200B 0x200D c || (is_in_range 0x2060 0x206F c || (is_in_range 0xFFF9 0xFFFB c
+    || is_in_range 0xE0001 0xE007F c)))))
+
+-- nothing is seen of it where it stands alone: it isn't shown as it is, or is a tab, a space or invisible
+abbrev pub is_unseen : ℕ → Bool
+is_unseen c = is_hidden c || ((c == 9) || (is_space c || is_invisible c))
+
 -- ---- how a code point is named
 
 -- its number in hex, in four digits at least
 abbrev pub hex_number : ℕ → List ℕ
 hex_number c = padded_integral (format_spec 32 0 4 4 (2 ^ 64 - 1)) false [] (digits 16 true c)
 
--- a code point beyond ASCII as it is, where it is one that is shown; a byte order mark (U+FEFF) shows nothing
+-- what stands behind the number of a code point beyond ASCII: the label of a noncharacter, nothing where nothing is
+-- seen of the code point, and else the code point as it is
 abbrev pub glyph : ℕ → List ℕ
-glyph c = if is_hidden c || (c == 0xFEFF) then [] else codes " " ++ encode_utf8 c
+glyph c =
+    if is_noncharacter c then codes " <noncharacter>"
+    else if is_unseen c then []
+    else codes " " ++ encode_utf8 c
 
 -- the name of an ASCII code point, else the code point
 abbrev pub name_or_glyph : ℕ → Option (List ℕ) → List ℕ

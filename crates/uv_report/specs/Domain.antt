@@ -1,7 +1,7 @@
 -- Why a host is no valid domain by a profile, as far as its text shows it (URL Standard, sections 3.3 and 3.4; UTS #46,
 -- section 4.1). What its ASCII code points and labels show is said; what ToASCII makes of the others isn't.
 use Rattle.std.specs.Prelude.{ℕ, Bool, not, ◌&&◌, ◌||◌, ◌==◌, nat_lt, List, [], ◌∷◌, ◌++◌, codes, drop}
-use Rattle.std.specs.Prelude.{encode_utf8_all, find, length, Option, Some, None}
+use Rattle.std.specs.Prelude.{encode_utf8_all, find, if◌then◌else◌, length, Option, Some, None}
 use Rattle.std.specs.List.{before_first, list_any}
 use Rattle.std.specs.Str.{chars}
 use Rattle.idna.specs.Labels.{labels_of}
@@ -9,23 +9,27 @@ use Rattle.idna.specs.Validity.{has_ace_prefix, has_hyphen_first_or_last, has_hy
 use Rattle.uv_model.specs.declared.profile.Profile.{Profile}
 use Rattle.uv_model.specs.declared.profile.Profile.TheVariants.{Standard, Wide, Parser}
 use Rattle.uv_model.specs.declared.rule.Rule.TheVariants.{HostDomain}
-use Rattle.uv_model.specs.Ascii.{percent_sign}
+use Rattle.uv_model.specs.Ascii.{colon, percent_sign}
 use Rattle.uv_model.specs.Hosts.Domain.{is_permitted, without_root}
+use Rattle.uv_model.specs.Path.{is_drive_letter}
 use Rattle.uv_model.specs.Scheme.{lowercase}
 use Rattle.uv_model.specs.Violations.Rule.{rule_sentence}
 use Rattle.uv_report.specs.declared.domain.LabelFault.{LabelFault}
 use Rattle.uv_report.specs.declared.domain.LabelFault.TheVariants.{Empty, Long, OuterHyphen, InnerHyphens}
 use Rattle.uv_report.specs.CodePoint.{point_text}
+use Rattle.uv_report.specs.Drive.{drive_sentence, is_file_link}
+use Rattle.uv_report.specs.Ipv6.{ends_authority}
 
 -- ---- the host
 
--- `/`, `?`, `#` and `:` end a host; one that has `[` is refused for it
-abbrev pub ends_host : ℕ → Bool
-ends_host c = (c == 0x2F) || ((c == 0x3F) || ((c == 0x23) || (c == 0x3A)))
+-- `/`, `?` and `#` end a host, and `:` that of a text whose scheme isn't `file`, since a port may follow it; a host
+-- that has `[` is refused for it
+abbrev pub ends_host : Bool → ℕ → Bool
+ends_host is_file c = ends_authority c || (not is_file && (c == colon))
 
 -- the host that begins at a place of a line, in UTF-8
 abbrev pub host_text : List ℕ → ℕ → List ℕ
-host_text line place = before_first ends_host (encode_utf8_all (drop place (chars line)))
+host_text line place = before_first (ends_host (is_file_link line)) (encode_utf8_all (drop place (chars line)))
 
 -- ---- its code points
 
@@ -76,11 +80,21 @@ abbrev pub labels_sentence : Option LabelFault → List ℕ
 labels_sentence (Some fault) = label_sentence fault
 labels_sentence None = rule_sentence HostDomain
 
+-- behind that, of the one that begins a port elsewhere
+abbrev pub port_note : ℕ → List ℕ
+port_note c = if c == colon then codes ": a file URL has no port" else []
+
 -- of a host with this first foreign code point, or of none
 abbrev pub host_sentence : Profile → List ℕ → Option ℕ → List ℕ
-host_sentence profile host (Some c) = point_text c ++ codes " may not stand in a domain"
+host_sentence profile host (Some c) = point_text c ++ (codes " may not stand in a domain" ++ port_note c)
 host_sentence profile host None = labels_sentence (label_fault profile host)
 
 -- of a host that is no valid domain
 unfoldable pub domain_sentence : Profile → List ℕ → List ℕ
 domain_sentence profile host = host_sentence profile host (find (is_foreign profile) host)
+
+-- of the host at a place of a line: of a drive letter where that of a `file` link would stand, else of the domain
+abbrev pub host_message : Profile → List ℕ → ℕ → List ℕ
+host_message profile line place =
+    if is_file_link line && is_drive_letter (host_text line place) then drive_sentence
+    else domain_sentence profile (host_text line place)

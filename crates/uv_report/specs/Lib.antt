@@ -6,6 +6,8 @@ pub mod Escapes
 pub mod Column
 pub mod ColumnCounter
 pub mod CodePoint
+pub mod Ipv6
+pub mod Drive
 pub mod Domain
 pub mod Message
 pub mod Window

@@ -30,7 +30,8 @@ violation_sentence (NotLocated fault) = codes "this line isn't FILE:LINE:COLUMN:
 abbrev pub violation_help : LineViolation → List ℕ
 violation_help (Refused refusal) = rule_asks refusal.rule
 violation_help (NotUtf8 place) = codes "A line is a text in UTF-8."
-violation_help TooLong = codes "A line has at most 65536 bytes."
+violation_help TooLong =
+    codes "A line has at most 65536 bytes. A longer link may be valid: check and the libraries have no such limit."
 violation_help (NotLocated fault) =
     codes "A located line is FILE:LINE:COLUMN:LINK. FILE isn't empty; LINE and COLUMN are from 1 to 4294967295."
 

@@ -1,6 +1,7 @@
 -- What is reported of a line: a sentence that names the code point at the place, where the rule is about one, that
--- says why a host is no valid domain or a line not located, or that a URL string has no credentials.
-use Rattle.std.specs.Prelude.{ℕ, Bool, true, false, ◌&&◌, ◌||◌, ◌==◌, List, ◌++◌, codes, drop, find, nat_le}
+-- says why a host is no valid domain or a line not located, or that a URL string has no credentials, and an IPv6
+-- address brackets.
+use Rattle.std.specs.Prelude.{ℕ, Bool, true, false, ◌&&◌, ◌||◌, ◌==◌, List, ◌++◌, codes, drop, find}
 use Rattle.std.specs.Prelude.{if◌then◌else◌, Option, Some, None, slice_get}
 use Rattle.std.specs.Str.{chars}
 use Rattle.uv_model.specs.declared.profile.Profile.{Profile}
@@ -9,8 +10,10 @@ use Rattle.uv_model.specs.declared.rule.Rule.{Rule}
 use Rattle.uv_model.specs.declared.rule.Rule.TheVariants.{NoScheme, HostMissing, HostDomain, HostNumber, HostIpv6}
 use Rattle.uv_model.specs.declared.rule.Rule.TheVariants.{HostCodePoint, PortDigit, PortRange, CodePoint, Percent}
 use Rattle.uv_model.specs.Violations.Rule.{rule_sentence}
-use Rattle.uv_report.specs.CodePoint.{point_text}
-use Rattle.uv_report.specs.Domain.{domain_sentence, host_text}
+use Rattle.uv_report.specs.CodePoint.{is_unseen, point_text}
+use Rattle.uv_report.specs.Domain.{host_message}
+use Rattle.uv_report.specs.Drive.{drive_note}
+use Rattle.uv_report.specs.Ipv6.{has_bare_ipv6}
 use Rattle.uv_report.specs.LineViolation.{violation_sentence}
 use Rattle.uv_report.specs.LocatedFault.{located_sentence}
 use Rattle.uv_report.specs.declared.line_violation.LineViolation.{LineViolation}
@@ -31,17 +34,17 @@ abbrev pub point_sentence : Rule → Option (List ℕ) → Option ℕ → List �
 point_sentence rule (Some said) (Some c) = point_text c ++ said
 point_sentence rule _ _ = rule_sentence rule
 
--- ---- what stands before a scheme (URL Standard, sections 4.3 and 4.4: spaces and C0 controls, which may not stand
--- there, are removed by the parser)
+-- the same of a code point that may not stand in a URL; of the mark of a drive letter also what it has to be
+abbrev pub unit_sentence : List ℕ → ℕ → List ℕ
+unit_sentence line place =
+    point_sentence CodePoint (said_of_point CodePoint) (slice_get (chars line) place) ++ drive_note line place
 
--- a space, a C0 control, or a byte order mark
-abbrev pub is_stray : ℕ → Bool
-is_stray c = nat_le c 0x20 || (c == 0xFEFF)
+-- ---- what stands before a scheme (URL Standard, section 4.3: a scheme begins with an ASCII letter)
 
--- where a text that has no scheme begins with one of these, that it stands before the scheme
+-- where a text that has no scheme begins with a code point of which nothing is seen, that it stands before the scheme
 abbrev pub start_sentence : Option ℕ → List ℕ
 start_sentence (Some c) =
-    if is_stray c then point_text c ++ codes " stands before the scheme" else rule_sentence NoScheme
+    if is_unseen c then point_text c ++ codes " stands before the scheme" else rule_sentence NoScheme
 start_sentence None = rule_sentence NoScheme
 
 -- ---- credentials (URL Standard, sections 4.1 and 4.3: a valid URL string has none)
@@ -78,18 +81,26 @@ has_credentials line place = is_at_sign (part_end line place)
 abbrev pub credentials_sentence : List ℕ
 credentials_sentence = codes "a URL string has no credentials: no user name, password or @ before its host"
 
+-- ---- an address
+
+-- what is said of an authority that is an IPv6 text
+abbrev pub bare_ipv6_sentence : List ℕ
+bare_ipv6_sentence = codes "a host that is an IPv6 address stands in brackets"
+
 -- ---- a line
 
 -- what is said of a place by a rule that the profile asks
 abbrev pub rule_message : Profile → List ℕ → ℕ → Rule → List ℕ
 rule_message profile line place NoScheme = start_sentence (slice_get (chars line) place)
-rule_message profile line place HostDomain = domain_sentence profile (host_text line place)
+rule_message profile line place HostDomain = host_message profile line place
+rule_message profile line place CodePoint = unit_sentence line place
 rule_message profile line place rule = point_sentence rule (said_of_point rule) (slice_get (chars line) place)
 
 -- what is reported of a line that is refused by a profile
 unfoldable pub refusal_message : Profile → List ℕ → Refusal → List ℕ
 refusal_message profile line refusal =
     if is_of_authority refusal.rule && has_credentials line refusal.place then credentials_sentence
+    else if is_of_authority refusal.rule && has_bare_ipv6 line then bare_ipv6_sentence
     else rule_message profile line refusal.place refusal.rule
 
 -- what is reported of a line that is judged by a profile

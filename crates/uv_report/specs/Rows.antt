@@ -2,18 +2,21 @@
 use Rattle.std.specs.Prelude.{◌≡◌, ℕ, true, false, List, [], ◌∷◌, ◌++◌, codes, replicate}
 use Rattle.uv_model.specs.declared.profile.Profile.{Profile}
 use Rattle.uv_model.specs.declared.profile.Profile.TheVariants.{Standard, Wide, Parser}
-use Rattle.uv_model.specs.declared.rule.Rule.TheVariants.{NoScheme, HostDomain, PortDigit, CodePoint}
+use Rattle.uv_model.specs.declared.rule.Rule.TheVariants.{NoScheme, HostMissing, HostDomain, PortDigit, CodePoint}
 use Rattle.uv_model.specs.Violations.Rule.{rule_sentence}
 use Rattle.uv_report.specs.declared.line_violation.LineViolation.TheVariants.{Refused, NotLocated}
 use Rattle.uv_report.specs.declared.located_fault.LocatedFault.TheVariants.{NoColumn}
 use Rattle.uv_report.specs.declared.column.Columns.TheVariants.{CodePoints, Bytes, Utf16, Screen}
 use Rattle.uv_report.specs.CodePoint.{point_text}
 use Rattle.uv_report.specs.Column.{column_at, width}
+use Rattle.uv_report.specs.Drive.{drive_sentence}
+use Rattle.uv_report.specs.Ipv6.{has_bare_ipv6}
 use Rattle.uv_report.specs.Message.{credentials_sentence, has_credentials, message}
 use Rattle.uv_report.specs.Uri.{uri_path}
 use Rattle.uv_report.specs.Window.{cut_mark, is_cut, window, window_place}
 
--- code points: a control, a space, a letter, one beyond ASCII, two that aren't shown, and one of five digits
+-- code points: a control, a space, a letter, one beyond ASCII, some of which nothing is seen, noncharacters, and one of
+-- five digits
 pub record PointRows : Type 0 where
   pub escape : point_text 0x1B ≡ codes "U+001B ESCAPE"
   pub space : point_text 0x20 ≡ codes "U+0020 SPACE"
@@ -22,7 +25,11 @@ pub record PointRows : Type 0 where
   pub beyond : point_text 0xE9 ≡ codes "U+00E9 " ++ (0xC3 ∷ 0xA9 ∷ [])
   pub hidden : point_text 0x202E ≡ codes "U+202E"
   pub byte_order_mark : point_text 0xFEFF ≡ codes "U+FEFF"
-  pub digits : point_text 0x1FFFE ≡ codes "U+1FFFE " ++ (0xF0 ∷ 0x9F ∷ 0xBF ∷ 0xBE ∷ [])
+  pub no_break_space : point_text 0xA0 ≡ codes "U+00A0"
+  pub zero_width : point_text 0x200B ≡ codes "U+200B"
+  pub noncharacter : point_text 0xFDD0 ≡ codes "U+FDD0 <noncharacter>"
+  pub plane_end : point_text 0x1FFFE ≡ codes "U+1FFFE <noncharacter>"
+  pub digits : point_text 0x1F600 ≡ codes "U+1F600 " ++ (0xF0 ∷ 0x9F ∷ 0x98 ∷ 0x80 ∷ [])
 
 -- `e` with a combining acute accent, a wide code point, one beyond U+FFFF, and a tab
 abbrev pub mixed : List ℕ
@@ -41,8 +48,9 @@ pub record ColumnRows : Type 0 where
   pub first : column_at Bytes 40 (codes "ab") 0 ≡ 40
   pub second : column_at Screen 40 (codes "a\tb") 2 ≡ 49
 
--- messages: of a code point, of one before a scheme, of credentials where an `@` follows in the authority, and of a
--- line that doesn't say where its link stands
+-- messages: of a code point, of one before a scheme, of credentials where an `@` follows in the authority, of an
+-- address without brackets, of a drive letter that is written with `|`, and of a line that doesn't say where its link
+-- stands
 pub record MessageRows : Type 0 where
   pub point : message Standard (codes "urn:a b") (Refused (record { place = 5; rule = CodePoint }))
       ≡ codes "U+0020 SPACE may not stand in a URL"
@@ -53,12 +61,21 @@ pub record MessageRows : Type 0 where
   pub byte_order_mark : message Standard (0xEF ∷ 0xBB ∷ 0xBF ∷ codes "a:")
       (Refused (record { place = 0; rule = NoScheme }))
       ≡ codes "U+FEFF stands before the scheme"
+  pub no_break_space : message Standard (0xC2 ∷ 0xA0 ∷ codes "a:") (Refused (record { place = 0; rule = NoScheme }))
+      ≡ codes "U+00A0 stands before the scheme"
   pub relative : message Standard (codes "a b") (Refused (record { place = 0; rule = NoScheme }))
       ≡ codes "there is no scheme and no base"
   pub user : message Standard (codes "http://u@h/") (Refused (record { place = 7; rule = HostDomain }))
       ≡ credentials_sentence
   pub password : has_credentials (codes "http://user:pw@h/") 12 ≡ true
   pub path : has_credentials (codes "http://x_y/@") 7 ≡ false
+  pub address : message Standard (codes "http://::1/") (Refused (record { place = 7; rule = HostMissing }))
+      ≡ codes "a host that is an IPv6 address stands in brackets"
+  pub two_colons : has_bare_ipv6 (codes "http://h:1:2/") ≡ false
+  pub drive : message Standard (codes "file:///C|/x") (Refused (record { place = 9; rule = CodePoint }))
+      ≡ codes "U+007C VERTICAL LINE may not stand in a URL: a drive letter is written with :"
+  pub bar : message Standard (codes "file:///x/C|/") (Refused (record { place = 11; rule = CodePoint }))
+      ≡ codes "U+007C VERTICAL LINE may not stand in a URL"
   pub located : message Standard (codes "a:1:x") (NotLocated NoColumn)
       ≡ codes "this line isn't FILE:LINE:COLUMN:LINK, since COLUMN is missing"
 
@@ -67,7 +84,8 @@ abbrev pub of_host : Profile → List ℕ → List ℕ
 of_host profile line = message profile line (Refused (record { place = 7; rule = HostDomain }))
 
 -- hosts that are no valid domains: a code point that a profile doesn't permit, and the first one; labels that are
--- empty, too long, or have hyphens where the standard profile permits none; and hosts of which nothing is shown
+-- empty, too long, or have hyphens where the standard profile permits none; a port and a drive letter of a `file` link;
+-- and hosts of which nothing is shown
 pub record DomainRows : Type 0 where
   pub mark : of_host Standard (codes "http://x_y!/") ≡ codes "U+005F LOW LINE may not stand in a domain"
   pub wide : of_host Wide (codes "http://x_y!/") ≡ codes "U+0021 EXCLAMATION MARK may not stand in a domain"
@@ -82,6 +100,9 @@ pub record DomainRows : Type 0 where
       ≡ codes "a label of this domain has -- in its third and fourth place"
   pub punycode : of_host Standard (codes "http://Xn--a-/") ≡ rule_sentence HostDomain
   pub hyphens : of_host Wide (codes "http://-a--b/") ≡ rule_sentence HostDomain
+  pub port : of_host Standard (codes "File://h:80/")
+      ≡ codes "U+003A COLON may not stand in a domain: a file URL has no port"
+  pub drive : of_host Parser (codes "file://C|/x") ≡ drive_sentence
   pub decoded : of_host Parser (codes "http://a..%20/") ≡ rule_sentence HostDomain
 
 -- windows of a line of 250 letters, and of a short one

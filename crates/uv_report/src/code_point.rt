@@ -1,4 +1,5 @@
 //! How a code point is named: by `U+` and its number, and by its name, where it is an ASCII code point.
+ghost use Rattle.uv_model.specs.Units.{is_noncharacter};
 ghost use Rattle.std.specs.Prelude.{◌≡◌, ◌++◌, IfOk, MatchOption, None, OnOk, codes, map, option_map, slice_get};
 ghost use Rattle.std.specs.Prelude.{string_bytes};
 ghost use Rattle.uv_report.specs.CodePoint as spec;
@@ -174,11 +175,14 @@ fn point_number(alloc: Global, c: char) -> Result<String, AllocError>
     format!(in alloc; "U+{number:04X}")
 }
 
-// Pushes a space and a code point, where it is shown.
+// Pushes a space and what is shown of a code point: the label of a noncharacter, else itself, where it is seen.
 fn push_glyph(text: &mut String, c: char) -> Result<(), AllocError>
     ensures { OnOk result (string_bytes text.new ≡ string_bytes text.old ++ spec.glyph c) }
 {
-    if is_hidden(c) || c == '\u{FEFF}' {
+    if is_noncharacter(c) {
+        return text.push_str(" <noncharacter>");
+    }
+    if is_unseen(c) {
         return Ok(());
     }
     text.push_str(" ")?;
@@ -191,4 +195,48 @@ fn name_at<'t>(names: &[&'t str], index: usize) -> Option<&'t str>
     ensures { option_map (λ name. name.now) result ≡ slice_get (map (λ name. name.now) names.now) index }
 {
     names.get(index).copied()
+}
+
+// Whether a code point is a noncharacter (Infra Standard, section 4.6).
+#[tactic(auto, using(std::proofs::lemmas::Bool::Decides::nat_tests))]
+fn is_noncharacter(c: char) -> bool
+    ensures { result ≡ is_noncharacter c }
+{
+    match c {
+        '\u{FDD0}'..='\u{FDEF}' => true,
+        _ => u32::from(c) % 0x10000 >= 0xFFFE,
+    }
+}
+
+/// Whether nothing is seen of a code point that stands alone: it isn't shown as it is, or is a tab, a space or
+/// invisible.
+pub(crate) fn is_unseen(c: char) -> bool
+    ensures { result ≡ spec.is_unseen c }
+{
+    is_hidden(c) || c == '\t' || is_space(c) || is_invisible(c)
+}
+
+// Whether a code point is a space.
+#[tactic(auto, using(std::proofs::lemmas::Bool::Decides::nat_tests))]
+fn is_space(c: char) -> bool
+    ensures { result ≡ spec.is_space c }
+{
+    match c {
+        ' ' | '\u{A0}' | '\u{1680}' | '\u{202F}' | '\u{205F}' | '\u{3000}' => true,
+        '\u{2000}'..='\u{200A}' => true,
+        _ => false,
+    }
+}
+
+// Whether a code point is one of those of the format that draw nothing.
+#[tactic(auto, using(std::proofs::lemmas::Bool::Decides::nat_tests))]
+fn is_invisible(c: char) -> bool
+    ensures { result ≡ spec.is_invisible c }
+{
+    match c {
+        '\u{AD}' | '\u{180E}' | '\u{FEFF}' => true,
+        '\u{200B}'..='\u{200D}' | '\u{2060}'..='\u{206F}' => true,
+        '\u{FFF9}'..='\u{FFFB}' | '\u{E0001}'..='\u{E007F}' => true,
+        _ => false,
+    }
 }

@@ -9,9 +9,11 @@ ghost use Rattle.uv_model.specs.Scheme.{lowercase};
 ghost use Rattle.uv_report.specs.Domain as spec;
 
 use crate::code_point::push_point;
+use crate::drive::{IN_PLACE_OF_A_HOST, is_file_link};
+use crate::ipv6::ends_authority;
 use crate::window::rest_at;
 use std::alloc::{AllocError, Global};
-use uv_model::{Profile, Rule, is_domain_mark};
+use uv_model::{Profile, Rule, is_domain_mark, is_drive_letter};
 
 /// What may be wrong with a label of a host.
 #[derive(Clone, Copy)]
@@ -67,8 +69,8 @@ impl LabelFault {
     }
 }
 
-/// Pushes why the host that begins at a place of a line is no valid domain by a profile: which code point may not stand
-/// in it, or what is wrong with a label of it, else the rule's sentence.
+/// Pushes why the host that begins at a place of a line is no valid domain by a profile: that it is a drive letter,
+/// which code point may not stand in it, or what is wrong with a label of it, else the rule's sentence.
 pub(crate) fn push_domain_sentence(
     alloc: Global,
     text: &mut String,
@@ -77,9 +79,13 @@ pub(crate) fn push_domain_sentence(
     place: usize,
 ) -> Result<(), AllocError>
     ensures { OnOk result (string_bytes text.new
-        ≡ string_bytes text.old ++ spec.domain_sentence profile (spec.host_text line.now place)) }
+        ≡ string_bytes text.old ++ spec.host_message profile line.now place) }
 {
-    push_host_sentence(alloc, text, profile, host_at(line, place))
+    let host = host_at(line, place);
+    if is_file_link(line) && is_drive_letter(host) {
+        return text.push_str(IN_PLACE_OF_A_HOST);
+    }
+    push_host_sentence(alloc, text, profile, host)
 }
 
 // Pushes why a host is no valid domain by a profile.
@@ -98,7 +104,19 @@ fn push_host_sentence(
     };
     push_point(alloc, text, char::from(foreign))?;
     text.push_str(" may not stand in a domain")?;
+    text.push_str(port_note(foreign))?;
     Ok(())
+}
+
+// What is said behind a byte that may not stand in a domain: of the one that begins a port elsewhere, else nothing.
+fn port_note(foreign: u8) -> &'static str
+    ensures { result.now ≡ spec.port_note foreign }
+{
+    if foreign == b':' {
+        ": a file URL has no port"
+    } else {
+        ""
+    }
 }
 
 // What is said of a host whose code points show nothing.
@@ -169,24 +187,24 @@ fn is_permitted(profile: Profile, byte: u8) -> bool
 fn host_at(line: &str, place: usize) -> &[u8]
     ensures { result.now ≡ spec.host_text line.now place }
 {
-    before_end(rest_at(line, place).as_bytes())
+    before_end(is_file_link(line), rest_at(line, place).as_bytes())
 }
 
-// What stands before the end of a host.
-fn before_end(text: &[u8]) -> &[u8]
-    ensures { result.now ≡ before_first spec.ends_host text.now }
+// What stands before the end of a host, of a `file` link or another one.
+fn before_end(is_file: bool, text: &[u8]) -> &[u8]
+    ensures { result.now ≡ before_first (spec.ends_host is_file) text.now }
 {
-    match text.iter().position(|b| ends_host(*b)) {
+    match text.iter().position(|b| ends_host(is_file, *b)) {
         Some(end) => &text[..end],
         None => text,
     }
 }
 
-// Whether a byte ends a host.
-fn ends_host(byte: u8) -> bool
-    ensures { result ≡ spec.ends_host byte }
+// Whether a byte ends a host, of a `file` link or another one.
+fn ends_host(is_file: bool, byte: u8) -> bool
+    ensures { result ≡ spec.ends_host is_file byte }
 {
-    byte == b'/' || byte == b'?' || byte == b'#' || byte == b':'
+    ends_authority(byte) || (!is_file && byte == b':')
 }
 
 // The host without one full stop at its end.

@@ -65,7 +65,9 @@ impl LineViolation {
         match self {
             LineViolation::Refused(refusal) => explain(refusal.rule).asks,
             LineViolation::NotUtf8(_) => "A line is a text in UTF-8.",
-            LineViolation::TooLong => "A line has at most 65536 bytes.",
+            LineViolation::TooLong => {
+                "A line has at most 65536 bytes. A longer link may be valid: check and the libraries have no such limit."
+            }
             LineViolation::NotLocated(_) => {
                 "A located line is FILE:LINE:COLUMN:LINK. FILE isn't empty; LINE and COLUMN are from 1 to 4294967295."
             }

@@ -1,13 +1,16 @@
 //! What is reported of a line: a sentence that names the code point at the place, where the rule is about one, that
-//! says why a host is no valid domain or a line not located, or that a URL string has no credentials.
+//! says why a host is no valid domain or a line not located, or that a URL string has no credentials, and an IPv6
+//! address brackets.
 ghost use Rattle.std.specs.Prelude.{◌≡◌, ◌++◌, IfOk, OnOk, codes, option_copied, string_bytes};
 ghost use Rattle.uv_report.specs.CodePoint.{point_text};
 ghost use Rattle.uv_report.specs.Escapes.{escaped};
 ghost use Rattle.uv_report.specs.Message as spec;
 
-use crate::code_point::push_point;
+use crate::code_point::{is_unseen, push_point};
 use crate::domain::push_domain_sentence;
+use crate::drive::drive_note;
 use crate::escapes::{Escapes, push_escaped};
+use crate::ipv6::has_bare_ipv6;
 use crate::line_violation::LineViolation;
 use crate::window::{point_at, rest_at};
 use std::alloc::{AllocError, Global};
@@ -15,6 +18,8 @@ use uv_model::{Profile, Refusal, Rule};
 
 const CREDENTIALS: &str =
     "a URL string has no credentials: no user name, password or @ before its host";
+
+const BARE_IPV6: &str = "a host that is an IPv6 address stands in brackets";
 
 /// What is reported of a line that is judged by a profile, in a sentence without its end.
 pub(crate) fn message(
@@ -79,6 +84,9 @@ fn push_refusal(
     if is_of_authority(refusal.rule) && has_credentials(line, refusal.place) {
         return text.push_str(CREDENTIALS);
     }
+    if is_of_authority(refusal.rule) && has_bare_ipv6(line) {
+        return text.push_str(BARE_IPV6);
+    }
     push_rule_message(alloc, text, profile, line, refusal)
 }
 
@@ -96,11 +104,12 @@ fn push_rule_message(
     match refusal.rule {
         Rule::NoScheme => push_start_sentence(alloc, text, point_at(line, refusal.place)),
         Rule::HostDomain => push_domain_sentence(alloc, text, profile, line, refusal.place),
+        Rule::CodePoint => push_unit_sentence(alloc, text, line, refusal.place),
         _ => push_point_sentence(alloc, text, refusal.rule, point_at(line, refusal.place)),
     }
 }
 
-// Pushes that the first code point stands before the scheme, where it may be one that does, else the rule's sentence.
+// Pushes that the first code point stands before the scheme, where nothing is seen of it, else the rule's sentence.
 fn push_start_sentence(
     alloc: Global,
     text: &mut String,
@@ -109,7 +118,7 @@ fn push_start_sentence(
     ensures { OnOk result (string_bytes text.new ≡ string_bytes text.old ++ spec.start_sentence first) }
 {
     match first {
-        Some(c) if is_stray(c) => push_stray(alloc, text, c),
+        Some(c) if is_unseen(c) => push_stray(alloc, text, c),
         _ => text.push_str(Rule::NoScheme.sentence()),
     }
 }
@@ -124,11 +133,18 @@ fn push_stray(alloc: Global, text: &mut String, c: char) -> Result<(), AllocErro
     Ok(())
 }
 
-// Whether a code point is a space, a C0 control, or a byte order mark.
-fn is_stray(c: char) -> bool
-    ensures { result ≡ spec.is_stray c }
+// Pushes that the code point at a place may not stand in a URL, and of the mark of a drive letter what it has to be.
+fn push_unit_sentence(
+    alloc: Global,
+    text: &mut String,
+    line: &str,
+    place: usize,
+) -> Result<(), AllocError>
+    ensures { OnOk result (string_bytes text.new
+        ≡ string_bytes text.old ++ spec.unit_sentence line.now place) }
 {
-    c <= ' ' || c == '\u{FEFF}'
+    push_point_sentence(alloc, text, Rule::CodePoint, point_at(line, place))?;
+    text.push_str(drive_note(line, place))
 }
 
 // Pushes what is said of a code point that violates a rule, where the rule is about one, else the rule's sentence.

@@ -8,13 +8,15 @@ use Rattle.uv_report.proofs.domain.before_end.Goals as goal
 
 pub returns-in-Some : goal.returns-in-Some
 returns-in-Some c =
-    before_found ends_host c.args.text.now c.in-Some.end
+    before_found (ends_host c.args.is_file) c.args.text.now c.in-Some.end
     (sym c.in-Some.is
-    ∙ position_from_yields_List ends_host _ _ _ c.position.ensures.ran (YieldsList-from_slice c.args.text.now cc)
+    ∙ position_from_yields_List (ends_host c.args.is_file) _ _ _ c.position.ensures.ran
+    (YieldsList-from_slice c.args.text.now cc)
     (λ x b q k. search (rules, tests)))
 
 pub returns-in-None : goal.returns-in-None
 returns-in-None c =
-    before_none ends_host c.args.text.now
-    (sym (position_from_yields_List ends_host _ _ _ c.position.ensures.ran (YieldsList-from_slice c.args.text.now cc)
+    before_none (ends_host c.args.is_file) c.args.text.now
+    (sym (position_from_yields_List (ends_host c.args.is_file) _ _ _ c.position.ensures.ran
+    (YieldsList-from_slice c.args.text.now cc)
     (λ x b q k. search (rules, tests))) ∙ c.in-None.is)
