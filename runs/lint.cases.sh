@@ -91,7 +91,7 @@ for kind in 'unicodeCodePoints 15' 'utf16CodeUnits 16 utf16' 'unicodeCodePoints 
         fail "lint --columns $unit as sarif: $(cut -c 1-200 "$room/out")"
 done
 for unit in bytes screen; do
-    expect 2 '' "urlcheck: no column unit of sarif is named '$unit'
+    expect 2 '' "urlcheck: sarif doesn't take the column unit $unit
 urlcheck: the column units of sarif: code-points utf16\nwords\n" lint --base 'a b' --format sarif --columns $unit columns.txt
 done
 units='urlcheck: the column units: code-points bytes utf16 screen\nwords\n'
@@ -407,6 +407,14 @@ printf 'urn:a\n' >"$room/folder/beside"
 expect 0 '' '' lint -q link/../beside
 rm -rf "$room/folder" "$room/link" "$room/beside" "$room/"$'ends\n'
 
+# Where there is no file of a name that looks like a link, a hint says what judges texts.
+of_links='urlcheck: lint takes files; check TEXT judges one text, and lint - the lines of standard input\n'
+expect 2 '' "urlcheck: http://h/: can't be read: there is no such file\\n$of_links" lint -q http://h/
+expect 2 '' "urlcheck: foo://: can't be read: there is no such file\\n${of_links}urlcheck: 0 lines, 0 refused\\n" lint -- foo://
+for name in a:/b a:b //h/a; do
+    expect 2 '' "urlcheck: $name: can't be read: there is no such file\\n" lint -q "$name"
+done
+
 # A name that isn't UTF-8 is reported by its number, and the other files are judged.
 printf 'x\n' >"$room/"$'\xff'
 expect 2 "$other" "urlcheck: argument 4 isn't UTF-8\\nurlcheck: 1 line, 1 refused\\n" lint --all other.txt $'\xff'
@@ -555,4 +563,4 @@ ends_with 1 $? 'urlcheck: 1000000 lines, 10000 refused\n' 'lint of a million lin
 grep -qxF "$room/million:1000000:11: error: U+0020 SPACE may not stand in a URL [code-point]" "$room/out" ||
     fail "lint of a million lines: it ends with $(tail -n 1 "$room/out")"
 rm -f "$room/million" "$room"/hostile.* "$room"/none.*
-all_cases 223
+all_cases 228

@@ -157,6 +157,30 @@ for word in http://h/ links.txt; do
     fi
 done
 
+# A text that is cut at its spaces: a hint at quotes, but not where the last word looks like an option.
+# cut_up HINTS WORD.. : these words are refused for one too many, and so many lines hint at quotes, before the last one
+cut_up() {
+    local hints=$1 line
+    shift
+    (cd "$room" && "$program" "$@") >"$room/out" 2>"$room/err" </dev/null
+    ended=$?
+    count=$((count + 1))
+    line="urlcheck: $1 takes one TEXT: write it in single quotes where it has spaces"
+    if [ $ended != 2 ] || [ -s "$room/out" ] || [ "$(tail -n 1 "$room/err")" != words ] ||
+        ! head -n 1 "$room/err" | grep -q "^urlcheck: unexpected argument '" ||
+        [ "$(tail -n 2 "$room/err" | grep -cxF -- "$line")" != "$hints" ] || [ "$(grep -c quotes "$room/err")" != "$hints" ]; then
+        fail "$*: status $ended, on standard error: $(cat "$room/err")"
+    fi
+}
+cut_up 1 check http://h/a b
+cut_up 1 check --wide http://h/a b c
+cut_up 1 mend http://h/a b
+cut_up 1 check -- -a b
+cut_up 0 check a b --all
+cut_up 0 check --bogus a b
+cut_up 0 vectors a b
+cut_up 0 links a b
+
 # A lint without a file: a hint at standard input.
 expect 2 '' "urlcheck: the following required arguments were not provided:\nurlcheck:   <FILE>...\n\
 urlcheck: Usage: $(basename "$program") lint <FILE>...\nurlcheck: For more information, try '--help'.\n\
@@ -186,8 +210,12 @@ of_others 'lint and mend' vectors --quiet
 of_others 'check, lint, links and mend' explain --base x
 expect 2 '' "urlcheck: unexpected argument '--format' found\n${usage/links \[OPTIONS\]/check --all <TEXT>}\
 urlcheck: --format is an option of lint\nwords\n" check --all --format json x
-expect 2 '' "urlcheck: unexpected argument '--format' found\n${usage/links \[OPTIONS\]/<COMMAND>}\
-urlcheck: --format is an option of lint\nwords\n" --format json lint x
+# (before the command it is told where it stands)
+for words in '--format lint json lint x' '--wide check,_lint,_links_and_mend check x' '--all check_and_lint check x'; do
+    read -r option takers words <<<"$words"
+    expect 2 '' "urlcheck: unexpected argument '$option' found\n${usage/links \[OPTIONS\]/<COMMAND>}\
+urlcheck: $option is an option of ${takers//_/ }, and stands behind the command\nwords\n" $option $words
+done
 # (one that none takes stands first, or no option does, or it stands behind --)
 for words in '--bogus --format x' '-- --format x' '- --bogus --format'; do
     refused "unexpected argument '" check $words
@@ -341,4 +369,4 @@ expect 0 'valid\nscheme file\nhost domain h\nsegment C:\nsegment x\n' '' check -
 expect 0 'valid\nscheme urn\nopaque a b\nfragment f\n' '' check --profile parser --base 'urn:a b' '#f'
 expect 2 '' "$(no_base 5 code-point 'U+0020 SPACE may not stand in a URL')" check --wide --base 'urn:a b' '#f'
 expect 2 '' "$(no_base 7 host-number 'the host that begins here ends in a number, and is no IPv4 address')" check --profile parser --base http://256/ x
-all_cases 263
+all_cases 273

@@ -97,8 +97,8 @@ def message(text: str, rule: str, place: int, profile: Profile) -> str:
 
 
 def _of_host(text: str, place: int, profile: Profile) -> str:
-    """Why the host at a place is no valid domain: that it is a drive letter, else what is said of the domain. In a ``file``
-    link it doesn't end at a colon."""
+    """Why the host at a place is no valid domain: that it is a drive letter, else what is said of the domain. In a
+    ``file`` link it doesn't end at a colon."""
     is_file = _is_file_link(text)
     host = re.split("[/?#]" if is_file else "[/?#:]", text[place:], maxsplit=1)[0]
     return _DRIVE_FOR_HOST if is_file and re.fullmatch("[A-Za-z][:|]", host) else _of_domain(host, profile)
@@ -135,8 +135,8 @@ def _has_bare_ipv6(text: str) -> bool:
 
 
 def _is_ipv6(text: str) -> bool:
-    """Whether a text is an IPv6 address as the URL Standard writes it: of an IPv4 address at its end no number has zeros
-    before it, and no zone follows."""
+    """Whether a text is an IPv6 address as the URL Standard writes it: of an IPv4 address at its end no number has
+    zeros before it, and no zone follows."""
     if not re.fullmatch("[0-9A-Fa-f:.]+", text) or re.search("(?:[.]|:(?=[0-9]+[.]))0[0-9]", text):
         return False
     try:
@@ -152,13 +152,13 @@ def _is_file_link(text: str) -> bool:
 
 
 def _marks_drive(text: str, rule: str, place: int) -> bool:
-    """Whether the place is that of the mark of a drive letter, which isn't ``:``: behind ``file:///`` and the letter."""
+    """Whether the place is that of the mark of a drive letter that isn't ``:``: behind ``file:///`` and a letter."""
     return rule == "code-point" and place == 9 and bool(re.match(r"[Ff][Ii][Ll][Ee]:///[A-Za-z][|:](?:[/?#]|\Z)", text))
 
 
 def _named(point: str) -> str:
-    """A code point by ``U+``, its number and its name; beyond ASCII a noncharacter by that word, and another one as it is,
-    where it is seen."""
+    """A code point by ``U+``, its number and its name; beyond ASCII a noncharacter by that word, and another one as it
+    is, where it is seen."""
     number = "U+{:04X}".format(ord(point))
     if point < " ":
         return "{} {}".format(number, _CONTROLS[ord(point)])

@@ -10,7 +10,7 @@ from ._folders import KINDS, Excluded
 from ._judge import SOMEWHERE
 from ._report import FORMATS, Format, named
 from ._source import Foreign, decoded
-from ._streams import flush, reason_of, stop, write
+from ._streams import flush, reason_of, stop, tell, write
 from ._wrong import Parser, chosen
 
 
@@ -105,8 +105,12 @@ def _given(parser: Parser, words: List[str]) -> argparse.Namespace:
 def _unit(name: str, format: str) -> Unit:
     """What columns count, by its name and that of the format. Raises ``SystemExit`` where the format has no word for
     it."""
-    units = [it.value for it in FORMATS[format].units]
-    return Unit(chosen(chosen(name, _UNITS, "column unit"), units, "column unit", " of " + format))
+    unit = Unit(chosen(name, _UNITS, "column unit"))
+    units = FORMATS[format].units
+    if unit not in units:
+        tell("{} doesn't take the column unit {}".format(format, unit.value))
+        raise SystemExit(stop("the column units of {}: {}".format(format, " ".join(it.value for it in units))))
+    return unit
 
 
 def _parser() -> Parser:

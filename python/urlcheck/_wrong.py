@@ -41,11 +41,11 @@ _OF_LINT = {
 """What is said of options of ``urlcheck lint`` for which there is something else."""
 
 
-def chosen(name: str, names: List[str], noun: str, of: str = "") -> str:
+def chosen(name: str, names: List[str], noun: str) -> str:
     """The name, where it is one of these. Raises ``SystemExit`` where it is none, and says which there are."""
     if name not in names:
-        tell("no {}{} is named '{}'{}".format(noun, of, named(name), _nearest(name, names)))
-        raise SystemExit(stop("the {}s{}: {}".format(noun, of, " ".join(names))))
+        tell("no {} is named '{}'{}".format(noun, named(name), _nearest(name, names)))
+        raise SystemExit(stop("the {}s: {}".format(noun, " ".join(names))))
     return name
 
 

@@ -22,15 +22,21 @@ UNITS = ("code-points", "bytes", "utf16", "screen")
 UNITS_OF_SARIF = {"code-points", "utf16"}
 BASE = "https://example.com/"
 
-BEYOND = (0x80, 0x85, 0x9F, 0xA0, 0xAD, 0xE9, 0x301, 0x5D0, 0x61C, 0x17D8, 0x200B, 0x200D, 0x200E, 0x2028, 0x202E,
-          0x2066, 0x3042, 0x4E2D, 0xAC00, 0xFDD0, 0xFEFF, 0xFF21, 0xFFFD, 0xFFFE, 0xFFFF, 0x1F600, 0x1FFFF, 0xE0001, 0x10FFFF)
+BEYOND = (0x80, 0x85, 0x9F, 0xA0, 0xAD, 0xE9, 0x301, 0x5D0, 0x61C, 0x1680, 0x17D8, 0x180E, 0x1FFF, 0x2000, 0x200A, 0x200B,
+          0x200D, 0x200E, 0x2010, 0x2027, 0x2028, 0x202E, 0x202F, 0x205F, 0x2060, 0x2066, 0x206F, 0x2070, 0x3000, 0x3042,
+          0x4E2D, 0xAC00, 0xFDD0, 0xFDEF, 0xFEFF, 0xFF21, 0xFFF8, 0xFFF9, 0xFFFB, 0xFFFD, 0xFFFE, 0xFFFF, 0x1F600, 0x1FFFF,
+          0xE0001, 0xE007F, 0xE0100, 0x10FFFD, 0x10FFFF)
 POINTS = [chr(at) for at in (*range(1, 0x80), *BEYOND) if chr(at) not in "\n\r'"]
 PLACES = ("x{}y", "{0}^{0}", "foo://x{}y", "http://x{}y", "http://h:{}8/", "http://x{}y@h/", "http://{}:y@h/")
 HOSTS = [". a..b a.. -a a.b-:8 ab--c -. xn--a- \u00e9..b \u00e9_ -\u00e9".split(), ["a" * 63, "a" * 64]]
 
 RULES = {
     BASE: ("http:/h", "http:///a", "http://a..b/", "http://256/", "http://[::1/", "foo://a^b", "http://h:x/",
-           "http://h:99999/", "http://h//a", "a^", "%4", "http:\\\\h\\a", "100%\t", "x"),
+           "http://h:99999/", "http://h//a", "a^", "%4", "http:\\\\h\\a", "100%\t", "x",
+           "http://2001:db8::1/", "//::1/", "https://fe80::1?:80", "foo://::1", "http://::ffff:1.2.3.4#", "http://h::1/",
+           "http://::01.2.3.4/", "http://::1.2.3.256/", "http://1:2:3:4:5:6:7::", "http://1:2:3:4:5:6:7:8:9/", "http://::1%251/",
+           "file://h:80/", "File://h:", "file://C:/x", "FILE://c|", "file://CC|/", "file:///C|/x", "file:///C|x", "file:///z|?x|",
+           "file://h/C|/x"),
     "file://h/a": ("/C:/x", "//", "a"),
     "urn:a": ("x", "", "#x"),
 }
@@ -323,7 +329,7 @@ class Alone(Reported):
                     self.assertEqual(run["results"][0]["fixes"], [fix])
         for unit in ("bytes", "screen"):
             words = ("--check", "--format", "sarif", "--columns", unit, "--base", "no base", "a.html")
-            said = ("urlcheck-documents: no column unit of sarif is named '{}'\n"
+            said = ("urlcheck-documents: sarif doesn't take the column unit {}\n"
                     "urlcheck-documents: the column units of sarif: code-points utf16\n").format(unit)
             self.assertEqual(self.run_on(*words), (2, b"", said.encode()))
 

@@ -200,7 +200,7 @@ class Words(Texts):
             (["--check", "--format", "sarif", "--columns", "byte"],
              "no column unit is named 'byte'; the nearest is bytes", units),
             (["--check", "--format", "sarif", "--columns", "bytes"],
-             "no column unit of sarif is named 'bytes'", "the column units of sarif: code-points utf16"),
+             "sarif doesn't take the column unit bytes", "the column units of sarif: code-points utf16"),
             (["--profile", "wider"], "no profile is named 'wider'; the nearest is wide", profiles),
             (["--profile", ""], "no profile is named ''", profiles),
             (["--type", "htm"], "no kind is named 'htm'; the nearest is html", kinds),

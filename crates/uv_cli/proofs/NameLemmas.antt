@@ -6,7 +6,8 @@ use Rattle.std.proofs.lemmas.Map.Views.{any-filter_same}
 use Rattle.std.proofs.lemmas.Slice.Eq.{bytes_eq-Decides}
 use Rattle.std.specs.List.{list_any}
 use Rattle.std.specs.Str.{bytes_eq}
-use Rattle.uv_cli.specs.Names.{each_once, is_rule, with_further, with_unknown, unknown_rules}
+use Rattle.uv_cli.specs.Explain.{is_explained}
+use Rattle.uv_cli.specs.Names.{each_once, with_further, with_unknown, unknown_rules}
 
 -- the names that aren't the first one
 abbrev others : List ℕ → List (List ℕ) → List (List ℕ)
@@ -42,17 +43,17 @@ each_once-further (first ∷ rest) name =
     ap (λ more. first ∷ others first more) (each_once-further rest name)
     ∙ further_behind first name (each_once rest) _ _ refl refl
 
--- by whether it is that of a rule
-further_where : (names : List (List ℕ)) (name : List ℕ) (known : Bool) → is_rule name ≡ known
-    → each_once (filter (λ n. not (is_rule n)) names ++ filter (λ n. not (is_rule n)) (name ∷ []))
+-- by whether it is explained
+further_where : (names : List (List ℕ)) (name : List ℕ) (known : Bool) → is_explained name ≡ known
+    → each_once (filter (λ n. not (is_explained n)) names ++ filter (λ n. not (is_explained n)) (name ∷ []))
     ≡ with_unknown (unknown_rules names) name
 further_where names name true is =
-    rw (is, append-nil (filter (λ n. not (is_rule n)) names)) refl
-further_where names name false is = rw is (each_once-further (filter (λ n. not (is_rule n)) names) name)
+    rw (is, append-nil (filter (λ n. not (is_explained n)) names)) refl
+further_where names name false is = rw is (each_once-further (filter (λ n. not (is_explained n)) names) name)
 
--- a further name is told of where it is that of no rule, and isn't told of before
+-- a further name is told of where it isn't explained, and isn't told of before
 pub unknown_rules-further : (names : List (List ℕ)) (name : List ℕ)
     → unknown_rules (names ++ name ∷ [])
     ≡ with_unknown (unknown_rules names) name
 unknown_rules-further names name =
-    ap each_once (filter-append (λ n. not (is_rule n)) names (name ∷ [])) ∙ further_where names name _ refl
+    ap each_once (filter-append (λ n. not (is_explained n)) names (name ∷ [])) ∙ further_where names name _ refl

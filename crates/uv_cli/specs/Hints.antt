@@ -1,10 +1,12 @@
 -- Hints at what was meant, where the arguments ask for something else: what is reported on standard error.
-use Rattle.std.specs.Prelude.{ℕ, ◌&&◌, ◌==◌, Bool, false, List, [], ◌∷◌, ◌++◌, Option, None, Some, codes, is_some}
+use Rattle.std.specs.Prelude.{ℕ, ◌&&◌, ◌||◌, ◌==◌, Bool, false, List, [], ◌∷◌, ◌++◌, Option, None, Some, codes, is_some}
 use Rattle.std.specs.Prelude.{not, string_bytes, if◌then◌else◌}
+use Rattle.std.specs.List.{after_first}
 use Rattle.std.specs.Str.{bytes_eq}
 use Rattle.clap.specs.declared.error.kind.ErrorKind.{ErrorKind}
 use Rattle.clap.specs.declared.error.kind.ErrorKind.TheVariants.{InvalidSubcommand, MissingRequiredArgument}
 use Rattle.clap.specs.declared.error.kind.ErrorKind.TheVariants.{UnknownArgument}
+use Rattle.uv_model.specs.Ascii.{colon, slash}
 use Rattle.uv_report.specs.Escapes.{shown_text}
 use Rattle.uv_words.specs.declared.words.Job.{Job}
 use Rattle.uv_words.specs.declared.words.Job.TheVariants as job
@@ -53,11 +55,24 @@ job_hint (job.Mend text base profile) Refused =
 job_hint (job.Lint asked) (Linted lint) = lint_hint lint
 job_hint other end = []
 
--- the hint behind a file that a lint couldn't read for this reason
-abbrev pub folder_hint : Unread → List ℕ
-folder_hint unread.Folder =
+-- the name looks like a link: it has a `:`, and behind the first one `//`
+abbrev pub starts_with_slashes : List ℕ → Bool
+starts_with_slashes (first ∷ second ∷ rest) = (first == slash) && (second == slash)
+starts_with_slashes _ = false
+
+abbrev pub names_link : List ℕ → Bool
+names_link name = starts_with_slashes (after_first (λ b. b == colon) name)
+
+-- the hint behind a file with this name that a lint couldn't read for this reason: of a folder, and where there is no
+-- such file of a name that looks like a link
+abbrev pub file_hint : List ℕ → Unread → List ℕ
+file_hint name unread.Folder =
     codes "urlcheck: lint takes no folder; urlcheck-documents --check FOLDER judges the documents in it\n"
-folder_hint _ = []
+file_hint name unread.Missing =
+    if names_link name
+    then codes "urlcheck: lint takes files; check TEXT judges one text, and lint - the lines of standard input\n"
+    else []
+file_hint name _ = []
 
 -- the word begins as an option does
 abbrev pub begins_with_hyphen : List ℕ → Bool
@@ -69,19 +84,37 @@ abbrev pub is_file_of : Option (List ℕ) → Option (List ℕ) → Bool
 is_file_of (Some command) (Some last) = bytes_eq command (codes "links") && not (begins_with_hyphen last)
 is_file_of _ _ = false
 
+-- the command takes one text
+abbrev pub takes_one_text : List ℕ → Bool
+takes_one_text command = bytes_eq command (codes "check") || bytes_eq command (codes "mend")
+
+-- the line of such a command
+abbrev pub one_text_line : List ℕ → List ℕ
+one_text_line command =
+    codes "urlcheck: " ++ (command ++ codes " takes one TEXT: write it in single quotes where it has spaces\n")
+
+-- the hint where such a command is given a word too many, whose last one doesn't look like an option: what was meant as
+-- one text may be cut at its spaces
+abbrev pub one_text_hint : Option (List ℕ) → Option (List ℕ) → List ℕ
+one_text_hint (Some command) (Some last) =
+    if takes_one_text command && not (begins_with_hyphen last) then one_text_line command else []
+one_text_hint command last = []
+
 -- the command is `lint`
 abbrev pub is_lint : Option (List ℕ) → Bool
 is_lint (Some command) = bytes_eq command (codes "lint")
 is_lint None = false
 
--- the hint where words of this command, with this last one, are refused for this reason: of no command, in whose place a
--- text or a file may stand; of `links` with a word too many, whose last one may be a file; and of `lint` without a file
+-- the hint where words of this command, with this last one, are refused for this reason: of no command, in whose place
+-- a text or a file may stand; of `links` with a word too many, whose last one may be a file; of `check` and `mend`, whose
+-- last ones may be pieces of one text; and of `lint` without a file
 abbrev pub words_hint : Option (List ℕ) → Option (List ℕ) → ErrorKind → List ℕ
 words_hint command last InvalidSubcommand =
     codes "urlcheck: check TEXT judges one text, and lint FILE the lines of a file\n"
 words_hint command last UnknownArgument =
     if is_file_of command last
-    then codes "urlcheck: links reads standard input, and takes no file: urlcheck links <FILE\n" else []
+    then codes "urlcheck: links reads standard input, and takes no file: urlcheck links <FILE\n"
+    else one_text_hint command last
 words_hint command last MissingRequiredArgument =
     if is_lint command then codes "urlcheck: lint reads standard input as the FILE -\n" else []
 words_hint command last other = []

@@ -48,3 +48,9 @@ unknown_names_text one all names unknown =
 abbrev pub unknown_rules_text : List (List ℕ) → List ℕ
 unknown_rules_text rules =
     unknown_names_text (codes "rule") (codes "rules") rule_names (unknown_rules rules)
+
+-- what is reported of what columns count where SARIF has no word for it, by the names of what it has one for
+abbrev pub refused_unit_text : List ℕ → List (List ℕ) → List ℕ
+refused_unit_text name names =
+    codes "urlcheck: sarif doesn't take the column unit " ++ (shown_text name
+    ++ (codes "\n" ++ names_text (codes "column units of sarif") [] names))

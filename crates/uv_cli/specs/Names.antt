@@ -1,15 +1,11 @@
 -- Names that none has: which of them are told of, and the names that may have been meant.
-use Rattle.std.specs.Prelude.{ℕ, ◌+◌, ◌/◌, ◌&&◌, ◌||◌, ◌==◌, Bool, List, [], ◌∷◌, Option, Some, None, chars}
-use Rattle.std.specs.Prelude.{codes, filter, ◌++◌, is_some, length, map, max, nat_eq, nat_lt, not, unwrap_or, if◌then◌else◌}
+use Rattle.std.specs.Prelude.{ℕ, ◌+◌, ◌/◌, ◌&&◌, ◌==◌, Bool, List, [], ◌∷◌, Option, Some, None, chars}
+use Rattle.std.specs.Prelude.{codes, filter, ◌++◌, length, map, max, nat_eq, nat_lt, not, unwrap_or, if◌then◌else◌}
 use Rattle.std.specs.List.{list_any, starts_with}
 use Rattle.std.specs.Str.{bytes_eq, str_to_ascii_lowercase}
 use Rattle.strsim.specs.Edits.{osa_table}
-use Rattle.uv_model.specs.Violations.Rule.{named_rule, rule_name, rules_in_order}
-use Rattle.uv_report.specs.LineViolation.{named_violation}
-
--- the name is that of a rule, or of what else is found with a line
-abbrev pub is_rule : List ℕ → Bool
-is_rule name = is_some (named_rule name) || is_some (named_violation name)
+use Rattle.uv_model.specs.Violations.Rule.{rule_name, rules_in_order}
+use Rattle.uv_cli.specs.Explain.{is_explained}
 
 -- names without those that stand there before
 abbrev pub each_once : List (List ℕ) → List (List ℕ)
@@ -20,13 +16,13 @@ each_once (name ∷ rest) = name ∷ filter (λ other. not (bytes_eq other name)
 abbrev pub with_further : List (List ℕ) → List ℕ → List (List ℕ)
 with_further names name = if list_any (bytes_eq name) names then names else names ++ name ∷ []
 
--- names, and a further one where it is none of these and isn't among them
+-- names, and a further one where it isn't explained and isn't among them
 abbrev pub with_unknown : List (List ℕ) → List ℕ → List (List ℕ)
-with_unknown names name = if is_rule name then names else with_further names name
+with_unknown names name = if is_explained name then names else with_further names name
 
--- the names that are none of these, each once, in their order
+-- the names that aren't explained, each once, in their order
 abbrev pub unknown_rules : List (List ℕ) → List (List ℕ)
-unknown_rules names = each_once (filter (λ name. not (is_rule name)) names)
+unknown_rules names = each_once (filter (λ name. not (is_explained name)) names)
 
 -- the names that are explained: those of the rules, and of what else is found with a line
 abbrev pub rule_names : List (List ℕ)

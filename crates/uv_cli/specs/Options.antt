@@ -79,10 +79,15 @@ abbrev pub listed : List Text → Text
 listed [] = []
 listed (first ∷ rest) = first ++ behind_first rest
 
--- the line of the commands that take the option with this name
-abbrev pub option_text : Text → List ℕ
-option_text name =
-    codes "urlcheck: " ++ (name ++ (codes " is an option of " ++ (listed (takers name) ++ codes "\n")))
+-- behind that, where the option stands in the command's place
+abbrev pub place_note : Text → Text
+place_note command = if looks_like_option command then codes ", and stands behind the command" else []
+
+-- the line of the commands that take the option with this name, and of its place where that isn't behind a command
+abbrev pub option_text : Text → Text → List ℕ
+option_text command name =
+    codes "urlcheck: " ++ (name ++ (codes " is an option of " ++ (listed (takers name)
+    ++ (place_note command ++ codes "\n"))))
 
 -- the line of an option that no command takes, with the nearest of this command's own options; nothing where none is
 -- near
@@ -96,7 +101,7 @@ near_option_text command name (Some near) =
 abbrev pub unknown_option_text : Text → Text → List ℕ
 unknown_option_text command name =
     if length (takers name) == 0 then near_option_text command name (nearest name (option_names command))
-    else option_text name
+    else option_text command name
 
 -- the hint at an option that a command doesn't take, where there are both
 abbrev pub option_hint : Option Text → Option Text → List ℕ

@@ -1,7 +1,10 @@
 //! Hints at what was meant, where the arguments ask for something else: what is reported on standard error.
-ghost use Rattle.std.specs.Prelude.{◌≡◌, IfOk, option_copied, string_bytes};
-ghost use Rattle.uv_cli.specs.Hints.{begins_with_hyphen, folder_hint, is_file_of, is_lint, job_hint, lint_hint};
-ghost use Rattle.uv_cli.specs.Hints.{of_file, text_hint, text_line, words_hint};
+ghost use Rattle.std.specs.List.{after_first};
+ghost use Rattle.std.specs.Prelude.{◌≡◌, ◌==◌, IfOk, option_copied, string_bytes};
+ghost use Rattle.uv_cli.specs.Hints.{begins_with_hyphen, file_hint, is_file_of, is_lint, job_hint, lint_hint};
+ghost use Rattle.uv_cli.specs.Hints.{names_link, of_file, one_text_hint, one_text_line, starts_with_slashes};
+ghost use Rattle.uv_cli.specs.Hints.{takes_one_text, text_hint, text_line, words_hint};
+ghost use Rattle.uv_model.specs.Ascii.{colon};
 
 use crate::ends::End;
 use crate::file_names::{has_document_end, names_file};
@@ -34,6 +37,10 @@ const OF_DOCUMENTS: &str =
 // What is said where a lint is given a folder.
 const OF_FOLDERS: &str =
     "urlcheck: lint takes no folder; urlcheck-documents --check FOLDER judges the documents in it\n";
+
+// What is said where a lint is given a link.
+const OF_LINKS: &str =
+    "urlcheck: lint takes files; check TEXT judges one text, and lint - the lines of standard input\n";
 
 // What is said where `links` is given a file.
 const NO_FILE_OF_LINKS: &str =
@@ -127,18 +134,45 @@ fn lint_hint(alloc: Global, linted: Linted) -> Result<String, AllocError>
     }
 }
 
-/// The hint behind a file that a lint couldn't read for this reason, or nothing: of a folder.
-pub(crate) fn folder_hint(why: Unread) -> &'static str
-    ensures { result.now ≡ folder_hint why }
+/// The hint behind a file with this name that a lint couldn't read for this reason, or nothing: of a folder, and where
+/// there is no such file of a name that looks like a link.
+pub(crate) fn file_hint(name: &str, why: Unread) -> &'static str
+    ensures { result.now ≡ file_hint name.now why }
 {
     match why {
         Unread::Folder => OF_FOLDERS,
+        Unread::Missing if names_link(name) => OF_LINKS,
         _ => "",
     }
 }
 
-/// The hint where words of this command, with this last one, are refused for this reason, or nothing: of no command, of
-/// `links` with a word too many, whose last one doesn't look like an option, and of `lint` without a file.
+// Whether a name looks like a link: it has a `:`, and behind the first one `//`.
+fn names_link(name: &str) -> bool
+    ensures { result ≡ names_link name.now }
+{
+    starts_with_slashes(behind_colon(name).as_bytes())
+}
+
+// Whether a text begins with `//`.
+fn starts_with_slashes(text: &[u8]) -> bool
+    ensures { result ≡ starts_with_slashes text.now }
+{
+    matches!(text, [b'/', b'/', ..])
+}
+
+// What stands behind the first `:`.
+fn behind_colon(name: &str) -> &str
+    ensures { result.now ≡ after_first (λ b. b == colon) name.now }
+{
+    match name.split_once(':') {
+        Some((_, behind)) => behind,
+        None => "",
+    }
+}
+
+/// The hint where words of this command, with this last one, are refused for this reason, or nothing: of no command; of
+/// `links`, `check` and `mend` with a word too many, whose last one doesn't look like an option; and of `lint` without
+/// a file.
 pub(crate) fn words_hint(
     alloc: Global,
     command: Option<&str>,
@@ -153,11 +187,46 @@ pub(crate) fn words_hint(
         ErrorKind::UnknownArgument if is_file_of(command, last) => {
             String::from_str(alloc, NO_FILE_OF_LINKS)
         }
+        ErrorKind::UnknownArgument => one_text_hint(alloc, command, last),
         ErrorKind::MissingRequiredArgument if is_lint(command) => {
             String::from_str(alloc, INPUT_OF_LINT)
         }
         _ => Ok(String::new(alloc)),
     }
+}
+
+// The hint where `check` or `mend` is given a word too many, whose last one doesn't look like an option, or nothing.
+fn one_text_hint(
+    alloc: Global,
+    command: Option<&str>,
+    last: Option<&str>,
+) -> Result<String, AllocError>
+    ensures { IfOk result (λ hint. string_bytes hint
+        ≡ one_text_hint (option_copied command.entry) (option_copied last.entry)) }
+{
+    match (command, last) {
+        (Some(command), Some(last)) if takes_one_text(command) && !begins_with_hyphen(last) => {
+            one_text_line(alloc, command)
+        }
+        _ => Ok(String::new(alloc)),
+    }
+}
+
+// Whether a command takes one text.
+fn takes_one_text(command: &str) -> bool
+    ensures { result ≡ takes_one_text command.now }
+{
+    command == "check" || command == "mend"
+}
+
+// The line of a command that takes one text.
+fn one_text_line(alloc: Global, command: &str) -> Result<String, AllocError>
+    ensures { IfOk result (λ line. string_bytes line ≡ one_text_line command.now) }
+{
+    let mut line = String::from_str(alloc, "urlcheck: ")?;
+    line.push_str(command)?;
+    line.push_str(" takes one TEXT: write it in single quotes where it has spaces\n")?;
+    Ok(line)
 }
 
 // Whether the command is `lint`.

@@ -19,6 +19,7 @@ mod options;
 pub mod program;
 mod reasons;
 mod report;
+mod units;
 mod unjudged;
 mod unknown;
 mod unread;

@@ -2,7 +2,7 @@
 ghost use Rattle.std.specs.Prelude.{◌≡◌, ◌++◌, ◌-◌, ◌^◌, ◌<◌, ◌⊎◌, IfOk, map, option_copied, string_bytes, true};
 ghost use Rattle.uv_lint.specs.LineViolations.{file_setting};
 ghost use Rattle.uv_report.specs.Report.{begin_text};
-ghost use Rattle.uv_cli.specs.Hints.{folder_hint};
+ghost use Rattle.uv_cli.specs.Hints.{file_hint};
 ghost use Rattle.uv_cli.specs.Lint.{HasLinted, HasLintedAgainst, LintsAll, LintsNamed, LintsNext, LintsNothing};
 ghost use Rattle.uv_cli.specs.Lint.{LintsOpened, IsUnopened, IsWhyUnopened, WritesPiece, columns_of, form_of};
 ghost use Rattle.uv_cli.specs.Lint.{format_of, input_name, is_input, reported_name};
@@ -12,7 +12,7 @@ ghost use Rattle.uv_cli.specs.Unread.{unread_text};
 use crate::arguments::said_of;
 use crate::ends::End;
 use crate::file_names::has_document_end;
-use crate::hints::folder_hint;
+use crate::hints::file_hint;
 use crate::linted::Linted;
 use crate::messages::{message_line, say};
 use crate::unread::{Unread, unread_line};
@@ -325,10 +325,10 @@ fn report_failed_read<R: Eprint + AllocGlobal>(
 
 // What is reported of a file that isn't read for this reason, with a hint.
 fn unread_lines(alloc: Global, file: &str, why: Unread) -> Result<String, AllocError>
-    ensures { IfOk result (λ lines. string_bytes lines ≡ unread_text file.now why ++ folder_hint why) }
+    ensures { IfOk result (λ lines. string_bytes lines ≡ unread_text file.now why ++ file_hint file.now why) }
 {
     let mut lines = unread_line(alloc, file, why)?;
-    lines.push_str(folder_hint(why))?;
+    lines.push_str(file_hint(file, why))?;
     Ok(lines)
 }
 

@@ -4,8 +4,8 @@ ghost use Rattle.std.specs.Prelude.{◌≡◌, ◌++◌, ◌==◌, IfOk, OnOk, c
 ghost use Rattle.std.specs.Str.{bytes_eq};
 ghost use Rattle.uv_cli.specs.Options.{behind_first, is_unknown, listed, looks_like_option, near_option_text};
 ghost use Rattle.uv_cli.specs.Options.{option_hint};
-ghost use Rattle.uv_cli.specs.Options.{option_name, option_names, option_text, takers, unknown_among, unknown_option};
-ghost use Rattle.uv_cli.specs.Options.{unknown_option_text};
+ghost use Rattle.uv_cli.specs.Options.{option_name, option_names, option_text, place_note, takers, unknown_among};
+ghost use Rattle.uv_cli.specs.Options.{unknown_option, unknown_option_text};
 
 use crate::unknown::nearest;
 use clap::error::ErrorKind;
@@ -142,7 +142,7 @@ fn unknown_option_line(alloc: Global, command: &str, name: &str) -> Result<Strin
             nearest(alloc, name, option_names(command))?,
         )
     } else {
-        option_line(alloc, name)
+        option_line(alloc, command, name)
     }
 }
 
@@ -169,16 +169,28 @@ fn near_option_line(
     Ok(line)
 }
 
-// The line of the commands that take the option with this name.
-fn option_line(alloc: Global, name: &str) -> Result<String, AllocError>
-    ensures { IfOk result (λ line. string_bytes line ≡ option_text name.now) }
+// The line of the commands that take the option with this name, and of its place where that isn't behind a command.
+fn option_line(alloc: Global, command: &str, name: &str) -> Result<String, AllocError>
+    ensures { IfOk result (λ line. string_bytes line ≡ option_text command.now name.now) }
 {
     let mut line = String::from_str(alloc, "urlcheck: ")?;
     line.push_str(name)?;
     line.push_str(" is an option of ")?;
     line.push_str(listed(alloc, takers(name))?.as_str())?;
+    line.push_str(place_note(command))?;
     line.push_str("\n")?;
     Ok(line)
+}
+
+// What is said of an option that stands in the command's place, else nothing.
+fn place_note(command: &str) -> &'static str
+    ensures { result.now ≡ place_note command.now }
+{
+    if looks_like_option(command) {
+        ", and stands behind the command"
+    } else {
+        ""
+    }
 }
 
 // Names in a sentence.

@@ -1,18 +1,20 @@
-//! Names that none has: of a rule, a format, what columns count, a profile or a kind of mended texts.
+//! Names that none has: of a rule, a format, a profile or a kind of mended texts.
 ghost use Rattle.std.specs.Prelude.{◌≡◌, ◌++◌, IfOk, OnOk, map, option_copied, string_bytes};
 ghost use Rattle.uv_cli.specs.Messages.{longer_text, named_text, near_text, names_text, spaced_text, told_text};
 ghost use Rattle.uv_cli.specs.Messages.{unknown_names_text, unknown_rules_text, unknown_text};
-ghost use Rattle.uv_cli.specs.Names.{is_longer, is_rule, longer_names, nearest, rule_names, unknown_rules};
+ghost use Rattle.uv_cli.specs.Explain.{is_explained};
+ghost use Rattle.uv_cli.specs.Names.{is_longer, longer_names, nearest, rule_names, unknown_rules};
 ghost use Rattle.uv_cli.specs.Names.{with_further, with_unknown};
 
 use crate::ends::End;
 use crate::messages::message_line;
 use crate::options::is_among;
+use crate::units::unit_lines;
 use std::alloc::{AllocError, Global};
 use strsim::osa_distance;
 use uv_mend::MendKind;
 use uv_model::{Profile, Rule};
-use uv_report::{Columns, Format, LineViolation, LocatedFault, push_shown};
+use uv_report::{Format, LineViolation, LocatedFault, push_shown};
 use uv_words::Job;
 
 // The formats in the order of docs and help.
@@ -25,22 +27,16 @@ const FORMATS: [Format; 6] = [
     Format::Checkstyle,
 ];
 
-// What columns count, in the order of docs and help.
-const COLUMNS: [Columns; 4] = [
-    Columns::CodePoints,
-    Columns::Bytes,
-    Columns::Utf16,
-    Columns::Screen,
-];
-
 // The kinds in the order of docs and help.
 const KINDS: [MendKind; 3] = [MendKind::Same, MendKind::Escaped, MendKind::Changed];
 
-// What is named: one, and all of them.
+/// What is named: one, and all of them.
 #[derive(Clone, Copy)]
-struct Noun {
-    one: &'static str,
-    all: &'static str,
+pub(crate) struct Noun {
+    /// One of them.
+    pub(crate) one: &'static str,
+    /// All of them.
+    pub(crate) all: &'static str,
 }
 
 const RULE: Noun = Noun {
@@ -51,16 +47,6 @@ const RULE: Noun = Noun {
 const FORMAT: Noun = Noun {
     one: "format",
     all: "formats",
-};
-
-const UNIT: Noun = Noun {
-    one: "column unit",
-    all: "column units",
-};
-
-const SARIF_UNIT: Noun = Noun {
-    one: "column unit of sarif",
-    all: "column units of sarif",
 };
 
 const PROFILE: Noun = Noun {
@@ -111,18 +97,6 @@ pub(crate) fn unknown_lines(alloc: Global, job: &Job, end: End) -> Result<String
     }
 }
 
-// What is reported of a lint that names what columns count, where nothing has that name, or SARIF no word for it.
-fn unit_lines(alloc: Global, name: &str, end: End) -> Result<String, AllocError> {
-    match end {
-        End::UnknownColumns => lines(alloc, UNIT, name, unit_names(alloc, None)?.as_slice()),
-        End::ColumnsRefused => {
-            let names = unit_names(alloc, Some(Format::Sarif))?;
-            lines(alloc, SARIF_UNIT, name, names.as_slice())
-        }
-        _ => Ok(String::new(alloc)),
-    }
-}
-
 // What is reported where the rules with these names are to be explained, and some of the names are those of none.
 fn rule_lines(alloc: Global, rules: &[String]) -> Result<String, AllocError>
     ensures { IfOk result (λ text. string_bytes text ≡ unknown_rules_text (map string_bytes rules.now)) }
@@ -154,7 +128,7 @@ fn push_unknown<'n>(unknown: &mut Vec<&'n str>, name: &'n str) -> Result<(), All
     ensures { OnOk result (map (λ n. n.now) unknown.new.items
         ≡ with_unknown (map (λ n. n.now) unknown.old.items) name.now) }
 {
-    if is_rule(name) {
+    if is_explained(name) {
         return Ok(());
     }
     push_once(unknown, name)
@@ -172,9 +146,10 @@ fn push_once<'n>(names: &mut Vec<&'n str>, name: &'n str) -> Result<(), AllocErr
     Ok(())
 }
 
-// Whether a name is that of a rule, or of what else is found with a line.
-fn is_rule(name: &str) -> bool
-    ensures { result ≡ is_rule name.now }
+// Whether a name is explained: that of a rule, or of what else is found with a line.
+#[tactic(auto, unfolding(crate::specs::Explain::explained_name))]
+fn is_explained(name: &str) -> bool
+    ensures { result ≡ is_explained name.now }
 {
     Rule::of_name(name).is_some() || LineViolation::of_name(name).is_some()
 }
@@ -201,17 +176,6 @@ fn format_names(alloc: Global) -> Result<Vec<&'static str>, AllocError> {
     Ok(names)
 }
 
-// The names of what columns may count, in a format where one is given.
-fn unit_names(alloc: Global, format: Option<Format>) -> Result<Vec<&'static str>, AllocError> {
-    let mut names = Vec::new(alloc);
-    for columns in &COLUMNS {
-        if format.is_none_or(|format| format.takes_columns(*columns)) {
-            names.push(columns.name())?;
-        }
-    }
-    Ok(names)
-}
-
 fn kind_names(alloc: Global) -> Result<Vec<&'static str>, AllocError> {
     let mut names = Vec::new(alloc);
     for kind in &KINDS {
@@ -228,8 +192,13 @@ fn profile_names(alloc: Global) -> Result<Vec<&'static str>, AllocError> {
     Ok(names)
 }
 
-// What is reported of a name that none has, of the kind that the noun says.
-fn lines(alloc: Global, noun: Noun, name: &str, names: &[&str]) -> Result<String, AllocError> {
+/// What is reported of a name that none has, of the kind that the noun says.
+pub(crate) fn lines(
+    alloc: Global,
+    noun: Noun,
+    name: &str,
+    names: &[&str],
+) -> Result<String, AllocError> {
     all_lines(alloc, noun.one, noun.all, &[name], names)
 }
 
@@ -322,8 +291,13 @@ fn push_longer(text: &mut String, all: &str, longer: &[&str]) -> Result<(), Allo
     push_names(text, all, " that begin so", longer)
 }
 
-// Pushes the line of names that there are, of what the noun says, and which of them.
-fn push_names(text: &mut String, noun: &str, which: &str, names: &[&str]) -> Result<(), AllocError>
+/// Pushes the line of names that there are, of what the noun says, and which of them.
+pub(crate) fn push_names(
+    text: &mut String,
+    noun: &str,
+    which: &str,
+    names: &[&str],
+) -> Result<(), AllocError>
     ensures { OnOk result (string_bytes text.new ≡ string_bytes text.old
         ++ names_text noun.now which.now (map (λ n. n.now) names.now)) }
 {
