@@ -101,7 +101,7 @@ bar='error: U+007C VERTICAL LINE may not stand in a URL'
 of_list 1 "list:1:8: error: $port\nlist:2:8: error: $port\nlist:3:8: $drive\nlist:4:8: $drive\nlist:5:8: error: $port
 list:6:10: $bar: a drive letter is written with : [code-point]\nlist:7:10: $bar: a drive letter is written with : [code-point]
 list:8:10: $bar [code-point]\nlist:9:12: $bar [code-point]\nlist:10:10: $bar [code-point]\n" "$(counted 10 10)" \
-    'file://h:80/\nFile://h:\nfile://C:/x\nfile://c|\nfile://CC:/x\nfile:///C|/x\nFILE:///z|
+    'file://h:80/\nFile://host:\nfile://C:/x\nfile://c|\nfile://CC:/x\nfile:///C|/x\nFILE:///z|
 file:///C|x\nfile:///x/C|/\nhttp://h/|/\n'
 brackets='error: a host that is an IPv6 address stands in brackets'
 of_list 1 "list:1:8: $brackets [host-number]\nlist:2:8: $brackets [host-missing]\nlist:3:14: $brackets [port-digit]
