@@ -45,16 +45,14 @@ fn leaves_what_is_valid_or_has_no_edit(rt: HostRuntime) -> Result<(), Fail> {
 #[test]
 fn mends_a_text_that_is_known_to_be_refused(rt: HostRuntime) -> Result<(), Fail> {
     let refused = "http://h/a b";
-    match check(rt.alloc(), refused, None, Profile::Standard)? {
-        Verdict::No(refusal) => {
-            match mend_refused(rt.alloc(), refused, None, Profile::Standard, refusal)? {
-                Mending::Mended { text, kind } => {
-                    assert!(rt; text.as_str() == "http://h/a%20b" && kind == MendKind::Same);
-                }
-                _ => panic!(rt; "another answer"),
-            }
+    let Verdict::No(refusal) = check(rt.alloc(), refused, None, Profile::Standard)? else {
+        panic!(rt; "a valid text")
+    };
+    match mend_refused(rt.alloc(), refused, None, Profile::Standard, refusal)? {
+        Mending::Mended { text, kind } => {
+            assert!(rt; text.as_str() == "http://h/a%20b" && kind == MendKind::Same);
         }
-        Verdict::Yes(_) => panic!(rt; "a valid text"),
+        _ => panic!(rt; "another answer"),
     }
     Ok(())
 }

@@ -55,11 +55,12 @@ job_hint (job.Mend text base profile) Refused =
 job_hint (job.Lint asked) (Linted lint) = lint_hint lint
 job_hint other end = []
 
--- the name looks like a link: it has a `:`, and behind the first one `//`
+-- the text begins with `//`
 abbrev pub starts_with_slashes : List ℕ → Bool
 starts_with_slashes (first ∷ second ∷ rest) = (first == slash) && (second == slash)
 starts_with_slashes _ = false
 
+-- the name looks like a link: it has a `:`, and behind the first one `//`
 abbrev pub names_link : List ℕ → Bool
 names_link name = starts_with_slashes (after_first (λ b. b == colon) name)
 
@@ -106,8 +107,8 @@ is_lint (Some command) = bytes_eq command (codes "lint")
 is_lint None = false
 
 -- the hint where words of this command, with this last one, are refused for this reason: of no command, in whose place
--- a text or a file may stand; of `links` with a word too many, whose last one may be a file; of `check` and `mend`, whose
--- last ones may be pieces of one text; and of `lint` without a file
+-- a text or a file may stand; of `links` with a word too many, whose last one may be a file; of `check` and `mend`,
+-- whose last ones may be pieces of one text; and of `lint` without a file
 abbrev pub words_hint : Option (List ℕ) → Option (List ℕ) → ErrorKind → List ℕ
 words_hint command last InvalidSubcommand =
     codes "urlcheck: check TEXT judges one text, and lint FILE the lines of a file\n"
