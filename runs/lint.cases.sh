@@ -113,8 +113,8 @@ points.txt:4:11: error: U+0078 LATIN SMALL LETTER X is no digit of a port [port-
 points.txt:5:10: error: U+0025 PERCENT SIGN has to be followed by two hex digits [percent]
 ' 'urlcheck: 6 lines, 5 refused\n' lint points.txt
 printf 'http://h/\xef\xbf\xbf\nurn:\xef\xb7\x90\n' >"$room/points.txt"
-expect 1 'points.txt:1:10: error: U+FFFF \xef\xbf\xbf may not stand in a URL [code-point]
-points.txt:2:5: error: U+FDD0 \xef\xb7\x90 may not stand in a URL [code-point]
+expect 1 'points.txt:1:10: error: U+FFFF <noncharacter> may not stand in a URL [code-point]
+points.txt:2:5: error: U+FDD0 <noncharacter> may not stand in a URL [code-point]
 ' 'urlcheck: 2 lines, 2 refused\n' lint points.txt
 
 # Credentials: the place and the rule are those of a host or a port, and the sentence says what is wrong. An `@` behind

@@ -64,6 +64,8 @@ def names_point(sentence, c):
         return False
     if ord(c) < 128:
         return unicodedata.lookup(m[2]) == c
+    if "\ufdd0" <= c <= "\ufdef" or ord(c) % 0x10000 >= 0xFFFE:
+        return m[2] == "<noncharacter>"
     return m[2] == ("" if HIDDEN.match(c) else c)
 
 
