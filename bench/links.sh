@@ -1,8 +1,8 @@
 #!/usr/bin/env bash
 # Lists of mixed links: the processor time a line of `urlcheck links`, of the second parser alone (the crate
 # bench_second) and of `wc -l`, least of so many rounds with a run of each in turn, the start of each program taken off;
-# and the peak of resident memory of `urlcheck links` on 10,000 lines and on all. It wants that `urlcheck links` costs
-# at most 1.6 times the second parser alone, that a line of the long list costs what one of the short list costs within
+# and the peak of resident memory of `urlcheck links` on 30,000 lines and on all. It wants that `urlcheck links` costs
+# at most 0.8 times the second parser alone, that a line of the long list costs what one of the short list costs within
 # 10 %, and that its memory is the same on both, within 256 KiB, and below 10 MB. With --registry FOLDER also the time of
 # Rust's crate `url` with its validation errors counted, which reports on each line alike: `urlcheck links` is to cost at
 # most 0.75 of that. FOLDER has the sources of 2.5 or newer, as Debian's librust-url-dev has them. It fails where a program
@@ -11,7 +11,7 @@
 #        [--registry FOLDER]
 set -euo pipefail
 top=$(dirname "$(dirname "$(realpath "$0")")")
-seed=1 count=1000000 short=10000 rounds=5
+seed=1 count=1000000 short=30000 rounds=5
 program=$top/crates/urlcheck/out/urlcheck second=$top/crates/bench_second/out/bench_second
 registry=
 . "$top/bench/words.sh"
@@ -159,7 +159,7 @@ echo "peak of resident memory: $peak_short KiB on $short lines, $peak_long KiB o
 holds() {
     awk "BEGIN { exit !($1) }" || fail "${*:2}"
 }
-holds "$links <= 1.6 * $alone" "more than 1.6 times the second parser alone"
+holds "$links <= 0.8 * $alone" "more than 0.8 times the second parser alone"
 [ -z "$registry" ] || holds "$links <= 0.75 * $of_url" "more than 0.75 of the crate url with its validation errors"
 holds "$links <= 1.1 * $links_short && $links_short <= 1.1 * $links" "the cost a line changes with the length by more than 10 %"
 holds "$peak_long <= $peak_short + 256 && $peak_short <= $peak_long + 256" "the memory changes with the length"
