@@ -171,7 +171,7 @@ class Documents(Texts):
             "a.html:2:45: error: U+0025 PERCENT SIGN has to be followed by two hex digits [percent]",
             "a.html:2:59: error: U+007F DELETE may not stand in a URL [code-point]",
             "a.html:2:72: error: U+009F may not stand in a URL [code-point]",
-            "a.html:2:85: error: U+FDD0 \ufdd0 may not stand in a URL [code-point]",
+            "a.html:2:85: error: U+FDD0 <noncharacter> may not stand in a URL [code-point]",
         ])
 
     def test_hosts(self):
