@@ -1,5 +1,5 @@
 -- The object of a diagnostic, piece by piece, and texts that stand in JSON as they are.
-use Rattle.std.proofs.Common.{◌≡◌, ◌∙◌, ℕ, List, [], ◌∷◌, ◌++◌, true, false, ap, arith, codes, decimal, drop, refl, sym}
+use Rattle.std.proofs.Common.{◌≡◌, ◌∙◌, ℕ, List, [], ◌∷◌, ◌++◌, true, false, ap, append_assoc, arith, codes, decimal, drop, refl, sym}
 use Rattle.std.proofs.Common.{◌==◌, nat_lt}
 use Rattle.std.proofs.Common.{Option, Some, None}
 use Rattle.std.specs.List.{list_all}
@@ -8,46 +8,17 @@ use Rattle.std.proofs.lemmas.Bool.Decides.{nat_tests}
 use Rattle.serde_json.proofs.OnLiterals.{serde_json_on_literals}
 use Rattle.serde_json.specs.Data.{boolean, object}
 use Rattle.serde_json.specs.Written.{compact_text}
-use Rattle.uv_model.specs.Violations.Rule.{rule_name}
-use Rattle.uv_model.specs.declared.rule.Rule.{Rule}
-use Rattle.uv_model.specs.declared.rule.Rule.TheVariants.{NoScheme, OpaqueBase, TwoSlashes, HostMissing, HostDomain}
-use Rattle.uv_model.specs.declared.rule.Rule.TheVariants.{HostNumber, HostIpv6, HostCodePoint, PortDigit, PortRange}
-use Rattle.uv_model.specs.declared.rule.Rule.TheVariants.{FirstSegmentEmpty, DriveAfterHost, CodePoint, Percent}
-use Rattle.uv_report.specs.declared.line_violation.LineViolation.{LineViolation}
-use Rattle.uv_report.specs.declared.line_violation.LineViolation.TheVariants.{Refused, NotUtf8, TooLong, NotLocated}
+use Rattle.uv_model.specs.MendKindName.{kind_name}
 use Rattle.uv_report.specs.declared.diagnostic.Diagnostic.{Diagnostic}
 use Rattle.uv_report.specs.declared.mended.Mended.{Mended}
-use Rattle.uv_report.specs.Json.{json_members, kind_member, mended_member}
+use Rattle.uv_report.specs.Json.{cut_member, json_members, line_member, mended_member}
 use Rattle.uv_report.specs.LineViolation.{violation_name, violation_place}
 use Rattle.uv_report.specs.Message.{message}
 use Rattle.uv_report.specs.Quoted.{is_plain, quoted}
+use Rattle.uv_report.specs.RuleTexts.{rule_member}
 use Rattle.uv_report.specs.Window.{carried, is_cut}
 
 -- ---- plain texts
-
--- the name of a rule is plain
-rule_plain : (rule : Rule) → list_all is_plain (rule_name rule) ≡ true
-rule_plain NoScheme = refl
-rule_plain OpaqueBase = refl
-rule_plain TwoSlashes = refl
-rule_plain HostMissing = refl
-rule_plain HostDomain = refl
-rule_plain HostNumber = refl
-rule_plain HostIpv6 = refl
-rule_plain HostCodePoint = refl
-rule_plain PortDigit = refl
-rule_plain PortRange = refl
-rule_plain FirstSegmentEmpty = refl
-rule_plain DriveAfterHost = refl
-rule_plain CodePoint = refl
-rule_plain Percent = refl
-
--- and so is that of a violation
-pub name_plain : (violation : LineViolation) → list_all is_plain (violation_name violation) ≡ true
-name_plain (Refused refusal) = rule_plain refusal.rule
-name_plain (NotUtf8 place) = refl
-name_plain TooLong = refl
-name_plain (NotLocated fault) = refl
 
 -- a plain byte stands as it is
 plain_step : (byte : ℕ) (text : List ℕ) → is_plain byte ≡ true
@@ -75,8 +46,15 @@ plain_rest (byte ∷ text) plain =
 pub plain_quoted : (text : List ℕ) → list_all is_plain text ≡ true → 34 ∷ (text ++ 34 ∷ []) ≡ quoted text
 plain_quoted text plain = sym (ap (λ rest. 34 ∷ rest) (plain_rest text plain))
 
--- the pieces of a diagnostic's object
-pub object_pieces : (d : Diagnostic) (mended : Option Mended)
+-- ---- the object
+
+-- the member of how a mended text stands to the refused one, behind its comma, where there is a mended text
+abbrev kind_member : Option Mended → List ℕ
+kind_member None = []
+kind_member (Some mended) = codes ",\"kind\":" ++ quoted (kind_name mended.kind)
+
+-- the members of a diagnostic's object
+members : (d : Diagnostic) (mended : Option Mended)
     → (codes "{\"column\":" ++ decimal d.column)
     ++ ((codes ",\"cut\":" ++ compact_text (boolean (is_cut d.text.now)))
     ++ ((codes ",\"file\":" ++ quoted d.file.now) ++ (kind_member mended ++ ((codes ",\"line\":" ++ decimal d.line)
@@ -85,5 +63,38 @@ pub object_pieces : (d : Diagnostic) (mended : Option Mended)
     ++ ((codes ",\"text\":" ++ quoted (carried d.text.now (violation_place d.violation))) ++ codes "}"))))))))
     ≡ compact_text (object (json_members d mended))
 unfolding serde_json_on_literals
-object_pieces d None = refl
-object_pieces d (Some mended) = refl
+members d None = refl
+members d (Some mended) = refl
+
+-- a member up to the value of the next one
+grouped : (member name value rest : List ℕ) → ((member ++ name) ++ value) ++ rest ≡ member ++ ((name ++ value) ++ rest)
+grouped member name value rest = simp append_assoc
+
+line_grouped : (mended : Option Mended) (value rest : List ℕ)
+    → (line_member mended ++ value) ++ rest ≡ kind_member mended ++ ((codes ",\"line\":" ++ value) ++ rest)
+line_grouped None value rest = refl
+line_grouped (Some mended) value rest =
+    grouped (codes ",\"kind\":" ++ quoted (kind_name mended.kind)) (codes ",\"line\":") value rest
+
+-- the pieces of a diagnostic's object
+pub object_pieces : (d : Diagnostic) (mended : Option Mended)
+    → (codes "{\"column\":" ++ decimal d.column)
+    ++ ((cut_member (is_cut d.text.now) ++ quoted d.file.now) ++ ((line_member mended ++ decimal d.line)
+    ++ (mended_member mended ++ ((codes ",\"message\":" ++ quoted (message d.profile d.text.now d.violation))
+    ++ ((rule_member d.violation ++ quoted (carried d.text.now (violation_place d.violation))) ++ codes "}")))))
+    ≡ compact_text (object (json_members d mended))
+object_pieces d mended =
+    let column : List ℕ = codes "{\"column\":" ++ decimal d.column in
+    let cut : List ℕ = codes ",\"cut\":" ++ compact_text (boolean (is_cut d.text.now)) in
+    let file = quoted d.file.now in
+    let line = decimal d.line in
+    let told : List ℕ = codes ",\"message\":" ++ quoted (message d.profile d.text.now d.violation) in
+    let rule : List ℕ = codes ",\"rule\":" ++ quoted (violation_name d.violation) in
+    let link = quoted (carried d.text.now (violation_place d.violation)) in
+    ap (λ t. column ++ t)
+    (grouped cut (codes ",\"file\":") file _
+    ∙ ap (λ t. cut ++ ((codes ",\"file\":" ++ file) ++ t))
+    (line_grouped mended line _
+    ∙ ap (λ t. kind_member mended ++ ((codes ",\"line\":" ++ line) ++ (mended_member mended ++ (told ++ t))))
+    (grouped rule (codes ",\"text\":") link (codes "}"))))
+    ∙ members d mended

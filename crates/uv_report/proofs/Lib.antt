@@ -5,9 +5,11 @@ mod Ipv6Lemmas
 mod JsonLemmas
 mod NameLemmas
 mod NumberLemmas
+mod PlainLemmas
 mod PlaceLemmas
 mod PointLemmas
 mod QuotedLemmas
 mod RowsLemmas
+mod RuleTextLemmas
 mod SarifLemmas
 mod UriLemmas

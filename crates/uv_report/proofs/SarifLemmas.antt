@@ -1,5 +1,5 @@
 -- The result of a diagnostic, piece by piece.
-use Rattle.std.proofs.Common.{◌≡◌, ◌∙◌, ℕ, List, [], ◌∷◌, ◌++◌, Option, Some, None, ap, append_assoc, codes, decimal}
+use Rattle.std.proofs.Common.{◌≡◌, ◌∙◌, ℕ, List, ◌++◌, Option, Some, None, ap, append_assoc, codes, decimal}
 use Rattle.std.proofs.Common.{refl, sym}
 use Rattle.serde_json.proofs.OnLiterals.{serde_json_on_literals}
 use Rattle.serde_json.specs.Data.{Data, boolean}
@@ -9,9 +9,10 @@ use Rattle.uv_report.specs.declared.mended.Mended.{Mended}
 use Rattle.uv_report.specs.LineViolation.{violation_index, violation_name, violation_place}
 use Rattle.uv_report.specs.Message as reported
 use Rattle.uv_report.specs.Quoted.{quoted}
+use Rattle.uv_report.specs.RuleTexts.{result_end}
 use Rattle.uv_report.specs.Sarif.{artifact_value, change_value, deleted_region_value, fix_sentence, fix_value}
 use Rattle.uv_report.specs.Sarif.{link_value, location_value, message, physical_value, region_value}
-use Rattle.uv_report.specs.Sarif.{replacement_value, result_begin, result_with, single}
+use Rattle.uv_report.specs.Sarif.{location_begin, replacement_value, result_begin, result_with, single}
 use Rattle.uv_report.specs.Uri.{uri_path}
 use Rattle.uv_report.specs.Window.{carried, is_cut}
 
@@ -28,6 +29,11 @@ behind_two text between other last rest =
     append_assoc text (between ++ (other ++ last)) rest
     ∙ ap (λ t. text ++ t)
     (append_assoc between (other ++ last) rest ∙ ap (λ t. between ++ t) (append_assoc other last rest))
+
+-- seven pieces, and what follows them
+behind_seven : (a b c d e f g rest : List ℕ)
+    → (a ++ (b ++ (c ++ (d ++ (e ++ (f ++ g)))))) ++ rest ≡ a ++ (b ++ (c ++ (d ++ (e ++ (f ++ (g ++ rest))))))
+behind_seven a b c d e f g rest = simp append_assoc
 
 -- a value alone in an array
 array_text : (value : Data) (rest : List ℕ) → compact_text (single value) ++ rest
@@ -139,7 +145,7 @@ change_text d m rest =
     ∙ ap (λ t. codes "{\"uri\":" ++ (quoted (uri_path d.file.now) ++ (codes "},\"replacements\":" ++ t)))
     (replacement_text d.line m end))
 
-pub fix_pieces : (d : Diagnostic) (m : Mended) (ending : List ℕ)
+fix_alone : (d : Diagnostic) (m : Mended) (ending : List ℕ)
     → ending ≡ codes "}}]}],\"description\":" ++ (compact_text (message (fix_sentence m.kind)) ++ codes "}],")
     → codes "{\"fixes\":[{\"artifactChanges\":[{\"artifactLocation\":{\"uri\":" ++ (quoted (uri_path d.file.now)
     ++ ((codes "},\"replacements\":[{\"deletedRegion\":{\"endColumn\":" ++ decimal m.end)
@@ -147,7 +153,7 @@ pub fix_pieces : (d : Diagnostic) (m : Mended) (ending : List ℕ)
     ++ ((codes "},\"insertedContent\":{\"text\":" ++ quoted m.text.now) ++ ending)))))
     ≡ result_begin d (Some m)
 unfolding serde_json_on_literals
-fix_pieces d m ending is =
+fix_alone d m ending is =
     let changes = compact_text (single (change_value d m)) in
     let described = compact_text (message (fix_sentence m.kind)) in
     let whole : result_begin d (Some m) ≡ codes "{\"fixes\":[{\"artifactChanges\":"
@@ -156,6 +162,28 @@ fix_pieces d m ending is =
     (behind_two changes (codes ",\"description\":") described (codes "}") (codes "],")) in
     rw is (sym (whole ∙ ap (λ t. codes "{\"fixes\":[{\"artifactChanges\":" ++ t)
     (change_text d m (codes ",\"description\":" ++ (described ++ codes "}],")))))
+
+-- the same up to the name of the file
+pub fix_pieces : (d : Diagnostic) (m : Mended) (ending : List ℕ)
+    → ending ≡ (codes "}}]}],\"description\":" ++ (compact_text (message (fix_sentence m.kind)) ++ codes "}],"))
+    ++ location_begin
+    → codes "{\"fixes\":[{\"artifactChanges\":[{\"artifactLocation\":{\"uri\":" ++ (quoted (uri_path d.file.now)
+    ++ ((codes "},\"replacements\":[{\"deletedRegion\":{\"endColumn\":" ++ decimal m.end)
+    ++ ((codes ",\"startColumn\":" ++ decimal m.start) ++ ((codes ",\"startLine\":" ++ decimal d.line)
+    ++ ((codes "},\"insertedContent\":{\"text\":" ++ quoted m.text.now) ++ ending)))))
+    ≡ result_begin d (Some m) ++ location_begin
+fix_pieces d m ending is =
+    let end : List ℕ =
+    codes "}}]}],\"description\":" ++ (compact_text (message (fix_sentence m.kind)) ++ codes "}],") in
+    let begin : List ℕ = codes "{\"fixes\":[{\"artifactChanges\":[{\"artifactLocation\":{\"uri\":" in
+    let uri = quoted (uri_path d.file.now) in
+    let end_column : List ℕ = codes "},\"replacements\":[{\"deletedRegion\":{\"endColumn\":" ++ decimal m.end in
+    let column : List ℕ = codes ",\"startColumn\":" ++ decimal m.start in
+    let line : List ℕ = codes ",\"startLine\":" ++ decimal d.line in
+    let inserted : List ℕ = codes "},\"insertedContent\":{\"text\":" ++ quoted m.text.now in
+    ap (λ e. begin ++ (uri ++ (end_column ++ (column ++ (line ++ (inserted ++ e)))))) is
+    ∙ sym (behind_seven begin uri end_column column line inserted end location_begin)
+    ∙ ap (λ t. t ++ location_begin) (fix_alone d m end refl)
 
 -- ---- the result
 
@@ -211,6 +239,29 @@ rest_is d =
     (sym (append_assoc cut (codes ",\"text\":" ++ link) (codes "}" ++ rule)
     ∙ ap (λ t. cut ++ t) (append_assoc (codes ",\"text\":") link (codes "}" ++ rule)))))
 
+-- a link behind whether it is cut
+cut_grouped : (begin cut name link : List ℕ)
+    → ((begin ++ cut) ++ name) ++ link ≡ begin ++ (cut ++ (name ++ link))
+cut_grouped begin cut name link = simp append_assoc
+
 pub result_pieces : (d : Diagnostic) (mended : Option Mended)
-    → result_begin d mended ++ rest_pieces d ≡ compact_text (result_with d mended)
-result_pieces d mended = ap (λ t. result_begin d mended ++ t) (rest_is d) ∙ whole_result d mended
+    → (result_begin d mended ++ location_begin)
+    ++ (quoted (uri_path d.file.now) ++ ((codes "},\"region\":{\"startColumn\":" ++ decimal d.column)
+    ++ ((codes ",\"startLine\":" ++ decimal d.line)
+    ++ ((codes "}}}],\"message\":{\"text\":" ++ quoted (reported.message d.profile d.text.now d.violation))
+    ++ ((((codes "},\"properties\":{\"cut\":" ++ compact_text (boolean (is_cut d.text.now))) ++ codes ",\"text\":")
+    ++ quoted (carried d.text.now (violation_place d.violation))) ++ result_end d.violation)))))
+    ≡ compact_text (result_with d mended)
+result_pieces d mended =
+    let uri = quoted (uri_path d.file.now) in
+    let column : List ℕ = codes "},\"region\":{\"startColumn\":" ++ decimal d.column in
+    let line : List ℕ = codes ",\"startLine\":" ++ decimal d.line in
+    let told : List ℕ =
+    codes "}}}],\"message\":{\"text\":" ++ quoted (reported.message d.profile d.text.now d.violation) in
+    let link = quoted (carried d.text.now (violation_place d.violation)) in
+    append_assoc (result_begin d mended) location_begin _
+    ∙ ap (λ t. result_begin d mended
+    ++ (location_begin ++ (uri ++ (column ++ (line ++ (told ++ (t ++ result_end d.violation)))))))
+    (cut_grouped (codes "},\"properties\":{\"cut\":") (compact_text (boolean (is_cut d.text.now))) (codes ",\"text\":")
+    link)
+    ∙ ap (λ t. result_begin d mended ++ t) (rest_is d) ∙ whole_result d mended

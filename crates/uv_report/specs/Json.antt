@@ -1,5 +1,5 @@
 -- A diagnostic as an object of JSON.
-use Rattle.std.specs.Prelude.{ℕ, List, [], ◌++◌, codes, Option, Some, None}
+use Rattle.std.specs.Prelude.{ℕ, Bool, List, [], ◌++◌, codes, Option, Some, None}
 use Rattle.serde_json.specs.Data.{Data, Members, boolean, number, unsigned, string, object, member, no_members, put}
 use Rattle.serde_json.specs.Written.{compact_text}
 use Rattle.uv_model.specs.MendKindName.{kind_name}
@@ -37,10 +37,15 @@ json_members diagnostic (Some mended) = mended_members diagnostic mended
 abbrev pub json_value : Diagnostic → Data
 json_value diagnostic = object (json_members diagnostic diagnostic.mended)
 
--- the member of how a mended text stands to the refused one, behind its comma, where there is a mended text
-abbrev pub kind_member : Option Mended → List ℕ
-kind_member None = []
-kind_member (Some mended) = codes ",\"kind\":" ++ quoted (kind_name mended.kind)
+-- the member that says whether the link is cut, behind its comma, up to the name of the file
+abbrev pub cut_member : Bool → List ℕ
+cut_member cut = (codes ",\"cut\":" ++ compact_text (boolean cut)) ++ codes ",\"file\":"
+
+-- the member of how a mended text stands to the refused one, behind its comma, where there is a mended text, up to the
+-- number of the line
+abbrev pub line_member : Option Mended → List ℕ
+line_member None = codes ",\"line\":"
+line_member (Some mended) = (codes ",\"kind\":" ++ quoted (kind_name mended.kind)) ++ codes ",\"line\":"
 
 -- the member of the mended text, behind its comma, where there is one
 abbrev pub mended_member : Option Mended → List ℕ

@@ -17,6 +17,7 @@ pub mod Caret
 pub mod Github
 pub mod Checkstyle
 pub mod Quoted
+pub mod RuleTexts
 pub mod Json
 pub mod Uri
 pub mod Sarif

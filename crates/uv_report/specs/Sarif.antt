@@ -178,6 +178,10 @@ result_begin diagnostic None = codes "{"
 result_begin diagnostic (Some mended) =
     codes "{\"fixes\":[" ++ (compact_text (fix_value diagnostic mended) ++ codes "],")
 
+-- and what stands behind that up to the name of the file
+abbrev pub location_begin : List ℕ
+location_begin = codes "\"level\":\"error\",\"locations\":[{\"physicalLocation\":{\"artifactLocation\":{\"uri\":"
+
 -- the result of a diagnostic
 abbrev pub result_value : Diagnostic → Data
 result_value diagnostic = result_with diagnostic diagnostic.mended

@@ -1,19 +1,18 @@
 //! Diagnostics as objects of JSON, one a line.
-ghost use Rattle.std.specs.Prelude.{◌≡◌, ◌++◌, OnOk, codes, decimal, string_bytes, true};
-ghost use Rattle.std.specs.List.{list_all};
-ghost use Rattle.serde_json.specs.Data.{boolean};
+ghost use Rattle.std.specs.Prelude.{◌≡◌, ◌++◌, OnOk, codes, decimal, string_bytes};
 ghost use Rattle.serde_json.specs.Written.{compact_text};
 ghost use Rattle.uv_model.specs.MendKindName.{kind_name};
-ghost use Rattle.uv_report.specs.Json.{json_text, json_value, kind_member, mended_member};
-ghost use Rattle.uv_report.specs.LineViolation.{violation_name, violation_place};
+ghost use Rattle.uv_report.specs.Json.{cut_member, json_text, json_value, line_member, mended_member};
+ghost use Rattle.uv_report.specs.LineViolation.{violation_place};
 ghost use Rattle.uv_report.specs.Message as reported;
-ghost use Rattle.uv_report.specs.Quoted.{is_plain, quoted};
+ghost use Rattle.uv_report.specs.Quoted.{quoted};
 ghost use Rattle.uv_report.specs.Window as shown;
 
 use crate::diagnostic::Diagnostic;
 use crate::gnu::push_number;
 use crate::line_violation::LineViolation;
-use crate::quoted::{push_plain, push_quoted, push_quoted_message};
+use crate::quoted::{push_quoted, push_quoted_message};
+use crate::rule_texts::rule_member;
 use crate::window::{is_cut, window};
 use std::alloc::{AllocError, Global};
 use uv_model::{MendKind, Profile};
@@ -42,10 +41,8 @@ fn push_object(
         ≡ string_bytes text.old ++ compact_text (json_value diagnostic.now)) }
 {
     push_number_member(text, "{\"column\":", diagnostic.column)?;
-    push_cut(text, diagnostic.text)?;
-    push_text_member(alloc, text, ",\"file\":", diagnostic.file)?;
-    push_kind(text, diagnostic)?;
-    push_number_member(text, ",\"line\":", diagnostic.line)?;
+    push_file(alloc, text, diagnostic)?;
+    push_line(text, diagnostic)?;
     push_mended(alloc, text, diagnostic)?;
     push_message_member(
         alloc,
@@ -55,8 +52,13 @@ fn push_object(
         diagnostic.text,
         diagnostic.violation,
     )?;
-    push_rule(text, diagnostic.violation)?;
-    push_link(alloc, text, diagnostic.text, diagnostic.violation)?;
+    push_link(
+        alloc,
+        text,
+        rule_member(diagnostic.violation),
+        diagnostic.text,
+        diagnostic.violation,
+    )?;
     text.push('}')?;
     Ok(())
 }
@@ -88,57 +90,61 @@ pub(crate) fn push_text_member(
     Ok(())
 }
 
-/// The same of a text of which each byte stands in a string of JSON as it is.
-pub(crate) fn push_plain_member(
+// Pushes whether a window of the link alone is carried, and the name of the file.
+fn push_file(
+    alloc: Global,
     text: &mut String,
-    before: &str,
-    value: &str,
+    diagnostic: &Diagnostic<'_>,
 ) -> Result<(), AllocError>
-    requires { list_all is_plain value.now ≡ true }
-    ensures { OnOk result (string_bytes text.new ≡ string_bytes text.old ++ (before.now ++ quoted value.now)) }
+    ensures { OnOk result (string_bytes text.new ≡ string_bytes text.old
+        ++ (cut_member (shown.is_cut diagnostic.now.text.now) ++ quoted diagnostic.now.file.now)) }
 {
-    text.push_str(before)?;
-    push_plain(text, value)?;
-    Ok(())
+    push_text_member(
+        alloc,
+        text,
+        cut_member(is_cut(diagnostic.text)),
+        diagnostic.file,
+    )
 }
 
-// Pushes whether a window of the link alone is carried.
-fn push_cut(text: &mut String, line: &str) -> Result<(), AllocError>
-    ensures { OnOk result (string_bytes text.new
-        ≡ string_bytes text.old ++ (codes ",\"cut\":" ++ compact_text (boolean (shown.is_cut line.now)))) }
-{
-    text.push_str(cut_member(is_cut(line)))
-}
-
-// The member that says whether a link is cut.
+// The member that says whether a link is cut, up to the name of the file.
 fn cut_member(cut: bool) -> &'static str
-    ensures { result.now ≡ codes ",\"cut\":" ++ compact_text (boolean cut) }
+    ensures { result.now ≡ cut_member cut }
 {
     if cut {
-        ",\"cut\":true"
+        ",\"cut\":true,\"file\":"
     } else {
-        ",\"cut\":false"
+        ",\"cut\":false,\"file\":"
     }
 }
 
-// Pushes how a mended text stands to the refused one, where there is a mended text.
-fn push_kind(text: &mut String, diagnostic: &Diagnostic<'_>) -> Result<(), AllocError>
-    ensures { OnOk result (string_bytes text.new ≡ string_bytes text.old ++ kind_member diagnostic.now.mended) }
+// Pushes how a mended text stands to the refused one, where there is a mended text, and the number of the line.
+fn push_line(text: &mut String, diagnostic: &Diagnostic<'_>) -> Result<(), AllocError>
+    ensures { OnOk result (string_bytes text.new ≡ string_bytes text.old
+        ++ (line_member diagnostic.now.mended ++ decimal diagnostic.now.line)) }
+{
+    push_number_member(text, line_member(diagnostic), diagnostic.line)
+}
+
+// The member that says how a mended text stands to the refused one, where there is a mended text, up to the number of
+// the line.
+fn line_member(diagnostic: &Diagnostic<'_>) -> &'static str
+    ensures { result.now ≡ line_member diagnostic.now.mended }
 {
     match diagnostic.mended {
-        Some(mended) => text.push_str(kind_text(mended.kind)),
-        None => Ok(()),
+        Some(mended) => kind_text(mended.kind),
+        None => ",\"line\":",
     }
 }
 
-// The member that says how a mended text stands to the refused one.
+// The same where there is one, by its kind.
 fn kind_text(kind: MendKind) -> &'static str
-    ensures { result.now ≡ codes ",\"kind\":" ++ quoted (kind_name kind) }
+    ensures { result.now ≡ (codes ",\"kind\":" ++ quoted (kind_name kind)) ++ codes ",\"line\":" }
 {
     match kind {
-        MendKind::Same => ",\"kind\":\"same\"",
-        MendKind::Escaped => ",\"kind\":\"escaped\"",
-        MendKind::Changed => ",\"kind\":\"changed\"",
+        MendKind::Same => ",\"kind\":\"same\",\"line\":",
+        MendKind::Escaped => ",\"kind\":\"escaped\",\"line\":",
+        MendKind::Changed => ",\"kind\":\"changed\",\"line\":",
     }
 }
 
@@ -173,37 +179,36 @@ pub(crate) fn push_message_member(
     Ok(())
 }
 
-// Pushes the name of a violation.
-fn push_rule(text: &mut String, violation: LineViolation) -> Result<(), AllocError>
-    ensures { OnOk result (string_bytes text.new
-        ≡ string_bytes text.old ++ (codes ",\"rule\":" ++ quoted (violation_name violation))) }
-{
-    push_plain_member(text, ",\"rule\":", violation.name())
-}
-
-/// Pushes the link that a diagnostic is about, as far as it is carried.
+/// Pushes what stands before the link that a diagnostic is about, and the link, as far as it is carried.
 #[tactic(auto, unfolding(crate::specs::Window::carried))]
 pub(crate) fn push_link(
     alloc: Global,
     text: &mut String,
+    before: &str,
     line: &str,
     violation: LineViolation,
 ) -> Result<(), AllocError>
     ensures { OnOk result (string_bytes text.new ≡ string_bytes text.old
-        ++ (codes ",\"text\":" ++ quoted (shown.carried line.now (violation_place violation)))) }
+        ++ (before.now ++ quoted (shown.carried line.now (violation_place violation)))) }
 {
     if is_cut(line) {
-        push_window(alloc, text, line, violation.place())
+        push_window(alloc, text, before, line, violation.place())
     } else {
-        push_text_member(alloc, text, ",\"text\":", line)
+        push_text_member(alloc, text, before, line)
     }
 }
 
-// Pushes what is shown of a link.
-fn push_window(alloc: Global, text: &mut String, line: &str, place: usize) -> Result<(), AllocError>
+// The same of what is shown of a link.
+fn push_window(
+    alloc: Global,
+    text: &mut String,
+    before: &str,
+    line: &str,
+    place: usize,
+) -> Result<(), AllocError>
     ensures { OnOk result (string_bytes text.new
-        ≡ string_bytes text.old ++ (codes ",\"text\":" ++ quoted (shown.window line.now place))) }
+        ≡ string_bytes text.old ++ (before.now ++ quoted (shown.window line.now place))) }
 {
     let link = window(alloc, line, place)?;
-    push_text_member(alloc, text, ",\"text\":", link.as_str())
+    push_text_member(alloc, text, before, link.as_str())
 }

@@ -1,11 +1,12 @@
 //! Texts as strings of JSON.
-ghost use Rattle.std.specs.Prelude.{◌≡◌, ◌++◌, ◌&&◌, ◌==◌, ◌∷◌, IfOk, OnOk, string_bytes, true};
+ghost use Rattle.std.specs.Prelude.{◌≡◌, ◌++◌, ◌∷◌, IfOk, OnOk, string_bytes, true};
 ghost use Rattle.std.specs.List.{list_all};
 ghost use Rattle.uv_report.specs.Message as reported;
 ghost use Rattle.uv_report.specs.Quoted.{is_plain, quoted};
 
 use crate::line_violation::LineViolation;
 use crate::message::{message, push_message};
+use crate::plain::is_plain_text;
 use serde_json::Value;
 use std::alloc::{AllocError, Global};
 use uv_model::Profile;
@@ -93,37 +94,4 @@ fn push_value(alloc: Global, text: &mut String, value: &str) -> Result<(), Alloc
 {
     let written = Value::try_from_str(alloc, value)?.to_string(alloc)?;
     text.push_str(written.as_str())
-}
-
-// Whether each byte of a text stands in a string of JSON as it is.
-fn is_plain_text(bytes: &[u8]) -> bool
-    ensures { result ≡ list_all is_plain bytes.now }
-{
-    // Each byte is looked at, also behind one that doesn't: so many are looked at at once.
-    let mut seen = 0;
-    for &byte in bytes {
-        seen = behind_byte(seen, byte);
-    }
-    seen == 0
-}
-
-// What was seen up to a byte and with it: 0 where each stands as it is.
-fn behind_byte(seen: u8, byte: u8) -> u8
-    ensures { (result == 0) ≡ ((seen == 0) && is_plain byte) }
-{
-    seen | unplain_bit(byte)
-}
-
-// 0 for a byte that stands as it is.
-fn unplain_bit(byte: u8) -> u8
-    ensures { (result == 0) ≡ is_plain byte }
-{
-    if is_plain_byte(byte) { 0 } else { 1 }
-}
-
-#[tactic(auto, using(std::proofs::lemmas::Bool::Decides::nat_tests))]
-fn is_plain_byte(byte: u8) -> bool
-    ensures { result ≡ is_plain byte }
-{
-    byte >= b' ' && byte != b'"' && byte != b'\\'
 }

@@ -1,23 +1,20 @@
 //! Diagnostics as a document of SARIF 2.1.0, which is written result by result.
-ghost use Rattle.std.specs.Prelude.{◌≡◌, ◌++◌, IfOk, OnOk, Some, codes, decimal, flat_map, string_bytes};
+ghost use Rattle.std.specs.Prelude.{◌≡◌, ◌++◌, IfOk, OnOk, Some, codes, flat_map, string_bytes};
 ghost use Rattle.serde_json.specs.Data.{boolean};
 ghost use Rattle.serde_json.specs.View.{view};
 ghost use Rattle.serde_json.specs.Written.{compact_text};
-ghost use Rattle.uv_report.specs.LineViolation.{violation_index, violation_name, violation_place};
 ghost use Rattle.uv_report.specs.Quoted.{quoted};
 ghost use Rattle.uv_report.specs.Uri.{uri_path};
 ghost use Rattle.uv_report.specs.Sarif as spec;
-ghost use Rattle.uv_report.specs.Window as shown;
 
 use crate::column::Columns;
 use crate::completion::Completion;
 use crate::diagnostic::Diagnostic;
-use crate::json::{
-    push_link, push_message_member, push_number_member, push_plain_member, push_text_member,
-};
+use crate::json::{push_link, push_message_member, push_number_member, push_text_member};
 use crate::line_violation::LineViolation;
 use crate::located_fault::LocatedFault;
 use crate::mended::Mended;
+use crate::rule_texts::result_end;
 use crate::uri::push_uri_path;
 use crate::window::is_cut;
 use serde_json::{Value, json};
@@ -163,9 +160,6 @@ fn push_result(
         ≡ string_bytes text.old ++ compact_text (spec.result_value diagnostic.now)) }
 {
     push_result_begin(alloc, text, diagnostic)?;
-    text.push_str(
-        "\"level\":\"error\",\"locations\":[{\"physicalLocation\":{\"artifactLocation\":{\"uri\":",
-    )?;
     push_uri(text, diagnostic.file)?;
     push_number_member(text, "},\"region\":{\"startColumn\":", diagnostic.column)?;
     push_number_member(text, ",\"startLine\":", diagnostic.line)?;
@@ -177,29 +171,35 @@ fn push_result(
         diagnostic.text,
         diagnostic.violation,
     )?;
-    push_link_begin(alloc, text, diagnostic.text, diagnostic.violation)?;
-    push_rule_id(text, diagnostic.violation)?;
-    push_rule_index(text, diagnostic.violation)?;
-    text.push('}')?;
+    push_link(
+        alloc,
+        text,
+        cut_begin(is_cut(diagnostic.text)),
+        diagnostic.text,
+        diagnostic.violation,
+    )?;
+    text.push_str(result_end(diagnostic.violation))?;
     Ok(())
 }
 
-// Pushes what a result begins with: its fix, where there is a mended text.
+// Pushes what a result begins with up to the name of the file: its fix, where there is a mended text.
 fn push_result_begin(
     alloc: Global,
     text: &mut String,
     diagnostic: &Diagnostic<'_>,
 ) -> Result<(), AllocError>
     ensures { OnOk result (string_bytes text.new
-        ≡ string_bytes text.old ++ spec.result_begin diagnostic.now diagnostic.now.mended) }
+        ≡ string_bytes text.old ++ (spec.result_begin diagnostic.now diagnostic.now.mended ++ spec.location_begin)) }
 {
     match diagnostic.mended {
         Some(mended) => push_fix(alloc, text, diagnostic, mended),
-        None => text.push_str("{"),
+        None => text.push_str(
+            "{\"level\":\"error\",\"locations\":[{\"physicalLocation\":{\"artifactLocation\":{\"uri\":",
+        ),
     }
 }
 
-// Pushes the fix that writes a mended text, alone in an array, before further members.
+// Pushes the fix that writes a mended text, alone in an array, and further members up to the name of the file.
 fn push_fix(
     alloc: Global,
     text: &mut String,
@@ -207,7 +207,7 @@ fn push_fix(
     mended: Mended<'_>,
 ) -> Result<(), AllocError>
     ensures { OnOk result (string_bytes text.new
-        ≡ string_bytes text.old ++ spec.result_begin diagnostic.now (Some mended.entry)) }
+        ≡ string_bytes text.old ++ (spec.result_begin diagnostic.now (Some mended.entry) ++ spec.location_begin)) }
 {
     text.push_str("{\"fixes\":[{\"artifactChanges\":[{\"artifactLocation\":{\"uri\":")?;
     push_uri(text, diagnostic.file)?;
@@ -223,20 +223,23 @@ fn push_fix(
     Ok(())
 }
 
-// What follows the mended text in a fix, up to further members: what it does.
+// What follows the mended text in a fix: what it does, and further members up to the name of the file.
 fn fix_end(kind: MendKind) -> &'static str
-    ensures { result.now ≡ codes "}}]}],\"description\":"
-        ++ (compact_text (spec.message (spec.fix_sentence kind)) ++ codes "}],") }
+    ensures { result.now ≡ (codes "}}]}],\"description\":"
+        ++ (compact_text (spec.message (spec.fix_sentence kind)) ++ codes "}],")) ++ spec.location_begin }
 {
     match kind {
         MendKind::Same => {
-            "}}]}],\"description\":{\"text\":\"write the same URL as a valid URL string\"}}],"
+            "}}]}],\"description\":{\"text\":\"write the same URL as a valid URL string\"}}],\
+            \"level\":\"error\",\"locations\":[{\"physicalLocation\":{\"artifactLocation\":{\"uri\":"
         }
         MendKind::Escaped => {
-            "}}]}],\"description\":{\"text\":\"percent-encode what may not stand in a URL string\"}}],"
+            "}}]}],\"description\":{\"text\":\"percent-encode what may not stand in a URL string\"}}],\
+            \"level\":\"error\",\"locations\":[{\"physicalLocation\":{\"artifactLocation\":{\"uri\":"
         }
         MendKind::Changed => {
-            "}}]}],\"description\":{\"text\":\"write a valid URL string, which may be another URL\"}}],"
+            "}}]}],\"description\":{\"text\":\"write a valid URL string, which may be another URL\"}}],\
+            \"level\":\"error\",\"locations\":[{\"physicalLocation\":{\"artifactLocation\":{\"uri\":"
         }
     }
 }
@@ -251,45 +254,13 @@ fn push_uri(text: &mut String, file: &str) -> Result<(), AllocError>
     Ok(())
 }
 
-// Pushes the link that a diagnostic is about, and whether it is cut, behind the end of what is reported.
-fn push_link_begin(
-    alloc: Global,
-    text: &mut String,
-    line: &str,
-    violation: LineViolation,
-) -> Result<(), AllocError>
-    ensures { OnOk result (string_bytes text.new ≡ string_bytes text.old
-        ++ (codes "},\"properties\":{\"cut\":" ++ (compact_text (boolean (shown.is_cut line.now))
-        ++ (codes ",\"text\":" ++ quoted (shown.carried line.now (violation_place violation)))))) }
-{
-    text.push_str(cut_begin(is_cut(line)))?;
-    push_link(alloc, text, line, violation)?;
-    Ok(())
-}
-
-// The end of what is reported, and whether the link is cut.
+// The end of what is reported, and whether the link is cut, up to the text of the link.
 fn cut_begin(cut: bool) -> &'static str
-    ensures { result.now ≡ codes "},\"properties\":{\"cut\":" ++ compact_text (boolean cut) }
+    ensures { result.now ≡ (codes "},\"properties\":{\"cut\":" ++ compact_text (boolean cut)) ++ codes ",\"text\":" }
 {
     if cut {
-        "},\"properties\":{\"cut\":true"
+        "},\"properties\":{\"cut\":true,\"text\":"
     } else {
-        "},\"properties\":{\"cut\":false"
+        "},\"properties\":{\"cut\":false,\"text\":"
     }
-}
-
-// Pushes the name of a violation as the one of its rule, behind the end of the link.
-fn push_rule_id(text: &mut String, violation: LineViolation) -> Result<(), AllocError>
-    ensures { OnOk result (string_bytes text.new
-        ≡ string_bytes text.old ++ (codes "},\"ruleId\":" ++ quoted (violation_name violation))) }
-{
-    push_plain_member(text, "},\"ruleId\":", violation.name())
-}
-
-// Pushes where the rule of a violation stands among all.
-fn push_rule_index(text: &mut String, violation: LineViolation) -> Result<(), AllocError>
-    ensures { OnOk result (string_bytes text.new
-        ≡ string_bytes text.old ++ (codes ",\"ruleIndex\":" ++ decimal (violation_index violation))) }
-{
-    push_number_member(text, ",\"ruleIndex\":", violation.index())
 }

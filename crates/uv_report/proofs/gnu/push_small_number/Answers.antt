@@ -1,5 +1,5 @@
 -- One digit, or two.
-use Rattle.std.proofs.Common.{◌≡◌, ◌∙◌, ℕ, ◌+◌, ◌/◌, ◌%◌, List, ◌∷◌, ◌++◌, [], ap, append_assoc, arith, string_bytes}
+use Rattle.std.proofs.Common.{◌≡◌, ◌∙◌, ◌+◌, ◌/◌, ◌%◌, ◌∷◌, ◌++◌, [], ap, append_assoc, arith, string_bytes}
 use Rattle.std.proofs.Common.{sym}
 use Rattle.std.specs.Prelude.{encode_utf8}
 use Rattle.uv_report.proofs.NumberLemmas.{one_digit_is, two_digits_are}

@@ -1,16 +1,25 @@
 -- The pieces of the result.
-use Rattle.std.proofs.Common.{◌∙◌, ◌++◌, ap, string_bytes}
+use Rattle.std.proofs.Common.{List, ℕ, ◌∙◌, ◌++◌, ap, codes, string_bytes}
+use Rattle.serde_json.specs.Data.{boolean}
+use Rattle.serde_json.specs.Written.{compact_text}
+use Rattle.uv_report.specs.LineViolation.{violation_place}
+use Rattle.uv_report.specs.Quoted.{quoted}
+use Rattle.uv_report.specs.Window.{carried}
 use Rattle.uv_report.proofs.SarifLemmas.{result_pieces}
-use Rattle.uv_report.proofs.PieceLemmas.{ten_pieces}
+use Rattle.uv_report.proofs.PieceLemmas.{seven_pieces}
 use Rattle.uv_report.proofs.sarif.push_result.Goals as goal
 
 pub returns : goal.returns
-unfolding lib.Utf8.encode
 returns c =
     let start = string_bytes c.args.text.now in
     let diagnostic = c.args.diagnostic.now in
-    ten_pieces start _ _ _ _ _ _ _ _ _ _ c.in_ok-push_result_begin.ensures c.in_ok-push_str.ensures.bytes
-    c.in_ok-push_uri.ensures c.in_ok-push_number_member.ensures c.in_ok-push_number_member-2.ensures
-    c.in_ok-push_message_member.ensures c.in_ok-push_link_begin.ensures c.in_ok-push_rule_id.ensures
-    c.in_ok-push_rule_index.ensures c.in_ok-push.ensures.bytes
+    let link = quoted (carried diagnostic.text.now (violation_place diagnostic.violation)) in
+    let begin : List ℕ = codes "},\"properties\":{\"cut\":" in
+    let cut = c.cut_begin.ensures
+    ∙ ap (λ b. (begin ++ compact_text (boolean b)) ++ codes ",\"text\":") c.is_cut.ensures in
+    let linked = c.in_ok-push_link.ensures ∙ ap (λ before. string_bytes c.push_message_member.new.text ++ (before ++ link)) cut in
+    let ended = c.in_ok-push_str.ensures.bytes ∙ ap (λ t. string_bytes c.push_link.new.text ++ t) c.result_end.ensures in
+    seven_pieces start _ _ _ _ _ _ _ c.in_ok-push_result_begin.ensures c.in_ok-push_uri.ensures
+    c.in_ok-push_number_member.ensures c.in_ok-push_number_member-2.ensures c.in_ok-push_message_member.ensures linked
+    ended
     ∙ ap (λ pieces. start ++ pieces) (result_pieces diagnostic diagnostic.mended)

@@ -1,7 +1,7 @@
 -- Neither what was seen nor the byte has a bit.
 use Rattle.std.proofs.Common.{◌==◌, ◌&&◌, ap, ◌∙◌}
 use Rattle.uv_model.proofs.Texts.BitLemmas.{none_of_both}
-use Rattle.uv_report.proofs.quoted.behind_byte.Goals as goal
+use Rattle.uv_report.proofs.plain.behind_byte.Goals as goal
 
 pub returns : goal.returns
 returns c =
