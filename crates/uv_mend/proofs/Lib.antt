@@ -5,3 +5,4 @@ pub mod RepairLemmas
 mod RunLemmas
 mod SettledLemmas
 mod WebLinkLemmas
+mod StayLemmas

@@ -17,6 +17,7 @@ mod repairs;
 mod second;
 mod settled;
 mod slashes;
+mod staying;
 mod unit_text;
 mod web_links;
 

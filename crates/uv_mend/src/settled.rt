@@ -1,10 +1,11 @@
 //! Texts in which the URL parser passes over nothing, which a look at them finds.
-ghost use Rattle.std.specs.Prelude.{◌≡◌, ◌&&◌, ◌==◌, IfSome, IsTrue, chars, true};
+ghost use Rattle.std.specs.Prelude.{◌≡◌, IfSome, IsTrue, chars, true};
 ghost use Rattle.std.specs.List.{list_all};
 ghost use Rattle.uv_mend.specs.Settled as spec;
 ghost use Rattle.uv_mend.specs.Settled.{EndsShown, IsSettled};
 ghost use Rattle.uv_mend.specs.WebLinks.{IsWebLink};
 
+use crate::staying::all_stay;
 use crate::web_links::{WebLink, web_link};
 
 /// The parts of a text that is seen to be one of which the URL parser takes nothing off and in which it reads each
@@ -36,36 +37,4 @@ fn ends_shown(bytes: &[u8]) -> bool
         Some((last, _)) => *last > b' ',
         None => false,
     }
-}
-
-// Whether each byte is no control and no backslash.
-fn all_stay(bytes: &[u8]) -> bool
-    ensures { result ≡ list_all spec.stays bytes.now }
-{
-    // Each byte is looked at, also behind one that doesn't stay: so many are looked at at once.
-    let mut seen = 0;
-    for &byte in bytes {
-        seen = behind_byte(seen, byte);
-    }
-    seen == 0
-}
-
-// What was seen up to a byte and with it: 0 where each stays.
-fn behind_byte(seen: u8, byte: u8) -> u8
-    ensures { (result == 0) ≡ ((seen == 0) && spec.stays byte) }
-{
-    seen | bit_of(byte)
-}
-
-// 0 for a byte that stays.
-fn bit_of(byte: u8) -> u8
-    ensures { (result == 0) ≡ spec.stays byte }
-{
-    if stays(byte) { 0 } else { 1 }
-}
-
-fn stays(byte: u8) -> bool
-    ensures { result ≡ spec.stays byte }
-{
-    byte >= b' ' && byte != b'\\'
 }
