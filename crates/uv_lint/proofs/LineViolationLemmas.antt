@@ -1,5 +1,7 @@
 -- What is found with a text, by the verdict on it.
-use Rattle.std.proofs.Common.{◌≡◌, ℕ, List, [], ◌∷◌, Option, Some, None, chars, inl, inr, map, refl}
+use Rattle.std.proofs.Common.{◌≡◌, ◌∙◌, ℕ, List, [], ◌∷◌, Option, Some, None, ap, chars, inl, inr, map, refl, sym, true}
+use Rattle.std.specs.Str.{IsUtf8}
+use Rattle.std.proofs.lemmas.Bool.{false≢true}
 use Rattle.std.specs.Str.Lossy.{utf8_lossy}
 use Rattle.std.proofs.lemmas.Str.{utf8_lossy-IsUtf8}
 use Rattle.uv_model.specs.declared.profile.Profile.{Profile}
@@ -15,7 +17,7 @@ use Rattle.uv_model.specs.declared.extent.Extent.{Extent}
 use Rattle.uv_model.specs.declared.extent.Extent.TheVariants.{First, All}
 use Rattle.uv_lint.specs.declared.setting.LineForm.{LineForm}
 use Rattle.uv_lint.specs.declared.setting.LineForm.TheVariants.{Plain, Located}
-use Rattle.uv_lint.specs.Findings.{IsRefusedFirst, text_by}
+use Rattle.uv_lint.specs.Findings.{IsRefusedFirst, IsUtf8WhereRefused, bytes_by, is_refused, text_by}
 use Rattle.uv_lint.specs.LineViolations.{AreBytesViolations, AreReported, AreTextViolations, AreViolationsBy}
 use Rattle.uv_lint.specs.LineViolations.{AreWholeViolations, FileSetting, Judges}
 use Rattle.uv_lint.specs.Located.{LocatedLink}
@@ -88,3 +90,30 @@ refused_line setting (Some link) line violations are = refused_bytes setting lin
 refused_line setting None None violations are = rw are (tt {0})
 refused_line setting None (Some []) violations are = rw are (tt {0})
 refused_line setting None (Some (x ∷ xs)) violations are = refused_whole setting.form setting (x ∷ xs) violations are
+
+-- ---- bytes of which a rule is violated are UTF-8
+
+-- bytes
+read_bytes : (setting : FileSetting) (bytes : List ℕ) (violations : List LineViolation)
+    → AreBytesViolations setting bytes violations → is_refused violations ≡ true → IsUtf8 bytes
+read_bytes setting bytes violations (inl are) refused = are.0
+read_bytes setting bytes violations (inr are) refused =
+    absurd (false≢true (sym (ap is_refused are.1) ∙ refused))
+
+-- a line that isn't empty
+read_whole : (form : LineForm) (setting : FileSetting) (line : List ℕ) (violations : List LineViolation)
+    → AreWholeViolations form setting line violations → is_refused violations ≡ true → IsUtf8 line
+read_whole Plain setting line violations are refused = read_bytes setting line violations are refused
+read_whole Located setting line violations (inl are) refused = are.0
+read_whole Located setting line violations (inr are) refused =
+    absurd (false≢true (sym (ap is_refused are.1) ∙ refused))
+
+-- a line, by its link where it has one
+pub read_line : (setting : FileSetting) (link : Option LocatedLink) (line : Option (List ℕ))
+    (violations : List LineViolation) → AreViolationsBy setting link line violations
+    → IsUtf8WhereRefused violations (bytes_by link line)
+read_line setting (Some link) line violations are = read_bytes setting link.link violations are
+read_line setting None None violations are = tt {0}
+read_line setting None (Some []) violations are =
+    λ refused. absurd (false≢true (sym (ap is_refused are) ∙ refused))
+read_line setting None (Some (x ∷ xs)) violations are = read_whole setting.form setting (x ∷ xs) violations are

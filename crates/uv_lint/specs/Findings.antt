@@ -1,6 +1,7 @@
 -- What is found with a line: what is wrong with it, and what to write in place of its text.
 use Rattle.std.specs.Prelude.{◌≡◌, ℕ, Bool, true, false, ◌&&◌, List, [], ◌∷◌, Option, Some, None, chars, IfSome}
 use Rattle.std.specs.Prelude.{is_some, string_bytes}
+use Rattle.std.specs.Str.{IsUtf8}
 use Rattle.std.specs.Str.Lossy.{utf8_lossy}
 use Rattle.uv_model.specs.declared.profile.Profile.{Profile}
 use Rattle.uv_model.specs.declared.rule.Refusal.{Refusal}
@@ -39,6 +40,11 @@ abbrev pub shown : Option (List ℕ) → List ℕ
 shown None = []
 shown (Some line) = utf8_lossy line
 
+-- the bytes that a line is judged by: its link's, where the line says where that stands
+abbrev pub bytes_by : Option LocatedLink → Option (List ℕ) → Option (List ℕ)
+bytes_by (Some link) line = Some link.link
+bytes_by None line = line
+
 -- the text that a line is judged by: its link's, where the line says where that stands
 abbrev pub text_by : Option LocatedLink → Option (List ℕ) → List ℕ
 text_by (Some link) line = shown (Some link.link)
@@ -69,6 +75,11 @@ first_refusal _ = None
 -- a rule of valid URL strings is violated
 abbrev pub is_refused : List LineViolation → Bool
 is_refused violations = is_some (first_refusal violations)
+
+-- where a rule is violated, the bytes are UTF-8
+abbrev pub IsUtf8WhereRefused : List LineViolation → Option (List ℕ) → Type 0
+IsUtf8WhereRefused violations (Some bytes) = is_refused violations ≡ true → IsUtf8 bytes
+IsUtf8WhereRefused violations None = Unit {0}
 
 -- where a rule is violated, the text, by its bytes, is refused so
 abbrev pub IsRefusedFirst : Profile → Option Url → List LineViolation → List ℕ → Type 0

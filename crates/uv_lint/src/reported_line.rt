@@ -6,7 +6,7 @@ ghost use Rattle.uv_lines.specs.Fault.{failed_within};
 ghost use Rattle.uv_lines.specs.Waiting.{LeavesParts, Passes};
 ghost use Rattle.uv_report.specs.Report.{diagnostic_text};
 ghost use Rattle.uv_lint.specs.LocatedViews.{link_view};
-ghost use Rattle.uv_lint.specs.Findings.{shown};
+ghost use Rattle.uv_lint.specs.Findings.{IsUtf8WhereRefused, bytes_by, is_refused, shown};
 ghost use Rattle.uv_lint.specs.Report.{AreFirstDiagnostics, diagnostics_text, framed_text, mended_on, reported_by};
 ghost use Rattle.uv_lint.specs.Reporting.{IsNoneOr};
 ghost use Rattle.uv_lint.specs.ReportedView.{mended_line_view, place_view, reported_view};
@@ -16,7 +16,7 @@ use crate::mended_line::{MendedLine, mended_in_place};
 use crate::setting::{LineForm, LintSetting};
 use std::alloc::{AllocError, Global};
 use std::borrow::CowStr;
-use std::str::from_utf8;
+use std::str::{from_utf8, from_utf8_unchecked};
 use uv_lines::{ReportFault, end_part};
 use uv_model::{DeviceFault, Profile, Sink};
 use uv_report::{
@@ -45,8 +45,10 @@ impl<'l> Place<'l> {
         line: Option<&'l [u8]>,
         link: Option<LocatedLink<'l>>,
     ) -> Place<'l>
-        ensures { place_view result
+        ensures place { place_view result
             ≡ reported_by file.entry.now number (option_copied line.entry) (option_map link_view link.entry) }
+        ensures bytes { option_copied result.bytes
+            ≡ bytes_by (option_map link_view link.entry) (option_copied line.entry) }
     {
         match link {
             Some(link) => Place {
@@ -221,19 +223,32 @@ fn put_framed(
     }
 }
 
-/// The text of a line that is shown, as a slice of the line where that is UTF-8: U+FFFD stands for what isn't, and of a
-/// line that is too long nothing is shown.
+/// The text of a line of which this was found that is shown, as a slice of the line where that is UTF-8: U+FFFD stands
+/// for what isn't, and of a line that is too long nothing is shown. A line of which a rule is violated was seen to be
+/// UTF-8, and isn't looked at again.
 pub(crate) fn shown_text<'l>(
     alloc: Global,
+    violations: &[LineViolation],
     line: Option<&'l [u8]>,
 ) -> Result<CowStr<'l>, AllocError>
+    requires { IsUtf8WhereRefused violations.now (option_copied line) }
     ensures { IfOk result (λ text. cow_str_bytes text ≡ shown (option_copied line.entry)) }
 {
     let Some(line) = line else {
         return Ok(CowStr::Borrowed(""));
     };
+    if is_refused(violations) {
+        return Ok(CowStr::Borrowed(unsafe { from_utf8_unchecked(line) }));
+    }
     match from_utf8(line) {
         Ok(text) => Ok(CowStr::Borrowed(text)),
         Err(_) => Ok(CowStr::Owned(String::from_utf8_lossy(alloc, line)?)),
     }
+}
+
+// Whether a rule of valid URL strings is violated.
+fn is_refused(violations: &[LineViolation]) -> bool
+    ensures { result ≡ is_refused violations.now }
+{
+    matches!(violations, [LineViolation::Refused(_), ..])
 }

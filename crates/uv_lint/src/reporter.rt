@@ -140,7 +140,7 @@ impl<'a> LintReporter<'a> {
         }
         let link = link_of(self.setting.form, line);
         let place = Place::of(self.file, self.lines + 1, line, link);
-        let Ok(shown) = shown_text(alloc, place.bytes) else {
+        let Ok(shown) = shown_text(alloc, violations, place.bytes) else {
             return Err(ReportFault::Reporter(AllocError));
         };
         self.report_text(alloc, place, shown.as_str(), violations, text, writer)
