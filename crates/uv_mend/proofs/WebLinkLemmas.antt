@@ -1,14 +1,19 @@
 -- The parts of a text that begins with `https://` or `http://`, and its escapes.
-use Rattle.std.proofs.Common.{◌≡◌, ◌∙◌, ℕ, List, ◌++◌, refl, sym, ap, inl, inr, subst, chars}
+use Rattle.std.proofs.Common.{◌≡◌, ◌∙◌, ℕ, suc, Bool, true, List, [], ◌∷◌, ◌++◌, refl, sym, ap, inl, inr, subst, chars}
 use Rattle.std.proofs.Common.{encode_utf8_all}
 use Rattle.std.proofs.Common.{◌+◌, ◌-◌, append_assoc, arith, false, drop, drop_at, length, take, take_at}
 use Rattle.std.proofs.lemmas.List.{length-append}
+use Rattle.std.specs.List.{prefix_len}
 use Rattle.std.specs.Str.{IsAscii}
+use Rattle.std.proofs.lemmas.Bool.{cases_Bool}
+use Rattle.std.proofs.lemmas.Bool.Decides.{nat_tests}
 use Rattle.std.proofs.lemmas.Str.{IsAscii-drop, IsAscii-take, chars-IsAscii, encodes-IsAscii, encodes-append}
 use Rattle.uv_mend.specs.declared.prefixes.Stop.TheVariants.{Authority}
 use Rattle.uv_mend.specs.declared.web_links.WebLink.{WebLink}
 use Rattle.uv_mend.specs.Escapes.{as_units, escaped}
+use Rattle.uv_text.specs.Class.{in_class}
 use Rattle.uv_mend.specs.Prefixes.{authority_prefix, before, behind_authority, behind_scheme, onward, scheme_prefix}
+use Rattle.uv_mend.specs.Prefixes.{stops}
 use Rattle.uv_mend.specs.WebLinks.{IsWebLink, IsWebStart}
 use Rattle.uv_mend.proofs.EscapeLemmas.{prefix_parts}
 
@@ -84,3 +89,29 @@ web_escapes text link web =
     ap (λ t. (start ++ link.authority.now) ++ encode_utf8_all (as_units false t)) plain
     ∙ ap (λ t. (start ++ t) ++ encode_utf8_all units) web.authority
     ∙ append_assoc start front (encode_utf8_all units) ∙ sym written
+
+-- ---- the authority by lanes
+
+-- what goes on behind bytes that don't end it
+onward_behind : (p : ℕ → Bool) → ((b : ℕ) → p b ≡ true → stops Authority b ≡ false) → (xs : List ℕ)
+    → onward Authority (drop (prefix_len p xs) xs) ≡ onward Authority xs
+onward_behind p each [] = refl
+onward_behind p each (x ∷ xs) = elim (cases_Bool (p x)) [
+  | inl passes ↦
+      let more : 1 + prefix_len p xs ≡ suc (prefix_len p xs) = omega arith in
+      rw (passes, more, each x passes) (onward_behind p each xs)
+  | inr fails ↦ rw fails refl
+]
+
+-- the ranges of the other ASCII bytes
+abbrev pub other_ranges : List (ℕ × ℕ)
+other_ranges = (0, 34) ∷ (36, 46) ∷ (48, 62) ∷ (64, 127) ∷ []
+
+held_stays : (b : ℕ) → in_class other_ranges b ≡ true → stops Authority b ≡ false
+held_stays b held = grind (arith, nat_tests)
+
+pub onward_run : (class : List (ℕ × ℕ)) (xs : List ℕ) → class ≡ other_ranges
+    → onward Authority (drop (prefix_len (in_class class) xs) xs) ≡ onward Authority xs
+onward_run class xs is =
+    subst (λ c. onward Authority (drop (prefix_len (in_class c) xs) xs) ≡ onward Authority xs) (sym is)
+    (onward_behind (in_class other_ranges) held_stays xs)

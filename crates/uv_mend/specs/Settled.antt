@@ -14,6 +14,10 @@ IsSettled text = (base : Option Url) → slashed base (prepared text) ≡ text
 abbrev pub stays : ℕ → Bool
 stays c = not (nat_lt c 32) && not (c == backslash)
 
+-- the byte is that, and ASCII
+abbrev pub stays_ascii : ℕ → Bool
+stays_ascii b = stays b && nat_lt b 128
+
 -- the last code point is no control and no space
 pub record EndsShown (text : List ℕ) : Type 0 where
   pub front : List ℕ

@@ -1,12 +1,13 @@
 //! Texts in which the URL parser passes over nothing, which a look at them finds.
 ghost use Rattle.std.specs.Prelude.{◌≡◌, IfSome, IsTrue, chars, true};
 ghost use Rattle.std.specs.List.{list_all};
+ghost use Rattle.std.specs.Str.{IsAscii};
 ghost use Rattle.uv_mend.specs.Settled as spec;
 ghost use Rattle.uv_mend.specs.Settled.{EndsShown, IsSettled};
 ghost use Rattle.uv_mend.specs.WebLinks.{IsWebLink};
 
 use crate::staying::all_stay;
-use crate::web_links::{WebLink, web_link};
+use crate::web_links::{WebLink, ascii_link};
 
 /// The parts of a text that is seen to be one of which the URL parser takes nothing off and in which it reads each
 /// slash as it stands; none of another one. Of some such texts that isn't seen.
@@ -14,15 +15,19 @@ pub(crate) fn settled_link(text: &str) -> Option<WebLink<'_>>
     ensures link { IfSome result (IsWebLink text.now) }
     ensures settled { IfSome result (λ link. IsSettled (chars text.now)) }
 {
-    let link = web_link(text)?;
-    if link.authority.is_empty() || !stays_whole(text.as_bytes()) {
+    if !stays_whole(text.as_bytes()) {
+        return None;
+    }
+    let link = ascii_link(text)?;
+    if link.authority.is_empty() {
         return None;
     }
     Some(link)
 }
 
-// Whether each byte is no control and no backslash, and the last one is no space.
+// Whether each byte is ASCII, no control and no backslash, and the last one is no space.
 fn stays_whole(bytes: &[u8]) -> bool
+    ensures ascii { IsTrue result → IsAscii bytes.now }
     ensures all { IsTrue result → list_all spec.stays bytes.now ≡ true }
     ensures end { IsTrue result → EndsShown bytes.now }
 {

@@ -1,13 +1,13 @@
-//! Bytes that are no controls and no backslashes, seen by lanes, 32 bytes a turn.
+//! Bytes of ASCII that are no controls and no backslashes, seen by lanes, 32 bytes a turn.
 ghost use Rattle.std.specs.Prelude.{◌≡◌, ◌&&◌, ◌≤◌, ◌==◌, length};
 ghost use Rattle.std.specs.List.{list_all};
 ghost use Rattle.uv_mend.specs.Settled as spec;
 
 use std::simd::prelude::*;
 
-/// Whether each byte is no control and no backslash.
+/// Whether each byte is ASCII, no control and no backslash.
 pub(crate) fn all_stay(bytes: &[u8]) -> bool
-    ensures { result ≡ list_all spec.stays bytes.now }
+    ensures { result ≡ list_all spec.stays_ascii bytes.now }
 {
     if bytes.len() < 32 {
         bytes.iter().all(|&b| stays(b))
@@ -20,7 +20,7 @@ pub(crate) fn all_stay(bytes: &[u8]) -> bool
 // behind one that doesn't stay, which costs less than a branch for each.
 fn all_loads_stay(bytes: &[u8]) -> bool
     requires { 32 ≤ length bytes.now }
-    ensures { result ≡ list_all spec.stays bytes.now }
+    ensures { result ≡ list_all spec.stays_ascii bytes.now }
 {
     let last = bytes.len() - 32;
     let mut seen = 0;
@@ -43,15 +43,16 @@ fn behind_bits(seen: u64, bits: u64) -> u64
 // A bit for each byte of a load that doesn't stay, in some order.
 #[inline(always)]
 fn going_bits(load: u8x32) -> u64
-    ensures { (result == 0) ≡ list_all spec.stays load }
+    ensures { (result == 0) ≡ list_all spec.stays_ascii load }
 {
     let controls = load.simd_lt(u8x32::splat(32)).to_bitmask();
     let backslashes = load.simd_eq(u8x32::splat(92)).to_bitmask();
-    behind_bits(controls, backslashes)
+    let beyond = u8x32::splat(127).simd_lt(load).to_bitmask();
+    behind_bits(behind_bits(controls, backslashes), beyond)
 }
 
 fn stays(byte: u8) -> bool
-    ensures { result ≡ spec.stays byte }
+    ensures { result ≡ spec.stays_ascii byte }
 {
-    byte >= b' ' && byte != b'\\'
+    byte >= b' ' && byte != b'\\' && byte < 128
 }

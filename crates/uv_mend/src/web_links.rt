@@ -1,8 +1,11 @@
 //! Texts of ASCII that begin with `https://` or `http://`, as most links do.
-ghost use Rattle.std.specs.Prelude.{◌≡◌, ◌++◌, ◌↔◌, IfSome, IsTrue};
+ghost use Rattle.std.specs.Prelude.{◌≡◌, ◌++◌, ◌≤◌, IfSome, drop, length};
+ghost use Rattle.std.specs.Str.{IsAscii};
 ghost use Rattle.uv_mend.specs.Prefixes.{before, onward, stops};
 ghost use Rattle.uv_mend.specs.WebLinks.{IsWebLink, IsWebStart};
 ghost use Rattle.uv_mend.specs.declared.prefixes.Stop.TheVariants.{Authority};
+
+use uv_text::{ByteClass, unit_run};
 
 /// Such a text, cut behind these and behind its authority.
 #[derive(Clone, Copy)]
@@ -19,9 +22,18 @@ pub(crate) struct WebLink<'t> {
 pub(crate) fn web_link(text: &str) -> Option<WebLink<'_>>
     ensures { IfSome result (IsWebLink text.now) }
 {
-    if !text.is_ascii() {
-        return None;
+    if text.is_ascii() {
+        ascii_link(text)
+    } else {
+        None
     }
+}
+
+/// The same of a text that is known to be ASCII.
+pub(crate) fn ascii_link(text: &str) -> Option<WebLink<'_>>
+    requires { IsAscii text.now }
+    ensures { IfSome result (IsWebLink text.now) }
+{
     let (start, rest) = cut_start(text)?;
     let (authority, behind) = cut_authority(rest)?;
     Some(WebLink {
@@ -63,7 +75,7 @@ fn cut_authority(text: &str) -> Option<(&str, &str)>
 fn behind_authority(bytes: &[u8]) -> &[u8]
     ensures { result.now ≡ onward Authority bytes.now }
 {
-    let mut rest = bytes;
+    let (_, mut rest) = bytes.split_at(length_by_lanes(bytes));
     while let [first, behind @ ..] = rest {
         if ends_authority(*first) {
             return rest;
@@ -71,6 +83,17 @@ fn behind_authority(bytes: &[u8]) -> &[u8]
         rest = behind;
     }
     rest
+}
+
+// How many bytes of the authority lanes find: all of one that is ASCII.
+fn length_by_lanes(bytes: &[u8]) -> usize
+    ensures within { result ≤ length bytes.now }
+    ensures onward { onward Authority (drop result bytes.now) ≡ onward Authority bytes.now }
+{
+    match ByteClass::of(&[(0, b'"'), (b'$', b'.'), (b'0', b'>'), (b'@', 127)]) {
+        Some(class) => unit_run(bytes, &class),
+        None => 0,
+    }
 }
 
 fn ends_authority(byte: u8) -> bool

@@ -1,11 +1,11 @@
 -- A plain name is a domain, which the second parser writes as it stands.
-use Rattle.std.proofs.Common.{◌≡◌, ◌∙◌, ℕ, ◌<◌, Bool, true, false, not, ◌&&◌, ◌||◌, ◌==◌, List, [], ◌∷◌, length}
-use Rattle.std.proofs.Common.{get_or, Option, Some, None, All, ap, arith, refl, sym}
+use Rattle.std.proofs.Common.{◌≡◌, ◌∙◌, ℕ, suc, ◌+◌, ◌<◌, Bool, true, false, not, ◌&&◌, ◌||◌, ◌==◌, List, [], ◌∷◌, length}
+use Rattle.std.proofs.Common.{get_or, Option, Some, None, All, ap, arith, inl, inr, refl, subst, sym, take}
 use Rattle.std.specs.Char.{is_ascii_digit, is_digit, is_ascii_lowercase, to_ascii_lowercase}
-use Rattle.std.specs.List.{list_all}
-use Rattle.std.proofs.lemmas.Bool.{true≢false}
+use Rattle.std.specs.List.{list_all, prefix_len}
+use Rattle.std.proofs.lemmas.Bool.{cases_Bool, true≢false}
 use Rattle.std.proofs.lemmas.Bool.Decides.{nat_tests}
-use Rattle.std.proofs.lemmas.List.Elements.{All-weaker}
+use Rattle.std.proofs.lemmas.List.Elements.{All-cons, All-nil, All-weaker}
 use Rattle.percent_encoding.specs.Percent.{IsKept}
 use Rattle.url.specs.declared.sets.TheConstants.{FORBIDDEN_DOMAIN}
 use Rattle.url.specs.Ascii.{digit_zero, dot}
@@ -13,6 +13,7 @@ use Rattle.url.specs.Input.{is_empty, rsplit_once}
 use Rattle.url.specs.Ipv4.{ends_in_a_number, is_number, last_label_of, parse_number}
 use Rattle.url.proofs.InputLemmas.{Passes, is_empty_nonempty, lowercase_other, map_fixed}
 use Rattle.url.proofs.SetLemmas.{kept_from_passes}
+use Rattle.uv_text.specs.Class.{in_class}
 use Rattle.uv_second.specs.Links.{IsName, is_name_byte}
 
 -- the last label is not an empty one before a last dot
@@ -70,3 +71,29 @@ is_name name each letter = (
   },
   nonempty name letter,
 )
+
+-- ---- the bytes of a name, by lanes
+
+-- the first bytes that pass a test pass another one that each of them passes
+prefix_all : (p q : ℕ → Bool) → ((b : ℕ) → p b ≡ true → q b ≡ true) → (xs : List ℕ)
+    → All (Passes q) (take (prefix_len p xs) xs)
+prefix_all p q each [] = All-nil (Passes q)
+prefix_all p q each (x ∷ xs) = elim (cases_Bool (p x)) [
+  | inl passes ↦
+      let more : 1 + prefix_len p xs ≡ suc (prefix_len p xs) = omega arith in
+      rw (passes, more) (All-cons (Passes q) x _ (each x passes) (prefix_all p q each xs))
+  | inr fails ↦ rw fails (All-nil (Passes q))
+]
+
+-- the ranges of these bytes
+abbrev pub name_ranges : List (ℕ × ℕ)
+name_ranges = (45, 46) ∷ (48, 57) ∷ (95, 95) ∷ (97, 122) ∷ []
+
+held_named : (b : ℕ) → in_class name_ranges b ≡ true → is_name_byte b ≡ true
+held_named b held = grind (arith, nat_tests)
+
+pub run_named : (class : List (ℕ × ℕ)) (xs : List ℕ) → class ≡ name_ranges
+    → All (Passes is_name_byte) (take (prefix_len (in_class class) xs) xs)
+run_named class xs is =
+    subst (λ c. All (Passes is_name_byte) (take (prefix_len (in_class c) xs) xs)) (sym is)
+    (prefix_all (in_class name_ranges) is_name_byte held_named xs)

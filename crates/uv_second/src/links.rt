@@ -1,10 +1,13 @@
-//! Texts that begin with `https://` or `http://`, a plain name and `/`.
-ghost use Rattle.std.specs.Prelude.{◌≡◌, ◌++◌, IfSome, IsTrue, slice_index};
+//! Texts that begin with `https://` or `http://` and a plain name.
+ghost use Rattle.std.specs.Prelude.{◌≡◌, ◌++◌, ◌≤◌, IfSome, IsTrue, length, slice_index, take, true};
 ghost use Rattle.std.specs.Char as char_spec;
+ghost use Rattle.std.specs.List.{All};
 ghost use Rattle.url.specs.Ascii.{dot};
 ghost use Rattle.url.specs.Input as input;
 ghost use Rattle.uv_second.specs.Links as spec;
-ghost use Rattle.uv_second.specs.Links.{IsBehindStart, IsLink, IsName, IsNameCut};
+ghost use Rattle.uv_second.specs.Links.{IsBehindStart, IsLink, IsNameCut};
+
+use uv_text::{ByteClass, unit_run};
 
 /// Such a text, cut behind the name.
 #[derive(Clone, Copy)]
@@ -48,34 +51,25 @@ pub(crate) fn behind<'t>(text: &'t [u8], front: &[u8]) -> Option<&'t [u8]>
     }
 }
 
-// The plain name before the first `/`, and what follows from there on.
+// The plain name at the start, as long as it can be, and what follows it. Its last label begins with a letter.
 fn cut_name(bytes: &[u8]) -> Option<(&[u8], &[u8])>
     ensures { IfSome result (λ cut. IsNameCut bytes.now cut.0.now cut.1.now) }
 {
-    let place = bytes.iter().position(|&b| b == b'/')?;
-    let (name, behind) = bytes.split_at(place);
-    if is_name(name) {
+    let (name, behind) = bytes.split_at(name_length(bytes)?);
+    if begins_with_letter(last_label(name)) {
         Some((name, behind))
     } else {
         None
     }
 }
 
-// Whether bytes are a plain name: small letters, digits, `-`, `.` and `_`, and the last label begins with a letter.
-fn is_name(name: &[u8]) -> bool
-    ensures { IsTrue result → IsName name.now }
+// How many bytes at the start are of a plain name: small letters, digits, `-`, `.` and `_`. They are found by lanes.
+fn name_length(bytes: &[u8]) -> Option<usize>
+    ensures within { IfSome result (λ count. count ≤ length bytes.now) }
+    ensures named { IfSome result (λ count. All (λ b. spec.is_name_byte b ≡ true) (take count bytes.now)) }
 {
-    name.iter().all(|&b| is_name_byte(b)) && begins_with_letter(last_label(name))
-}
-
-fn is_name_byte(byte: u8) -> bool
-    ensures { result ≡ spec.is_name_byte byte }
-{
-    byte.is_ascii_lowercase()
-        || byte.is_ascii_digit()
-        || byte == b'-'
-        || byte == b'.'
-        || byte == b'_'
+    let class = ByteClass::of(&[(b'-', b'.'), (b'0', b'9'), (b'_', b'_'), (b'a', b'z')])?;
+    Some(unit_run(bytes, &class))
 }
 
 // What stands behind the last dot of a name, or the name where it has none.

@@ -3,7 +3,7 @@ use Rattle.std.proofs.Common.{◌≡◌, ◌∙◌, ◌-◌, ◌&&◌, ap, arith
 use Rattle.std.specs.List.{list_all}
 use Rattle.std.proofs.lemmas.List.{length-drop}
 use Rattle.std.proofs.lemmas.List.Folds.{list_all-append}
-use Rattle.uv_mend.specs.Settled.{stays}
+use Rattle.uv_mend.specs.Settled.{stays_ascii}
 use Rattle.uv_mend.proofs.StayLemmas.{all_joined}
 use Rattle.uv_mend.proofs.staying.all_loads_stay.Goals as goal
 
@@ -14,8 +14,8 @@ loop-at-preserved c =
       omega arith,
       c.behind_bits-seen.ensures
           ∙ (λ i. c.loop-at.invariant.1 i && c.going_bits.ensures i)
-          ∙ sym (list_all-append stays (take at bytes) (take 32 (drop at bytes)))
-          ∙ ap (list_all stays) (sym (take-add at 32 bytes)),
+          ∙ sym (list_all-append stays_ascii (take at bytes) (take 32 (drop at bytes)))
+          ∙ ap (list_all stays_ascii) (sym (take-add at 32 bytes)),
     )
 
 pub returns : goal.returns
@@ -27,5 +27,5 @@ returns c =
     = take_all 32 (drop start bytes) (omega (arith, c.requires)) in
     c.behind_bits.ensures
     ∙ (λ i. c.loop-at.invariant.1 i && c.going_bits-2.ensures i)
-    ∙ ap (λ l. list_all stays (take c.loop-at.at bytes) && list_all stays l) whole
-    ∙ all_joined stays c.loop-at.at start bytes (omega (arith, c.loop-at-test.false))
+    ∙ ap (λ l. list_all stays_ascii (take c.loop-at.at bytes) && list_all stays_ascii l) whole
+    ∙ all_joined stays_ascii c.loop-at.at start bytes (omega (arith, c.loop-at-test.false))
