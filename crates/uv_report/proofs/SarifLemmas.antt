@@ -1,5 +1,5 @@
 -- The result of a diagnostic, piece by piece.
-use Rattle.std.proofs.Common.{◌≡◌, ◌∙◌, ℕ, List, ◌++◌, Option, Some, None, ap, append_assoc, codes, decimal}
+use Rattle.std.proofs.Common.{◌∷◌, [], ◌≡◌, ◌∙◌, ℕ, List, ◌++◌, Option, Some, None, ap, append_assoc, codes, decimal}
 use Rattle.std.proofs.Common.{refl, sym}
 use Rattle.serde_json.proofs.OnLiterals.{serde_json_on_literals}
 use Rattle.serde_json.specs.Data.{Data, boolean}
@@ -12,9 +12,11 @@ use Rattle.uv_report.specs.Quoted.{quoted}
 use Rattle.uv_report.specs.RuleTexts.{result_end}
 use Rattle.uv_report.specs.Sarif.{artifact_value, change_value, deleted_region_value, fix_sentence, fix_value}
 use Rattle.uv_report.specs.Sarif.{link_value, location_value, message, physical_value, region_value}
-use Rattle.uv_report.specs.Sarif.{location_begin, replacement_value, result_begin, result_with, single}
+use Rattle.uv_report.specs.Sarif.{fix_begin, location_begin, replacement_value, result_begin, result_with, single}
 use Rattle.uv_report.specs.Uri.{uri_path}
 use Rattle.uv_report.specs.Window.{carried, is_cut}
+use Rattle.uv_report.proofs.JsonLemmas.{plain_quoted}
+use Rattle.uv_report.proofs.UriLemmas.{uri_path_plain}
 
 -- ---- the values, before what follows them
 
@@ -163,16 +165,22 @@ fix_alone d m ending is =
     rw is (sym (whole ∙ ap (λ t. codes "{\"fixes\":[{\"artifactChanges\":" ++ t)
     (change_text d m (codes ",\"description\":" ++ (described ++ codes "}],")))))
 
--- the same up to the name of the file
-pub fix_pieces : (d : Diagnostic) (m : Mended) (ending : List ℕ)
+-- the path of a file's name between its quotation marks
+uri_open : (file rest : List ℕ) → 34 ∷ (uri_path file ++ 34 ∷ rest) ≡ quoted (uri_path file) ++ rest
+uri_open file rest =
+    ap (λ t. 34 ∷ t) (sym (append_assoc (uri_path file) (34 ∷ []) rest))
+    ∙ ap (λ t. t ++ rest) (plain_quoted (uri_path file) (uri_path_plain file))
+
+-- a fix up to the path of the file's name, behind what stands before it
+pub fix_pieces : (d : Diagnostic) (m : Mended) (before ending : List ℕ)
     → ending ≡ (codes "}}]}],\"description\":" ++ (compact_text (message (fix_sentence m.kind)) ++ codes "}],"))
     ++ location_begin
-    → codes "{\"fixes\":[{\"artifactChanges\":[{\"artifactLocation\":{\"uri\":" ++ (quoted (uri_path d.file.now)
-    ++ ((codes "},\"replacements\":[{\"deletedRegion\":{\"endColumn\":" ++ decimal m.end)
+    → (before ++ fix_begin) ++ (uri_path d.file.now
+    ++ ((codes "\"},\"replacements\":[{\"deletedRegion\":{\"endColumn\":" ++ decimal m.end)
     ++ ((codes ",\"startColumn\":" ++ decimal m.start) ++ ((codes ",\"startLine\":" ++ decimal d.line)
     ++ ((codes "},\"insertedContent\":{\"text\":" ++ quoted m.text.now) ++ ending)))))
-    ≡ result_begin d (Some m) ++ location_begin
-fix_pieces d m ending is =
+    ≡ before ++ (result_begin d (Some m) ++ location_begin)
+fix_pieces d m before ending is =
     let end : List ℕ =
     codes "}}]}],\"description\":" ++ (compact_text (message (fix_sentence m.kind)) ++ codes "}],") in
     let begin : List ℕ = codes "{\"fixes\":[{\"artifactChanges\":[{\"artifactLocation\":{\"uri\":" in
@@ -181,9 +189,12 @@ fix_pieces d m ending is =
     let column : List ℕ = codes ",\"startColumn\":" ++ decimal m.start in
     let line : List ℕ = codes ",\"startLine\":" ++ decimal d.line in
     let inserted : List ℕ = codes "},\"insertedContent\":{\"text\":" ++ quoted m.text.now in
-    ap (λ e. begin ++ (uri ++ (end_column ++ (column ++ (line ++ (inserted ++ e)))))) is
+    append_assoc before fix_begin _
+    ∙ ap (λ t. before ++ t)
+    (ap (λ t. begin ++ t) (uri_open d.file.now (end_column ++ (column ++ (line ++ (inserted ++ ending)))))
+    ∙ ap (λ e. begin ++ (uri ++ (end_column ++ (column ++ (line ++ (inserted ++ e)))))) is
     ∙ sym (behind_seven begin uri end_column column line inserted end location_begin)
-    ∙ ap (λ t. t ++ location_begin) (fix_alone d m end refl)
+    ∙ ap (λ t. t ++ location_begin) (fix_alone d m end refl))
 
 -- ---- the result
 
@@ -244,24 +255,29 @@ cut_grouped : (begin cut name link : List ℕ)
     → ((begin ++ cut) ++ name) ++ link ≡ begin ++ (cut ++ (name ++ link))
 cut_grouped begin cut name link = simp append_assoc
 
-pub result_pieces : (d : Diagnostic) (mended : Option Mended)
-    → (result_begin d mended ++ location_begin)
-    ++ (quoted (uri_path d.file.now) ++ ((codes "},\"region\":{\"startColumn\":" ++ decimal d.column)
+pub result_pieces : (d : Diagnostic) (mended : Option Mended) (before : List ℕ)
+    → (before ++ (result_begin d mended ++ location_begin))
+    ++ (uri_path d.file.now ++ ((codes "\"},\"region\":{\"startColumn\":" ++ decimal d.column)
     ++ ((codes ",\"startLine\":" ++ decimal d.line)
     ++ ((codes "}}}],\"message\":{\"text\":" ++ quoted (reported.message d.profile d.text.now d.violation))
     ++ ((((codes "},\"properties\":{\"cut\":" ++ compact_text (boolean (is_cut d.text.now))) ++ codes ",\"text\":")
     ++ quoted (carried d.text.now (violation_place d.violation))) ++ result_end d.violation)))))
-    ≡ compact_text (result_with d mended)
-result_pieces d mended =
+    ≡ before ++ compact_text (result_with d mended)
+result_pieces d mended before =
+    let begin : List ℕ =
+    codes "\"level\":\"error\",\"locations\":[{\"physicalLocation\":{\"artifactLocation\":{\"uri\":" in
     let uri = quoted (uri_path d.file.now) in
     let column : List ℕ = codes "},\"region\":{\"startColumn\":" ++ decimal d.column in
     let line : List ℕ = codes ",\"startLine\":" ++ decimal d.line in
     let told : List ℕ =
     codes "}}}],\"message\":{\"text\":" ++ quoted (reported.message d.profile d.text.now d.violation) in
     let link = quoted (carried d.text.now (violation_place d.violation)) in
-    append_assoc (result_begin d mended) location_begin _
+    append_assoc before (result_begin d mended ++ location_begin) _
+    ∙ ap (λ t. before ++ t)
+    (append_assoc (result_begin d mended) location_begin _
+    ∙ ap (λ t. result_begin d mended ++ (begin ++ t)) (uri_open d.file.now _)
     ∙ ap (λ t. result_begin d mended
-    ++ (location_begin ++ (uri ++ (column ++ (line ++ (told ++ (t ++ result_end d.violation)))))))
+    ++ (begin ++ (uri ++ (column ++ (line ++ (told ++ (t ++ result_end d.violation)))))))
     (cut_grouped (codes "},\"properties\":{\"cut\":") (compact_text (boolean (is_cut d.text.now))) (codes ",\"text\":")
     link)
-    ∙ ap (λ t. result_begin d mended ++ t) (rest_is d) ∙ whole_result d mended
+    ∙ ap (λ t. result_begin d mended ++ t) (rest_is d) ∙ whole_result d mended)

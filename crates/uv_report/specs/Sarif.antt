@@ -178,9 +178,13 @@ result_begin diagnostic None = codes "{"
 result_begin diagnostic (Some mended) =
     codes "{\"fixes\":[" ++ (compact_text (fix_value diagnostic mended) ++ codes "],")
 
--- and what stands behind that up to the name of the file
+-- what stands behind that up to the path of the file's name, which no byte of is escaped by JSON
 abbrev pub location_begin : List ℕ
-location_begin = codes "\"level\":\"error\",\"locations\":[{\"physicalLocation\":{\"artifactLocation\":{\"uri\":"
+location_begin = codes "\"level\":\"error\",\"locations\":[{\"physicalLocation\":{\"artifactLocation\":{\"uri\":\""
+
+-- what a result with a fix begins with up to the path of the file's name
+abbrev pub fix_begin : List ℕ
+fix_begin = codes "{\"fixes\":[{\"artifactChanges\":[{\"artifactLocation\":{\"uri\":\""
 
 -- the result of a diagnostic
 abbrev pub result_value : Diagnostic → Data

@@ -1,25 +1,26 @@
 //! Drive letters of `file` links that stand in the place of a host, or are written with `|`.
 ghost use Rattle.std.specs.List.{after_first, before_first};
-ghost use Rattle.std.specs.Prelude.{◌≡◌, ◌==◌};
+ghost use Rattle.std.specs.Prelude.{◌≡◌, ◌==◌, ◌++◌, OnOk, string_bytes};
 ghost use Rattle.uv_model.specs.Ascii.{colon};
 ghost use Rattle.uv_report.specs.Drive as spec;
 
 use crate::ipv6::before_end;
+use std::alloc::AllocError;
 use uv_model::{is_drive_letter, is_name};
 
 /// What is said of a host that is a drive letter.
 pub(crate) const IN_PLACE_OF_A_HOST: &str =
     "a drive letter stands behind file:///, and not in the place of a host";
 
-/// What is said behind a code point at a place, which may not stand there: of the mark of a drive letter that it has to
-/// be `:`, else nothing.
-pub(crate) fn drive_note(line: &str, place: usize) -> &'static str
-    ensures { result.now ≡ spec.drive_note line.now place }
+/// Pushes what is said behind a code point at a place, which may not stand there: of the mark of a drive letter that it
+/// has to be `:`, else nothing.
+pub(crate) fn push_drive_note(text: &mut String, line: &str, place: usize) -> Result<(), AllocError>
+    ensures { OnOk result (string_bytes text.new ≡ string_bytes text.old ++ spec.drive_note line.now place) }
 {
     if marks_drive(line, place) {
-        ": a drive letter is written with :"
+        text.push_str(": a drive letter is written with :")
     } else {
-        ""
+        Ok(())
     }
 }
 

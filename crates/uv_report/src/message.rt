@@ -8,7 +8,7 @@ ghost use Rattle.uv_report.specs.Message as spec;
 
 use crate::code_point::{is_unseen, push_point};
 use crate::domain::push_domain_sentence;
-use crate::drive::drive_note;
+use crate::drive::push_drive_note;
 use crate::escapes::{Escapes, push_escaped};
 use crate::ipv6::has_bare_ipv6;
 use crate::line_violation::LineViolation;
@@ -144,7 +144,7 @@ fn push_unit_sentence(
         ≡ string_bytes text.old ++ spec.unit_sentence line.now place) }
 {
     push_point_sentence(alloc, text, Rule::CodePoint, point_at(line, place))?;
-    text.push_str(drive_note(line, place))
+    push_drive_note(text, line, place)
 }
 
 // Pushes what is said of a code point that violates a rule, where the rule is about one, else the rule's sentence.

@@ -3,8 +3,6 @@ ghost use Rattle.std.specs.Prelude.{◌≡◌, ◌++◌, IfOk, OnOk, Some, codes
 ghost use Rattle.serde_json.specs.Data.{boolean};
 ghost use Rattle.serde_json.specs.View.{view};
 ghost use Rattle.serde_json.specs.Written.{compact_text};
-ghost use Rattle.uv_report.specs.Quoted.{quoted};
-ghost use Rattle.uv_report.specs.Uri.{uri_path};
 ghost use Rattle.uv_report.specs.Sarif as spec;
 
 use crate::column::Columns;
@@ -142,26 +140,25 @@ pub(crate) fn push_sarif(
     ensures { OnOk result (string_bytes text.new
         ≡ string_bytes text.old ++ spec.sarif_text is_first diagnostic.now) }
 {
-    let separator = if is_first { "" } else { "," };
-    text.push_str(separator)?;
-    push_result(alloc, text, diagnostic)?;
+    push_result(alloc, text, diagnostic, is_first)?;
     text.push('\n')?;
     Ok(())
 }
 
-// Pushes the result of a diagnostic, with a fix where there is a mended text. What stands between two values is pushed
-// at once, since each piece costs a call.
+// Pushes the result of a diagnostic, with a fix where there is a mended text, and before it a comma where it isn't the
+// first one. What stands between two values is pushed at once, since each piece costs a call.
 fn push_result(
     alloc: Global,
     text: &mut String,
     diagnostic: &Diagnostic<'_>,
+    is_first: bool,
 ) -> Result<(), AllocError>
-    ensures { OnOk result (string_bytes text.new
-        ≡ string_bytes text.old ++ compact_text (spec.result_value diagnostic.now)) }
+    ensures { OnOk result (string_bytes text.new ≡ string_bytes text.old
+        ++ (spec.separator is_first ++ compact_text (spec.result_value diagnostic.now))) }
 {
-    push_result_begin(alloc, text, diagnostic)?;
-    push_uri(text, diagnostic.file)?;
-    push_number_member(text, "},\"region\":{\"startColumn\":", diagnostic.column)?;
+    push_result_begin(alloc, text, diagnostic, is_first)?;
+    push_uri_path(text, diagnostic.file)?;
+    push_number_member(text, "\"},\"region\":{\"startColumn\":", diagnostic.column)?;
     push_number_member(text, ",\"startLine\":", diagnostic.line)?;
     push_message_member(
         alloc,
@@ -182,38 +179,49 @@ fn push_result(
     Ok(())
 }
 
-// Pushes what a result begins with up to the name of the file: its fix, where there is a mended text.
+// Pushes what a result begins with up to the path of the file's name: its fix, where there is a mended text.
 fn push_result_begin(
     alloc: Global,
     text: &mut String,
     diagnostic: &Diagnostic<'_>,
+    is_first: bool,
 ) -> Result<(), AllocError>
-    ensures { OnOk result (string_bytes text.new
-        ≡ string_bytes text.old ++ (spec.result_begin diagnostic.now diagnostic.now.mended ++ spec.location_begin)) }
+    ensures { OnOk result (string_bytes text.new ≡ string_bytes text.old ++ (spec.separator is_first
+        ++ (spec.result_begin diagnostic.now diagnostic.now.mended ++ spec.location_begin))) }
 {
     match diagnostic.mended {
-        Some(mended) => push_fix(alloc, text, diagnostic, mended),
-        None => text.push_str(
-            "{\"level\":\"error\",\"locations\":[{\"physicalLocation\":{\"artifactLocation\":{\"uri\":",
-        ),
+        Some(mended) => push_fix(alloc, text, diagnostic, is_first, mended),
+        None => text.push_str(location_begin(is_first)),
     }
 }
 
-// Pushes the fix that writes a mended text, alone in an array, and further members up to the name of the file.
+// What a result without a fix begins with up to the path of the file's name.
+fn location_begin(is_first: bool) -> &'static str
+    ensures { result.now ≡ spec.separator is_first ++ (codes "{" ++ spec.location_begin) }
+{
+    if is_first {
+        "{\"level\":\"error\",\"locations\":[{\"physicalLocation\":{\"artifactLocation\":{\"uri\":\""
+    } else {
+        ",{\"level\":\"error\",\"locations\":[{\"physicalLocation\":{\"artifactLocation\":{\"uri\":\""
+    }
+}
+
+// Pushes the fix that writes a mended text, alone in an array, and further members up to the path of the file's name.
 fn push_fix(
     alloc: Global,
     text: &mut String,
     diagnostic: &Diagnostic<'_>,
+    is_first: bool,
     mended: Mended<'_>,
 ) -> Result<(), AllocError>
-    ensures { OnOk result (string_bytes text.new
-        ≡ string_bytes text.old ++ (spec.result_begin diagnostic.now (Some mended.entry) ++ spec.location_begin)) }
+    ensures { OnOk result (string_bytes text.new ≡ string_bytes text.old ++ (spec.separator is_first
+        ++ (spec.result_begin diagnostic.now (Some mended.entry) ++ spec.location_begin))) }
 {
-    text.push_str("{\"fixes\":[{\"artifactChanges\":[{\"artifactLocation\":{\"uri\":")?;
-    push_uri(text, diagnostic.file)?;
+    text.push_str(fix_begin(is_first))?;
+    push_uri_path(text, diagnostic.file)?;
     push_number_member(
         text,
-        "},\"replacements\":[{\"deletedRegion\":{\"endColumn\":",
+        "\"},\"replacements\":[{\"deletedRegion\":{\"endColumn\":",
         mended.end,
     )?;
     push_number_member(text, ",\"startColumn\":", mended.start)?;
@@ -223,7 +231,18 @@ fn push_fix(
     Ok(())
 }
 
-// What follows the mended text in a fix: what it does, and further members up to the name of the file.
+// What a result with a fix begins with up to the path of the file's name.
+fn fix_begin(is_first: bool) -> &'static str
+    ensures { result.now ≡ spec.separator is_first ++ spec.fix_begin }
+{
+    if is_first {
+        "{\"fixes\":[{\"artifactChanges\":[{\"artifactLocation\":{\"uri\":\""
+    } else {
+        ",{\"fixes\":[{\"artifactChanges\":[{\"artifactLocation\":{\"uri\":\""
+    }
+}
+
+// What follows the mended text in a fix: what it does, and further members up to the path of the file's name.
 fn fix_end(kind: MendKind) -> &'static str
     ensures { result.now ≡ (codes "}}]}],\"description\":"
         ++ (compact_text (spec.message (spec.fix_sentence kind)) ++ codes "}],")) ++ spec.location_begin }
@@ -231,27 +250,17 @@ fn fix_end(kind: MendKind) -> &'static str
     match kind {
         MendKind::Same => {
             "}}]}],\"description\":{\"text\":\"write the same URL as a valid URL string\"}}],\
-            \"level\":\"error\",\"locations\":[{\"physicalLocation\":{\"artifactLocation\":{\"uri\":"
+            \"level\":\"error\",\"locations\":[{\"physicalLocation\":{\"artifactLocation\":{\"uri\":\""
         }
         MendKind::Escaped => {
             "}}]}],\"description\":{\"text\":\"percent-encode what may not stand in a URL string\"}}],\
-            \"level\":\"error\",\"locations\":[{\"physicalLocation\":{\"artifactLocation\":{\"uri\":"
+            \"level\":\"error\",\"locations\":[{\"physicalLocation\":{\"artifactLocation\":{\"uri\":\""
         }
         MendKind::Changed => {
             "}}]}],\"description\":{\"text\":\"write a valid URL string, which may be another URL\"}}],\
-            \"level\":\"error\",\"locations\":[{\"physicalLocation\":{\"artifactLocation\":{\"uri\":"
+            \"level\":\"error\",\"locations\":[{\"physicalLocation\":{\"artifactLocation\":{\"uri\":\""
         }
     }
-}
-
-// Pushes the path of a file's name as a string: no byte of a path is escaped by JSON.
-fn push_uri(text: &mut String, file: &str) -> Result<(), AllocError>
-    ensures { OnOk result (string_bytes text.new ≡ string_bytes text.old ++ quoted (uri_path file.now)) }
-{
-    text.push('"')?;
-    push_uri_path(text, file)?;
-    text.push('"')?;
-    Ok(())
 }
 
 // The end of what is reported, and whether the link is cut, up to the text of the link.
