@@ -9,6 +9,8 @@ mod diagnostics;
 #[cfg(test)]
 mod formats;
 #[cfg(test)]
+mod lengths;
+#[cfg(test)]
 mod mending;
 #[cfg(test)]
 mod reports;

@@ -1,17 +1,20 @@
 -- The parts of a text that begins with `https://` or `http://`, and its escapes.
-use Rattle.std.proofs.Common.{◌≡◌, ◌∙◌, ℕ, suc, Bool, true, List, [], ◌∷◌, ◌++◌, refl, sym, ap, inl, inr, subst, chars}
+use Rattle.std.proofs.Common.{◌≡◌, ◌∙◌, ℕ, suc, Bool, true, not, List, [], ◌∷◌, ◌++◌, refl, sym, ap, inl, inr, subst, chars}
 use Rattle.std.proofs.Common.{encode_utf8_all}
 use Rattle.std.proofs.Common.{◌+◌, ◌-◌, append_assoc, arith, false, drop, drop_at, length, take, take_at}
 use Rattle.std.proofs.lemmas.List.{length-append}
 use Rattle.std.specs.List.{prefix_len}
 use Rattle.std.specs.Str.{IsAscii}
-use Rattle.std.proofs.lemmas.Bool.{cases_Bool}
+use Rattle.std.proofs.lemmas.Bool.{and_parts, cases_Bool}
 use Rattle.std.proofs.lemmas.Bool.Decides.{nat_tests}
 use Rattle.std.proofs.lemmas.Str.{IsAscii-drop, IsAscii-take, chars-IsAscii, encodes-IsAscii, encodes-append}
 use Rattle.uv_mend.specs.declared.prefixes.Stop.TheVariants.{Authority}
 use Rattle.uv_mend.specs.declared.web_links.WebLink.{WebLink}
 use Rattle.uv_mend.specs.Escapes.{as_units, escaped}
-use Rattle.uv_text.specs.Class.{in_class}
+use Rattle.std.specs.Char.{is_ascii}
+use Rattle.uv_model.specs.Hosts.OpaqueHost.{is_forbidden_host}
+use Rattle.uv_model.specs.Units.{is_url_code_point}
+use Rattle.uv_text.specs.Class.{HoldsOpaqueHostBytes, in_class}
 use Rattle.uv_mend.specs.Prefixes.{authority_prefix, before, behind_authority, behind_scheme, onward, scheme_prefix}
 use Rattle.uv_mend.specs.Prefixes.{stops}
 use Rattle.uv_mend.specs.WebLinks.{IsWebLink, IsWebStart}
@@ -103,15 +106,12 @@ onward_behind p each (x ∷ xs) = elim (cases_Bool (p x)) [
   | inr fails ↦ rw fails refl
 ]
 
--- the ranges of the other ASCII bytes
-abbrev pub other_ranges : List (ℕ × ℕ)
-other_ranges = (0, 34) ∷ (36, 46) ∷ (48, 62) ∷ (64, 127) ∷ []
-
-held_stays : (b : ℕ) → in_class other_ranges b ≡ true → stops Authority b ≡ false
-held_stays b held = grind (arith, nat_tests)
-
-pub onward_run : (class : List (ℕ × ℕ)) (xs : List ℕ) → class ≡ other_ranges
+-- no byte of an opaque host does
+pub onward_run : (class : List (ℕ × ℕ)) (xs : List ℕ) → HoldsOpaqueHostBytes (in_class class)
     → onward Authority (drop (prefix_len (in_class class) xs) xs) ≡ onward Authority xs
-onward_run class xs is =
-    subst (λ c. onward Authority (drop (prefix_len (in_class c) xs) xs) ≡ onward Authority xs) (sym is)
-    (onward_behind (in_class other_ranges) held_stays xs)
+onward_run class xs holds =
+    onward_behind (in_class class)
+    (λ b held. held_stays b (and_parts (is_url_code_point b) _ (and_parts (is_ascii b) _ (sym (holds b) ∙ held)).1).1) xs
+  where
+    held_stays : (b : ℕ) → not (is_forbidden_host b) ≡ true → stops Authority b ≡ false
+    held_stays b held = grind (arith, nat_tests)

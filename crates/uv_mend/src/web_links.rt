@@ -85,15 +85,12 @@ fn behind_authority(bytes: &[u8]) -> &[u8]
     rest
 }
 
-// How many bytes of the authority lanes find: all of one that is ASCII.
+// How many bytes of the authority lanes find: all of most.
 fn length_by_lanes(bytes: &[u8]) -> usize
     ensures within { result ≤ length bytes.now }
     ensures onward { onward Authority (drop result bytes.now) ≡ onward Authority bytes.now }
 {
-    match ByteClass::of(&[(0, b'"'), (b'$', b'.'), (b'0', b'>'), (b'@', 127)]) {
-        Some(class) => unit_run(bytes, &class),
-        None => 0,
-    }
+    unit_run(bytes, &ByteClass::opaque_host())
 }
 
 fn ends_authority(byte: u8) -> bool

@@ -1,5 +1,5 @@
 -- A plain name is a domain, which the second parser writes as it stands.
-use Rattle.std.proofs.Common.{◌≡◌, ◌∙◌, ℕ, suc, ◌+◌, ◌<◌, Bool, true, false, not, ◌&&◌, ◌||◌, ◌==◌, List, [], ◌∷◌, length}
+use Rattle.std.proofs.Common.{◌≡◌, ◌∙◌, ℕ, suc, ◌+◌, ◌<◌, ◌≤◌, Bool, true, false, not, ◌&&◌, ◌||◌, ◌==◌, List, [], ◌∷◌, length}
 use Rattle.std.proofs.Common.{get_or, Option, Some, None, All, ap, arith, inl, inr, refl, subst, sym, take}
 use Rattle.std.specs.Char.{is_ascii_digit, is_digit, is_ascii_lowercase, to_ascii_lowercase}
 use Rattle.std.specs.List.{list_all, prefix_len}
@@ -74,26 +74,40 @@ is_name name each letter = (
 
 -- ---- the bytes of a name, by lanes
 
--- the first bytes that pass a test pass another one that each of them passes
-prefix_all : (p q : ℕ → Bool) → ((b : ℕ) → p b ≡ true → q b ≡ true) → (xs : List ℕ)
-    → All (Passes q) (take (prefix_len p xs) xs)
-prefix_all p q each [] = All-nil (Passes q)
-prefix_all p q each (x ∷ xs) = elim (cases_Bool (p x)) [
+-- the first bytes that pass a test pass a further one, where as many pass another one with which that follows
+prefix_both : (p q r : ℕ → Bool) → ((b : ℕ) → p b ≡ true → q b ≡ true → r b ≡ true) → (xs : List ℕ)
+    → prefix_len p xs ≤ prefix_len q xs → All (Passes r) (take (prefix_len p xs) xs)
+prefix_both p q r each [] fewer = All-nil (Passes r)
+prefix_both p q r each (x ∷ xs) fewer = elim (cases_Bool (p x)) [
+  | inr fails ↦ rw fails (All-nil (Passes r))
   | inl passes ↦
       let more : 1 + prefix_len p xs ≡ suc (prefix_len p xs) = omega arith in
-      rw (passes, more) (All-cons (Passes q) x _ (each x passes) (prefix_all p q each xs))
-  | inr fails ↦ rw fails (All-nil (Passes q))
+      let counted : 1 + prefix_len p xs ≤ prefix_len q (x ∷ xs) = rw passes at fewer in
+      elim (cases_Bool (q x)) [
+        | inr none ↦
+            let empty : prefix_len q (x ∷ xs) ≡ 0 = rw none refl in
+            absurd (omega (arith, counted, empty))
+        | inl both ↦
+            let longer : prefix_len q (x ∷ xs) ≡ 1 + prefix_len q xs = rw both refl in
+            rw (passes, more) (All-cons (Passes r) x _ (each x passes both)
+            (prefix_both p q r each xs (omega (arith, counted, longer))))
+      ]
 ]
 
--- the ranges of these bytes
-abbrev pub name_ranges : List (ℕ × ℕ)
-name_ranges = (45, 46) ∷ (48, 57) ∷ (95, 95) ∷ (97, 122) ∷ []
+-- the ranges of the bytes before the end of a name, and of all but capital letters and some signs
+abbrev pub end_ranges : List (ℕ × ℕ)
+end_ranges = (45, 46) ∷ (48, 122) ∷ []
 
-held_named : (b : ℕ) → in_class name_ranges b ≡ true → is_name_byte b ≡ true
-held_named b held = grind (arith, nat_tests)
+abbrev pub small_ranges : List (ℕ × ℕ)
+small_ranges = (0, 57) ∷ (97, 127) ∷ []
 
-pub run_named : (class : List (ℕ × ℕ)) (xs : List ℕ) → class ≡ name_ranges
-    → All (Passes is_name_byte) (take (prefix_len (in_class class) xs) xs)
-run_named class xs is =
-    subst (λ c. All (Passes is_name_byte) (take (prefix_len (in_class c) xs) xs)) (sym is)
-    (prefix_all (in_class name_ranges) is_name_byte held_named xs)
+held_named : (b : ℕ) → in_class end_ranges b ≡ true → in_class small_ranges b ≡ true → is_name_byte b ≡ true
+held_named b held small = grind (arith, nat_tests)
+
+pub run_named : (end small : List (ℕ × ℕ)) (xs : List ℕ) → end ≡ end_ranges → small ≡ small_ranges
+    → prefix_len (in_class end) xs ≤ prefix_len (in_class small) xs
+    → All (Passes is_name_byte) (take (prefix_len (in_class end) xs) xs)
+run_named end small xs end_is small_is fewer =
+    let few : prefix_len (in_class end_ranges) xs ≤ prefix_len (in_class small_ranges) xs = rw (end_is, small_is) at fewer in
+    subst (λ c. All (Passes is_name_byte) (take (prefix_len (in_class c) xs) xs)) (sym end_is)
+    (prefix_both (in_class end_ranges) (in_class small_ranges) is_name_byte held_named xs few)

@@ -63,13 +63,40 @@ fn cut_name(bytes: &[u8]) -> Option<(&[u8], &[u8])>
     }
 }
 
-// How many bytes at the start are of a plain name: small letters, digits, `-`, `.` and `_`. They are found by lanes.
+// How many bytes at the start are of a plain name: small letters, digits, `-`, `.` and `_`. None of what lies between
+// them is among these, where lanes see neither a capital letter nor a sign.
 fn name_length(bytes: &[u8]) -> Option<usize>
     ensures within { IfSome result (λ count. count ≤ length bytes.now) }
     ensures named { IfSome result (λ count. All (λ b. spec.is_name_byte b ≡ true) (take count bytes.now)) }
 {
-    let class = ByteClass::of(&[(b'-', b'.'), (b'0', b'9'), (b'_', b'_'), (b'a', b'z')])?;
-    Some(unit_run(bytes, &class))
+    let end = ByteClass::of(&[(b'-', b'.'), (b'0', b'z')])?;
+    let small = ByteClass::of(&[(0, b'9'), (b'a', 127)])?;
+    let count = unit_run(bytes, &end);
+    if count <= unit_run(bytes, &small) {
+        return Some(count);
+    }
+    if are_name_bytes(&bytes[..count]) {
+        Some(count)
+    } else {
+        None
+    }
+}
+
+// Whether each byte is one of a plain name.
+fn are_name_bytes(bytes: &[u8]) -> bool
+    ensures { IsTrue result → All (λ b. spec.is_name_byte b ≡ true) bytes.now }
+{
+    bytes.iter().all(|&b| is_name_byte(b))
+}
+
+fn is_name_byte(byte: u8) -> bool
+    ensures { result ≡ spec.is_name_byte byte }
+{
+    byte.is_ascii_lowercase()
+        || byte.is_ascii_digit()
+        || byte == b'-'
+        || byte == b'.'
+        || byte == b'_'
 }
 
 // What stands behind the last dot of a name, or the name where it has none.

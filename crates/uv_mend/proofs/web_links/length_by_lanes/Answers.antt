@@ -7,12 +7,12 @@ use Rattle.uv_mend.specs.Prefixes.{onward}
 use Rattle.uv_mend.proofs.WebLinkLemmas.{onward_run}
 use Rattle.uv_mend.proofs.web_links.length_by_lanes.Goals as goal
 
-pub returns-in-Some-clause-within : goal.returns-in-Some-clause-within
-returns-in-Some-clause-within c =
+pub returns-clause-within : goal.returns-clause-within
+returns-clause-within c =
     subst (λ n. n ≤ length c.args.bytes.now) (sym c.unit_run.ensures.run)
-    (prefix_len-le-length (in_class c.in-Some.class) c.args.bytes.now)
+    (prefix_len-le-length (in_class c.opaque_host.result) c.args.bytes.now)
 
-pub returns-in-Some-clause-onward : goal.returns-in-Some-clause-onward
-returns-in-Some-clause-onward c =
+pub returns-clause-onward : goal.returns-clause-onward
+returns-clause-onward c =
     subst (λ n. onward Authority (drop n c.args.bytes.now) ≡ onward Authority c.args.bytes.now)
-    (sym c.unit_run.ensures.run) (onward_run c.in-Some.class c.args.bytes.now c.in-Some.ensures.class)
+    (sym c.unit_run.ensures.run) (onward_run c.opaque_host.result c.args.bytes.now c.opaque_host.ensures.bytes)
