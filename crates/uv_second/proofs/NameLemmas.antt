@@ -1,11 +1,15 @@
 -- A plain name is a domain, which the second parser writes as it stands.
-use Rattle.std.proofs.Common.{◌≡◌, ◌∙◌, ℕ, suc, ◌+◌, ◌<◌, ◌≤◌, Bool, true, false, not, ◌&&◌, ◌||◌, ◌==◌, List, [], ◌∷◌, length}
+use Rattle.std.proofs.Common.{◌≡◌, ◌∙◌, ℕ, suc, ◌+◌, ◌/◌, ◌≤◌, ◌<◌, Bool, true, false, not, ◌&&◌, ◌||◌, ◌==◌, List, [], ◌∷◌, length}
 use Rattle.std.proofs.Common.{get_or, Option, Some, None, All, ap, arith, inl, inr, refl, subst, sym, take}
 use Rattle.std.specs.Char.{is_ascii_digit, is_digit, is_ascii_lowercase, to_ascii_lowercase}
 use Rattle.std.specs.List.{list_all, prefix_len}
-use Rattle.std.proofs.lemmas.Bool.{cases_Bool, true≢false}
+use Rattle.std.specs.Int.Bits.{and_zero_r}
+use Rattle.std.proofs.Math.ListN.{get_or-eq_default}
+use Rattle.std.proofs.lemmas.Bool.{agree_below_at, cases_Bool, cases_lt, true≢false}
 use Rattle.std.proofs.lemmas.Bool.Decides.{nat_tests}
+use Rattle.std.proofs.lemmas.List.{length-take, take-take}
 use Rattle.std.proofs.lemmas.List.Elements.{All-cons, All-nil, All-weaker}
+use Rattle.std.proofs.lemmas.List.Sums.{prefix_len-le-length}
 use Rattle.percent_encoding.specs.Percent.{IsKept}
 use Rattle.url.specs.declared.sets.TheConstants.{FORBIDDEN_DOMAIN}
 use Rattle.url.specs.Ascii.{digit_zero, dot}
@@ -13,7 +17,8 @@ use Rattle.url.specs.Input.{is_empty, rsplit_once}
 use Rattle.url.specs.Ipv4.{ends_in_a_number, is_number, last_label_of, parse_number}
 use Rattle.url.proofs.InputLemmas.{Passes, is_empty_nonempty, lowercase_other, map_fixed}
 use Rattle.url.proofs.SetLemmas.{kept_from_passes}
-use Rattle.uv_text.specs.Class.{in_class}
+use Rattle.uv_text.specs.Rows.{high_bit, is_in_rows, row_at}
+use Rattle.uv_second.specs.declared.links.TheConstants.{NAME_ROWS}
 use Rattle.uv_second.specs.Links.{IsName, is_name_byte}
 
 -- the last label is not an empty one before a last dot
@@ -74,40 +79,43 @@ is_name name each letter = (
 
 -- ---- the bytes of a name, by lanes
 
--- the first bytes that pass a test pass a further one, where as many pass another one with which that follows
-prefix_both : (p q r : ℕ → Bool) → ((b : ℕ) → p b ≡ true → q b ≡ true → r b ≡ true) → (xs : List ℕ)
-    → prefix_len p xs ≤ prefix_len q xs → All (Passes r) (take (prefix_len p xs) xs)
-prefix_both p q r each [] fewer = All-nil (Passes r)
-prefix_both p q r each (x ∷ xs) fewer = elim (cases_Bool (p x)) [
-  | inr fails ↦ rw fails (All-nil (Passes r))
+-- the first bytes that pass a test pass another one that each of them passes
+prefix_all : (p q : ℕ → Bool) → ((b : ℕ) → p b ≡ true → q b ≡ true) → (xs : List ℕ)
+    → All (Passes q) (take (prefix_len p xs) xs)
+prefix_all p q each [] = All-nil (Passes q)
+prefix_all p q each (x ∷ xs) = elim (cases_Bool (p x)) [
   | inl passes ↦
       let more : 1 + prefix_len p xs ≡ suc (prefix_len p xs) = omega arith in
-      let counted : 1 + prefix_len p xs ≤ prefix_len q (x ∷ xs) = rw passes at fewer in
-      elim (cases_Bool (q x)) [
-        | inr none ↦
-            let empty : prefix_len q (x ∷ xs) ≡ 0 = rw none refl in
-            absurd (omega (arith, counted, empty))
-        | inl both ↦
-            let longer : prefix_len q (x ∷ xs) ≡ 1 + prefix_len q xs = rw both refl in
-            rw (passes, more) (All-cons (Passes r) x _ (each x passes both)
-            (prefix_both p q r each xs (omega (arith, counted, longer))))
-      ]
+      rw (passes, more) (All-cons (Passes q) x _ (each x passes) (prefix_all p q each xs))
+  | inr fails ↦ rw fails (All-nil (Passes q))
 ]
 
--- the ranges of the bytes before the end of a name, and of all but capital letters and some signs
-abbrev pub end_ranges : List (ℕ × ℕ)
-end_ranges = (45, 46) ∷ (48, 122) ∷ []
+-- no rows have a number beyond the bytes
+beyond : (rows : List ℕ) (b : ℕ) → 256 ≤ b → is_in_rows rows b ≡ false
+beyond rows b large =
+    let behind : 16 ≤ b / 16 = omega arith in
+    let none : high_bit b ≡ 0
+    = get_or-eq_default (1 ∷ 2 ∷ 4 ∷ 8 ∷ 16 ∷ 32 ∷ 64 ∷ 128 ∷ 0 ∷ 0 ∷ 0 ∷ 0 ∷ 0 ∷ 0 ∷ 0 ∷ 0 ∷ []) 0 {n = b / 16}
+    behind in
+    rw (none, and_zero_r (row_at rows b)) refl
 
-abbrev pub small_ranges : List (ℕ × ℕ)
-small_ranges = (0, 57) ∷ (97, 127) ∷ []
+-- a byte in the rows is one of a name
+in_name_rows : (b : ℕ) → is_in_rows NAME_ROWS b ≡ true → is_name_byte b ≡ true
+in_name_rows b held = elim (cases_lt b 256) [
+  | inl small ↦ sym (agree_below_at (is_in_rows NAME_ROWS) is_name_byte 256 b refl small) ∙ held
+  | inr large ↦ absurd (true≢false (sym held ∙ beyond NAME_ROWS b large))
+]
 
-held_named : (b : ℕ) → in_class end_ranges b ≡ true → in_class small_ranges b ≡ true → is_name_byte b ≡ true
-held_named b held small = grind (arith, nat_tests)
-
-pub run_named : (end small : List (ℕ × ℕ)) (xs : List ℕ) → end ≡ end_ranges → small ≡ small_ranges
-    → prefix_len (in_class end) xs ≤ prefix_len (in_class small) xs
-    → All (Passes is_name_byte) (take (prefix_len (in_class end) xs) xs)
-run_named end small xs end_is small_is fewer =
-    let few : prefix_len (in_class end_ranges) xs ≤ prefix_len (in_class small_ranges) xs = rw (end_is, small_is) at fewer in
-    subst (λ c. All (Passes is_name_byte) (take (prefix_len (in_class c) xs) xs)) (sym end_is)
-    (prefix_both (in_class end_ranges) (in_class small_ranges) is_name_byte held_named xs few)
+-- so are the bytes before the first one of 32 that isn't in them
+pub run_named : (text : List ℕ) (n : ℕ) → n ≡ prefix_len (is_in_rows NAME_ROWS) (take 32 text)
+    → (n ≤ length text) × All (Passes is_name_byte) (take n text)
+run_named text n is =
+    let front = take 32 text in
+    let run = prefix_len (is_in_rows NAME_ROWS) front in
+    let within : run ≤ length front = prefix_len-le-length (is_in_rows NAME_ROWS) front in
+    let few = length-take 32 text in
+    let same : take run front ≡ take run text = take-take run 32 text (omega (arith, within, few)) in (
+      omega (arith, is, within, few),
+      subst (λ m. All (Passes is_name_byte) (take m text)) (sym is)
+          (subst (All (Passes is_name_byte)) same (prefix_all (is_in_rows NAME_ROWS) is_name_byte in_name_rows front)),
+    )

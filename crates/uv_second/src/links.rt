@@ -1,4 +1,4 @@
-//! Texts that begin with `https://` or `http://` and a plain name.
+//! Texts that begin with `https://` or `http://`, a plain name and `/`.
 ghost use Rattle.std.specs.Prelude.{◌≡◌, ◌++◌, ◌≤◌, IfSome, IsTrue, length, slice_index, take, true};
 ghost use Rattle.std.specs.Char as char_spec;
 ghost use Rattle.std.specs.List.{All};
@@ -7,7 +7,12 @@ ghost use Rattle.url.specs.Input as input;
 ghost use Rattle.uv_second.specs.Links as spec;
 ghost use Rattle.uv_second.specs.Links.{IsBehindStart, IsLink, IsNameCut};
 
-use uv_text::{ByteClass, unit_run};
+use uv_text::Tail;
+
+// The bytes of a plain name, by the low half of a byte: a bit for each high half.
+const NAME_ROWS: [u8; 16] = [
+    136, 200, 200, 200, 200, 200, 200, 200, 200, 200, 192, 64, 64, 68, 68, 96,
+];
 
 /// Such a text, cut behind the name.
 #[derive(Clone, Copy)]
@@ -19,26 +24,35 @@ pub(crate) struct Link<'t> {
 }
 
 /// The parts of such a text; none of another.
-pub(crate) fn cut_link(text: &[u8]) -> Option<Link<'_>>
+pub(crate) fn cut_link(text: &str) -> Option<Link<'_>>
     ensures { IfSome result (IsLink text.now) }
 {
     let rest = behind_start(text)?;
     let (_, behind) = cut_name(rest)?;
-    let (front, behind) = text.split_at_checked(text.len().saturating_sub(behind.len()))?;
+    let bytes = text.as_bytes();
+    let (front, behind) = bytes.split_at_checked(bytes.len().saturating_sub(behind.len()))?;
     Some(Link { front, behind })
 }
 
 // What follows the start of such a text.
-fn behind_start(text: &[u8]) -> Option<&[u8]>
+fn behind_start(text: &str) -> Option<&str>
     ensures { IfSome result (λ rest. IsBehindStart text.now rest.now) }
 {
-    match behind(text, "https://".as_bytes()) {
+    match behind_text(text, "https://") {
         Some(rest) => Some(rest),
         None => {
-            let rest = behind(text, "http://".as_bytes())?;
+            let rest = behind_text(text, "http://")?;
             Some(rest)
         }
     }
+}
+
+// What follows this in a text that begins with it.
+fn behind_text<'t>(text: &'t str, front: &str) -> Option<&'t str>
+    ensures { IfSome result (λ rest. text.now ≡ front.now ++ rest.now) }
+{
+    let rest = text.strip_prefix(front)?;
+    Some(rest)
 }
 
 /// What follows these bytes in a text that begins with them.
@@ -51,11 +65,11 @@ pub(crate) fn behind<'t>(text: &'t [u8], front: &[u8]) -> Option<&'t [u8]>
     }
 }
 
-// The plain name at the start, as long as it can be, and what follows it. Its last label begins with a letter.
-fn cut_name(bytes: &[u8]) -> Option<(&[u8], &[u8])>
-    ensures { IfSome result (λ cut. IsNameCut bytes.now cut.0.now cut.1.now) }
+// The plain name with which a text begins, and what follows it. Its last label begins with a letter.
+fn cut_name(text: &str) -> Option<(&[u8], &[u8])>
+    ensures { IfSome result (λ cut. IsNameCut text.now cut.0.now cut.1.now) }
 {
-    let (name, behind) = bytes.split_at(name_length(bytes)?);
+    let (name, behind) = text.as_bytes().split_at(name_length(text)?);
     if begins_with_letter(last_label(name)) {
         Some((name, behind))
     } else {
@@ -63,23 +77,32 @@ fn cut_name(bytes: &[u8]) -> Option<(&[u8], &[u8])>
     }
 }
 
-// How many bytes at the start are of a plain name: small letters, digits, `-`, `.` and `_`. None of what lies between
-// them is among these, where lanes see neither a capital letter nor a sign.
-fn name_length(bytes: &[u8]) -> Option<usize>
-    ensures within { IfSome result (λ count. count ≤ length bytes.now) }
-    ensures named { IfSome result (λ count. All (λ b. spec.is_name_byte b ≡ true) (take count bytes.now)) }
+// How many bytes a plain name has at the start of a text: small letters, digits, `-`, `.` and `_`. One of 32 and more
+// goes on to the first `/`.
+fn name_length(text: &str) -> Option<usize>
+    ensures within { IfSome result (λ count. count ≤ length text.now) }
+    ensures named { IfSome result (λ count. All (λ b. spec.is_name_byte b ≡ true) (take count text.now)) }
 {
-    let end = ByteClass::of(&[(b'-', b'.'), (b'0', b'z')])?;
-    let small = ByteClass::of(&[(0, b'9'), (b'a', 127)])?;
-    let count = unit_run(bytes, &end);
-    if count <= unit_run(bytes, &small) {
+    let count = length_by_lanes(text);
+    if count < 32 {
         return Some(count);
     }
+    let bytes = text.as_bytes();
+    let count = bytes.iter().position(|&b| b == b'/')?;
     if are_name_bytes(&bytes[..count]) {
         Some(count)
     } else {
         None
     }
+}
+
+// The same of its first 32 bytes, which are looked at at once.
+fn length_by_lanes(text: &str) -> usize
+    ensures within { result ≤ length text.now }
+    ensures named { All (λ b. spec.is_name_byte b ≡ true) (take result text.now) }
+{
+    let load = Tail::of(text).load(0);
+    load.row_bits(&NAME_ROWS).trailing_ones() as usize
 }
 
 // Whether each byte is one of a plain name.

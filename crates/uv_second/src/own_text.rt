@@ -13,7 +13,7 @@ use crate::written::stays_plain;
 pub(crate) fn is_own_text(text: &str) -> bool
     ensures { (base : Option Parts) → IsTrue result → text_against base text.now ≡ Some text.now }
 {
-    match cut_link(text.as_bytes()) {
+    match cut_link(text) {
         Some(link) => stays_whole(link.behind),
         None => false,
     }

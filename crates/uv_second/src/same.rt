@@ -49,7 +49,7 @@ fn same_alone(alloc: Global, text: &str, other: &str) -> Result<bool, RoomFault>
 fn seen_same(text: &str, other: &str) -> Option<bool>
     ensures { IfSome result (λ same. IsTrue same ↔ ReadsSame None text.now other.now) }
 {
-    let link = cut_link(text.as_bytes())?;
+    let link = cut_link(text)?;
     let other_behind = behind(other.as_bytes(), link.front)?;
     if is_bounded(link.behind) && is_bounded(other_behind) {
         let same = writes_same(link.behind, other_behind)?;
