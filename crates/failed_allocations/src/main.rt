@@ -200,8 +200,7 @@ fn print_path<R: Print>(rt: &R, path: &UrlPath) -> io::Result<()> {
             println!(rt; "opaque {text}")
         }
         UrlPath::Segments(list) => {
-            for segment in list.as_slice() {
-                let segment = segment.as_str();
+            for segment in list.iter() {
                 println!(rt; "segment {segment}")?;
             }
             Ok(())

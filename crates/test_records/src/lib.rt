@@ -9,6 +9,8 @@ mod characters;
 #[cfg(test)]
 mod names;
 #[cfg(test)]
+mod paths;
+#[cfg(test)]
 mod record;
 #[cfg(test)]
 mod resolved;

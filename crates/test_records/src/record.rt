@@ -2,22 +2,19 @@
 //! was written before. The cases of `vectors/` have more texts of records.
 
 use std::alloc::{AllocError, Global};
-use uv_model::{Host, Profile, Record, Text, UrlPath};
+use uv_model::{Host, ListedTexts, Profile, Record, UrlPath};
 use uv_resolve::{ResolveFault, resolve};
 
 // Whether the texts are these two, or this one.
-fn are_texts(texts: &[Text], first: &str, second: Option<&str>) -> bool {
-    match texts {
-        [one] => one.as_str() == first && second.is_none(),
-        [one, other] => one.as_str() == first && second == Some(other.as_str()),
-        _ => false,
-    }
+fn are_texts(texts: ListedTexts<'_>, first: &str, second: Option<&str>) -> bool {
+    let mut left = texts;
+    left.next_text() == Some(first) && left.next_text() == second && left.next_text() == None
 }
 
 // Whether the path has these segments.
 fn has_segments(path: &UrlPath, first: &str, second: Option<&str>) -> bool {
     match path {
-        UrlPath::Segments(list) => are_texts(list.as_slice(), first, second),
+        UrlPath::Segments(list) => are_texts(list.iter(), first, second),
         UrlPath::Opaque(_) => false,
     }
 }

@@ -4,26 +4,6 @@ use Rattle.std.proofs.Common.{append_assoc, append-nil}
 use Rattle.std.proofs.lemmas.List.{take_more}
 use Rattle.uv_cli.specs.CheckText.{line, segment_lines}
 
--- a segment more is a line more
-segment_lines-push : (segments : List (List ℕ)) (segment : List ℕ)
-    → segment_lines (segments ++ (segment ∷ [])) ≡ segment_lines segments ++ line (codes "segment ") segment
-segment_lines-push [] segment = append-nil (line (codes "segment ") segment)
-segment_lines-push (first ∷ rest) segment =
-    ap (λ text. line (codes "segment ") first ++ text) (segment_lines-push rest segment)
-    ∙ sym (append_assoc (line (codes "segment ") first) (segment_lines rest) (line (codes "segment ") segment))
-
--- the text with the lines of one item more
-pub segment_lines-more : (start text new : List ℕ) (segments : List (List ℕ)) (i : ℕ) (segment : List ℕ)
-    → i < length segments → segment ≡ get_or segments i segment
-    → text ≡ start ++ segment_lines (take i segments)
-    → new ≡ text ++ line (codes "segment ") segment
-    → new ≡ start ++ segment_lines (take (i + 1) segments)
-segment_lines-more start text new segments i segment within here before one =
-    let more : take (i + 1) segments ≡ take i segments ++ (segment ∷ []) =
-    take_more segments i segment within ∙ ap (λ s. take i segments ++ (s ∷ [])) (sym here) in
-    one ∙ rw (before, more, segment_lines-push (take i segments) segment)
-    (append_assoc start (segment_lines (take i segments)) (line (codes "segment ") segment))
-
 -- six pieces put one after the other behind a start
 pub six_pieces : (start a b c d e f t1 t2 t3 t4 t5 t6 : List ℕ)
     → t1 ≡ start ++ a → t2 ≡ t1 ++ b → t3 ≡ t2 ++ c → t4 ≡ t3 ++ d → t5 ≡ t4 ++ e → t6 ≡ t5 ++ f

@@ -5,7 +5,7 @@ ghost use Rattle.uv_cli.specs.CheckText.{refused_text, segment_lines};
 ghost use Rattle.uv_model.specs.Records.Serialize.{serial_host};
 
 use std::alloc::{AllocError, Global};
-use uv_model::{Host, Record, Refusal, Text, UrlPath};
+use uv_model::{Host, ListedTexts, Record, Refusal, UrlPath};
 
 /// The lines of a record.
 pub(crate) fn check_lines(alloc: Global, checked: &Record) -> Result<String, AllocError>
@@ -106,15 +106,16 @@ fn push_path(text: &mut String, path: &UrlPath) -> Result<(), AllocError>
 {
     match path {
         UrlPath::Opaque(opaque) => push_line(text, "opaque ", opaque.as_str()),
-        UrlPath::Segments(segments) => push_segments(text, segments.as_slice()),
+        UrlPath::Segments(list) => push_segments(text, list.iter()),
     }
 }
 
-fn push_segments(text: &mut String, segments: &[Text]) -> Result<(), AllocError>
-    ensures { OnOk result (string_bytes text.new ≡ string_bytes text.old ++ segment_lines segments.now) }
+fn push_segments(text: &mut String, segments: ListedTexts<'_>) -> Result<(), AllocError>
+    ensures { OnOk result (string_bytes text.new ≡ string_bytes text.old ++ segment_lines segments.entry) }
 {
-    for segment in segments {
-        push_line(text, "segment ", segment.as_str())?;
+    let mut left = segments;
+    while let Some(segment) = left.next_text() {
+        push_line(text, "segment ", segment)?;
     }
     Ok(())
 }

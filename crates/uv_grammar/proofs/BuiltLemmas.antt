@@ -38,7 +38,8 @@ use Rattle.uv_model.proofs.Violations.SpacedPathLemmas.{path_violation-plain, sp
 use Rattle.uv_model.proofs.Violations.SpacedPathLemmas.{unspaced_end_without_violation}
 use Rattle.uv_model.proofs.Violations.UnitViolationLemmas.{units_without_violation}
 use Rattle.uv_model.proofs.Cuts.ValidCutLemmas.{written_as_cut}
-use Rattle.uv_grammar.specs.Built.{built, form_of, form_with, pieces, segments_in, segments_of}
+use Rattle.uv_grammar.specs.Built.{built, form_of, form_with, segments_in}
+use Rattle.uv_model.specs.Path.{pieces, segments_of}
 use Rattle.uv_grammar.specs.HostValues.{FitsHost, MayBeEmptyFile}
 use Rattle.uv_grammar.specs.PartViolations.{BehindAuthority}
 use Rattle.uv_grammar.specs.PartValues.{FitsHostPart, FitsPortPart}

@@ -5,7 +5,8 @@ use Rattle.uv_model.specs.Ascii.{slash}
 use Rattle.uv_model.specs.Path.{is_without, starts_with_slash}
 use Rattle.uv_model.proofs.Texts.MarkLemmas.{is_without-cons}
 use Rattle.uv_model.specs.Parts.{PathRelative, written_behind}
-use Rattle.uv_grammar.specs.Built.{form_with, left_segments, pieces, segments_of}
+use Rattle.uv_grammar.specs.Built.{form_with}
+use Rattle.uv_model.specs.Path.{left_segments, pieces, segments_of}
 
 -- there is a first part
 record HasFirst (parts : List (List ℕ)) : Type 0 where

@@ -8,7 +8,7 @@ use Rattle.uv_model.specs.Units.{IsUnits, is_faultless, is_unit_at}
 use Rattle.uv_model.proofs.Texts.MarkLemmas.{is_without-cons}
 use Rattle.uv_model.proofs.Texts.UnitsLemmas.{IsUnits-faultless, is_faultless-units}
 use Rattle.uv_model.proofs.Paths.PathPieces.{joins_pieces}
-use Rattle.uv_grammar.specs.Built.{pieces, segments_of}
+use Rattle.uv_model.specs.Path.{pieces, segments_of}
 use Rattle.uv_grammar.proofs.PieceLemmas.{relative_segments}
 
 -- the texts between the slashes of units without `?`, joined

@@ -5,7 +5,8 @@ ghost use Rattle.std.specs.Iterator.{YieldsFirstBy, item_count};
 ghost use Rattle.uv_grammar.specs.Form.{seen_form};
 ghost use Rattle.uv_grammar.specs.PartsHost.{referred};
 ghost use Rattle.uv_grammar.specs.Slices.{chars_of, chars_of_option};
-ghost use Rattle.uv_grammar.specs.Built.{left_segments, segments_in, segments_of};
+ghost use Rattle.uv_grammar.specs.Built.{segments_in};
+ghost use Rattle.uv_model.specs.Path.{left_segments, segments_of};
 
 use crate::cut::Cut;
 use crate::form::Form;
@@ -112,7 +113,8 @@ impl<'t> Parts<'t> {
 
     /// The segments of the path: none of an opaque one, and none of an empty one.
     pub fn segments(&self) -> Segments<'_, 't>
-        ensures { result ≡ self.now.segments }
+        ensures segments { result ≡ self.now.segments }
+        ensures text { self.now.segments ≡ segments_in self.now.form self.now.path_text }
     {
         Segments::of(self.form, self.cut.path_text)
     }
@@ -142,7 +144,7 @@ pub struct Segments<'p, 't> {
 impl<'p, 't> Model for Segments<'p, 't> {
     ghost use Rattle.std.specs.Prelude.{ℕ, List};
     ghost use Rattle.uv_grammar.specs.Slices.{chars_of_option};
-    ghost use Rattle.uv_grammar.specs.Built.{left_segments};
+    ghost use Rattle.uv_model.specs.Path.{left_segments};
 
     ghost Value = { List (List ℕ) };
 

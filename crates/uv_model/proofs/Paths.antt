@@ -3,6 +3,7 @@ pub mod PathLemmas
 pub mod SlashedPaths
 pub mod PathPieces
 pub mod JoinedSegments
+pub mod PathTexts
 pub mod OpaquePaths
 pub mod DotSegmentLemmas
 pub mod WalkLemmas

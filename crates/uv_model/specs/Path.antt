@@ -1,7 +1,7 @@
 -- Paths and their segments, after the URL Standard, sections 4.1 to 4.4.
-use Rattle.std.specs.Prelude.{◌≡◌, ◌⊎◌, ℕ, Bool, true, false, ◌&&◌, ◌||◌, ◌==◌, List, [], ◌∷◌, ◌++◌, codes}
-use Rattle.std.specs.Prelude.{if◌then◌else◌}
-use Rattle.std.specs.List.{list_all, join_with_byte}
+use Rattle.std.specs.Prelude.{◌≡◌, ◌⊎◌, ℕ, Bool, true, false, ◌&&◌, ◌||◌, ◌==◌, List, [], ◌∷◌, ◌++◌, codes, Option}
+use Rattle.std.specs.Prelude.{Some, None, if◌then◌else◌}
+use Rattle.std.specs.List.{list_all, join_with_byte, slice_split}
 use Rattle.std.specs.Str.{bytes_eq}
 use Rattle.std.specs.Char.{is_ascii_alphabetic}
 use Rattle.uv_model.specs.declared.scheme.Class.{Class}
@@ -65,6 +65,25 @@ walk class path (segment ∷ []) = walk_one class true path segment
 walk class path (segment ∷ next ∷ rest) = walk class (walk_one class false path segment) (next ∷ rest)
 
 -- ---- the texts of paths (section 4.3)
+
+-- the texts between the slashes of a path
+abbrev pub pieces : List ℕ → List (List ℕ)
+pieces text = slice_split (λ c. c == slash) text
+
+-- the segments of a path that isn't opaque: the texts between its slashes, but for a `/` at its start
+abbrev pub segments_of : List ℕ → List (List ℕ)
+segments_of [] = []
+segments_of (c ∷ rest) = if c == slash then pieces rest else pieces (c ∷ rest)
+
+-- the segments of a path that begins with `/`, or of no code point
+abbrev pub segments_behind : List ℕ → List (List ℕ)
+segments_behind [] = []
+segments_behind (c ∷ rest) = pieces rest
+
+-- the segments that a text between slashes still holds, where there is one
+abbrev pub left_segments : Option (List ℕ) → List (List ℕ)
+left_segments None = []
+left_segments (Some text) = pieces text
 
 -- the code point doesn't stand in the text
 abbrev pub is_without : ℕ → List ℕ → Bool

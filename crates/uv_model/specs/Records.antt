@@ -3,3 +3,5 @@ pub mod Url
 pub mod WellFormed
 pub mod Denote
 pub mod Serialize
+pub mod PathText
+pub mod TextList

@@ -10,6 +10,7 @@ pub mod laws;
 mod mend_kind;
 mod opaque_host;
 mod path;
+mod path_text;
 mod profile;
 mod record;
 mod rule;
@@ -18,6 +19,7 @@ mod segments;
 mod serializer;
 mod streams;
 mod text;
+mod text_list;
 mod units;
 mod url_hosts;
 mod url_paths;
@@ -30,6 +32,7 @@ pub use host::Host;
 pub use mend_kind::MendKind;
 pub use opaque_host::is_forbidden_host;
 pub use path::UrlPath;
+pub use path_text::{PathText, without_last_segment};
 pub use profile::Profile;
 pub use record::Record;
 pub use rule::{Refusal, Rule};
@@ -38,6 +41,7 @@ pub use segments::{is_double_dot, is_drive_letter, is_normalized_drive_letter, i
 pub use streams::{
     DeviceFault, FromReader, ScriptSink, ScriptSource, Sink, Source, ToWriter, write_whole,
 };
-pub use text::{Text, TextList};
+pub use text::Text;
+pub use text_list::{ListedTexts, TextList};
 pub use units::is_url_code_point;
 pub use well_formedness::well_formed;

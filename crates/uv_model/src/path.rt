@@ -1,7 +1,8 @@
 //! Paths.
 ghost use Rattle.std.specs.Prelude.{◌≡◌, IfOk};
 
-use crate::text::{Text, TextList};
+use crate::text::Text;
+use crate::text_list::TextList;
 use std::alloc::{AllocError, Global};
 
 /// The path of a URL.

@@ -1,5 +1,6 @@
 //! Records: the URLs that valid texts denote, each well formed.
 ghost use Rattle.std.specs.Prelude.{◌≡◌, IfOk, Option, Some, None, option_copied, option_map, string_bytes};
+ghost use Rattle.std.specs.Cow.{cow_str_bytes};
 ghost use Rattle.std.specs.Str.{IsAscii};
 ghost use Rattle.uv_model.specs.declared.profile.Profile.TheVariants.{Parser};
 ghost use Rattle.uv_model.specs.Records.Url.{Url, is_opaque};
@@ -9,13 +10,14 @@ use crate::host::Host;
 use crate::path::UrlPath;
 use crate::text::Text;
 use std::alloc::{AllocError, Global};
+use std::borrow::CowStr;
 use std::marker::Model;
 
 /// A URL's record (URL Standard, section 4.1) without credentials. It is well formed by the parser's profile, and so
 /// may be one of any profile.
 #[derive(Debug, Drop)]
 pub struct Record {
-    scheme: Text,
+    scheme: CowStr<'static>,
     host: Option<Host>,
     port: Option<u16>,
     path: UrlPath,
@@ -24,6 +26,7 @@ pub struct Record {
 }
 
 impl Model for Record {
+    ghost use Rattle.std.specs.Cow.{cow_str_bytes};
     ghost use Rattle.uv_model.specs.Records.Url.{Url};
 
     ghost Value = { Url };
@@ -32,7 +35,7 @@ impl Model for Record {
     ghost use Rattle.uv_model.specs.Records.WellFormed.{WellFormed};
 
     ghost view = { λ r. record {
-      scheme = r.scheme;
+      scheme = cow_str_bytes r.scheme;
       host = r.host;
       port = r.port;
       path = r.path;
@@ -41,7 +44,7 @@ impl Model for Record {
     } };
 
     ghost invariant = { λ r. WellFormed Parser (record {
-      scheme = r.scheme;
+      scheme = cow_str_bytes r.scheme;
       host = r.host;
       port = r.port;
       path = r.path;
@@ -77,10 +80,39 @@ impl Record {
           fragment = option_map (λ s. string_bytes s) fragment;
         } }
     {
+        Record::make_with(CowStr::Owned(scheme), host, port, path, query, fragment)
+    }
+
+    /// The same, where the scheme may be a name that stands in the program.
+    pub fn make_with(
+        scheme: CowStr<'static>,
+        host: Option<Host>,
+        port: Option<u16>,
+        path: UrlPath,
+        query: Option<String>,
+        fragment: Option<String>,
+    ) -> Record
+        requires { WellFormed Parser (record {
+          scheme = cow_str_bytes scheme;
+          host = host;
+          port = port;
+          path = path;
+          query = option_map (λ s. string_bytes s) query;
+          fragment = option_map (λ s. string_bytes s) fragment;
+        }) }
+        ensures { result ≡ record {
+          scheme = cow_str_bytes scheme.entry;
+          host = host;
+          port = port;
+          path = path;
+          query = option_map (λ s. string_bytes s) query;
+          fragment = option_map (λ s. string_bytes s) fragment;
+        } }
+    {
         let query = text_of(query);
         let fragment = text_of(fragment);
         Record {
-            scheme: Text::of(scheme),
+            scheme,
             host,
             port,
             path,
@@ -147,7 +179,7 @@ impl Record {
     pub fn copy(&self, alloc: Global) -> Result<Record, AllocError>
         ensures { IfOk result (λ r. r ≡ self.now) }
     {
-        let scheme = self.scheme.copy(alloc)?;
+        let scheme = scheme_copy(alloc, &self.scheme)?;
         let host = host_copy(alloc, &self.host)?;
         let path = self.path.copy(alloc)?;
         let query = text_copy(alloc, &self.query)?;
@@ -160,6 +192,16 @@ impl Record {
             query,
             fragment,
         })
+    }
+}
+
+// A name that stands in the program is not copied.
+fn scheme_copy(alloc: Global, scheme: &CowStr<'static>) -> Result<CowStr<'static>, AllocError>
+    ensures { IfOk result (λ copy. cow_str_bytes copy ≡ cow_str_bytes scheme.now) }
+{
+    match scheme {
+        CowStr::Borrowed(name) => Ok(CowStr::Borrowed(name)),
+        CowStr::Owned(text) => Ok(CowStr::Owned(String::from_str(alloc, text.as_str())?)),
     }
 }
 

@@ -4,6 +4,7 @@ ghost use Rattle.std.specs.Prelude.{string_bytes};
 ghost use Rattle.std.specs.Io.{StartsWith};
 ghost use Rattle.uv_model.specs.Records.Serialize.{serial, serial_authority, serial_host, serial_path, serial_port};
 ghost use Rattle.uv_model.specs.Records.Serialize.{serial_segments};
+ghost use Rattle.uv_model.specs.declared.path.UrlPath.TheVariants.{Segments};
 ghost use Rattle.uv_model.specs.Ascii.{colon, question_mark, number_sign};
 ghost use Rattle.uv_model.specs.Parts.{written_behind};
 
@@ -11,6 +12,7 @@ use crate::host::Host;
 use crate::path::UrlPath;
 use crate::record::Record;
 use crate::text::Text;
+use crate::text_list::{Listed, ListedTexts, TextList};
 use std::alloc::{AllocError, Global};
 
 impl Record {
@@ -61,7 +63,10 @@ fn host_room(host: Option<&Host>) -> usize {
 fn path_room(path: &UrlPath) -> usize {
     match path {
         UrlPath::Opaque(text) => text.as_str().len(),
-        UrlPath::Segments(segments) => segments_room(segments.as_slice()),
+        UrlPath::Segments(list) => match list.listed() {
+            Listed::Texts(segments) => segments_room(segments.as_slice()),
+            Listed::Path(path) => path.as_str().len(),
+        },
     }
 }
 
@@ -132,11 +137,19 @@ fn dot_prefix(path: &UrlPath) -> &'static str
     ensures { result.now ≡ serial_authority None None path.now }
 {
     match path {
-        UrlPath::Segments(segments) => match segments.as_slice() {
-            [first, _, ..] if first.as_str().is_empty() => "/.",
-            _ => "",
-        },
+        UrlPath::Segments(list) => dot_before(list.iter()),
         UrlPath::Opaque(_) => "",
+    }
+}
+
+// The same before these segments.
+fn dot_before(segments: ListedTexts<'_>) -> &'static str
+    ensures { result.now ≡ serial_authority None None (Segments segments.entry) }
+{
+    let mut left = segments;
+    match (left.next_text(), left.next_text()) {
+        (Some(first), Some(_)) if first.is_empty() => "/.",
+        _ => "",
     }
 }
 
@@ -169,7 +182,18 @@ fn push_path(out: &mut String, path: &UrlPath) -> Result<(), AllocError>
 {
     match path {
         UrlPath::Opaque(text) => out.push_str(text.as_str()),
-        UrlPath::Segments(segments) => push_segments(out, segments.as_slice()),
+        UrlPath::Segments(list) => push_list(out, list),
+    }
+}
+
+// The segments of a path, each behind a `/`.
+fn push_list(out: &mut String, list: &TextList) -> Result<(), AllocError>
+    ensures ok { OnOk result (string_bytes out.new ≡ string_bytes out.old ++ serial_segments list.now) }
+    ensures err { OnErr result (StartsWith (string_bytes out.new) (string_bytes out.old)) }
+{
+    match list.listed() {
+        Listed::Texts(segments) => push_segments(out, segments.as_slice()),
+        Listed::Path(path) => out.push_str(path.as_str()),
     }
 }
 

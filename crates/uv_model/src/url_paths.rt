@@ -1,8 +1,9 @@
 //! Whether a path may stand in a record, by the class of the scheme and the host (URL Standard, section 4.1).
-ghost use Rattle.std.specs.Prelude.{◌≡◌, ◌↔◌, IsTrue, option_copied, true};
+ghost use Rattle.std.specs.Prelude.{◌≡◌, ◌↔◌, IsTrue, chars, option_copied, true};
 ghost use Rattle.uv_model.specs.Path.{IsSegment, ends_with_space, starts_with_slash};
 ghost use Rattle.uv_model.specs.Records.WellFormed.{AreUrlSegments, IsUrlOpaquePath, IsUrlPath, IsUrlSegment};
-ghost use Rattle.uv_model.specs.Records.WellFormed.{IsEncodedSpacedPath, IsUnspacedPath, is_ascii_text, may_be_empty};
+ghost use Rattle.uv_model.specs.Records.WellFormed.{AreSegmentsOf, IsEncodedSpacedPath, IsUnspacedPath, is_ascii_text};
+ghost use Rattle.uv_model.specs.Records.WellFormed.{may_be_empty};
 
 use crate::ascii_units::{is_ascii_text, is_ascii_units, is_spaced, is_without};
 use crate::host::Host;
@@ -11,6 +12,7 @@ use crate::profile::Profile;
 use crate::scheme::Class;
 use crate::segments::{is_double_dot, is_single_dot};
 use crate::text::Text;
+use crate::text_list::ListedTexts;
 
 /// Whether a URL of this class with this host may have the path, by the profile.
 pub fn is_url_path(class: Class, host: Option<&Host>, path: &UrlPath, profile: Profile) -> bool
@@ -23,13 +25,7 @@ pub fn is_url_path(class: Class, host: Option<&Host>, path: &UrlPath, profile: P
             }
             is_url_opaque_path(text, profile)
         }
-        UrlPath::Segments(list) => {
-            let segments = list.as_slice();
-            if segments.is_empty() {
-                return may_be_empty(class, host);
-            }
-            are_url_segments(segments)
-        }
+        UrlPath::Segments(list) => are_segments_of(class, host, list.iter()),
     }
 }
 
@@ -108,30 +104,40 @@ fn starts_with_slash(text: &[u8]) -> bool
     }
 }
 
-fn are_url_segments(segments: &[Text]) -> bool
-    ensures { IsTrue result ↔ AreUrlSegments segments.now }
+// Whether these may be the segments of a path: where there are none, only behind a host of class Other.
+fn are_segments_of(class: Class, host: Option<&Host>, segments: ListedTexts<'_>) -> bool
+    ensures { IsTrue result ↔ AreSegmentsOf class (option_copied host.entry) segments.entry }
 {
     let mut left = segments;
-    while let [segment, rest @ ..] = left {
+    match left.next_text() {
+        Some(first) => is_url_segment(first) && are_url_segments(left),
+        None => may_be_empty(class, host),
+    }
+}
+
+fn are_url_segments(segments: ListedTexts<'_>) -> bool
+    ensures { IsTrue result ↔ AreUrlSegments segments.entry }
+{
+    let mut left = segments;
+    while let Some(segment) = left.next_text() {
         if !is_url_segment(segment) {
             return false;
         }
-        left = rest;
     }
     true
 }
 
-fn is_url_segment(segment: &Text) -> bool
+fn is_url_segment(segment: &str) -> bool
+    requires { chars segment.now ≡ segment.now }
     ensures { IsTrue result ↔ IsUrlSegment segment.now }
 {
-    let text = segment.as_str();
-    if !is_ascii_segment(text.as_bytes()) {
+    if !is_ascii_segment(segment.as_bytes()) {
         return false;
     }
-    if is_single_dot(text) {
+    if is_single_dot(segment) {
         return false;
     }
-    !is_double_dot(text)
+    !is_double_dot(segment)
 }
 
 fn is_ascii_segment(text: &[u8]) -> bool

@@ -8,4 +8,5 @@ pub mod PlainReferenceLemmas
 pub mod RecordLemmas
 pub mod SpacedEndLemmas
 pub mod RunLemmas
+pub mod PathTextLemmas
 mod WalkLemmas

@@ -3,14 +3,14 @@ use Rattle.std.proofs.Common.{◌≡◌, ◌≢◌, ℕ, ◌+◌, ◌-◌, ◌==
 use Rattle.std.proofs.Common.{◌∙◌, append_assoc, arith, drop, length}
 use Rattle.std.proofs.Math.Seq.{drop-append_seam}
 use Rattle.std.proofs.lemmas.List.{length-append}
-use Rattle.std.proofs.lemmas.List.Splits.{join_with_byte-slice_split, length-slice_split}
+use Rattle.std.proofs.lemmas.List.Splits.{length-slice_split}
 use Rattle.std.specs.List.{list_all, join_with_byte}
 use Rattle.uv_model.specs.declared.scheme.Class.TheVariants.{Special}
 use Rattle.uv_model.specs.Ascii.{slash}
 use Rattle.uv_model.specs.Path.{JoinsTo, is_double_dot, is_single_dot, walk, walk_one}
 use Rattle.uv_model.specs.Records.Serialize.{serial_segments}
 use Rattle.uv_parser.proofs.RoundTrip.SerializedTexts.{serial_segments-joined}
-use Rattle.uv_grammar.specs.Built.{pieces}
+use Rattle.uv_model.specs.Path.{pieces}
 use Rattle.uv_resolve.specs.OwnText.{has_no_dots, is_never_encoded}
 use Rattle.uv_resolve.specs.PlainReference.{GoesOn, behind_dot, dot_segment}
 use Rattle.uv_resolve.proofs.KeptPathLemmas.{kept-segments}
@@ -47,16 +47,6 @@ some_pieces : (text : List ℕ) (segments : List (List ℕ)) → pieces text ≡
 some_pieces text segments is =
     λ none. let counted = sym (ap length (is ∙ none)) ∙ length-slice_split (λ c. c == slash) text in
     absurd (omega (arith, counted))
-
--- each behind `/`, they are `/` and the text
-pub pieces-serial : (text : List ℕ) → serial_segments (pieces text) ≡ slash ∷ text
-pieces-serial text = go (pieces text) refl
-  where
-    go : (segments : List (List ℕ)) → pieces text ≡ segments → serial_segments segments ≡ slash ∷ text
-    go [] is = absurd (some_pieces text [] is refl)
-    go (first ∷ others) is =
-        serial_segments-joined first others ∙ ap (λ s. slash ∷ join_with_byte slash s) (sym is)
-        ∙ ap (λ t. slash ∷ t) (join_with_byte-slice_split slash text)
 
 -- ---- leading dot segments
 

@@ -14,7 +14,7 @@ use Rattle.uv_model.specs.declared.path.UrlPath.TheVariants.{Segments}
 use Rattle.uv_model.specs.Ascii.{slash, question_mark, number_sign}
 use Rattle.uv_model.specs.Parts.{Form, PathAbsolute, PathRelative, NoPath, Parts, has_scheme, written, written_behind}
 use Rattle.uv_model.specs.Parts.{SchemeAuthority, SchemePath, SchemeOpaque, Authority}
-use Rattle.uv_model.specs.Path.{IsPathRelative, walk, without_last}
+use Rattle.uv_model.specs.Path.{IsPathRelative, segments_behind, walk, without_last}
 use Rattle.uv_model.specs.Records.Denote.{denote, denoted_host, denoted_path, denoted_port, denoted_query}
 use Rattle.uv_model.specs.Records.Denote.{denoted_scheme, listed_segments}
 use Rattle.uv_model.specs.Records.Serialize.{serial, serial_host, serial_path, serial_port, serial_segments}
@@ -23,13 +23,14 @@ use Rattle.uv_model.specs.Scheme.{scheme_class}
 use Rattle.uv_model.specs.Setting.{scheme_or, setting_of}
 use Rattle.uv_model.specs.Valid.{FitsForm, FitsScheme, HasNoAuthority, Valid}
 use Rattle.uv_model.proofs.Cuts.UniqueParts.{joined_segments}
-use Rattle.uv_grammar.specs.Built.{pieces}
+use Rattle.uv_model.specs.Path.{pieces}
 use Rattle.uv_resolve.specs.OwnText.{has_no_dots, is_never_encoded}
 use Rattle.uv_resolve.specs.PlainReference.{GoesOn, GoesOnBehind, IsPlainBase, IsPlainPath, IsPlainReference}
 use Rattle.uv_resolve.specs.PlainReference.{between, origin}
 use Rattle.uv_resolve.proofs.OwnTextLemmas.{ascii_bytes, behind, both, encoded-kept, fragment-kept}
 use Rattle.uv_resolve.proofs.OwnTextLemmas.{never_encoded-ascii, valid_bytes}
-use Rattle.uv_resolve.proofs.PlainPathLemmas.{behind_front, joined-serial, pieces-serial, walk-written}
+use Rattle.uv_model.proofs.Paths.PathTexts.{pieces-serial}
+use Rattle.uv_resolve.proofs.PlainPathLemmas.{behind_front, joined-serial, walk-written}
 use Rattle.uv_resolve.proofs.RecordLemmas.{denote-fields, fields}
 
 -- ---- the ends of a text
@@ -86,9 +87,9 @@ origin-kept base parts form segments path query is keeps path_is query_is bytes 
     (sym (fragment-kept parts.fragment bytes)))
 
 -- a base of class Special that has a domain and segments
-pub found_base : (base : Url) (found : Option (Bor (List ℕ) × Bor (List (List ℕ)))) → scheme_class base.scheme ≡ Special
-    → IfSome found (λ f. (base.host ≡ Some (Domain f.0.now)) × (base.path ≡ Segments f.1.now))
-    → IfSome found (λ f. IsPlainBase base f.0.now f.1.now)
+pub found_base : (base : Url) (found : Option (Bor (List ℕ) × Bor (List ℕ))) → scheme_class base.scheme ≡ Special
+    → IfSome found (λ f. (base.host ≡ Some (Domain f.0.now)) × (base.path ≡ Segments (segments_behind f.1.now)))
+    → IfSome found (λ f. IsPlainBase base f.0.now (segments_behind f.1.now))
 found_base base None special has = tt
 found_base base (Some f) special (host, path) = record { special = special; host = host; path = path }
 
@@ -300,9 +301,9 @@ seen_absolute bytes utf8 segments no_dots =
 
 -- and any other
 pub seen_relative : (bytes : List ℕ) → IsUtf8 bytes → (segments : List (List ℕ))
-    → (found : Option (Bor (List (List ℕ)) × ℕ))
-    → IfSome found (λ f. GoesOnBehind (without_last segments) bytes f.0.now f.1)
-    → IfSome found (λ f. IsPlainPath PathRelative (chars bytes) segments f.0.now f.1)
+    → (found : Option (Bor (List ℕ) × ℕ))
+    → IfSome found (λ f. GoesOnBehind (without_last segments) bytes (segments_behind f.0.now) f.1)
+    → IfSome found (λ f. IsPlainPath PathRelative (chars bytes) segments (segments_behind f.0.now) f.1)
 seen_relative bytes utf8 segments None goes = tt
 seen_relative bytes utf8 segments (Some f) goes =
-    λ ascii. subst (λ t. GoesOnBehind (without_last segments) t f.0.now f.1) (ascii_bytes bytes utf8 ascii) goes
+    λ ascii. subst (λ t. GoesOnBehind (without_last segments) t (segments_behind f.0.now) f.1) (ascii_bytes bytes utf8 ascii) goes

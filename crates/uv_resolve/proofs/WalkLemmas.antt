@@ -1,9 +1,8 @@
 -- A walk is a step for each segment, and an empty segment where the last one is a dot segment.
-use Rattle.std.proofs.Common.{◌≡◌, ℕ, Bool, true, false, List, [], ◌∷◌, ◌++◌, ◌-◌, suc, length, take, arith, refl, ap}
-use Rattle.std.proofs.Common.{inl, inr}
+use Rattle.std.proofs.Common.{◌≡◌, ℕ, Bool, true, false, List, [], ◌∷◌, ◌++◌, refl, inl, inr}
 use Rattle.std.proofs.lemmas.Bool.{cases_Bool}
 use Rattle.uv_model.specs.declared.scheme.Class.{Class}
-use Rattle.uv_model.specs.Path.{is_single_dot, is_double_dot, walk_one, walk, without_last}
+use Rattle.uv_model.specs.Path.{is_single_dot, is_double_dot, walk_one, walk}
 use Rattle.uv_resolve.specs.Walk.{is_dots}
 
 -- the empty segment behind a dot segment
@@ -42,11 +41,3 @@ pub walk-continued : (class : Class) (path segments : List (List ℕ))
 unfolding walk
 walk-continued class path [] = refl
 walk-continued class path (segment ∷ rest) = continued-some class path false segment rest
-
--- the list without its last segment is the prefix that is one shorter
-pub without_last-take : (xs : List (List ℕ)) → without_last xs ≡ take (length xs - 1) xs
-without_last-take [] = refl
-without_last-take (first ∷ []) = refl
-without_last-take (first ∷ next ∷ rest) =
-    let counted : length (first ∷ next ∷ rest) - 1 ≡ suc (length (next ∷ rest) - 1) = omega arith in
-    rw counted (ap (λ xs. first ∷ xs) (without_last-take (next ∷ rest)))

@@ -5,7 +5,7 @@ use Rattle.std.specs.List.{list_all}
 use Rattle.std.specs.Char.{is_ascii}
 use Rattle.uv_model.specs.Ascii.{apostrophe, full_stop, percent_sign, slash}
 use Rattle.uv_model.specs.declared.host.Host.{Host}
-use Rattle.uv_model.specs.declared.scheme.Class.TheVariants.{Other}
+use Rattle.uv_model.specs.declared.scheme.Class.TheVariants.{Other, Special}
 use Rattle.uv_model.specs.Parts.{SchemeAuthority, Parts}
 use Rattle.uv_model.specs.Path.{is_double_dot, is_single_dot}
 use Rattle.uv_model.specs.Records.Serialize.{serial_host}
@@ -23,6 +23,12 @@ is_kept_segment segment = not (is_double_dot segment) && not (is_single_dot segm
 pub record IsOwnScheme (scheme : List ℕ) : Type 0 where
   pub special : scheme_class scheme ≢ Other
   pub lower : lowercase scheme ≡ scheme
+
+-- a scheme of HTTP, written as its name
+pub record IsHttpName (scheme name : List ℕ) : Type 0 where
+  pub class : scheme_class scheme ≡ Special
+  pub lower : lowercase scheme ≡ name
+  pub own : scheme ≡ name
 
 -- the scheme of the text is one
 abbrev pub HasOwnScheme : Option (List ℕ) → Type 0

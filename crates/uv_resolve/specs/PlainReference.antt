@@ -13,7 +13,7 @@ use Rattle.uv_model.specs.Records.Denote.{denote}
 use Rattle.uv_model.specs.Records.Serialize.{serial, serial_port}
 use Rattle.uv_model.specs.Records.Url.{Url}
 use Rattle.uv_model.specs.Scheme.{scheme_class}
-use Rattle.uv_grammar.specs.Built.{pieces}
+use Rattle.uv_model.specs.Path.{pieces}
 use Rattle.uv_resolve.specs.OwnText.{has_no_dots, is_never_encoded}
 
 -- a base of a special scheme but `file` with a domain, and a path of these segments

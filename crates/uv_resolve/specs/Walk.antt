@@ -1,7 +1,23 @@
--- Dot segments of a walk, after the URL Standard, section 4.3.
-use Rattle.std.specs.Prelude.{ℕ, Bool, ◌||◌, List}
-use Rattle.uv_model.specs.Path.{is_single_dot, is_double_dot}
+-- Walks over segments, after the URL Standard, sections 4.3 and 4.4.
+use Rattle.std.specs.Prelude.{◌≡◌, ℕ, Bool, ◌||◌, List, [], ◌∷◌, ◌++◌, Option, Some, None}
+use Rattle.std.specs.Str.{IsAscii}
+use Rattle.uv_model.specs.declared.scheme.Class.{Class}
+use Rattle.uv_model.specs.Parts.{Form}
+use Rattle.uv_model.specs.Path.{is_single_dot, is_double_dot, segments_of, walk}
+use Rattle.uv_grammar.specs.Built.{segments_in}
 
 -- a single-dot or a double-dot URL path segment
 abbrev pub is_dots : List ℕ → Bool
 is_dots segment = is_double_dot segment || is_single_dot segment
+
+-- the bytes of a path's text, each segment of which a walk keeps as it is
+pub record IsKeptPath (bytes : List ℕ) (form : Form) (text : List ℕ) : Type 0 where
+  pub ascii : IsAscii bytes
+  pub are : segments_in form text ≡ segments_of bytes
+  pub kept : (class : Class) (start : List (List ℕ))
+      → walk class start (segments_of bytes) ≡ start ++ segments_of bytes
+
+-- the first segment, where there is one, which is ASCII
+abbrev pub StartsSegments : Option (List ℕ) → List (List ℕ) → Type 0
+StartsSegments None segments = segments ≡ []
+StartsSegments (Some first) segments = (rest : List (List ℕ)) × (segments ≡ first ∷ rest) × IsAscii first

@@ -1,16 +1,21 @@
 //! The path of the record that the parts of a valid text denote, after the URL Standard, section 4.4.
-ghost use Rattle.std.specs.Prelude.{◌≡◌, ◌∷◌, [], ℕ, List, IfOk, IsTrue, true, false, chars, map, option_copied, string_bytes};
+ghost use Rattle.std.specs.Prelude.{◌≡◌, ◌∷◌, [], IfOk, IfSome, MatchOption, true, false, chars};
+ghost use Rattle.std.specs.Prelude.{option_copied, string_bytes};
 ghost use Rattle.uv_model.specs.Records.Denote as spec;
+ghost use Rattle.uv_model.specs.Records.WellFormed.{AreUrlSegments};
 ghost use Rattle.uv_model.specs.Encoding.{encoded};
 ghost use Rattle.uv_model.specs.Path as path_spec;
 ghost use Rattle.uv_resolve.specs.Resolve.{HaveValidText};
+ghost use Rattle.uv_resolve.specs.Walk.{IsKeptPath, StartsSegments};
 
 use crate::encoded_parts::encoded_part;
+use crate::own_text::{is_never_encoded, is_without_dots};
 use crate::walker::{shorten, walk};
 use std::alloc::{AllocError, Global};
 use uv_grammar::{Form, Parts};
 use uv_model::{
-    Class, Record, Text, TextList, UrlPath, is_drive_letter, is_normalized_drive_letter,
+    Class, ListedTexts, PathText, Record, Text, TextList, UrlPath, is_drive_letter,
+    is_normalized_drive_letter,
 };
 
 /// The path that the parts denote against the base, in a URL of this class.
@@ -26,10 +31,10 @@ pub(crate) fn path_of(
 {
     match parts.form() {
         Form::SchemeAuthority | Form::Authority => authority_path(alloc, class, parts),
-        Form::SchemePath => walked(alloc, class, Vec::new(alloc), parts),
+        Form::SchemePath => walked(alloc, class, path_for(alloc, parts)?, parts),
         Form::SchemeOpaque => opaque_path(alloc, parts.path_text(), has_tail(parts)),
         Form::PathAbsolute => walked(alloc, class, kept_drive(alloc, class, parts, base)?, parts),
-        Form::PathRelative => walked(alloc, class, shortened(alloc, class, base)?, parts),
+        Form::PathRelative => walked(alloc, class, shortened(alloc, class, parts, base)?, parts),
         Form::NoPath => base_path(alloc, base),
     }
 }
@@ -40,7 +45,7 @@ fn authority_path(alloc: Global, class: Class, parts: &Parts<'_>) -> Result<UrlP
         path ≡ UrlPath.Segments (spec.authority_path class parts.now.segments)) }
 {
     match parts.segments().next() {
-        Some(_) => walked(alloc, class, Vec::new(alloc), parts),
+        Some(_) => walked(alloc, class, path_for(alloc, parts)?, parts),
         None => root(alloc, class),
     }
 }
@@ -49,26 +54,65 @@ fn authority_path(alloc: Global, class: Class, parts: &Parts<'_>) -> Result<UrlP
 fn root(alloc: Global, class: Class) -> Result<UrlPath, AllocError>
     ensures { IfOk result (λ path. path ≡ UrlPath.Segments (spec.authority_path class [])) }
 {
-    let mut path = Vec::new(alloc);
+    let mut path = PathText::new(alloc);
     match class {
-        Class::Special | Class::File => path.push(Text::of(String::new(alloc)))?,
+        Class::Special | Class::File => path.push("")?,
         Class::Other => {}
     }
-    Ok(UrlPath::Segments(TextList::of(path)))
+    Ok(UrlPath::Segments(TextList::of_path(path)))
+}
+
+// A path without segments, with room for those of the text.
+fn path_for(alloc: Global, parts: &Parts<'_>) -> Result<PathText, AllocError>
+    ensures { IfOk result (λ path. path ≡ []) }
+{
+    PathText::with_capacity(alloc, parts.path_text().len().saturating_add(1))
 }
 
 // A walk from a start list over the segments.
 fn walked(
     alloc: Global,
     class: Class,
-    start: Vec<Text>,
+    start: PathText,
     parts: &Parts<'_>,
 ) -> Result<UrlPath, AllocError>
     ensures { IfOk result (λ path.
-        path ≡ UrlPath.Segments (path_spec.walk class start.items parts.now.segments)) }
+        path ≡ UrlPath.Segments (path_spec.walk class start parts.now.segments)) }
 {
-    let path = walk(alloc, class, start, parts.segments())?;
-    Ok(UrlPath::Segments(TextList::of(path)))
+    let path = walk_segments(alloc, class, start, parts)?;
+    Ok(UrlPath::Segments(TextList::of_path(path)))
+}
+
+// The same: at once where each segment stays as it is.
+fn walk_segments(
+    alloc: Global,
+    class: Class,
+    start: PathText,
+    parts: &Parts<'_>,
+) -> Result<PathText, AllocError>
+    ensures { IfOk result (λ path. path ≡ path_spec.walk class start parts.now.segments) }
+{
+    let segments = parts.segments();
+    match kept_path(parts) {
+        Some(text) => {
+            let mut path = start;
+            path.push_path(text)?;
+            Ok(path)
+        }
+        None => walk(alloc, class, start, segments),
+    }
+}
+
+// The text of a path in which no segment is encoded, and none begins as a dot segment does.
+fn kept_path<'t>(parts: &Parts<'t>) -> Option<&'t str>
+    ensures { IfSome result (λ text. IsKeptPath text.now parts.now.form parts.now.path_text) }
+{
+    let text = parts.path_text();
+    match parts.form() {
+        Form::SchemeOpaque => None,
+        _ if is_never_encoded(text) && is_without_dots(true, text.as_bytes()) => Some(text),
+        _ => None,
+    }
 }
 
 // A query or a fragment follows the path.
@@ -120,24 +164,32 @@ fn kept_drive(
     class: Class,
     parts: &Parts<'_>,
     base: Option<&Record>,
-) -> Result<Vec<Text>, AllocError>
-    ensures { IfOk result (λ path. path.items
+) -> Result<PathText, AllocError>
+    ensures { IfOk result (λ path. path
         ≡ spec.kept_drive class (spec.listed_segments (spec.base_path (option_copied base.entry))) parts.now.segments) }
 {
-    match (class, base_slice(base), parts.segments().next()) {
-        (Class::File, [drive, ..], Some(first)) => drive_or_none(alloc, drive, first),
-        _ => Ok(Vec::new(alloc)),
+    match (class, first_segment(base), parts.segments().next()) {
+        (Class::File, Some(drive), Some(first)) => drive_or_none(alloc, drive, first),
+        _ => path_for(alloc, parts),
     }
 }
 
-// The base's first segment, where it is a normalized drive letter and the text's first is no drive letter.
-fn drive_or_none(alloc: Global, drive: &Text, first: &str) -> Result<Vec<Text>, AllocError>
-    ensures { IfOk result (λ path.
-        path.items ≡ spec.kept_drive Class.File (drive.now ∷ []) (chars first.now ∷ [])) }
+// The first segment of the base's path.
+fn first_segment<'b>(base: Option<&'b Record>) -> Option<&'b str>
+    ensures { StartsSegments (option_copied result) (spec.listed_segments (spec.base_path (option_copied base.entry))) }
 {
-    let mut path = Vec::new(alloc);
-    if is_normalized_drive_letter(drive.as_str().as_bytes()) && !is_drive(first) {
-        path.push(drive.copy(alloc)?)?;
+    let mut segments = base_list(base)?.iter();
+    segments.next_text()
+}
+
+// The base's first segment, where it is a normalized drive letter and the text's first is no drive letter.
+fn drive_or_none(alloc: Global, drive: &str, first: &str) -> Result<PathText, AllocError>
+    ensures { IfOk result (λ path.
+        path ≡ spec.kept_drive Class.File (drive.now ∷ []) (chars first.now ∷ [])) }
+{
+    let mut path = PathText::new(alloc);
+    if is_normalized_drive_letter(drive.as_bytes()) && !is_drive(first) {
+        path.push(drive)?;
     }
     Ok(path)
 }
@@ -148,39 +200,64 @@ fn is_drive(segment: &str) -> bool
     is_drive_letter(segment.as_bytes())
 }
 
-// The segments of the base's path.
-fn base_slice<'b>(base: Option<&'b Record>) -> &'b [Text]
-    ensures { result.now ≡ spec.listed_segments (spec.base_path (option_copied base.entry)) }
+// The segments of the base's path, where it has such.
+fn base_list<'b>(base: Option<&'b Record>) -> Option<&'b TextList>
+    ensures listed { MatchOption result (spec.listed_segments (spec.base_path (option_copied base.entry)) ≡ [])
+        (λ list. spec.listed_segments (spec.base_path (option_copied base.entry)) ≡ list.now) }
+    ensures well_formed { IfSome result (λ list. AreUrlSegments list.now) }
 {
-    let Some(base) = base else {
-        return &[];
-    };
-    match base.path() {
-        UrlPath::Segments(segments) => segments.as_slice(),
-        UrlPath::Opaque(_) => &[],
+    match base?.path() {
+        UrlPath::Segments(list) => Some(list),
+        UrlPath::Opaque(_) => None,
     }
 }
 
-// The base's path without its last segment.
-fn shortened(alloc: Global, class: Class, base: Option<&Record>) -> Result<Vec<Text>, AllocError>
-    ensures { IfOk result (λ path. path.items
+// The base's path without its last segment, with room for the text's.
+fn shortened(
+    alloc: Global,
+    class: Class,
+    parts: &Parts<'_>,
+    base: Option<&Record>,
+) -> Result<PathText, AllocError>
+    ensures { IfOk result (λ path. path
         ≡ path_spec.shorten class (spec.listed_segments (spec.base_path (option_copied base.entry)))) }
 {
-    let mut path = base_segments(alloc, base)?;
+    let Some(list) = base_list(base) else {
+        return path_for(alloc, parts);
+    };
+    let mut path = path_with(alloc, list, parts.path_text().len().saturating_add(1))?;
     shorten(class, &mut path);
     Ok(path)
 }
 
-fn base_segments(alloc: Global, base: Option<&Record>) -> Result<Vec<Text>, AllocError>
-    ensures { IfOk result (λ path. path.items ≡ spec.listed_segments (spec.base_path (option_copied base.entry))) }
+// A path of these segments, with room for some more.
+fn path_with(alloc: Global, list: &TextList, room: usize) -> Result<PathText, AllocError>
+    requires { AreUrlSegments list.now }
+    ensures { IfOk result (λ path. path ≡ list.now) }
 {
-    let Some(base) = base else {
-        return Ok(Vec::new(alloc));
+    let Some(text) = list.as_path() else {
+        return path_of_each(alloc, list.iter(), room);
     };
-    match base.path() {
-        UrlPath::Segments(segments) => Ok(segments.copy(alloc)?.into_items()),
-        UrlPath::Opaque(_) => Ok(Vec::new(alloc)),
+    let mut path = PathText::with_capacity(alloc, text.len().saturating_add(room))?;
+    path.push_path(text)?;
+    Ok(path)
+}
+
+// The same of segments one by one.
+fn path_of_each(
+    alloc: Global,
+    segments: ListedTexts<'_>,
+    room: usize,
+) -> Result<PathText, AllocError>
+    requires { AreUrlSegments segments }
+    ensures { IfOk result (λ path. path ≡ segments.entry) }
+{
+    let mut path = PathText::with_capacity(alloc, room)?;
+    let mut left = segments;
+    while let Some(segment) = left.next_text() {
+        path.push(segment)?;
     }
+    Ok(path)
 }
 
 fn base_path(alloc: Global, base: Option<&Record>) -> Result<UrlPath, AllocError>
@@ -188,6 +265,6 @@ fn base_path(alloc: Global, base: Option<&Record>) -> Result<UrlPath, AllocError
 {
     match base {
         Some(base) => base.path().copy(alloc),
-        None => Ok(UrlPath::Segments(TextList::of(Vec::new(alloc)))),
+        None => Ok(UrlPath::Segments(TextList::of_path(PathText::new(alloc)))),
     }
 }

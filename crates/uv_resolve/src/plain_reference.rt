@@ -5,7 +5,8 @@ ghost use Rattle.std.specs.Str.{IsAscii};
 ghost use Rattle.uv_model.specs.declared.host.Host.TheVariants.{Domain};
 ghost use Rattle.uv_model.specs.declared.path.UrlPath.TheVariants.{Segments};
 ghost use Rattle.uv_model.specs.Parts.{written_behind};
-ghost use Rattle.uv_model.specs.Path.{without_last};
+ghost use Rattle.uv_model.specs.Path.{segments_behind};
+ghost use Rattle.uv_model.specs.Records.PathText.{IsPathText, IsTextOf};
 ghost use Rattle.uv_model.specs.Records.Serialize.{serial_segments};
 ghost use Rattle.uv_grammar.specs.Form.{seen_form};
 ghost use Rattle.uv_resolve.specs.PlainReference as spec;
@@ -18,7 +19,7 @@ use crate::own_authority::{is_special, own_authority};
 use crate::own_text::{is_never_encoded, is_without_dots};
 use std::alloc::{AllocError, Global};
 use uv_grammar::{Form, Parts};
-use uv_model::{Host, Record, Text, UrlPath};
+use uv_model::{Host, Record, UrlPath, without_last_segment};
 
 /// The text of the URL that a valid reference denotes against its base, where the base has a special scheme and a
 /// domain, no segment of the reference begins as a dot segment does but for `./` and `../` at its start, and nothing is
@@ -39,18 +40,19 @@ pub(crate) fn plain_reference(
     if let Form::Authority = parts.form() {
         return own_authority(alloc, text, parts, base);
     }
-    let Some((domain, segments)) = plain_base(base) else {
+    let Some((domain, path)) = plain_base(base) else {
         return Ok(None);
     };
-    match plain_start(text, parts, segments) {
+    match plain_start(text, parts, path) {
         Some((kept, rest)) => Ok(Some(write(alloc, rest, parts, base, domain, kept)?)),
         None => Ok(None),
     }
 }
 
-// The domain and the segments of a base, where it has these.
-fn plain_base<'b>(base: &'b Record) -> Option<(&'b str, &'b [Text])>
-    ensures { IfSome result (λ found. IsPlainBase base.now found.0.now found.1.now) }
+// The domain and the path of a base, where it has a domain and a path's text.
+fn plain_base<'b>(base: &'b Record) -> Option<(&'b str, &'b str)>
+    ensures base { IfSome result (λ found. IsPlainBase base.now found.0.now (segments_behind found.1.now)) }
+    ensures path { IfSome result (λ found. IsPathText found.1.now) }
 {
     if is_special(base) {
         listed_base(base)
@@ -59,28 +61,31 @@ fn plain_base<'b>(base: &'b Record) -> Option<(&'b str, &'b [Text])>
     }
 }
 
-fn listed_base<'b>(base: &'b Record) -> Option<(&'b str, &'b [Text])>
-    ensures { IfSome result (λ found.
-        (base.now.host ≡ Some (Domain found.0.now)) × (base.now.path ≡ Segments found.1.now)) }
+fn listed_base<'b>(base: &'b Record) -> Option<(&'b str, &'b str)>
+    ensures base { IfSome result (λ found.
+        (base.now.host ≡ Some (Domain found.0.now)) × (base.now.path ≡ Segments (segments_behind found.1.now))) }
+    ensures path { IfSome result (λ found. IsPathText found.1.now) }
 {
     match (base.host(), base.path()) {
-        (Some(Host::Domain(form)), UrlPath::Segments(segments)) => {
-            Some((form.as_str(), segments.as_slice()))
+        (Some(Host::Domain(form)), UrlPath::Segments(list)) => {
+            Some((form.as_str(), list.as_path()?))
         }
         _ => None,
     }
 }
 
-// The segments of the base's path that stay before a plain reference, and the rest of its text behind them.
+// What stays of the base's path before a plain reference, and the rest of its text behind that.
 fn plain_start<'b, 't>(
     text: &'t str,
     parts: &Parts<'_>,
-    segments: &'b [Text],
-) -> Option<(&'b [Text], &'t str)>
-    ensures { IfSome result (λ found.
-        IsPlainReference text.now parts.now segments.now found.0.now found.1.now) }
+    path: &'b str,
+) -> Option<(&'b str, &'t str)>
+    requires { IsPathText path.now }
+    ensures reference { IfSome result (λ found. IsPlainReference text.now parts.now (segments_behind path.now)
+        (segments_behind found.0.now) found.1.now) }
+    ensures path { IfSome result (λ found. IsPathText found.0.now) }
 {
-    let Some((kept, skipped)) = plain_path(parts.form(), parts.path_text(), segments) else {
+    let Some((kept, skipped)) = plain_path(parts.form(), parts.path_text(), path) else {
         return None;
     };
     if !is_never_encoded(text) {
@@ -103,24 +108,29 @@ fn behind<'t>(text: &'t str, skipped: usize) -> Option<&'t str>
     Some(&text[skipped..])
 }
 
-// The segments of the base's path that stay before a plain path, and the number of its bytes that are skipped.
-fn plain_path<'b>(form: Form, path_text: &str, segments: &'b [Text]) -> Option<(&'b [Text], usize)>
-    ensures { IfSome result (λ found.
-        IsPlainPath (seen_form form) (chars path_text.now) segments.now found.0.now found.1) }
+// What stays of the base's path before a plain path, and the number of its bytes that are skipped.
+fn plain_path<'b>(form: Form, path_text: &str, path: &'b str) -> Option<(&'b str, usize)>
+    requires { IsPathText path.now }
+    ensures plain { IfSome result (λ found. IsPlainPath (seen_form form) (chars path_text.now)
+        (segments_behind path.now) (segments_behind found.0.now) found.1) }
+    ensures path { IfSome result (λ found. IsPathText found.0.now) }
 {
     match form {
-        Form::PathAbsolute if is_without_dots(false, path_text.as_bytes()) => Some((&[], 0)),
-        Form::PathRelative => goes_on_behind(but_last(segments), path_text.as_bytes()),
-        Form::NoPath => Some((segments, 0)),
+        Form::PathAbsolute if is_without_dots(false, path_text.as_bytes()) => Some(("", 0)),
+        Form::PathRelative => goes_on_behind(without_last_segment(path), path_text.as_bytes()),
+        Form::NoPath => Some((path, 0)),
         _ => None,
     }
 }
 
 // Where the walk over a path goes on behind its leading dot segments, if no other may be a dot segment.
-fn goes_on_behind<'b>(segments: &'b [Text], path: &[u8]) -> Option<(&'b [Text], usize)>
-    ensures { IfSome result (λ found. GoesOnBehind segments.now path.now found.0.now found.1) }
+fn goes_on_behind<'b>(start: &'b str, path: &[u8]) -> Option<(&'b str, usize)>
+    requires { IsPathText start.now }
+    ensures goes_on { IfSome result (λ found.
+        GoesOnBehind (segments_behind start.now) path.now (segments_behind found.0.now) found.1) }
+    ensures path { IfSome result (λ found. IsPathText found.0.now) }
 {
-    let (kept, left) = behind_dots(segments, path);
+    let (kept, left) = behind_dots(start, path);
     if is_without_dots(true, left) {
         Some((kept, path.len().saturating_sub(left.len())))
     } else {
@@ -128,11 +138,13 @@ fn goes_on_behind<'b>(segments: &'b [Text], path: &[u8]) -> Option<(&'b [Text], 
     }
 }
 
-// The segments behind a path's leading dot segments, and what is left of the path.
-fn behind_dots<'b, 'p>(segments: &'b [Text], path: &'p [u8]) -> (&'b [Text], &'p [u8])
-    ensures { GoesOn segments.now path.now result.0.now result.1.now }
+// What is kept behind a path's leading dot segments, and what is left of the path.
+fn behind_dots<'b, 'p>(start: &'b str, path: &'p [u8]) -> (&'b str, &'p [u8])
+    requires { IsPathText start.now }
+    ensures goes_on { GoesOn (segments_behind start.now) path.now (segments_behind result.0.now) result.1.now }
+    ensures path { IsPathText result.0.now }
 {
-    let mut kept = segments;
+    let mut kept = start;
     let mut left = path;
     while let Some((double, rest)) = behind_dot_segment(left) {
         kept = behind_dot(double, kept);
@@ -154,16 +166,15 @@ fn behind_dot_segment<'p>(path: &'p [u8]) -> Option<(bool, &'p [u8])>
 }
 
 // A double dot takes the last segment off.
-fn behind_dot<'b>(double: bool, segments: &'b [Text]) -> &'b [Text]
-    ensures { result.now ≡ spec.behind_dot double segments.now }
+fn behind_dot<'b>(double: bool, path: &'b str) -> &'b str
+    requires { IsPathText path.now }
+    ensures { IsTextOf (spec.behind_dot double (segments_behind path.now)) result.now }
 {
-    if double { but_last(segments) } else { segments }
-}
-
-fn but_last<'b>(segments: &'b [Text]) -> &'b [Text]
-    ensures { result.now ≡ without_last segments.now }
-{
-    &segments[..segments.len().saturating_sub(1)]
+    if double {
+        without_last_segment(path)
+    } else {
+        path
+    }
 }
 
 // The text of the URL, in one allocation.
@@ -173,33 +184,29 @@ fn write(
     parts: &Parts<'_>,
     base: &Record,
     domain: &str,
-    kept: &[Text],
+    kept: &str,
 ) -> Result<String, AllocError>
+    requires { IsPathText kept.now }
     ensures { IfOk result (λ written. string_bytes written ≡ (spec.origin base.now domain.now
-        ++ serial_segments kept.now) ++ (spec.between parts.now.form parts.now.query base.now.query ++ text.now)) }
+        ++ serial_segments (segments_behind kept.now)) ++ (spec.between parts.now.form parts.now.query base.now.query ++ text.now)) }
 {
     let room = room_for(text, parts, base, domain, kept);
     let mut written = String::with_capacity(alloc, room)?;
     push_origin(&mut written, base, domain)?;
-    push_segments(&mut written, kept)?;
+    push_kept(&mut written, kept)?;
     push_between(&mut written, parts, base)?;
     written.push_str(text)?;
     Ok(written)
 }
 
 // The length of that text, with room for any port. No clause says it: a text that outgrows it is written all the same.
-fn room_for(text: &str, parts: &Parts<'_>, base: &Record, domain: &str, kept: &[Text]) -> usize {
-    let mut room = base
-        .scheme()
+fn room_for(text: &str, parts: &Parts<'_>, base: &Record, domain: &str, kept: &str) -> usize {
+    base.scheme()
         .len()
         .saturating_add(text.len())
-        .saturating_add(domain.len());
-    for segment in kept {
-        room = room
-            .saturating_add(segment.as_str().len())
-            .saturating_add(1);
-    }
-    room.saturating_add(query_room(parts, base))
+        .saturating_add(domain.len())
+        .saturating_add(kept.len())
+        .saturating_add(query_room(parts, base))
         .saturating_add("://:65535/?".len())
 }
 
@@ -221,14 +228,12 @@ fn push_origin(out: &mut String, base: &Record, domain: &str) -> Result<(), Allo
     push_port(out, base.port())
 }
 
-// Each segment behind a `/`.
-fn push_segments(out: &mut String, segments: &[Text]) -> Result<(), AllocError>
-    ensures { OnOk result (string_bytes out.new ≡ string_bytes out.old ++ serial_segments segments.now) }
+// What stays of the base's path.
+fn push_kept(out: &mut String, kept: &str) -> Result<(), AllocError>
+    requires { IsPathText kept.now }
+    ensures { OnOk result (string_bytes out.new ≡ string_bytes out.old ++ serial_segments (segments_behind kept.now)) }
 {
-    for segment in segments {
-        push_behind(out, '/', Some(segment.as_str()))?;
-    }
-    Ok(())
+    out.push_str(kept)
 }
 
 // What stands between these segments and the reference.

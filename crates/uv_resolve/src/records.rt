@@ -1,17 +1,20 @@
 //! The record that the parts of a valid text denote, after the URL Standard, section 4.4.
-ghost use Rattle.std.specs.Prelude.{◌≡◌, ℕ, List, IfOk, None, false, chars, option_copied, option_map, string_bytes};
+ghost use Rattle.std.specs.Prelude.{◌≡◌, IfOk, IfSome, None, false, chars, option_copied, option_map, string_bytes};
+ghost use Rattle.std.specs.Cow.{cow_str_bytes};
 ghost use Rattle.std.specs.Str.{IsAscii};
 ghost use Rattle.uv_model.specs.Records.Denote as spec;
 ghost use Rattle.uv_model.specs.Encoding.{encoded};
 ghost use Rattle.uv_model.specs.Scheme.{lowercase, scheme_class};
 ghost use Rattle.uv_model.specs.Valid.{scheme_in};
 ghost use Rattle.uv_model.specs.Records.WellFormed.{WellFormed};
+ghost use Rattle.uv_resolve.specs.OwnText.{IsHttpName};
 ghost use Rattle.uv_resolve.specs.Resolve.{HaveValidText};
 ghost use Rattle.uv_grammar.specs.Slices.{chars_of_option};
 
 use crate::encoded_parts::encoded_part;
 use crate::paths::path_of;
 use std::alloc::{AllocError, Global};
+use std::borrow::CowStr;
 use uv_grammar::{Form, Parts};
 use uv_model::{Class, Host, Profile, Record, Text, class_of};
 
@@ -32,7 +35,7 @@ pub(crate) fn denoted(
     let query = query_of(alloc, class, &parts, base)?;
     let fragment = fragment_of(alloc, &parts)?;
     let host = host_of(alloc, parts, base)?;
-    Ok(Record::make(scheme, host, port, path, query, fragment))
+    Ok(Record::make_with(scheme, host, port, path, query, fragment))
 }
 
 // The class of the text's scheme, else of the base's.
@@ -40,7 +43,7 @@ fn class_in(parts: &Parts<'_>, base: Option<&Record>) -> Class
     ensures { result ≡ scheme_class (scheme_in (option_copied base.entry) parts.now) }
 {
     match parts.scheme() {
-        Some(scheme) => class_of(scheme),
+        Some(scheme) => class_by(scheme),
         None => base_class(base),
     }
 }
@@ -49,15 +52,42 @@ fn base_class(base: Option<&Record>) -> Class
     ensures { result ≡ scheme_class (spec.denoted_scheme (option_copied base.entry) None) }
 {
     match base {
-        Some(base) => class_of(base.scheme()),
+        Some(base) => class_by(base.scheme()),
         None => Class::Other,
     }
 }
 
-fn scheme_of(alloc: Global, parts: &Parts<'_>, base: Option<&Record>) -> Result<String, AllocError>
+// The class of a scheme, of the two that most links have at once.
+fn class_by(scheme: &str) -> Class
+    ensures { result ≡ scheme_class (chars scheme.now) }
+{
+    match http_name(scheme) {
+        Some(_) => Class::Special,
+        None => class_of(scheme),
+    }
+}
+
+// The name of a scheme of HTTP that is written in lower case.
+fn http_name(scheme: &str) -> Option<&'static str>
+    ensures { IfSome result (λ name. IsHttpName (chars scheme.now) name.now) }
+{
+    if scheme == "https" {
+        return Some("https");
+    }
+    if scheme == "http" {
+        return Some("http");
+    }
+    None
+}
+
+fn scheme_of(
+    alloc: Global,
+    parts: &Parts<'_>,
+    base: Option<&Record>,
+) -> Result<CowStr<'static>, AllocError>
     requires { HaveValidText (option_copied base) parts.now }
     ensures { IfOk result (λ scheme.
-        string_bytes scheme ≡ spec.denoted_scheme (option_copied base.entry) parts.now.scheme) }
+        cow_str_bytes scheme ≡ spec.denoted_scheme (option_copied base.entry) parts.now.scheme) }
 {
     match parts.scheme() {
         Some(scheme) => lowered(alloc, scheme),
@@ -65,20 +95,33 @@ fn scheme_of(alloc: Global, parts: &Parts<'_>, base: Option<&Record>) -> Result<
     }
 }
 
-fn lowered(alloc: Global, scheme: &str) -> Result<String, AllocError>
+fn lowered(alloc: Global, scheme: &str) -> Result<CowStr<'static>, AllocError>
     requires { IsAscii (chars scheme.now) }
-    ensures { IfOk result (λ text. string_bytes text ≡ lowercase (chars scheme.now)) }
+    ensures { IfOk result (λ text. cow_str_bytes text ≡ lowercase (chars scheme.now)) }
 {
-    scheme.to_ascii_lowercase(alloc)
+    match http_name(scheme) {
+        Some(name) => Ok(CowStr::Borrowed(name)),
+        None => Ok(CowStr::Owned(scheme.to_ascii_lowercase(alloc)?)),
+    }
 }
 
-fn base_scheme(alloc: Global, base: Option<&Record>) -> Result<String, AllocError>
+fn base_scheme(alloc: Global, base: Option<&Record>) -> Result<CowStr<'static>, AllocError>
     ensures { IfOk result (λ scheme.
-        string_bytes scheme ≡ spec.denoted_scheme (option_copied base.entry) None) }
+        cow_str_bytes scheme ≡ spec.denoted_scheme (option_copied base.entry) None) }
 {
     match base {
-        Some(base) => String::from_str(alloc, base.scheme()),
-        None => Ok(String::new(alloc)),
+        Some(base) => copied(alloc, base.scheme()),
+        None => Ok(CowStr::Borrowed("")),
+    }
+}
+
+fn copied(alloc: Global, scheme: &str) -> Result<CowStr<'static>, AllocError>
+    requires { IsAscii scheme.now }
+    ensures { IfOk result (λ text. cow_str_bytes text ≡ scheme.now) }
+{
+    match http_name(scheme) {
+        Some(name) => Ok(CowStr::Borrowed(name)),
+        None => Ok(CowStr::Owned(String::from_str(alloc, scheme)?)),
     }
 }
 

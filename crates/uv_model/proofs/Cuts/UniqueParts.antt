@@ -1,10 +1,9 @@
 -- The parts of a valid text are unique: each follows from the texts into which the text is cut.
-use Rattle.std.proofs.Common.{◌≡◌, ◌≢◌, ℕ, Bool, true, false, ◌==◌, List, [], ◌∷◌, All, Option, Some, None, refl, sym}
+use Rattle.std.proofs.Common.{◌≡◌, ◌≢◌, ℕ, Bool, true, false, ◌==◌, List, [], ◌∷◌, Option, Some, None, refl, sym}
 use Rattle.std.proofs.Common.{ap, ◌∙◌, inl, inr}
 use Rattle.std.specs.Prelude.{IsSome, if◌then◌else◌}
 use Rattle.std.proofs.lemmas.Bool.{false≢true}
 use Rattle.std.specs.List.{join_with_byte}
-use Rattle.std.proofs.lemmas.List.Elements.{All-nil, All-cons}
 use Rattle.std.proofs.lemmas.List.Splits.{slice_split_none, slice_split_at}
 use Rattle.uv_model.specs.declared.profile.Profile.{Profile}
 use Rattle.uv_model.specs.declared.profile.Profile.TheVariants.{Standard, Wide, Parser}
@@ -13,7 +12,7 @@ use Rattle.uv_model.specs.declared.scheme.Class.TheVariants.{Special, File, Othe
 use Rattle.uv_model.specs.declared.host.Host.{Host}
 use Rattle.uv_model.specs.Ascii.{slash}
 use Rattle.uv_model.specs.Path.{MayBePathSlashed, IsPathAbsolute, IsPathRelative, IsPathSlashed, JoinsTo, AreSegments}
-use Rattle.uv_model.specs.Path.{is_without, starts_with_slash}
+use Rattle.uv_model.specs.Path.{segments_behind, starts_with_slash}
 use Rattle.uv_model.specs.Parts.{Form, SchemeAuthority, SchemePath, SchemeOpaque, Authority, PathAbsolute}
 use Rattle.uv_model.specs.Parts.{PathRelative, NoPath, Parts, has_scheme}
 use Rattle.uv_model.specs.Setting.{Setting, setting_of}
@@ -22,19 +21,12 @@ use Rattle.uv_model.specs.Valid.{port_given}
 use Rattle.uv_model.specs.Cut.{Cut, is_followed, texts_of}
 use Rattle.uv_model.specs.Laws.Cuts.{PartsAreUnique}
 use Rattle.uv_model.proofs.Hosts.HostUniqueness.{HasHost, one_host}
-use Rattle.uv_model.proofs.Texts.MarkLemmas.{is_without-cons}
-use Rattle.uv_model.proofs.Paths.PathPieces.{pieces}
+use Rattle.uv_model.specs.Path.{pieces}
+use Rattle.uv_model.proofs.Paths.PathTexts.{without_slash}
 use Rattle.uv_model.proofs.Paths.SlashedPaths.{alone_or_none, slashed_or_none}
 use Rattle.uv_model.proofs.Cuts.ValidCutLemmas.{valid_texts}
 
 -- ---- segments
-
--- no code point of a segment is `/`
-without_slash : (segment : List ℕ) → is_without slash segment ≡ true → All (λ c. (c == slash) ≡ false) segment
-without_slash [] none = All-nil (λ c. (c == slash) ≡ false)
-without_slash (c ∷ rest) none =
-    let parts = is_without-cons slash c rest none in
-    All-cons (λ c. (c == slash) ≡ false) c rest parts.0 (without_slash rest parts.1)
 
 -- segments with `/` between each two are split where they are joined
 split_joined : (first : List ℕ) (others : List (List ℕ)) → AreSegments (first ∷ others)
@@ -55,11 +47,6 @@ joined_segments segments text joins =
 pub relative_segments : (segments : List (List ℕ)) (text : List ℕ) → IsPathRelative segments text
     → segments ≡ pieces text
 relative_segments segments text is = joined_segments segments text is.joins
-
--- the segments of a path that begins with `/`, or of no code point
-abbrev pub segments_behind : List ℕ → List (List ℕ)
-segments_behind [] = []
-segments_behind (c ∷ rest) = pieces rest
 
 -- the segments of a path-absolute string
 pub absolute_segments : (segments : List (List ℕ)) (text : List ℕ) → IsPathAbsolute segments text

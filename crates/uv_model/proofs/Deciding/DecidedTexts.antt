@@ -33,7 +33,8 @@ use Rattle.uv_model.proofs.Deciding.Decisions.{after, all_four, all_three, at_mo
 use Rattle.uv_model.proofs.Deciding.Decisions.{is_other_class, is_true, other_text, present, proof_of}
 use Rattle.uv_model.proofs.Deciding.Decisions.{same_number, same_option, same_text, same_texts}
 use Rattle.uv_model.proofs.Deciding.DecidedViolations.{HostDecisions}
-use Rattle.uv_model.proofs.Paths.PathPieces.{path_relative, pieces}
+use Rattle.uv_model.proofs.Paths.PathPieces.{path_relative}
+use Rattle.uv_model.specs.Path.{pieces}
 use Rattle.uv_model.proofs.Texts.UnitsLemmas.{IsUnits-faultless}
 
 -- ---- units and paths

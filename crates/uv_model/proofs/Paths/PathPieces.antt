@@ -1,27 +1,23 @@
 -- The segments of a path are URL-path-segment strings, and joined by `/` they are the path.
 use Rattle.std.proofs.Common.{◌≡◌, ℕ, List, [], ◌∷◌, ◌++◌, ◌==◌, true, false, refl, sym, ap, ◌∙◌, ◌⊎◌, inl, inr}
 use Rattle.std.proofs.Common.{eqb-true}
-use Rattle.std.specs.List.{onto_first, slice_split}
+use Rattle.std.specs.List.{onto_first}
 use Rattle.std.proofs.lemmas.Bool.{and_parts, and_from, cases_Bool}
 use Rattle.std.proofs.lemmas.List.Splits.{join_with_byte-slice_split}
 use Rattle.uv_model.specs.Ascii.{question_mark, slash}
-use Rattle.uv_model.specs.Path.{AreSegments, IsPathRelative, IsSegment, JoinsTo, is_without, starts_with_slash}
+use Rattle.uv_model.specs.Path.{AreSegments, IsPathRelative, IsSegment, JoinsTo, is_without, pieces, starts_with_slash}
 use Rattle.uv_model.specs.Units.{is_faultless, is_unit_at}
 use Rattle.uv_model.proofs.Texts.MarkLemmas.{is_without-cons, is_without-more}
 use Rattle.uv_model.proofs.Texts.UnitsLemmas.{IsUnits-faultless, IsUnits-nil, is_faultless-units, is_unit_at-mark}
 
--- the texts between the slashes of a path
-abbrev pub pieces : List ℕ → List (List ℕ)
-pieces text = slice_split (λ c. c == slash) text
-
 -- the first text between slashes: the whole text, or what stands before the first slash
-record SplitsFirst (text : List ℕ) : Type 0 where
-  first : List ℕ
-  others : List (List ℕ)
-  is : pieces text ≡ first ∷ others
-  whole : (text ≡ first) ⊎ ((tail : List ℕ) × (text ≡ first ++ slash ∷ tail))
+pub record SplitsFirst (text : List ℕ) : Type 0 where
+  pub first : List ℕ
+  pub others : List (List ℕ)
+  pub is : pieces text ≡ first ∷ others
+  pub whole : (text ≡ first) ⊎ ((tail : List ℕ) × (text ≡ first ++ slash ∷ tail))
 
-splits_first : (text : List ℕ) → SplitsFirst text
+pub splits_first : (text : List ℕ) → SplitsFirst text
 splits_first [] = record { first = []; others = []; is = refl; whole = inl refl }
 splits_first (c ∷ rest) = elim (cases_Bool (c == slash)) [
   | inl same ↦ record {

@@ -1,9 +1,16 @@
 -- The serialized segments of a path, one after the other.
 use Rattle.std.proofs.Common.{◌≡◌, ℕ, ◌+◌, ◌<◌, List, [], ◌∷◌, ◌++◌, length, take, get_or, sym, ap, ◌∙◌, append_assoc}
-use Rattle.std.proofs.Common.{append-nil}
+use Rattle.std.proofs.Common.{append-nil, Result, Ok, Err}
+use Rattle.std.specs.Prelude.{OnOk, if◌then◌else◌, is_ok}
 use Rattle.std.proofs.lemmas.List.{take_more}
 use Rattle.uv_model.specs.Ascii.{slash}
 use Rattle.uv_model.specs.Records.Serialize.{serial_segments}
+
+-- what was appended is this text
+pub appended : {A E : Type 0} (result : Result A E) (old text new written : List ℕ)
+    → new ≡ (if is_ok result then old ++ text else old) → text ≡ written → OnOk result (new ≡ old ++ written)
+appended (Err error) old text new written pushed is = tt
+appended (Ok done) old text new written pushed is = pushed ∙ ap (λ t. old ++ t) is
 
 -- a segment more at the end is `/` and it more at the end
 serial_segments-push : (segments : List (List ℕ)) (segment : List ℕ)

@@ -68,7 +68,7 @@ no_question_mark-encoded quote text = passes-encoded_whole (is_other question_ma
     digit d small = agree_below_at (λ e. is_other question_mark (digit_glyph true e)) (λ e. true) 16 d refl small
 
 -- nor does `/`
-no_slash-encoded : (quote : Bool) (text : List ℕ) → is_without slash text ≡ true
+pub no_slash-encoded : (quote : Bool) (text : List ℕ) → is_without slash text ≡ true
     → is_without slash (encoded quote text) ≡ true
 no_slash-encoded quote text = passes-encoded_whole (is_other slash) (refl, digit) quote text
   where

@@ -130,10 +130,14 @@ abbrev pub may_be_empty : Class → Option Host → Bool
 may_be_empty Other (Some host) = true
 may_be_empty _ _ = false
 
+-- the segments of a path
+abbrev pub AreSegmentsOf : Class → Option Host → List (List ℕ) → Type 0
+AreSegmentsOf class host [] = may_be_empty class host ≡ true
+AreSegmentsOf class host (segment ∷ rest) = AreUrlSegments (segment ∷ rest)
+
 -- a path of segments, or in class Other without a host an opaque one
 abbrev pub IsUrlPath : Profile → Class → Option Host → UrlPath → Type 0
-IsUrlPath profile class host (Segments []) = may_be_empty class host ≡ true
-IsUrlPath profile class host (Segments (segment ∷ rest)) = AreUrlSegments (segment ∷ rest)
+IsUrlPath profile class host (Segments segments) = AreSegmentsOf class host segments
 IsUrlPath profile class host (Opaque text) = (class ≡ Other) × (host ≡ None) × IsUrlOpaquePath profile text
 
 -- an absent query, or ASCII units, in class Special and File without `'`

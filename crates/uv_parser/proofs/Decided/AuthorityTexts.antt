@@ -33,7 +33,8 @@ use Rattle.uv_parser.proofs.Decided.DecidedAuthority.{letters_no_backslash}
 use Rattle.uv_parser.proofs.Decided.DecidedFile.{FileHostFits, file_host_decided}
 use Rattle.uv_parser.proofs.Decided.DecidedPath.{AreFine, FreeOfMarks, path_start_decided}
 use Rattle.uv_model.proofs.Texts.MarkLemmas.{is_without-cons}
-use Rattle.uv_model.proofs.Paths.PathPieces.{joins_pieces, pieces}
+use Rattle.uv_model.proofs.Paths.PathPieces.{joins_pieces}
+use Rattle.uv_model.specs.Path.{pieces, segments_behind}
 use Rattle.uv_parser.proofs.Running.RunsStopped.{RunStops}
 use Rattle.uv_parser.proofs.Running.Steps.{Stops, ends_again, stops_here}
 use Rattle.uv_parser.proofs.Loops.Tails.{tail}
@@ -52,11 +53,6 @@ delimits_path [] None None start = tt
 delimits_path (c ∷ path) query fragment start =
     let is : c ≡ slash = eqb-true c slash (start (λ same. cc)) in
     rw is tt
-
--- the segments of a path behind an authority
-abbrev pub segments_behind : List ℕ → List (List ℕ)
-segments_behind [] = []
-segments_behind (c ∷ rest) = pieces rest
 
 -- a path behind an authority is empty, or `/` and its segments
 pub slashed_path : (path : List ℕ) → is_faultless path ≡ true → is_without question_mark path ≡ true

@@ -25,7 +25,8 @@ use Rattle.uv_parser.proofs.Decided.DecidedPath.{AreFine, FreeOfMarks, path_deci
 use Rattle.uv_parser.proofs.Decided.AuthorityTexts.{SilentOrStops, authority_parts, authority_silent_or_stops}
 use Rattle.uv_parser.proofs.Decided.DecidedSchemes.{one_slash}
 use Rattle.uv_model.proofs.Texts.MarkLemmas.{is_without-cons}
-use Rattle.uv_model.proofs.Paths.PathPieces.{path_relative, pieces}
+use Rattle.uv_model.proofs.Paths.PathPieces.{path_relative}
+use Rattle.uv_model.specs.Path.{pieces}
 use Rattle.uv_parser.proofs.Running.RunsStopped.{RunStops, place_cases, removed_stops}
 use Rattle.uv_parser.proofs.Running.Steps.{Stops, ends_again, stops_here, ends_step}
 use Rattle.uv_parser.proofs.Loops.AuthorityStarts.{base_variables, base_starts, file_variables}

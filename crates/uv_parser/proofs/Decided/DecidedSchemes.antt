@@ -27,7 +27,8 @@ use Rattle.uv_model.proofs.SchemeLemmas.{scheme_class-lowercase}
 use Rattle.uv_parser.proofs.Decided.DecidedOpaque.{opaque_parts, opaque_silent_or_stops}
 use Rattle.uv_parser.proofs.Decided.DecidedPath.{AreFine, FreeOfMarks, path_decided}
 use Rattle.uv_model.proofs.Texts.MarkLemmas.{is_without-cons}
-use Rattle.uv_model.proofs.Paths.PathPieces.{path_relative, pieces}
+use Rattle.uv_model.proofs.Paths.PathPieces.{path_relative}
+use Rattle.uv_model.specs.Path.{pieces}
 use Rattle.uv_parser.proofs.Running.RunsStopped.{RunStops, place_cases, removed_stops, scheme_stops}
 use Rattle.uv_parser.proofs.Loops.AuthorityStarts.{scheme_starts}
 use Rattle.uv_parser.proofs.Loops.SchemeStretch.{colon_row, scheme_variables}

@@ -24,7 +24,8 @@ use Rattle.std.proofs.Common.{Bool, false}
 use Rattle.std.proofs.lemmas.Bool.{and_parts}
 use Rattle.uv_model.proofs.Paths.JoinedSegments.{faultless_joined, faultless_path}
 use Rattle.uv_model.proofs.Paths.OpaquePaths.{unit_not_space}
-use Rattle.uv_model.proofs.Paths.PathPieces.{path_relative, pieces}
+use Rattle.uv_model.proofs.Paths.PathPieces.{path_relative}
+use Rattle.uv_model.specs.Path.{pieces}
 use Rattle.uv_model.proofs.Paths.SlashedPaths.{alone_or_none, slashed_or_none}
 use Rattle.uv_model.proofs.Paths.SpacedPaths.{units_without_space}
 use Rattle.uv_model.proofs.Texts.MarkLemmas.{is_without-more}

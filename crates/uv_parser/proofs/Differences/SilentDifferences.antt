@@ -29,7 +29,7 @@ use Rattle.uv_model.specs.Valid.{HasFileHost}
 use Rattle.uv_model.specs.declared.profile.Profile.TheVariants.{Parser}
 use Rattle.uv_model.proofs.Cuts.UniqueParts.{parts_are_unique}
 use Rattle.uv_model.proofs.Hosts.HostUniqueness.{one_host}
-use Rattle.uv_model.proofs.Paths.PathPieces.{pieces}
+use Rattle.uv_model.specs.Path.{pieces}
 use Rattle.uv_parser.proofs.HostParsing.SpecialHosts.{host_by_parser, host_of_file}
 use Rattle.uv_parser.proofs.Silence.ValidSilent.{valid_by_parser}
 use Rattle.uv_parser.proofs.Differences.PathDifferences.{no_space, opaque_or_spaced, path_behind, slashed_cases}

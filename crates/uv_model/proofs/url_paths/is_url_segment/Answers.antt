@@ -13,7 +13,7 @@ returns c =
     let segment = c.args.segment.now in
     let are = c.is_ascii_segment.ensures.0 c.if-not-is_ascii_segment.false in
     let plain : IsSegment segment × (is_ascii_text segment ≡ true) =
-    rw (c.as_bytes.ensures.value, c.as_str-text.ensures.text) at are
+    rw c.as_bytes.ensures.value at are
     in (
       λ e. let other = not-true c.is_double_dot.result e in
           record { units = plain.0; ascii = plain.1; no_single_dot = cc; no_double_dot = cc },

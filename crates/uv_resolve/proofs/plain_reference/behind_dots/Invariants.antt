@@ -1,10 +1,18 @@
 -- The walk goes on over what is left.
 use Rattle.std.proofs.Common.{length}
+use Rattle.uv_model.specs.Path.{segments_behind}
+use Rattle.uv_model.specs.Records.PathText.{IsPathText}
+use denote.Shadow.{shadow}
+use denote.Text.{Utf8}
 use Rattle.uv_resolve.specs.PlainReference.{GoesOn}
 use Rattle.uv_resolve.proofs.plain_reference.behind_dots.Given as goal
 
 abbrev pub invariant-loop-double : goal.invariant-loop-double
-invariant-loop-double l = GoesOn l.fn.segments l.fn.path l.kept l.left
+invariant-loop-double l = record {
+  goes_on : GoesOn (segments_behind l.fn.start) l.fn.path (segments_behind l.kept) l.left;
+  path : IsPathText l.kept;
+  text : shadow (Utf8 l.kept);
+}
 
 abbrev pub decreases-loop-double : goal.decreases-loop-double
 decreases-loop-double l = length l.left

@@ -23,7 +23,7 @@ no_scheme = refl
 pub returns-in-Some : goal.returns-in-Some
 unfolding class_in
 returns-in-Some c =
-    c.class_of.ensures ∙ ap scheme_class (ap chars c.scheme.ensures.text ∙ chars-IsAscii _ c.scheme.ensures.ascii)
+    c.class_by.ensures ∙ ap scheme_class (ap chars c.scheme.ensures.text ∙ chars-IsAscii _ c.scheme.ensures.ascii)
     ∙ sym (ap class_in c.in-Some.is)
 
 pub returns-in-None : goal.returns-in-None

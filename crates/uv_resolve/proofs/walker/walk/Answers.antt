@@ -1,5 +1,5 @@
 -- Where no segment is left, the walk ends with an empty segment behind a dot segment.
-use Rattle.std.proofs.Common.{◌≡◌, ◌++◌, ◌∷◌, [], sym, ap, ◌∙◌}
+use Rattle.std.proofs.Common.{◌≡◌, sym, ap, ◌∙◌}
 use Rattle.uv_model.specs.Path.{walk}
 use Rattle.uv_resolve.proofs.WalkLemmas.{behind_dots, continued, walk-continued}
 use Rattle.uv_resolve.proofs.walker.walk.Goals as goal
@@ -7,15 +7,12 @@ use Rattle.uv_resolve.proofs.walker.walk.Goals.{then-ends_in_dots+in_ok-push, el
 
 pub returns : goal.returns
 returns c =
-    let path = c.loop-segment.path.items in
+    let path = c.loop-segment.path in
     let whole : behind_dots c.loop-segment.ends_in_dots path
-    ≡ walk c.args.class c.args.start.items c.args.segments
+    ≡ walk c.args.class c.args.start c.args.segments
     = ap (continued c.args.class path c.loop-segment.ends_in_dots) (sym c.in-None.ensures.steps.0)
-    ∙ c.loop-segment.invariant ∙ sym (walk-continued c.args.class c.args.start.items c.args.segments) in
+    ∙ c.loop-segment.invariant.walked ∙ sym (walk-continued c.args.class c.args.start c.args.segments) in
     elim c.if-ends_in_dots.branch [
-      | then-ends_in_dots+in_ok-push w ↦
-          ap (λ v. v.items) w.path-is ∙ w.in_ok-push.ensures.items
-          ∙ ap (λ text. path ++ (text ∷ [])) (w.of.ensures ∙ w.new.ensures.bytes)
-          ∙ (rw w.if-ends_in_dots.true at whole)
-      | else-ends_in_dots w ↦ ap (λ v. v.items) w.path-is ∙ (rw w.if-ends_in_dots.false at whole)
+      | then-ends_in_dots+in_ok-push w ↦ w.path-is ∙ w.in_ok-push.ensures ∙ (rw w.if-ends_in_dots.true at whole)
+      | else-ends_in_dots w ↦ w.path-is ∙ (rw w.if-ends_in_dots.false at whole)
     ]

@@ -1,7 +1,7 @@
 -- What stands before the first slash is the next segment.
 use Rattle.std.proofs.Common.{◌∙◌, ap, sym, arith, length}
 use Rattle.uv_grammar.specs.Slices.{chars_of_option}
-use Rattle.uv_grammar.specs.Built.{left_segments}
+use Rattle.uv_model.specs.Path.{left_segments}
 use Rattle.uv_grammar.proofs.PieceLemmas.{pieces_split}
 use Rattle.uv_grammar.proofs.parts.SegmentsIterator.next.Goals as goal
 

@@ -1,0 +1,81 @@
+//! Paths of segments in one text: what is appended stands behind what was there, and the last segment goes alone. So it
+//! is with the list of these segments, and with a copy of each.
+
+use crate::ascii_texts::ascii;
+use std::alloc::{AllocError, Global};
+use uv_model::{PathText, TextList, UrlPath, without_last_segment};
+
+// A path of these segments, and then of these in one text.
+fn path_of(alloc: Global, first: &str, others: &str) -> Result<PathText, AllocError> {
+    let mut path = PathText::with_capacity(alloc, 4)?;
+    path.push_path(ascii(alloc, first)?.as_str())?;
+    path.push_path(ascii(alloc, others)?.as_str())?;
+    Ok(path)
+}
+
+// Whether the list has these texts, which stand with a `/` between each two.
+fn are_texts(list: &TextList, joined: &str) -> bool {
+    let mut left = list.iter();
+    for wanted in joined.split('/') {
+        if left.next_text() != Some(wanted) {
+            return false;
+        }
+    }
+    left.next_text() == None
+}
+
+#[test]
+fn appends_paths(rt: HostRuntime) -> Result<(), AllocError> {
+    let alloc = rt.alloc();
+    assert!(rt; path_of(alloc, "/a/b", "/c")?.as_str() == "/a/b/c");
+    assert!(rt; path_of(alloc, "a/b", "c/")?.as_str() == "/a/b/c/");
+    assert!(rt; path_of(alloc, "", "")?.as_str() == "");
+    assert!(rt; path_of(alloc, "", "//")?.as_str() == "//");
+    assert!(rt; path_of(alloc, "/", "a")?.as_str() == "//a");
+    Ok(())
+}
+
+#[test]
+fn appends_and_removes_segments(rt: HostRuntime) -> Result<(), AllocError> {
+    let mut path = PathText::new(rt.alloc());
+    path.push("a")?;
+    path.push("")?;
+    path.push("c%2F")?;
+    assert!(rt; path.as_str() == "/a//c%2F");
+    path.pop();
+    assert!(rt; path.as_str() == "/a/");
+    path.pop();
+    assert!(rt; path.as_str() == "/a");
+    path.pop();
+    path.pop();
+    assert!(rt; path.as_str() == "");
+    Ok(())
+}
+
+#[test]
+fn lists_segments(rt: HostRuntime) -> Result<(), AllocError> {
+    let alloc = rt.alloc();
+    let list = TextList::of_path(path_of(alloc, "/a//b", "c/")?);
+    assert!(rt; are_texts(&list, "a//b/c/"));
+    assert!(rt; list.as_path() == Some("/a//b/c/"));
+    assert!(rt; are_texts(&list.copy(alloc)?, "a//b/c/"));
+    let empty = TextList::of_path(PathText::new(alloc));
+    assert!(rt; empty.iter().next_text() == None);
+    assert!(rt; empty.as_path() == Some(""));
+    Ok(())
+}
+
+#[test]
+fn copies_paths(rt: HostRuntime) -> Result<(), AllocError> {
+    let alloc = rt.alloc();
+    let path = path_of(alloc, "/a", "b")?;
+    assert!(rt; path.copy(alloc)?.as_str() == "/a/b");
+    match UrlPath::Segments(TextList::of_path(path)).copy(alloc)? {
+        UrlPath::Segments(list) => assert!(rt; list.as_path() == Some("/a/b")),
+        UrlPath::Opaque(_) => assert!(rt; false),
+    }
+    assert!(rt; without_last_segment("/a/b/") == "/a/b");
+    assert!(rt; without_last_segment("/a") == "");
+    assert!(rt; without_last_segment("") == "");
+    Ok(())
+}

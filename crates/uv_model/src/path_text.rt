@@ -1,0 +1,124 @@
+//! Texts of paths of segments, which grow and shrink by a segment at a time.
+ghost use Rattle.std.specs.Prelude.{◌≡◌, ◌∷◌, ◌++◌, [], IfOk, OnOk, length, option_copied, string_bytes, take, true};
+ghost use Rattle.std.specs.Str.{IsAscii};
+ghost use Rattle.uv_model.specs.Ascii.{slash};
+ghost use Rattle.uv_model.specs.Path.{is_without, left_segments, pieces, segments_behind, segments_of, without_last};
+ghost use Rattle.uv_model.specs.Records.PathText.{IsPathText, IsTextOf, MayBeAsciiText};
+
+use std::alloc::{AllocError, Global};
+use std::marker::Model;
+
+/// The text of a path of segments, which are ASCII, each behind a `/` (URL Standard, section 4.5). Contracts see the
+/// segments.
+#[derive(Debug, Drop)]
+pub struct PathText {
+    text: String,
+}
+
+impl Model for PathText {
+    ghost use Rattle.std.specs.Prelude.{ℕ, List, string_bytes};
+    ghost use Rattle.uv_model.specs.Path.{segments_behind};
+    ghost use Rattle.uv_model.specs.Records.PathText.{IsPathText};
+
+    ghost Value = { List (List ℕ) };
+
+    ghost view = { λ p. segments_behind (string_bytes p.text) };
+
+    ghost invariant = { λ p. IsPathText (string_bytes p.text) };
+}
+
+impl PathText {
+    /// A path without segments, which takes no memory.
+    pub fn new(alloc: Global) -> PathText
+        ensures { result ≡ [] }
+    {
+        PathText {
+            text: String::new(alloc),
+        }
+    }
+
+    /// A path without segments, with room for so many bytes. An error means that memory ran out.
+    pub fn with_capacity(alloc: Global, room: usize) -> Result<PathText, AllocError>
+        ensures { IfOk result (λ path. path ≡ []) }
+    {
+        let text = String::with_capacity(alloc, room)?;
+        Ok(PathText { text })
+    }
+
+    /// The text: each segment behind a `/`.
+    pub fn as_str(&self) -> &str
+        ensures { IsTextOf self.now result.now }
+    {
+        self.text.as_str()
+    }
+
+    /// An equal path. An error means that memory ran out.
+    pub fn copy(&self, alloc: Global) -> Result<PathText, AllocError>
+        ensures { IfOk result (λ path. path ≡ self.now) }
+    {
+        let text = String::from_str(alloc, self.text.as_str())?;
+        Ok(PathText { text })
+    }
+
+    /// Appends a segment, which has to be ASCII without `/`. An error means that memory ran out, and perhaps an empty
+    /// segment was appended.
+    pub fn push(&mut self, segment: &str) -> Result<(), AllocError>
+        requires ascii { IsAscii segment.now }
+        requires one { is_without slash segment.now ≡ true }
+        ensures { OnOk result (self.new ≡ self.old ++ (segment.now ∷ [])) }
+    {
+        self.push_pieces(segment)
+    }
+
+    /// Appends the segments of a path, which has to be ASCII: the texts between its slashes, but for a `/` at its
+    /// start. An empty path has none. An error means that memory ran out, and perhaps an empty segment was appended.
+    pub fn push_path(&mut self, path: &str) -> Result<(), AllocError>
+        requires { IsAscii path.now }
+        ensures { OnOk result (self.new ≡ self.old ++ segments_of path.now) }
+    {
+        if path.is_empty() {
+            return Ok(());
+        }
+        match path.strip_prefix('/') {
+            Some(rest) => self.push_pieces(rest),
+            None => self.push_pieces(path),
+        }
+    }
+
+    // A `/` and a text behind it.
+    fn push_pieces(&mut self, text: &str) -> Result<(), AllocError>
+        requires { IsAscii text.now }
+        ensures { OnOk result (self.new ≡ self.old ++ pieces text.now) }
+    {
+        self.text.push('/')?;
+        self.text.push_str(text)
+    }
+
+    /// Takes the last segment off, if there is one.
+    pub fn pop(&mut self)
+        ensures { self.new ≡ without_last self.old }
+    {
+        let kept = without_last_segment(self.text.as_str()).len();
+        self.text.truncate(kept);
+    }
+
+    // The text between whose slashes the segments stand, where there are any.
+    pub(crate) fn behind_slash(&self) -> Option<&str>
+        ensures segments { left_segments (option_copied result) ≡ self.now }
+        ensures ascii { MayBeAsciiText (option_copied result) }
+    {
+        self.text.as_str().strip_prefix('/')
+    }
+}
+
+/// The text of a path without its last segment, and without the `/` before that.
+pub fn without_last_segment<'p>(path: &'p str) -> &'p str
+    requires { IsPathText path.now }
+    ensures text { IsTextOf (without_last (segments_behind path.now)) result.now }
+    ensures prefix { result.now ≡ take (length result.now) path.now }
+{
+    match path.rfind('/') {
+        Some(end) => &path[..end],
+        None => path,
+    }
+}
