@@ -1,6 +1,0 @@
--- The copies so far are those of the texts up to the index.
-use Rattle.std.proofs.Common.{◌≡◌, take}
-use Rattle.uv_model.proofs.text.TextList.copy.Given as goal
-
-abbrev pub invariant-loop-text : goal.invariant-loop-text
-invariant-loop-text l = l.items.items ≡ take l.text-index l.texts
