@@ -1,6 +1,7 @@
 -- Lemmas on the texts of addresses: the library's grammar, one value to a text, what is written is read back,
--- and sizes.
+-- the digits of a piece, and sizes.
 pub mod AddressLemmas
 pub mod AddressUniqueness
 pub mod AddressesReadBack
+pub mod AddressTextLemmas
 pub mod AddressSizes

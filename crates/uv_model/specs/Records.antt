@@ -3,5 +3,6 @@ pub mod Url
 pub mod WellFormed
 pub mod Denote
 pub mod Serialize
+pub mod AddressText
 pub mod PathText
 pub mod TextList

@@ -2,9 +2,9 @@
 ghost use Rattle.std.specs.Prelude.{◌≡◌, IfOk, IsOk, string_bytes};
 ghost use Rattle.uv_model.specs.Records.Serialize.{serial_host, serial_ipv4, serial_ipv6};
 
+use crate::address_text::{push_ipv4, push_ipv6};
 use crate::text::Text;
 use std::alloc::{AllocError, Global};
-use std::net::{Ipv4Addr, Ipv6Addr};
 
 /// The host of a URL.
 #[derive(Debug, Drop)]
@@ -45,25 +45,27 @@ impl Host {
         match self {
             Host::Domain(form) => String::from_str(alloc, form.as_str()),
             Host::V4(value) => ipv4_text(alloc, *value),
-            Host::V6(pieces) => ipv6_text(alloc, *pieces),
+            Host::V6(pieces) => ipv6_text(alloc, pieces),
             Host::Opaque(text) => String::from_str(alloc, text.as_str()),
             Host::Empty => Ok(String::new(alloc)),
         }
     }
 }
 
-/// The four numbers of an IPv4 address, the highest first, with `.` between each two.
-#[tactic(auto, using(crate::proofs::Addresses::AddressesReadBack::serial_ipv4_is))]
+// The four numbers of an IPv4 address, in one allocation.
 fn ipv4_text(alloc: Global, value: u32) -> Result<String, AllocError>
     ensures { IfOk result (λ text. string_bytes text ≡ serial_ipv4 value) }
 {
-    format!(in alloc; "{}", Ipv4Addr::from_bits(value))
+    let mut text = String::with_capacity(alloc, "255.255.255.255".len())?;
+    push_ipv4(&mut text, value)?;
+    Ok(text)
 }
 
-/// The pieces of an IPv6 address in brackets, where `::` stands for the first longest run of two zero pieces or more.
-fn ipv6_text(alloc: Global, pieces: [u16; 8]) -> Result<String, AllocError>
-    ensures { IfOk result (λ text. string_bytes text ≡ serial_ipv6 pieces) }
+// The pieces of an IPv6 address in brackets, in one allocation.
+fn ipv6_text(alloc: Global, pieces: &[u16; 8]) -> Result<String, AllocError>
+    ensures { IfOk result (λ text. string_bytes text ≡ serial_ipv6 pieces.now) }
 {
-    let groups = Ipv6Addr::from_segments(pieces).hex_groups();
-    format!(in alloc; "[{groups}]")
+    let mut text = String::with_capacity(alloc, "[1111:2222:3333:4444:5555:6666:7777:8888]".len())?;
+    push_ipv6(&mut text, pieces)?;
+    Ok(text)
 }

@@ -8,6 +8,7 @@ ghost use Rattle.uv_model.specs.declared.path.UrlPath.TheVariants.{Segments};
 ghost use Rattle.uv_model.specs.Ascii.{colon, question_mark, number_sign};
 ghost use Rattle.uv_model.specs.Parts.{written_behind};
 
+use crate::address_text::{push_ipv4, push_ipv6, push_port};
 use crate::host::Host;
 use crate::path::UrlPath;
 use crate::record::Record;
@@ -32,7 +33,7 @@ impl Record {
         ensures ok { OnOk result (string_bytes out.new ≡ string_bytes out.old ++ serial self.now) }
         ensures err { OnErr result (StartsWith (string_bytes out.new) (string_bytes out.old)) }
     {
-        push_before_path(alloc, out, self)?;
+        push_before_path(out, self)?;
         push_from_path(out, self)
     }
 }
@@ -88,14 +89,14 @@ fn part_room(text: Option<&str>) -> usize {
 }
 
 // The scheme with its `:`, and what stands between it and the path.
-fn push_before_path(alloc: Global, out: &mut String, url: &Record) -> Result<(), AllocError>
+fn push_before_path(out: &mut String, url: &Record) -> Result<(), AllocError>
     ensures ok { OnOk result (string_bytes out.new ≡ string_bytes out.old ++ (url.now.scheme
         ++ (colon ∷ serial_authority url.now.host url.now.port url.now.path))) }
     ensures err { OnErr result (StartsWith (string_bytes out.new) (string_bytes out.old)) }
 {
     out.push_str(url.scheme())?;
     out.push_str(":")?;
-    push_authority(alloc, out, url.host(), url.port(), url.path())
+    push_authority(out, url.host(), url.port(), url.path())
 }
 
 // The path, the query and the fragment.
@@ -112,7 +113,6 @@ fn push_from_path(out: &mut String, url: &Record) -> Result<(), AllocError>
 
 // What stands between the scheme's `:` and the path.
 fn push_authority(
-    alloc: Global,
     out: &mut String,
     host: Option<&Host>,
     port: Option<u16>,
@@ -125,8 +125,7 @@ fn push_authority(
     match host {
         Some(host) => {
             out.push_str("//")?;
-            push_host(alloc, out, host)?;
-            push_port(alloc, out, port)
+            push_host_and_port(out, host, port)
         }
         None => out.push_str(dot_prefix(path)),
     }
@@ -153,26 +152,27 @@ fn dot_before(segments: ListedTexts<'_>) -> &'static str
     }
 }
 
+// A host, and the port behind it.
+fn push_host_and_port(out: &mut String, host: &Host, port: Option<u16>) -> Result<(), AllocError>
+    ensures ok { OnOk result (string_bytes out.new
+        ≡ string_bytes out.old ++ (serial_host host.now ++ serial_port port)) }
+    ensures err { OnErr result (StartsWith (string_bytes out.new) (string_bytes out.old)) }
+{
+    push_host(out, host)?;
+    push_port(out, port)
+}
+
 #[tactic(auto, unfolding(crate::specs::Records::Serialize::serial_host))]
-fn push_host(alloc: Global, out: &mut String, host: &Host) -> Result<(), AllocError>
+fn push_host(out: &mut String, host: &Host) -> Result<(), AllocError>
     ensures ok { OnOk result (string_bytes out.new ≡ string_bytes out.old ++ serial_host host.now) }
-    ensures err { OnErr result (string_bytes out.new ≡ string_bytes out.old) }
+    ensures err { OnErr result (StartsWith (string_bytes out.new) (string_bytes out.old)) }
 {
     match host {
         Host::Domain(form) => out.push_str(form.as_str()),
         Host::Opaque(text) => out.push_str(text.as_str()),
-        Host::V4(_) | Host::V6(_) => out.push_str(host.text(alloc)?.as_str()),
+        Host::V4(value) => push_ipv4(out, *value),
+        Host::V6(pieces) => push_ipv6(out, pieces),
         Host::Empty => Ok(()),
-    }
-}
-
-fn push_port(alloc: Global, out: &mut String, port: Option<u16>) -> Result<(), AllocError>
-    ensures ok { OnOk result (string_bytes out.new ≡ string_bytes out.old ++ serial_port port) }
-    ensures err { OnErr result (StartsWith (string_bytes out.new) (string_bytes out.old)) }
-{
-    match port {
-        Some(port) => push_behind(out, ':', Some(port.to_string(alloc)?.as_str())),
-        None => Ok(()),
     }
 }
 

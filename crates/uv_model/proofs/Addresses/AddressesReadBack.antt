@@ -1,8 +1,6 @@
 -- The texts that addresses are serialized as are read as those addresses.
 use Rattle.std.proofs.Common.{◌≡◌, ℕ, ◌/◌, ◌%◌, ◌<◌, ◌^◌, List, refl, sym, ap, ◌∙◌, arith, true≢false}
-use Rattle.std.specs.declared.net.ipv4_addr.Ipv4Addr.{Ipv4Addr}
-use Rattle.std.specs.Net.Addr.{ipv4_octets, IsIpv4OfBits}
-use Rattle.std.specs.Net.Text.{ipv4_text, hex_groups_text}
+use Rattle.std.specs.Net.Text.{hex_groups_text}
 use Rattle.std.proofs.NetLemmas.Texts.{IsColonHex-hex_groups_text}
 use Rattle.uv_model.specs.declared.host.Host.{Host}
 use Rattle.uv_model.specs.declared.host.Host.TheVariants.{V4, V6}
@@ -12,12 +10,6 @@ use Rattle.uv_model.specs.Records.Serialize.{serial_ipv4, serial_host}
 use Rattle.uv_model.proofs.Addresses.AddressLemmas.{ipv6_from_colon_hex}
 use Rattle.uv_model.proofs.Addresses.AddressUniqueness.{ipv4_unique, bracketed_unique, ipv4_no_bracket}
 use Rattle.uv_model.proofs.Addresses.AddressUniqueness.{bracketed_bracket}
-
--- the library's text of an address with these bits is the serialized value
-pub serial_ipv4_is : (address : Ipv4Addr) (value : ℕ) → IsIpv4OfBits address value
-    → ipv4_text (ipv4_octets address) ≡ serial_ipv4 value
-unfolding IsIpv4OfBits
-serial_ipv4_is address value e = rw e refl
 
 -- what is written for a value is an IPv4 text of it
 pub ipv4_written : (value : ℕ) → value < 2 ^ 32 → IsIpv4 (serial_ipv4 value) value

@@ -1,0 +1,191 @@
+//! IPv4 and IPv6 addresses and ports as the serializers write them, appended to a text.
+ghost use Rattle.std.specs.Prelude.{◌≡◌, ◌+◌, ◌/◌, ◌%◌, ◌<◌, ◌≤◌, ◌++◌, ◌∷◌, [], OnOk, OnErr, codes, decimal};
+ghost use Rattle.std.specs.Prelude.{length, string_bytes};
+ghost use Rattle.std.specs.Char.{digit_char};
+ghost use Rattle.std.specs.Io.{StartsWith};
+ghost use Rattle.std.specs.Net.Text as address;
+ghost use Rattle.uv_model.specs.Records.AddressText.{later_groups};
+ghost use Rattle.uv_model.specs.Records.Serialize.{serial_ipv4, serial_ipv6, serial_port};
+
+use itoa::Buffer;
+use std::alloc::AllocError;
+
+// The hex digits in lower case.
+const HEX_DIGITS: &[u8; 16] = b"0123456789abcdef";
+
+/// Appends the four numbers of an IPv4 address, the highest first, with `.` between each two. An error means that memory
+/// ran out: `out` then still begins with what it held.
+pub fn push_ipv4(out: &mut String, value: u32) -> Result<(), AllocError>
+    ensures ok { OnOk result (string_bytes out.new ≡ string_bytes out.old ++ serial_ipv4 value) }
+    ensures err { OnErr result (StartsWith (string_bytes out.new) (string_bytes out.old)) }
+{
+    push_number(out, value / 16_777_216 % 256)?;
+    out.push_str(".")?;
+    push_number(out, value / 65_536 % 256)?;
+    out.push_str(".")?;
+    push_number(out, value / 256 % 256)?;
+    out.push_str(".")?;
+    push_number(out, value % 256)
+}
+
+/// Appends a port behind a `:`, where there is one. An error means that memory ran out: `out` then still begins with
+/// what it held.
+pub fn push_port(out: &mut String, port: Option<u16>) -> Result<(), AllocError>
+    ensures ok { OnOk result (string_bytes out.new ≡ string_bytes out.old ++ serial_port port) }
+    ensures err { OnErr result (StartsWith (string_bytes out.new) (string_bytes out.old)) }
+{
+    let Some(port) = port else {
+        return Ok(());
+    };
+    out.push(':')?;
+    push_number(out, u32::from(port))
+}
+
+// A number in decimal.
+fn push_number(out: &mut String, number: u32) -> Result<(), AllocError>
+    ensures ok { OnOk result (string_bytes out.new ≡ string_bytes out.old ++ decimal number) }
+    ensures err { OnErr result (string_bytes out.new ≡ string_bytes out.old) }
+{
+    let mut digits = Buffer::new();
+    out.push_str(digits.format(number))
+}
+
+/// Appends the pieces of an IPv6 address in brackets, where `::` stands for the first longest run of two zero pieces or
+/// more. An error means that memory ran out: `out` then still begins with what it held.
+pub fn push_ipv6(out: &mut String, pieces: &[u16; 8]) -> Result<(), AllocError>
+    ensures ok { OnOk result (string_bytes out.new ≡ string_bytes out.old ++ serial_ipv6 pieces.now) }
+    ensures err { OnErr result (StartsWith (string_bytes out.new) (string_bytes out.old)) }
+{
+    out.push('[')?;
+    push_pieces(out, pieces)?;
+    out.push(']')
+}
+
+// The pieces, where `::` stands for the first longest run of two zero pieces or more.
+#[tactic(auto, unfolding(std::specs::Net::Text::hex_groups_text))]
+fn push_pieces(out: &mut String, pieces: &[u16]) -> Result<(), AllocError>
+    ensures ok { OnOk result (string_bytes out.new ≡ string_bytes out.old ++ address.hex_groups_text pieces.now) }
+    ensures err { OnErr result (StartsWith (string_bytes out.new) (string_bytes out.old)) }
+{
+    let (start, count) = longest_zero_run(pieces);
+    if count > 1 {
+        push_groups(out, &pieces[..start])?;
+        return push_behind_zeros(out, &pieces[start + count..]);
+    }
+    push_groups(out, pieces)
+}
+
+// `::` for zero pieces, and the groups behind them.
+fn push_behind_zeros(out: &mut String, pieces: &[u16]) -> Result<(), AllocError>
+    ensures ok { OnOk result (string_bytes out.new
+        ≡ string_bytes out.old ++ (codes "::" ++ address.groups_text pieces.now)) }
+    ensures err { OnErr result (StartsWith (string_bytes out.new) (string_bytes out.old)) }
+{
+    out.push_str("::")?;
+    push_groups(out, pieces)
+}
+
+// Groups with `:` between each two.
+fn push_groups(out: &mut String, pieces: &[u16]) -> Result<(), AllocError>
+    ensures ok { OnOk result (string_bytes out.new ≡ string_bytes out.old ++ address.groups_text pieces.now) }
+    ensures err { OnErr result (StartsWith (string_bytes out.new) (string_bytes out.old)) }
+{
+    match pieces {
+        [first, others @ ..] => {
+            push_group(out, *first)?;
+            push_later_groups(out, others)
+        }
+        [] => Ok(()),
+    }
+}
+
+// Groups with `:` before each.
+fn push_later_groups(out: &mut String, pieces: &[u16]) -> Result<(), AllocError>
+    ensures ok { OnOk result (string_bytes out.new ≡ string_bytes out.old ++ later_groups pieces.now) }
+    ensures err { OnErr result (StartsWith (string_bytes out.new) (string_bytes out.old)) }
+{
+    for piece in pieces {
+        out.push(':')?;
+        push_group(out, *piece)?;
+    }
+    Ok(())
+}
+
+// A piece in lower-case hex, without leading zeros.
+#[tactic(auto, using(crate::proofs::Addresses::AddressTextLemmas::shown_digits))]
+fn push_group(out: &mut String, piece: u16) -> Result<(), AllocError>
+    ensures ok { OnOk result (string_bytes out.new ≡ string_bytes out.old ++ address.hex piece) }
+    ensures err { OnErr result (StartsWith (string_bytes out.new) (string_bytes out.old)) }
+{
+    match piece {
+        0x1000.. => push_four(out, piece),
+        0x100.. => push_three(out, piece),
+        0x10.. => push_two(out, piece),
+        _ => push_digit(out, piece),
+    }
+}
+
+// The four hex digits of a piece.
+fn push_four(out: &mut String, piece: u16) -> Result<(), AllocError>
+    ensures ok { OnOk result (string_bytes out.new ≡ string_bytes out.old ++ (digit_char (piece / 0x1000 % 16)
+        ∷ digit_char (piece / 0x100 % 16) ∷ digit_char (piece / 0x10 % 16) ∷ digit_char (piece % 16) ∷ [])) }
+    ensures err { OnErr result (StartsWith (string_bytes out.new) (string_bytes out.old)) }
+{
+    push_digit(out, piece / 0x1000)?;
+    push_three(out, piece)
+}
+
+// The last three hex digits of a piece.
+fn push_three(out: &mut String, piece: u16) -> Result<(), AllocError>
+    ensures ok { OnOk result (string_bytes out.new ≡ string_bytes out.old ++ (digit_char (piece / 0x100 % 16)
+        ∷ digit_char (piece / 0x10 % 16) ∷ digit_char (piece % 16) ∷ [])) }
+    ensures err { OnErr result (StartsWith (string_bytes out.new) (string_bytes out.old)) }
+{
+    push_digit(out, piece / 0x100)?;
+    push_two(out, piece)
+}
+
+// The last two hex digits of a piece.
+fn push_two(out: &mut String, piece: u16) -> Result<(), AllocError>
+    ensures ok { OnOk result (string_bytes out.new
+        ≡ string_bytes out.old ++ (digit_char (piece / 0x10 % 16) ∷ digit_char (piece % 16) ∷ [])) }
+    ensures err { OnErr result (StartsWith (string_bytes out.new) (string_bytes out.old)) }
+{
+    push_digit(out, piece / 0x10)?;
+    push_digit(out, piece)
+}
+
+// The last hex digit of a number.
+fn push_digit(out: &mut String, number: u16) -> Result<(), AllocError>
+    ensures ok { OnOk result (string_bytes out.new ≡ string_bytes out.old ++ (digit_char (number % 16) ∷ [])) }
+    ensures err { OnErr result (string_bytes out.new ≡ string_bytes out.old) }
+{
+    out.push(char::from(hex_digit(number)))
+}
+
+/// The start and the length of the longest run of zeros, and of two such runs the first.
+pub fn longest_zero_run(pieces: &[u16]) -> (usize, usize)
+    ensures value { result ≡ address.longest_zero_run pieces.now }
+    ensures within { result.0 + result.1 ≤ length pieces.now }
+{
+    let mut start = pieces.len();
+    let mut count = 0;
+    let mut run = 0;
+    for at in (0..pieces.len()).rev() {
+        run = if pieces[at] == 0 { run + 1 } else { 0 };
+        if run >= count {
+            start = at;
+            count = run;
+        }
+    }
+    (start, count)
+}
+
+/// The last hex digit of a number, in lower case.
+#[tactic(auto, using(crate::proofs::Addresses::AddressTextLemmas::hex_digits))]
+#[inline(always)]
+pub fn hex_digit(number: u16) -> u8
+    ensures { result ≡ digit_char (number % 16) }
+{
+    HEX_DIGITS[(number % 16) as usize]
+}
