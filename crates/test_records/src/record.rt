@@ -2,7 +2,7 @@
 //! was written before. The cases of `vectors/` have more texts of records.
 
 use std::alloc::{AllocError, Global};
-use uv_model::{Host, ListedTexts, Profile, Record, UrlPath};
+use uv_model::{Host, ListedTexts, Profile, Record, UrlPath, push_ipv4, push_ipv6, push_port};
 use uv_resolve::{ResolveFault, resolve};
 
 // Whether the texts are these two, or this one.
@@ -107,9 +107,34 @@ fn writes_addresses(rt: HostRuntime) -> Result<(), AllocError> {
         ([0, 0, 0, 0, 0, 0, 0, 0], "[::]"),
         ([1, 0, 0, 2, 0, 0, 0, 3], "[1:0:0:2::3]"),
         ([1, 0, 0, 2, 3, 0, 0, 4], "[1::2:3:0:0:4]"),
+        ([1, 0, 0, 0, 0, 0, 0, 0], "[1::]"),
+        ([0, 1, 2, 3, 4, 5, 6, 7], "[0:1:2:3:4:5:6:7]"),
+        (
+            [0xF, 0x10, 0xFF, 0x100, 0xFFF, 0x1000, 0xFFFF, 0xA0B],
+            "[f:10:ff:100:fff:1000:ffff:a0b]",
+        ),
     ] {
         assert!(rt; has_text(rt.alloc(), &Host::V6(pieces), want)?);
     }
-    assert!(rt; has_text(rt.alloc(), &Host::V4(3232235521), "192.168.0.1")?);
+    for (value, want) in [
+        (3232235521, "192.168.0.1"),
+        (0, "0.0.0.0"),
+        (0xFFFF_FFFF, "255.255.255.255"),
+        (0x0A64_0901, "10.100.9.1"),
+    ] {
+        assert!(rt; has_text(rt.alloc(), &Host::V4(value), want)?);
+    }
+    Ok(())
+}
+
+#[test]
+fn appends_addresses_and_ports(rt: HostRuntime) -> Result<(), AllocError> {
+    let mut text = String::from_str(rt.alloc(), "a")?;
+    push_ipv4(&mut text, 0x7F00_0001)?;
+    push_port(&mut text, Some(80))?;
+    push_port(&mut text, None)?;
+    push_ipv6(&mut text, &[0, 0, 0, 0, 0, 0, 0, 1])?;
+    push_port(&mut text, Some(65535))?;
+    assert!(rt; text.as_str() == "a127.0.0.1:80[::1]:65535");
     Ok(())
 }

@@ -1,5 +1,4 @@
 pub mod AbsoluteTextLemmas
-pub mod Ipv6TextLemmas
 pub mod KeptPathLemmas
 pub mod OwnAuthorityLemmas
 pub mod OwnTextLemmas

@@ -1,6 +1,5 @@
 pub mod AbsoluteText
 pub mod Base
-pub mod Ipv6Text
 pub mod Laws
 pub mod ParserAnswer
 pub mod OwnAuthority

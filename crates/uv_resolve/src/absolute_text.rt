@@ -1,11 +1,11 @@
 //! Absolute texts of special schemes without dot segments: each of their parts is written as its URL has it, and no
 //! record has to be made of them.
-ghost use Rattle.std.specs.Prelude.{◌≡◌, ◌<◌, ◌++◌, IfOk, IfSome, IsTrue, OnOk, chars, decimal, option_map};
+ghost use Rattle.std.specs.Prelude.{◌≡◌, ◌<◌, ◌++◌, IfOk, IfSome, IsTrue, OnOk, chars, option_map};
 ghost use Rattle.std.specs.Prelude.{string_bytes};
 ghost use Rattle.std.specs.List.{list_all};
 ghost use Rattle.uv_model.specs.Encoding.{encoded};
 ghost use Rattle.uv_model.specs.Parts.{written_behind};
-ghost use Rattle.uv_model.specs.Records.Serialize.{serial_host, serial_ipv4, serial_port};
+ghost use Rattle.uv_model.specs.Records.Serialize.{serial_host};
 ghost use Rattle.uv_grammar.specs.PartsHost.{referred};
 ghost use Rattle.uv_grammar.specs.Slices.{chars_of_option};
 ghost use Rattle.uv_resolve.specs.AbsoluteText as spec;
@@ -14,12 +14,10 @@ ghost use Rattle.uv_resolve.specs.AbsoluteText.{KeepsSegments};
 ghost use Rattle.uv_resolve.specs.OwnText.{is_kept_segment};
 
 use crate::encoded_parts::push_encoded_part;
-use crate::ipv6_text::push_ipv6;
 use crate::own_text::{is_dot_mark, is_without_dots};
-use itoa::Buffer;
 use std::alloc::{AllocError, Global};
 use uv_grammar::{Form, HostRef, Parts, Segments};
-use uv_model::{is_double_dot, is_name, is_single_dot};
+use uv_model::{is_double_dot, is_name, is_single_dot, push_ipv4, push_ipv6, push_port};
 
 /// The text of the URL that a valid text with these parts denotes against any base, where it begins with a special
 /// scheme and an authority, and has no dot segment. None says nothing, and the error is out of memory.
@@ -170,38 +168,6 @@ fn push_host(alloc: Global, out: &mut String, host: &HostRef<'_>) -> Result<(), 
         HostRef::Empty => Ok(()),
         _ => out.push_str(host.copy(alloc)?.text(alloc)?.as_str()),
     }
-}
-
-// The four numbers of an IPv4 address, the highest first, with `.` between each two.
-fn push_ipv4(out: &mut String, value: u32) -> Result<(), AllocError>
-    ensures { OnOk result (string_bytes out.new ≡ string_bytes out.old ++ serial_ipv4 value) }
-{
-    push_number(out, value / 16_777_216 % 256)?;
-    out.push_str(".")?;
-    push_number(out, value / 65_536 % 256)?;
-    out.push_str(".")?;
-    push_number(out, value / 256 % 256)?;
-    out.push_str(".")?;
-    push_number(out, value % 256)
-}
-
-/// The port behind a `:`, where there is one.
-pub(crate) fn push_port(out: &mut String, port: Option<u16>) -> Result<(), AllocError>
-    ensures { OnOk result (string_bytes out.new ≡ string_bytes out.old ++ serial_port port) }
-{
-    let Some(port) = port else {
-        return Ok(());
-    };
-    out.push(':')?;
-    push_number(out, u32::from(port))
-}
-
-// A number in decimal.
-fn push_number(out: &mut String, number: u32) -> Result<(), AllocError>
-    ensures { OnOk result (string_bytes out.new ≡ string_bytes out.old ++ decimal number) }
-{
-    let mut digits = Buffer::new();
-    out.push_str(digits.format(number))
 }
 
 // A path, which is `/` where it is empty.

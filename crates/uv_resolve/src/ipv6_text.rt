@@ -1,15 +1,11 @@
-//! IPv6 addresses as the host serializer writes them: found at the start of a text, and written behind one.
-ghost use Rattle.std.specs.Prelude.{◌≡◌, ◌+◌, ◌/◌, ◌%◌, ◌<◌, ◌≤◌, ◌++◌, ◌∷◌, [], IfSome, IsTrue, OnOk};
-ghost use Rattle.std.specs.Prelude.{length, string_bytes};
+//! IPv6 addresses as the host serializer writes them, found at the start of a text.
+ghost use Rattle.std.specs.Prelude.{◌≡◌, ◌/◌, ◌%◌, ◌++◌, ◌∷◌, IfSome, IsTrue};
 ghost use Rattle.std.specs.Char.{digit_char};
 ghost use Rattle.std.specs.Net.Text as address;
+ghost use Rattle.uv_model.specs.Records.AddressText.{later_groups};
 ghost use Rattle.uv_model.specs.Records.Serialize.{serial_ipv6};
-ghost use Rattle.uv_resolve.specs.Ipv6Text.{later_groups};
 
-use std::alloc::AllocError;
-
-// The hex digits in lower case.
-const HEX_DIGITS: &[u8; 16] = b"0123456789abcdef";
+use uv_model::{hex_digit, longest_zero_run};
 
 /// Whether a text is the pieces of an IPv6 address in brackets.
 pub(crate) fn is_ipv6(text: &[u8], pieces: &[u16; 8]) -> bool
@@ -66,7 +62,7 @@ fn behind_later_groups<'t>(text: &'t [u8], pieces: &[u16]) -> Option<&'t [u8]>
 }
 
 // What stands behind a piece in lower-case hex, without leading zeros.
-#[tactic(auto, using(crate::proofs::Ipv6TextLemmas::shown_digits))]
+#[tactic(auto, using(uv_model::proofs::Addresses::AddressTextLemmas::shown_digits))]
 #[inline(always)]
 fn behind_group<'t>(text: &'t [u8], piece: u16) -> Option<&'t [u8]>
     ensures { IfSome result (λ rest. text.now ≡ address.hex piece ++ rest.now) }
@@ -75,22 +71,22 @@ fn behind_group<'t>(text: &'t [u8], piece: u16) -> Option<&'t [u8]>
         0x1000.. => behind_four(text, piece),
         0x100.. => behind_three(text, piece),
         0x10.. => behind_two(text, piece),
-        _ => behind(hex_digit(piece % 16), text),
+        _ => behind(hex_digit(piece), text),
     }
 }
 
 // What stands behind the four hex digits of a piece.
 #[inline(always)]
 fn behind_four<'t>(text: &'t [u8], piece: u16) -> Option<&'t [u8]>
-    ensures { IfSome result (λ rest. text.now ≡ digit_char (piece / 0x1000) ∷ digit_char (piece / 0x100 % 16)
+    ensures { IfSome result (λ rest. text.now ≡ digit_char (piece / 0x1000 % 16) ∷ digit_char (piece / 0x100 % 16)
         ∷ digit_char (piece / 0x10 % 16) ∷ digit_char (piece % 16) ∷ rest.now) }
 {
     match text {
         [first, second, third, fourth, rest @ ..]
             if *first == hex_digit(piece / 0x1000)
-                && *second == hex_digit(piece / 0x100 % 16)
-                && *third == hex_digit(piece / 0x10 % 16)
-                && *fourth == hex_digit(piece % 16) => { Some(rest) }
+                && *second == hex_digit(piece / 0x100)
+                && *third == hex_digit(piece / 0x10)
+                && *fourth == hex_digit(piece) => { Some(rest) }
         _ => None,
     }
 }
@@ -103,9 +99,9 @@ fn behind_three<'t>(text: &'t [u8], piece: u16) -> Option<&'t [u8]>
 {
     match text {
         [second, third, fourth, rest @ ..]
-            if *second == hex_digit(piece / 0x100 % 16)
-                && *third == hex_digit(piece / 0x10 % 16)
-                && *fourth == hex_digit(piece % 16) => { Some(rest) }
+            if *second == hex_digit(piece / 0x100)
+                && *third == hex_digit(piece / 0x10)
+                && *fourth == hex_digit(piece) => { Some(rest) }
         _ => None,
     }
 }
@@ -118,134 +114,9 @@ fn behind_two<'t>(text: &'t [u8], piece: u16) -> Option<&'t [u8]>
 {
     match text {
         [third, fourth, rest @ ..]
-            if *third == hex_digit(piece / 0x10 % 16) && *fourth == hex_digit(piece % 16) => {
-            Some(rest)
-        }
+            if *third == hex_digit(piece / 0x10) && *fourth == hex_digit(piece) => { Some(rest) }
         _ => None,
     }
-}
-
-/// The pieces of an IPv6 address in brackets. The error is out of memory.
-pub(crate) fn push_ipv6(out: &mut String, pieces: &[u16; 8]) -> Result<(), AllocError>
-    ensures { OnOk result (string_bytes out.new ≡ string_bytes out.old ++ serial_ipv6 pieces.now) }
-{
-    out.push('[')?;
-    push_pieces(out, pieces)?;
-    out.push(']')
-}
-
-// The pieces, where `::` stands for the first longest run of two zero pieces or more.
-#[tactic(auto, unfolding(std::specs::Net::Text::hex_groups_text))]
-fn push_pieces(out: &mut String, pieces: &[u16]) -> Result<(), AllocError>
-    ensures { OnOk result (string_bytes out.new ≡ string_bytes out.old ++ address.hex_groups_text pieces.now) }
-{
-    let (start, count) = longest_zero_run(pieces);
-    if count > 1 {
-        push_groups(out, &pieces[..start])?;
-        out.push_str("::")?;
-        return push_groups(out, &pieces[start + count..]);
-    }
-    push_groups(out, pieces)
-}
-
-// Groups with `:` between each two.
-fn push_groups(out: &mut String, pieces: &[u16]) -> Result<(), AllocError>
-    ensures { OnOk result (string_bytes out.new ≡ string_bytes out.old ++ address.groups_text pieces.now) }
-{
-    match pieces {
-        [first, others @ ..] => {
-            push_group(out, *first)?;
-            push_later_groups(out, others)
-        }
-        [] => Ok(()),
-    }
-}
-
-// Groups with `:` before each.
-fn push_later_groups(out: &mut String, pieces: &[u16]) -> Result<(), AllocError>
-    ensures { OnOk result (string_bytes out.new ≡ string_bytes out.old ++ later_groups pieces.now) }
-{
-    for piece in pieces {
-        out.push(':')?;
-        push_group(out, *piece)?;
-    }
-    Ok(())
-}
-
-// A piece in lower-case hex, without leading zeros.
-#[tactic(auto, using(crate::proofs::Ipv6TextLemmas::shown_digits))]
-fn push_group(out: &mut String, piece: u16) -> Result<(), AllocError>
-    ensures { OnOk result (string_bytes out.new ≡ string_bytes out.old ++ address.hex piece) }
-{
-    match piece {
-        0x1000.. => push_four(out, piece),
-        0x100.. => push_three(out, piece),
-        0x10.. => push_two(out, piece),
-        _ => push_digit(out, piece % 16),
-    }
-}
-
-// The four hex digits of a piece.
-fn push_four(out: &mut String, piece: u16) -> Result<(), AllocError>
-    ensures { OnOk result (string_bytes out.new ≡ string_bytes out.old ++ (digit_char (piece / 0x1000)
-        ∷ digit_char (piece / 0x100 % 16) ∷ digit_char (piece / 0x10 % 16) ∷ digit_char (piece % 16) ∷ [])) }
-{
-    push_digit(out, piece / 0x1000)?;
-    push_three(out, piece)
-}
-
-// The last three hex digits of a piece.
-fn push_three(out: &mut String, piece: u16) -> Result<(), AllocError>
-    ensures { OnOk result (string_bytes out.new ≡ string_bytes out.old ++ (digit_char (piece / 0x100 % 16)
-        ∷ digit_char (piece / 0x10 % 16) ∷ digit_char (piece % 16) ∷ [])) }
-{
-    push_digit(out, piece / 0x100 % 16)?;
-    push_two(out, piece)
-}
-
-// The last two hex digits of a piece.
-fn push_two(out: &mut String, piece: u16) -> Result<(), AllocError>
-    ensures { OnOk result (string_bytes out.new
-        ≡ string_bytes out.old ++ (digit_char (piece / 0x10 % 16) ∷ digit_char (piece % 16) ∷ [])) }
-{
-    push_digit(out, piece / 0x10 % 16)?;
-    push_digit(out, piece % 16)
-}
-
-// A hex digit.
-fn push_digit(out: &mut String, digit: u16) -> Result<(), AllocError>
-    requires { digit < 16 }
-    ensures { OnOk result (string_bytes out.new ≡ string_bytes out.old ++ (digit_char digit ∷ [])) }
-{
-    out.push(char::from(hex_digit(digit)))
-}
-
-// The start and the length of the longest run of zeros, and of two such runs the first.
-fn longest_zero_run(pieces: &[u16]) -> (usize, usize)
-    ensures value { result ≡ address.longest_zero_run pieces.now }
-    ensures within { result.0 + result.1 ≤ length pieces.now }
-{
-    let mut start = pieces.len();
-    let mut count = 0;
-    let mut run = 0;
-    for at in (0..pieces.len()).rev() {
-        run = if pieces[at] == 0 { run + 1 } else { 0 };
-        if run >= count {
-            start = at;
-            count = run;
-        }
-    }
-    (start, count)
-}
-
-// A hex digit in lower case.
-#[tactic(auto, using(crate::proofs::Ipv6TextLemmas::hex_digits))]
-#[inline(always)]
-fn hex_digit(digit: u16) -> u8
-    requires { digit < 16 }
-    ensures { result ≡ digit_char digit }
-{
-    HEX_DIGITS[digit as usize]
 }
 
 /// What stands behind a byte.

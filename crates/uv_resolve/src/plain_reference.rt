@@ -14,12 +14,11 @@ ghost use Rattle.uv_resolve.specs.PlainReference.{GoesOn, GoesOnBehind, IsPlainB
 ghost use Rattle.uv_resolve.specs.PlainReference.{IsSerialWhere, dot_segment};
 ghost use Rattle.uv_resolve.specs.Serialized.{ArePartsOf};
 
-use crate::absolute_text::push_port;
 use crate::own_authority::{is_special, own_authority};
 use crate::own_text::{is_never_encoded, is_without_dots};
 use std::alloc::{AllocError, Global};
 use uv_grammar::{Form, Parts};
-use uv_model::{Host, Record, UrlPath, without_last_segment};
+use uv_model::{Host, Record, UrlPath, push_port, without_last_segment};
 
 /// The text of the URL that a valid reference denotes against its base, where the base has a special scheme and a
 /// domain, no segment of the reference begins as a dot segment does but for `./` and `../` at its start, and nothing is

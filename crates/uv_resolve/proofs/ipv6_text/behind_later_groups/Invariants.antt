@@ -1,6 +1,6 @@
 -- The groups of the pieces so far, and what stands behind them.
 use Rattle.std.proofs.Common.{◌≡◌, ◌++◌, take}
-use Rattle.uv_resolve.specs.Ipv6Text.{later_groups}
+use Rattle.uv_model.specs.Records.AddressText.{later_groups}
 use Rattle.uv_resolve.proofs.ipv6_text.behind_later_groups.Given as goal
 
 abbrev pub invariant-loop-piece : goal.invariant-loop-piece
