@@ -13,6 +13,8 @@ mod lengths;
 #[cfg(test)]
 mod mending;
 #[cfg(test)]
+mod references;
+#[cfg(test)]
 mod reports;
 #[cfg(test)]
 mod sarif;

@@ -4,4 +4,6 @@ mod NameLemmas
 mod PlainLemmas
 mod LinkLemmas
 mod ComparedLemmas
+mod StandingLemmas
 mod OwnTextLemmas
+mod OwnReferenceLemmas

@@ -77,7 +77,7 @@ none_at_front [] first = refl
 none_at_front (x ∷ xs) first = cond-false _ _ _ (lt-leb x 32 (first (omega arith)))
 
 -- at the ends
-untrimmed : (xs : List ℕ) → All (λ b. 32 ≤ b) xs → get_or xs 0 0 ≢ 32 → get_or xs (length xs - 1) 0 ≢ 32
+pub untrimmed : (xs : List ℕ) → All (λ b. 32 ≤ b) xs → get_or xs 0 0 ≢ 32 → get_or xs (length xs - 1) 0 ≢ 32
     → trim_c0_control_and_space xs ≡ xs
 unfolding trim_c0_control_and_space
 untrimmed xs shown first last =
@@ -88,7 +88,7 @@ untrimmed xs shown first last =
     rw (start, end) (take_all _ xs (omega arith))
 
 -- within
-unstripped : (xs : List ℕ) → All (λ b. 32 ≤ b) xs → strip_tabs_and_new_lines xs ≡ xs
+pub unstripped : (xs : List ℕ) → All (λ b. 32 ≤ b) xs → strip_tabs_and_new_lines xs ≡ xs
 unfolding strip_tabs_and_new_lines
 unstripped xs shown =
     filter_all _ xs (All-weaker (λ b. 32 ≤ b) (Passes (λ b. not (is_tab_or_new_line b)))
@@ -152,7 +152,7 @@ split_front mark (x ∷ xs) =
 
 -- ---- the scheme
 
-web_kind : (scheme : List ℕ) → IsWebScheme scheme → scheme_type scheme ≡ SpecialNotFile
+pub web_kind : (scheme : List ℕ) → IsWebScheme scheme → scheme_type scheme ≡ SpecialNotFile
 unfolding scheme_type default_port
 web_kind scheme (inl is) = rw is refl
 web_kind scheme (inr is) = rw is refl

@@ -91,7 +91,7 @@ prefix_all p q each (x ∷ xs) = elim (cases_Bool (p x)) [
 ]
 
 -- no rows have a number beyond the bytes
-beyond : (rows : List ℕ) (b : ℕ) → 256 ≤ b → is_in_rows rows b ≡ false
+pub beyond : (rows : List ℕ) (b : ℕ) → 256 ≤ b → is_in_rows rows b ≡ false
 beyond rows b large =
     let behind : 16 ≤ b / 16 = omega arith in
     let none : high_bit b ≡ 0

@@ -36,7 +36,7 @@ kept_byte part b kept = elim (cases_Bool (is_mark part b)) [
 ]
 
 -- so are kept bytes
-written_kept : (part : Part) (bytes : List ℕ) → list_all is_kept bytes ≡ true → written part bytes ≡ bytes
+pub written_kept : (part : Part) (bytes : List ℕ) → list_all is_kept bytes ≡ true → written part bytes ≡ bytes
 written_kept part [] all = refl
 written_kept part (b ∷ rest) all =
     let parts = and_parts (is_kept b) (list_all is_kept rest) all in

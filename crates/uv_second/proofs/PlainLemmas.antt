@@ -17,7 +17,7 @@ use Rattle.uv_second.specs.Links.{is_plain, is_plain_at}
 -- ---- fronts
 
 -- the front of bytes that begin with no dot begins with none
-dot_front : (xs ys : List ℕ) → dot_len (xs ++ ys) ≡ 0 → dot_len xs ≡ 0
+pub dot_front : (xs ys : List ℕ) → dot_len (xs ++ ys) ≡ 0 → dot_len xs ≡ 0
 dot_front [] ys none = refl
 dot_front (a ∷ []) ys none = grind (arith, nat_tests)
 dot_front (a ∷ b ∷ []) ys none = grind (arith, nat_tests)
@@ -81,7 +81,7 @@ unfolding should_percent_encode
 slash_kept rest = percent_encode_kept PATH slash rest refl
 
 -- the segments of a path, of which a part of the first is already read
-plain_segments : (path segment bytes : List ℕ) → dot_len (segment ++ bytes) ≡ 0 → is_plain bytes ≡ true
+pub plain_segments : (path segment bytes : List ℕ) → dot_len (segment ++ bytes) ≡ 0 → is_plain bytes ≡ true
     → parse_segments SpecialNotFile path segment bytes ≡ path ++ slash ∷ percent_encode PATH (segment ++ bytes)
 unfolding parse_segments
 plain_segments path segment [] none plain =

@@ -1,2 +1,4 @@
 pub mod Second
 pub mod Links
+pub mod Standing
+pub mod References

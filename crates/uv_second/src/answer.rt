@@ -4,6 +4,7 @@ ghost use Rattle.url.specs.Parser.{Gives, parse_url};
 ghost use Rattle.uv_second.specs.Second.{IsReadAs, parsed, room_fault, second_serial, text_against};
 
 use crate::fault::RoomFault;
+use crate::own_reference::is_own_reference;
 use crate::own_text::is_own_text;
 use std::alloc::Global;
 use url::{ParseError, ParseResult, Url};
@@ -30,7 +31,7 @@ pub fn read_as(
 }
 
 /// Whether the second parser makes of a text, alone or against a base, a URL that has the written text. Most links that
-/// are the text of their URL are seen to be so, and aren't parsed.
+/// are the text of their URL, and most references that are the end of theirs, are seen to be so, and aren't parsed.
 pub fn reads_as(
     alloc: Global,
     base: Option<&Url>,
@@ -40,10 +41,24 @@ pub fn reads_as(
     ensures { IfOk result (λ same.
         IsTrue same ↔ (text_against (option_copied base.entry) text.now ≡ Some written.now)) }
 {
-    if text == written && is_own_text(text) {
-        return Ok(true);
+    if is_seen(base, text, written) {
+        Ok(true)
+    } else {
+        parses_as(alloc, base, text, written)
     }
-    parses_as(alloc, base, text, written)
+}
+
+// Whether that is seen without a parse.
+fn is_seen(base: Option<&Url>, text: &str, written: &str) -> bool
+    ensures { IsTrue result → text_against (option_copied base.entry) text.now ≡ Some written.now }
+{
+    if text == written {
+        return is_own_text(text);
+    }
+    match base {
+        Some(base) => is_own_reference(base, text, written),
+        None => false,
+    }
 }
 
 // The same by a parse.

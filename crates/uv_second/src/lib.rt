@@ -4,9 +4,11 @@
 mod answer;
 mod fault;
 mod links;
+mod own_reference;
 mod own_text;
 mod readings;
 mod same;
+mod standing;
 mod written;
 
 pub use answer::{read_as, reads_as, serial};

@@ -2,7 +2,11 @@
 use Rattle.uv_second.proofs.OwnTextLemmas.{own_link}
 use Rattle.uv_second.proofs.own_text.is_own_text.Goals as goal
 
-pub returns-in-Some : goal.returns-in-Some
-returns-in-Some c = λ base whole.
-    own_link c.args.text.now c.in-Some.link base c.in-Some.ensures (c.stays_whole.ensures.bounded whole)
-    (c.stays_whole.ensures.plain whole) (c.stays_whole.ensures.kept whole)
+pub ends_whole-requires : goal.ends_whole-requires
+ends_whole-requires c = (c.in-Some.link.front.now, c.in-Some.ensures.joined)
+
+pub returns-then-is_bounded : goal.returns-then-is_bounded
+returns-then-is_bounded c = λ base whole.
+    let stands = c.ends_whole.ensures whole in
+    own_link c.args.text.now c.in-Some.link base c.in-Some.ensures (c.is_bounded.ensures c.if-is_bounded.true)
+    stands.plain stands.kept

@@ -1,0 +1,13 @@
+-- The bytes before the place stand.
+use Rattle.std.proofs.Common.{◌-◌, ◌≤◌, length}
+use Rattle.uv_second.specs.Standing.{StandsBetween}
+use Rattle.uv_second.proofs.standing.stands_from.Given as goal
+
+abbrev pub invariant-loop-place : goal.invariant-loop-place
+invariant-loop-place l = record {
+  within : l.place ≤ length l.text;
+  stands : StandsBetween l.rows l.text l.fn.start l.place;
+}
+
+abbrev pub decreases-loop-place : goal.decreases-loop-place
+decreases-loop-place l = length l.text - l.place
