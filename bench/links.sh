@@ -5,8 +5,9 @@
 # at most 0.8 times the second parser alone, that a line of the long list costs what one of the short list costs within
 # 10 %, and that its memory is the same on both, within 256 KiB, and below 10 MB. With --registry FOLDER also the time of
 # Rust's crate `url` with its validation errors counted, which reports on each line alike: `urlcheck links` is to cost at
-# most 0.75 of that. FOLDER has the sources of 2.5 or newer, as Debian's librust-url-dev has them. It fails where a program
-# is missing, a figure is empty, an answer isn't the wanted one, or a bound is broken.
+# most 0.75 of that. FOLDER has the sources of 2.5 or newer, as Debian's librust-url-dev has them. Against a base, of a list
+# of as many references, `urlcheck links` is to cost at most 1.3 times the second parser alone. It fails where a program is
+# missing, a figure is empty, an answer isn't the wanted one, or a bound is broken.
 # Usage: bench/links.sh [--seed SEED] [--count COUNT] [--rounds ROUNDS] [--program FILE] [--second FILE]
 #        [--registry FOLDER]
 set -euo pipefail
@@ -31,7 +32,8 @@ fail() {
     failed=1
 }
 
-names=(links second wc)
+names=(links second wc links_based second_based)
+base=https://example.org/a/b.html
 if [ -n "$registry" ]; then
     [[ $(cd "$registry" && printf '%s\n' url-*) =~ url-(2\.([5-9]|[1-9][0-9])|[3-9])\. ]] ||
         { echo "$registry has no sources of the crate url 2.5 or newer"; exit 2; }
@@ -42,6 +44,7 @@ fi
 python3 "$top/bench/links.py" "$count" "$seed" >"$room/long"
 head -n $short "$room/long" >"$room/short"
 : >"$room/empty"
+python3 "$top/bench/links.py" "$count" "$seed" reference >"$room/references" 2>/dev/null
 
 # Of the links that bench/links.py makes those are refused that end in one of four texts, and those whose path begins
 # with an empty segment; every other one is ok.
@@ -73,11 +76,19 @@ url_answers() {
 answers short
 answers long
 
+# Each reference is valid, and the second parser reads it as the same URL.
+counts=$("$program" links --base "$base" <"$room/references" | tail -n 1) || true
+[ "$counts" = "links $count ok $count bad 0 differs 0" ] || fail "references: the counts are: $counts"
+parsed=$("$second" "$base" <"$room/references")
+[ "$parsed" = "$count lines, $count parsed" ] || fail "references: the second parser: $parsed"
+
 # once NAME LIST : one run
 once() {
     case $1 in
         links) "$program" links ;;
         second) "$second" ;;
+        links_based) "$program" links --base "$base" ;;
+        second_based) "$second" "$base" ;;
         wc) wc -l ;;
         url) "$room/url/target/release/peer" ;;
     esac <"$room/$2" >/dev/null || true
@@ -89,14 +100,23 @@ spent() {
     { time for ((k = 0; k < $3; k++)); do once "$1" "$2"; done; } 2>&1 | awk -F+ 'NF == 2 { print int(($1 + $2) * 1000000) }'
 }
 
-# The least of all rounds: `long` for one run, `short` and `empty` for as many runs as give as many lines.
+# The lists that are measured of a name: `long` and `references` by one run, `short` and `empty` by as many runs as give as
+# many lines.
+lists_of() {
+    case $1 in
+        *_based) echo references empty ;;
+        *) echo long short empty ;;
+    esac
+}
+
+# The least of all rounds.
 declare -A least
 runs=$((count / short))
 for ((round = 0; round < rounds; round++)); do
     for name in "${names[@]}"; do
-        for list in long short empty; do
+        for list in $(lists_of $name); do
             times=$runs
-            if [ $list = long ]; then times=1; fi
+            case $list in long | references) times=1 ;; esac
             figure=$(spent $name $list $times)
             [ -n "$figure" ] || { echo "no figure of $name on the $list list"; exit 1; }
             key=$name.$list
@@ -135,9 +155,11 @@ links=$(cost links long)
 links_short=$(cost links short)
 alone=$(cost second long)
 lines=$(cost wc long)
+based=$(cost links_based references)
+based_alone=$(cost second_based references)
 peak_long=$(peak long)
 peak_short=$(peak short)
-for figure in "$links" "$links_short" "$alone" "$lines" "$peak_long" "$peak_short"; do
+for figure in "$links" "$links_short" "$alone" "$lines" "$based" "$based_alone" "$peak_long" "$peak_short"; do
     awk -v f="$figure" 'BEGIN { exit !(f > 0) }' || { echo "a figure is empty or zero: '$figure'"; exit 1; }
 done
 ratio() { awk -v a="$1" -v b="$2" 'BEGIN { printf "%.2f", a / b }'; }
@@ -147,6 +169,7 @@ echo "the second parser alone: $alone ns a line"
 echo "wc -l: $lines ns a line"
 echo "urlcheck links to the second parser alone: $(ratio "$links" "$alone")"
 echo "urlcheck links to wc -l: $(ratio "$links" "$lines")"
+echo "against a base: urlcheck links $based ns a reference, the second parser alone $based_alone, $(ratio "$based" "$based_alone")"
 if [ -n "$registry" ]; then
     of_url=$(cost url long)
     awk -v f="$of_url" 'BEGIN { exit !(f > 0) }' || { echo "a figure is empty or zero: '$of_url'"; exit 1; }
@@ -160,6 +183,7 @@ holds() {
     awk "BEGIN { exit !($1) }" || fail "${*:2}"
 }
 holds "$links <= 0.8 * $alone" "more than 0.8 times the second parser alone"
+holds "$based <= 1.3 * $based_alone" "against a base more than 1.3 times the second parser alone"
 [ -z "$registry" ] || holds "$links <= 0.75 * $of_url" "more than 0.75 of the crate url with its validation errors"
 holds "$links <= 1.1 * $links_short && $links_short <= 1.1 * $links" "the cost a line changes with the length by more than 10 %"
 holds "$peak_long <= $peak_short + 256 && $peak_short <= $peak_long + 256" "the memory changes with the length"
