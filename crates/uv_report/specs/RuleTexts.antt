@@ -8,6 +8,7 @@ use Rattle.uv_report.specs.Quoted.{quoted}
 abbrev pub member_of : List ℕ → List ℕ
 member_of name = (codes ",\"rule\":" ++ quoted name) ++ codes ",\"text\":"
 
+-- the member of a violation
 abbrev pub rule_member : LineViolation → List ℕ
 rule_member violation = member_of (violation_name violation)
 
@@ -16,5 +17,6 @@ abbrev pub end_of : List ℕ → ℕ → List ℕ
 end_of name index =
     (codes "},\"ruleId\":" ++ quoted name) ++ ((codes ",\"ruleIndex\":" ++ decimal index) ++ codes "}")
 
+-- and that of a violation
 abbrev pub result_end : LineViolation → List ℕ
 result_end violation = end_of (violation_name violation) (violation_index violation)
