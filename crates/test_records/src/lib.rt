@@ -15,6 +15,8 @@ mod record;
 #[cfg(test)]
 mod resolved;
 #[cfg(test)]
+mod short_texts;
+#[cfg(test)]
 mod streams;
 #[cfg(test)]
 mod texts;

@@ -7,6 +7,7 @@ use uv_model::{Profile, Record, Refusal, Rule};
 use uv_resolve::{ResolveFault, resolve, resolve_serialized};
 
 mod memory;
+mod paths;
 mod serialized;
 
 // The record of a text alone.

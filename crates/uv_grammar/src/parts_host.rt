@@ -45,8 +45,7 @@ impl<'t> AsciiText<'t> {
     fn copy(&self, alloc: Global) -> Result<Text, AllocError>
         ensures { IfOk result (λ text. text ≡ self.now) }
     {
-        let string = String::from_str(alloc, self.as_str())?;
-        Ok(Text::of(string))
+        Text::copy_of(alloc, self.as_str())
     }
 }
 

@@ -4,5 +4,6 @@ pub mod WellFormed
 pub mod Denote
 pub mod Serialize
 pub mod AddressText
+pub mod Held
 pub mod PathText
 pub mod TextList

@@ -6,6 +6,7 @@ mod ascii_units;
 mod code_points;
 mod domain;
 mod extent;
+mod held;
 mod host;
 pub mod laws;
 mod mend_kind;

@@ -5,26 +5,29 @@ ghost use Rattle.uv_model.specs.Ascii.{slash};
 ghost use Rattle.uv_model.specs.Path.{is_without, left_segments, pieces, segments_behind, segments_of, without_last};
 ghost use Rattle.uv_model.specs.Records.PathText.{IsPathText, IsTextOf, MayBeAsciiText};
 
+use crate::held::Held;
 use std::alloc::{AllocError, Global};
 use std::marker::Model;
 
-/// The text of a path of segments, which are ASCII, each behind a `/` (URL Standard, section 4.5). Contracts see the
-/// segments.
+/// The text of a path of segments, which are ASCII, each behind a `/` (URL Standard, section 4.5). A short one that is
+/// copied takes no memory. Contracts see the segments.
 #[derive(Debug, Drop)]
 pub struct PathText {
-    text: String,
+    alloc: Global,
+    held: Held<40>,
 }
 
 impl Model for PathText {
-    ghost use Rattle.std.specs.Prelude.{ℕ, List, string_bytes};
+    ghost use Rattle.std.specs.Prelude.{ℕ, List};
     ghost use Rattle.uv_model.specs.Path.{segments_behind};
+    ghost use Rattle.uv_model.specs.Records.Held.{held_text};
     ghost use Rattle.uv_model.specs.Records.PathText.{IsPathText};
 
     ghost Value = { List (List ℕ) };
 
-    ghost view = { λ p. segments_behind (string_bytes p.text) };
+    ghost view = { λ p. segments_behind (held_text p.held) };
 
-    ghost invariant = { λ p. IsPathText (string_bytes p.text) };
+    ghost invariant = { λ p. IsPathText (held_text p.held) };
 }
 
 impl PathText {
@@ -33,7 +36,8 @@ impl PathText {
         ensures { result ≡ [] }
     {
         PathText {
-            text: String::new(alloc),
+            alloc,
+            held: Held::Long(String::new(alloc)),
         }
     }
 
@@ -42,22 +46,54 @@ impl PathText {
         ensures { IfOk result (λ path. path ≡ []) }
     {
         let text = String::with_capacity(alloc, room)?;
-        Ok(PathText { text })
+        Ok(PathText {
+            alloc,
+            held: Held::Long(text),
+        })
+    }
+
+    /// The path of the segments of a path's text, as `push_path` has them. An error means that memory ran out.
+    pub fn of(alloc: Global, path: &str) -> Result<PathText, AllocError>
+        requires { IsAscii path.now }
+        ensures { IfOk result (λ made. made ≡ segments_of path.now) }
+    {
+        if path.starts_with('/') {
+            let held = Held::copy_of(alloc, path)?;
+            return Ok(PathText { alloc, held });
+        }
+        let mut made = PathText::with_capacity(alloc, path.len().saturating_add(1))?;
+        made.push_path(path)?;
+        Ok(made)
+    }
+
+    /// The same of a string, without a copy where it begins with `/`.
+    pub fn of_string(alloc: Global, path: String) -> Result<PathText, AllocError>
+        requires { IsAscii (string_bytes path) }
+        ensures { IfOk result (λ made. made ≡ segments_of (string_bytes path)) }
+    {
+        if path.as_str().starts_with('/') {
+            return Ok(PathText {
+                alloc,
+                held: Held::Long(path),
+            });
+        }
+        PathText::of(alloc, path.as_str())
     }
 
     /// The text: each segment behind a `/`.
+    #[inline]
     pub fn as_str(&self) -> &str
         ensures { IsTextOf self.now result.now }
     {
-        self.text.as_str()
+        self.held.as_str()
     }
 
     /// An equal path. An error means that memory ran out.
     pub fn copy(&self, alloc: Global) -> Result<PathText, AllocError>
         ensures { IfOk result (λ path. path ≡ self.now) }
     {
-        let text = String::from_str(alloc, self.text.as_str())?;
-        Ok(PathText { text })
+        let held = Held::copy_of(alloc, self.held.as_str())?;
+        Ok(PathText { alloc, held })
     }
 
     /// Appends a segment, which has to be ASCII without `/`. An error means that memory ran out, and perhaps an empty
@@ -90,16 +126,20 @@ impl PathText {
         requires { IsAscii text.now }
         ensures { OnOk result (self.new ≡ self.old ++ pieces text.now) }
     {
-        self.text.push('/')?;
-        self.text.push_str(text)
+        if let Held::Long(path) = &mut self.held {
+            path.push('/')?;
+            return path.push_str(text);
+        }
+        self.held.push_str(self.alloc, "/")?;
+        self.held.push_str(self.alloc, text)
     }
 
     /// Takes the last segment off, if there is one.
     pub fn pop(&mut self)
         ensures { self.new ≡ without_last self.old }
     {
-        let kept = without_last_segment(self.text.as_str()).len();
-        self.text.truncate(kept);
+        let kept = without_last_segment(self.held.as_str()).len();
+        self.held.truncate(kept);
     }
 
     // The text between whose slashes the segments stand, where there are any.
@@ -107,7 +147,7 @@ impl PathText {
         ensures segments { left_segments (option_copied result) ≡ self.now }
         ensures ascii { MayBeAsciiText (option_copied result) }
     {
-        self.text.as_str().strip_prefix('/')
+        self.held.as_str().strip_prefix('/')
     }
 }
 

@@ -80,37 +80,38 @@ impl Record {
           fragment = option_map (λ s. string_bytes s) fragment;
         } }
     {
+        let query = text_of(query);
+        let fragment = text_of(fragment);
         Record::make_with(CowStr::Owned(scheme), host, port, path, query, fragment)
     }
 
-    /// The same, where the scheme may be a name that stands in the program.
+    /// The same of texts, where the scheme may be a name that stands in the program.
+    #[inline(always)]
     pub fn make_with(
         scheme: CowStr<'static>,
         host: Option<Host>,
         port: Option<u16>,
         path: UrlPath,
-        query: Option<String>,
-        fragment: Option<String>,
+        query: Option<Text>,
+        fragment: Option<Text>,
     ) -> Record
         requires { WellFormed Parser (record {
           scheme = cow_str_bytes scheme;
           host = host;
           port = port;
           path = path;
-          query = option_map (λ s. string_bytes s) query;
-          fragment = option_map (λ s. string_bytes s) fragment;
+          query = query;
+          fragment = fragment;
         }) }
         ensures { result ≡ record {
           scheme = cow_str_bytes scheme.entry;
           host = host;
           port = port;
           path = path;
-          query = option_map (λ s. string_bytes s) query;
-          fragment = option_map (λ s. string_bytes s) fragment;
+          query = query;
+          fragment = fragment;
         } }
     {
-        let query = text_of(query);
-        let fragment = text_of(fragment);
         Record {
             scheme,
             host,
@@ -156,6 +157,13 @@ impl Record {
         ensures { option_copied result ≡ self.now.query }
     {
         as_text(&self.query)
+    }
+
+    /// The same as a text.
+    pub fn query_text(&self) -> Option<&Text>
+        ensures { option_copied result ≡ self.now.query }
+    {
+        self.query.as_ref()
     }
 
     /// The fragment without its `#`, which is absent where the URL has none.

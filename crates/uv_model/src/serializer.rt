@@ -95,7 +95,6 @@ fn push_before_path(out: &mut String, url: &Record) -> Result<(), AllocError>
     ensures err { OnErr result (StartsWith (string_bytes out.new) (string_bytes out.old)) }
 {
     out.push_str(url.scheme())?;
-    out.push_str(":")?;
     push_authority(out, url.host(), url.port(), url.path())
 }
 
@@ -111,7 +110,7 @@ fn push_from_path(out: &mut String, url: &Record) -> Result<(), AllocError>
     push_behind(out, '#', url.fragment())
 }
 
-// What stands between the scheme's `:` and the path.
+// The scheme's `:`, and what stands between it and the path.
 fn push_authority(
     out: &mut String,
     host: Option<&Host>,
@@ -119,15 +118,18 @@ fn push_authority(
     path: &UrlPath,
 ) -> Result<(), AllocError>
     ensures ok { OnOk result (string_bytes out.new ≡ string_bytes out.old
-        ++ serial_authority (option_copied host.entry) port path.now) }
+        ++ (colon ∷ serial_authority (option_copied host.entry) port path.now)) }
     ensures err { OnErr result (StartsWith (string_bytes out.new) (string_bytes out.old)) }
 {
     match host {
         Some(host) => {
-            out.push_str("//")?;
+            out.push_str("://")?;
             push_host_and_port(out, host, port)
         }
-        None => out.push_str(dot_prefix(path)),
+        None => {
+            out.push(':')?;
+            out.push_str(dot_prefix(path))
+        }
     }
 }
 

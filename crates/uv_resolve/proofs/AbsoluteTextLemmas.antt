@@ -64,7 +64,7 @@ keeps-no_dots (segment ∷ rest) text no_dots slashed =
 pub keeps-bytes : (segments : List (List ℕ)) (text bytes : List ℕ) → IsUtf8 bytes → chars bytes ≡ text
     → has_no_dots false bytes ≡ true → KeepsSegments segments text
 keeps-bytes segments text bytes utf8 is no_dots =
-    keeps-no_dots segments text (subst (λ t. has_no_dots false t ≡ true) is (no_dots-chars bytes utf8 no_dots))
+    keeps-no_dots segments text (subst (λ t. has_no_dots false t ≡ true) is (no_dots-chars false bytes utf8 no_dots))
 
 -- and of segments that are seen one by one
 pub keeps-each : (segments : List (List ℕ)) (text : List ℕ) → list_all is_kept_segment segments ≡ true

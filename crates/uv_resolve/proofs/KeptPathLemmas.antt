@@ -208,8 +208,8 @@ no_dots-encoded begins (c ∷ rest) h =
           (later false (no_dots-behind begins (encode c) (encodes rest) h)))
     ]
 
-pub no_dots-chars : (bytes : List ℕ) → IsUtf8 bytes → has_no_dots false bytes ≡ true
-    → has_no_dots false (chars bytes) ≡ true
-no_dots-chars bytes utf8 no_dots =
-    no_dots-encoded false (chars bytes)
-    (subst (λ t. has_no_dots false t ≡ true) (sym (encodes-chars bytes utf8)) no_dots)
+pub no_dots-chars : (begins : Bool) (bytes : List ℕ) → IsUtf8 bytes → has_no_dots begins bytes ≡ true
+    → has_no_dots begins (chars bytes) ≡ true
+no_dots-chars begins bytes utf8 no_dots =
+    no_dots-encoded begins (chars bytes)
+    (subst (λ t. has_no_dots begins t ≡ true) (sym (encodes-chars bytes utf8)) no_dots)

@@ -1,4 +1,5 @@
 pub mod AbsoluteTextLemmas
+pub mod EncodedPathLemmas
 pub mod KeptPathLemmas
 pub mod OwnAuthorityLemmas
 pub mod OwnTextLemmas

@@ -35,7 +35,7 @@ use Rattle.uv_grammar.proofs.HostLemmas.{some_chars}
 use Rattle.uv_resolve.proofs.KeptPathLemmas.{authority_path-encoded, authority_path-none, encoded_each, slashed_text}
 use Rattle.uv_resolve.proofs.KeptPathLemmas.{kept-segments, special_path, walk-encoded}
 use Rattle.uv_resolve.proofs.RecordLemmas.{fields, denote-fields}
-use Rattle.uv_resolve.specs.OwnText.{HasOwnPrefix, HasOwnScheme, IsHttpName, IsOwnPath, IsOwnRoot, IsOwnScheme}
+use Rattle.uv_resolve.specs.OwnText.{HasOwnPrefix, HasOwnScheme, IsKnownScheme, IsOwnPath, IsOwnRoot, IsOwnScheme}
 use Rattle.uv_resolve.specs.OwnText.{IsOwnText}
 use Rattle.uv_resolve.specs.OwnText.{has_no_dots, is_kept_segment, is_never_encoded}
 
@@ -402,26 +402,36 @@ pub file : (bytes : List ℕ) → bytes_eq bytes (codes "file") ≡ true → IsO
 file bytes same =
     own_scheme bytes (codes "file") file_is_own refl ((bytes_eq-Decides bytes (codes "file")).0 same)
 
--- ---- the names of the schemes of HTTP
+-- ---- the names of the schemes that most links have
 
-https_is_named : IsHttpName (codes "https") (codes "https")
+https_is_known : IsKnownScheme (codes "https") Special (codes "https")
 unfolding scheme_class default_port
-https_is_named = record { class = refl; lower = refl; own = refl }
+https_is_known = record { classed = refl; lower = refl; own = refl }
 
-http_is_named : IsHttpName (codes "http") (codes "http")
+http_is_known : IsKnownScheme (codes "http") Special (codes "http")
 unfolding scheme_class default_port
-http_is_named = record { class = refl; lower = refl; own = refl }
+http_is_known = record { classed = refl; lower = refl; own = refl }
+
+file_is_known : IsKnownScheme (codes "file") File (codes "file")
+unfolding scheme_class default_port
+file_is_known = record { classed = refl; lower = refl; own = refl }
 
 -- a text with the bytes of such a name
-named : (bytes name : List ℕ) → IsHttpName name name → list_all is_ascii name ≡ true → bytes_eq bytes name ≡ true
-    → IsHttpName (chars bytes) name
-named bytes name is ascii same =
+known : (bytes : List ℕ) (class : Class) (name : List ℕ) → IsKnownScheme name class name
+    → list_all is_ascii name ≡ true → bytes_eq bytes name ≡ true → IsKnownScheme (chars bytes) class name
+known bytes class name is ascii same =
     let bytes_is : bytes ≡ name = (bytes_eq-Decides bytes name).0 same in
-    subst (λ (text : List ℕ). IsHttpName text name)
+    subst (λ (text : List ℕ). IsKnownScheme text class name)
     (sym (ascii_chars bytes name (IsAscii-from_test name ascii) bytes_is)) is
 
-pub https_name : (bytes : List ℕ) → bytes_eq bytes (codes "https") ≡ true → IsHttpName (chars bytes) (codes "https")
-https_name bytes same = named bytes (codes "https") https_is_named refl same
+pub https_known : (bytes : List ℕ) → bytes_eq bytes (codes "https") ≡ true
+    → IsKnownScheme (chars bytes) Special (codes "https")
+https_known bytes same = known bytes Special (codes "https") https_is_known refl same
 
-pub http_name : (bytes : List ℕ) → bytes_eq bytes (codes "http") ≡ true → IsHttpName (chars bytes) (codes "http")
-http_name bytes same = named bytes (codes "http") http_is_named refl same
+pub http_known : (bytes : List ℕ) → bytes_eq bytes (codes "http") ≡ true
+    → IsKnownScheme (chars bytes) Special (codes "http")
+http_known bytes same = known bytes Special (codes "http") http_is_known refl same
+
+pub file_known : (bytes : List ℕ) → bytes_eq bytes (codes "file") ≡ true
+    → IsKnownScheme (chars bytes) File (codes "file")
+file_known bytes same = known bytes File (codes "file") file_is_known refl same

@@ -1,71 +1,73 @@
 -- Segments that a walk appends to a path's text.
-use Rattle.std.proofs.Common.{◌≡◌, ◌≢◌, ℕ, Bool, true, false, ◌==◌, List, [], ◌∷◌, ◌++◌, refl, sym, ap, ◌∙◌, subst}
-use Rattle.std.proofs.Common.{inl, inr, append-nil, arith, drop, length, take, take_all, true≢false, ◌-◌}
+use Rattle.std.proofs.Common.{◌≡◌, ◌≢◌, ℕ, Bool, true, false, ◌==◌, List, [], ◌∷◌, refl, sym, ap, ◌∙◌, subst}
+use Rattle.std.proofs.Common.{inl, inr, arith, drop, length, take, take_all, true≢false, ◌-◌}
 use Rattle.std.specs.List.{join_with_byte, list_all}
 use Rattle.std.proofs.lemmas.Bool.{and_from, and_parts, cases_Bool, false_from_ne_true}
 use Rattle.std.proofs.lemmas.Bool.Decides.{nat_tests}
 use Rattle.std.proofs.lemmas.List.Splits.{join_with_byte-slice_split}
 use Rattle.std.specs.Prelude.{if◌then◌else◌}
 use Rattle.uv_model.specs.declared.scheme.Class.{Class}
+use Rattle.uv_model.specs.declared.scheme.Class.TheVariants.{File, Other, Special}
 use Rattle.uv_model.specs.Ascii.{slash}
 use Rattle.uv_model.specs.Parts.{Form, SchemeAuthority, SchemePath, SchemeOpaque, Authority, PathAbsolute}
 use Rattle.uv_model.specs.Parts.{PathRelative, NoPath}
 use Rattle.uv_model.specs.Path.{is_lone_drive, is_normalized_drive_letter, is_without, pieces, segments_behind}
 use Rattle.uv_model.specs.Path.{segments_of, walk}
+use Rattle.uv_model.specs.Records.Denote.{authority_path}
 use Rattle.uv_model.specs.Records.PathText.{IsPathText}
 use Rattle.uv_model.specs.Records.WellFormed.{AreUrlSegments}
 use Rattle.uv_model.proofs.Texts.MarkLemmas.{is_without-more}
 use Rattle.uv_model.proofs.Paths.PathPieces.{splits_first}
-use Rattle.uv_model.proofs.Paths.PathTexts.{pieces-one, pieces-serial}
+use Rattle.uv_model.proofs.Paths.PathTexts.{pieces-one}
 use Rattle.uv_grammar.specs.declared.form.Form as form
 use Rattle.uv_grammar.specs.declared.form.Form.TheVariants as variant
 use Rattle.uv_grammar.specs.Built.{segments_in}
 use Rattle.uv_grammar.specs.Form.{seen_form}
-use Rattle.uv_resolve.specs.OwnText.{has_no_dots, is_never_encoded}
-use Rattle.uv_resolve.proofs.KeptPathLemmas.{kept-segments}
-use Rattle.uv_resolve.proofs.OwnTextLemmas.{behind, walk-kept}
+use Rattle.uv_resolve.specs.Walk.{IsSegmented}
 
--- ---- paths that stay as they are
-
--- a walk keeps the texts between the slashes of a text that isn't encoded and in which no segment begins as a dot
--- segment does
-kept_pieces : (text : List ℕ) → list_all is_never_encoded text ≡ true → has_no_dots true text ≡ true
-    → (class : Class) (start : List (List ℕ)) → walk class start (pieces text) ≡ start ++ pieces text
-kept_pieces text bytes no_dots class start =
-    walk-kept class start (pieces text)
-    (kept-segments (pieces text) (ap (has_no_dots false) (pieces-serial text) ∙ no_dots))
-    (ap (list_all is_never_encoded) (pieces-serial text) ∙ bytes)
+-- ---- paths that a walk keeps
 
 -- the second of two lists, by a test that fails
-second : (test : Bool) (xs ys : List (List ℕ)) → test ≡ false → ys ≡ (if test then xs else ys)
+pub second : (test : Bool) (xs ys : List (List ℕ)) → test ≡ false → ys ≡ (if test then xs else ys)
 second true xs ys fails = absurd (true≢false fails)
 second false xs ys fails = refl
 
--- and the segments of a path
-pub kept_path : (text : List ℕ) → list_all is_never_encoded text ≡ true → has_no_dots true text ≡ true
-    → (class : Class) (start : List (List ℕ)) → walk class start (segments_of text) ≡ start ++ segments_of text
-unfolding walk
-kept_path [] bytes no_dots class start = sym (append-nil start)
-kept_path (c ∷ rest) bytes no_dots class start = elim (cases_Bool (c == slash)) [
+-- a list with a first text isn't empty
+cons_some : (first : List ℕ) (others : List (List ℕ)) → first ∷ others ≢ []
+cons_some first others same = absurd cc
+
+-- the segments of a path that isn't empty
+filled : (text : List ℕ) → (length text == 0) ≡ false → segments_of text ≢ []
+filled [] some = absurd cc
+filled (c ∷ rest) some = elim (cases_Bool (c == slash)) [
   | inl same ↦
-      let later = and_parts _ (has_no_dots (c == slash) rest) no_dots in
-      let begins : has_no_dots true rest ≡ true = rw same at later.1 in
-      rw same (kept_pieces rest (behind c rest bytes) begins class start)
+      let s = splits_first rest in
+      rw same (λ none. absurd (cons_some s.first s.others (sym s.is ∙ none)))
   | inr other ↦
-      subst (λ (s : List (List ℕ)). walk class start s ≡ start ++ s)
-      (second (c == slash) (pieces rest) (pieces (c ∷ rest)) other) (kept_pieces (c ∷ rest) bytes no_dots class start)
+      let s = splits_first (c ∷ rest) in
+      subst (λ (segments : List (List ℕ)). segments ≢ []) (second (c == slash) (pieces rest) (pieces (c ∷ rest)) other)
+      (λ none. absurd (cons_some s.first s.others (sym s.is ∙ none)))
 ]
 
+-- of a walk that gives them, they are those of the path behind an authority
+pub kept_authority : (class : Class) (segments : List (List ℕ)) (written : List ℕ) → (length written == 0) ≡ false
+    → walk class [] segments ≡ segments_of written → authority_path class segments ≡ segments_of written
+unfolding walk
+kept_authority class [] written some kept = absurd (filled written some (sym kept))
+kept_authority Special (first ∷ others) written some kept = kept
+kept_authority File (first ∷ others) written some kept = kept
+kept_authority Other (first ∷ others) written some kept = kept
+
 -- the segments by a form that isn't opaque
-pub segments_by_form : (seen : form.Form) (form : Form) (text : List ℕ) → seen_form seen ≡ form → seen ≢ variant.SchemeOpaque
-    → segments_in form text ≡ segments_of text
-segments_by_form variant.SchemeOpaque form text is other = absurd (other refl)
-segments_by_form variant.SchemeAuthority form text is other = rw (← is) refl
-segments_by_form variant.SchemePath form text is other = rw (← is) refl
-segments_by_form variant.Authority form text is other = rw (← is) refl
-segments_by_form variant.PathAbsolute form text is other = rw (← is) refl
-segments_by_form variant.PathRelative form text is other = rw (← is) refl
-segments_by_form variant.NoPath form text is other = rw (← is) refl
+pub segmented : (seen : form.Form) (form : Form) → seen_form seen ≡ form → seen ≢ variant.SchemeOpaque
+    → IsSegmented form
+segmented variant.SchemeOpaque form is other = absurd (other refl)
+segmented variant.SchemeAuthority form is other = λ text. rw (← is) refl
+segmented variant.SchemePath form is other = λ text. rw (← is) refl
+segmented variant.Authority form is other = λ text. rw (← is) refl
+segmented variant.PathAbsolute form is other = λ text. rw (← is) refl
+segmented variant.PathRelative form is other = λ text. rw (← is) refl
+segmented variant.NoPath form is other = λ text. rw (← is) refl
 
 -- ---- segments without a `/`
 
@@ -78,7 +80,7 @@ unslashed_first c first others other each =
     and_from _ _ (is_without-more slash c first other parts.0) parts.1
 
 -- the texts between slashes are without them
-unslashed_pieces : (text : List ℕ) → list_all (is_without slash) (pieces text) ≡ true
+pub unslashed_pieces : (text : List ℕ) → list_all (is_without slash) (pieces text) ≡ true
 unslashed_pieces [] = refl
 unslashed_pieces (c ∷ rest) = elim (cases_Bool (c == slash)) [
   | inl same ↦ rw same (unslashed_pieces rest)

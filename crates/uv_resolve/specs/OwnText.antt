@@ -5,7 +5,8 @@ use Rattle.std.specs.List.{list_all}
 use Rattle.std.specs.Char.{is_ascii}
 use Rattle.uv_model.specs.Ascii.{apostrophe, full_stop, percent_sign, slash}
 use Rattle.uv_model.specs.declared.host.Host.{Host}
-use Rattle.uv_model.specs.declared.scheme.Class.TheVariants.{Other, Special}
+use Rattle.uv_model.specs.declared.scheme.Class.{Class}
+use Rattle.uv_model.specs.declared.scheme.Class.TheVariants.{Other}
 use Rattle.uv_model.specs.Parts.{SchemeAuthority, Parts}
 use Rattle.uv_model.specs.Path.{is_double_dot, is_single_dot}
 use Rattle.uv_model.specs.Records.Serialize.{serial_host}
@@ -24,9 +25,9 @@ pub record IsOwnScheme (scheme : List ℕ) : Type 0 where
   pub special : scheme_class scheme ≢ Other
   pub lower : lowercase scheme ≡ scheme
 
--- a scheme of HTTP, written as its name
-pub record IsHttpName (scheme name : List ℕ) : Type 0 where
-  pub class : scheme_class scheme ≡ Special
+-- a scheme of this class, written as its name
+pub record IsKnownScheme (scheme : List ℕ) (class : Class) (name : List ℕ) : Type 0 where
+  pub classed : scheme_class scheme ≡ class
   pub lower : lowercase scheme ≡ name
   pub own : scheme ≡ name
 

@@ -10,12 +10,15 @@ use Rattle.uv_grammar.specs.Built.{segments_in}
 abbrev pub is_dots : List ℕ → Bool
 is_dots segment = is_double_dot segment || is_single_dot segment
 
--- the bytes of a path's text, each segment of which a walk keeps as it is
-pub record IsKeptPath (bytes : List ℕ) (form : Form) (text : List ℕ) : Type 0 where
-  pub ascii : IsAscii bytes
-  pub are : segments_in form text ≡ segments_of bytes
+-- a form of which the path isn't opaque
+abbrev pub IsSegmented : Form → Type 0
+IsSegmented form = (text : List ℕ) → segments_in form text ≡ segments_of text
+
+-- what is written of a path's text, of which a walk keeps each segment
+pub record IsKeptPath (form : Form) (text written : List ℕ) : Type 0 where
+  pub ascii : IsAscii written
   pub kept : (class : Class) (start : List (List ℕ))
-      → walk class start (segments_of bytes) ≡ start ++ segments_of bytes
+      → walk class start (segments_in form text) ≡ start ++ segments_of written
 
 -- the first segment, where there is one, which is ASCII
 abbrev pub StartsSegments : Option (List ℕ) → List (List ℕ) → Type 0

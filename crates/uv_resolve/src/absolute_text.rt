@@ -50,8 +50,8 @@ fn lower_scheme(scheme: Option<&str>) -> Option<&'static str>
     }
 }
 
-// The name of a special scheme in lower case.
-fn special_name(scheme: &str) -> Option<&'static str>
+/// The name of a special scheme in lower case.
+pub(crate) fn special_name(scheme: &str) -> Option<&'static str>
     ensures { IfSome result (λ name. IsLowerScheme (chars scheme.now) name.now) }
 {
     if is_name(scheme, "https") {

@@ -5,6 +5,7 @@ ghost use Rattle.uv_model.specs.Encoding.{encoded};
 
 use crate::own_text::is_never_encoded;
 use std::alloc::{AllocError, Global};
+use uv_model::Text;
 use uv_text::{encode, push_encoded};
 
 /// The text percent-encoded, and with `quote` also `'` (URL Standard, section 1.3). An error is out of memory.
@@ -16,6 +17,16 @@ pub(crate) fn encoded_part(alloc: Global, text: &str, quote: bool) -> Result<Str
         return String::from_str(alloc, text);
     }
     encode(alloc, text, quote)
+}
+
+/// The same, as a record holds it.
+pub(crate) fn encoded_text(alloc: Global, text: &str, quote: bool) -> Result<Text, AllocError>
+    ensures { IfOk result (λ out. out ≡ encoded quote (chars text.now)) }
+{
+    if is_never_encoded(text) {
+        return Text::copy_of(alloc, text);
+    }
+    Ok(Text::of(encode(alloc, text, quote)?))
 }
 
 /// The same, written behind what stands in a string.

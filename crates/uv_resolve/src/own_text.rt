@@ -125,6 +125,7 @@ pub(crate) fn is_own_path(text: &str) -> bool
 }
 
 /// Whether no `.` and no `%` stands behind a `/`, nor at the start where a segment begins there.
+#[inline(always)]
 pub(crate) fn is_without_dots(at_start: bool, path: &[u8]) -> bool
     ensures { result ≡ has_no_dots at_start path.now }
 {

@@ -1,15 +1,17 @@
 //! The path of the record that the parts of a valid text denote, after the URL Standard, section 4.4.
-ghost use Rattle.std.specs.Prelude.{◌≡◌, ◌∷◌, [], IfOk, IfSome, MatchOption, true, false, chars};
+ghost use Rattle.std.specs.Prelude.{◌≡◌, ◌∷◌, [], IfOk, IfSome, IsTrue, MatchOption, true, false, chars};
 ghost use Rattle.std.specs.Prelude.{option_copied, string_bytes};
+ghost use Rattle.std.specs.Str.{IsAscii};
 ghost use Rattle.uv_model.specs.Records.Denote as spec;
 ghost use Rattle.uv_model.specs.Records.WellFormed.{AreUrlSegments};
 ghost use Rattle.uv_model.specs.Encoding.{encoded};
 ghost use Rattle.uv_model.specs.Path as path_spec;
 ghost use Rattle.uv_resolve.specs.Resolve.{HaveValidText};
-ghost use Rattle.uv_resolve.specs.Walk.{IsKeptPath, StartsSegments};
+ghost use Rattle.uv_resolve.specs.OwnText.{has_no_dots};
+ghost use Rattle.uv_resolve.specs.Walk.{IsKeptPath, IsSegmented, StartsSegments};
 
 use crate::encoded_parts::encoded_part;
-use crate::own_text::{is_never_encoded, is_without_dots};
+use crate::own_text::is_without_dots;
 use crate::walker::{shorten, walk};
 use std::alloc::{AllocError, Global};
 use uv_grammar::{Form, Parts};
@@ -17,6 +19,7 @@ use uv_model::{
     Class, ListedTexts, PathText, Record, Text, TextList, UrlPath, is_drive_letter,
     is_normalized_drive_letter,
 };
+use uv_text::encode;
 
 /// The path that the parts denote against the base, in a URL of this class.
 pub(crate) fn path_of(
@@ -44,10 +47,23 @@ fn authority_path(alloc: Global, class: Class, parts: &Parts<'_>) -> Result<UrlP
     ensures { IfOk result (λ path.
         path ≡ UrlPath.Segments (spec.authority_path class parts.now.segments)) }
 {
-    match parts.segments().next() {
-        Some(_) => walked(alloc, class, path_for(alloc, parts)?, parts),
-        None => root(alloc, class),
+    let mut segments = parts.segments();
+    match kept_path(parts) {
+        Some(text) if !text.is_empty() => kept(alloc, text),
+        _ => match segments.next() {
+            Some(_) => rewritten_alone(alloc, class, parts),
+            None => root(alloc, class),
+        },
     }
+}
+
+// The path of a text that is taken as it stands.
+fn kept(alloc: Global, text: &str) -> Result<UrlPath, AllocError>
+    requires { IsAscii text.now }
+    ensures { IfOk result (λ path. path ≡ UrlPath.Segments (path_spec.segments_of text.now)) }
+{
+    let path = PathText::of(alloc, text)?;
+    Ok(UrlPath::Segments(TextList::of_path(path)))
 }
 
 // The path of a URL whose text has none behind its authority.
@@ -69,7 +85,7 @@ fn path_for(alloc: Global, parts: &Parts<'_>) -> Result<PathText, AllocError>
     PathText::with_capacity(alloc, parts.path_text().len().saturating_add(1))
 }
 
-// A walk from a start list over the segments.
+// A walk from a start list over the segments: at once where each stays as it is.
 fn walked(
     alloc: Global,
     class: Class,
@@ -79,39 +95,87 @@ fn walked(
     ensures { IfOk result (λ path.
         path ≡ UrlPath.Segments (path_spec.walk class start parts.now.segments)) }
 {
-    let path = walk_segments(alloc, class, start, parts)?;
-    Ok(UrlPath::Segments(TextList::of_path(path)))
-}
-
-// The same: at once where each segment stays as it is.
-fn walk_segments(
-    alloc: Global,
-    class: Class,
-    start: PathText,
-    parts: &Parts<'_>,
-) -> Result<PathText, AllocError>
-    ensures { IfOk result (λ path. path ≡ path_spec.walk class start parts.now.segments) }
-{
-    let segments = parts.segments();
+    let _segments = parts.segments();
     match kept_path(parts) {
         Some(text) => {
             let mut path = start;
             path.push_path(text)?;
-            Ok(path)
+            Ok(UrlPath::Segments(TextList::of_path(path)))
         }
-        None => walk(alloc, class, start, segments),
+        None => rewritten(alloc, class, start, parts),
     }
 }
 
-// The text of a path in which no segment is encoded, and none begins as a dot segment does.
+// A walk from none over the segments, where some segment changes.
+fn rewritten_alone(alloc: Global, class: Class, parts: &Parts<'_>) -> Result<UrlPath, AllocError>
+    ensures { IfOk result (λ path. path ≡ UrlPath.Segments (path_spec.walk class [] parts.now.segments)) }
+{
+    let segments = parts.segments();
+    let path = match encoded_path_of(alloc, parts)? {
+        Some(encoded) => PathText::of_string(alloc, encoded)?,
+        None => walk(alloc, class, path_for(alloc, parts)?, segments)?,
+    };
+    Ok(UrlPath::Segments(TextList::of_path(path)))
+}
+
+// A walk from a start list, where some segment changes: at once where each is no more than encoded, else one after the other.
+fn rewritten(
+    alloc: Global,
+    class: Class,
+    start: PathText,
+    parts: &Parts<'_>,
+) -> Result<UrlPath, AllocError>
+    ensures { IfOk result (λ path.
+        path ≡ UrlPath.Segments (path_spec.walk class start parts.now.segments)) }
+{
+    let segments = parts.segments();
+    let path = match encoded_path_of(alloc, parts)? {
+        Some(encoded) => {
+            let mut path = start;
+            path.push_path(encoded.as_str())?;
+            path
+        }
+        None => walk(alloc, class, start, segments)?,
+    };
+    Ok(UrlPath::Segments(TextList::of_path(path)))
+}
+
+// The path's text, where it is written as it stands and a walk keeps each segment. None says nothing.
 fn kept_path<'t>(parts: &Parts<'t>) -> Option<&'t str>
-    ensures { IfSome result (λ text. IsKeptPath text.now parts.now.form parts.now.path_text) }
+    ensures { IfSome result (λ text. IsKeptPath parts.now.form parts.now.path_text text.now) }
 {
     let text = parts.path_text();
+    if text.is_ascii() && keeps_segments(parts) {
+        Some(text)
+    } else {
+        None
+    }
+}
+
+// The encoded text of a path that begins with `/`, where a walk keeps each segment. None says nothing.
+fn encoded_path_of(alloc: Global, parts: &Parts<'_>) -> Result<Option<String>, AllocError>
+    ensures { IfOk result (λ encoded. IfSome encoded (λ text.
+        IsKeptPath parts.now.form parts.now.path_text (string_bytes text))) }
+{
+    let text = parts.path_text();
+    if !keeps_segments(parts) {
+        return Ok(None);
+    }
+    match text.strip_prefix('/') {
+        Some(_) => Ok(Some(encode(alloc, text, false)?)),
+        None => Ok(None),
+    }
+}
+
+// Whether the path isn't opaque, and no segment of it begins as a dot segment does.
+#[inline(always)]
+fn keeps_segments(parts: &Parts<'_>) -> bool
+    ensures form { IsTrue result → IsSegmented parts.now.form }
+    ensures no_dots { IsTrue result → has_no_dots true parts.now.path_text ≡ true }
+{
     match parts.form() {
-        Form::SchemeOpaque => None,
-        _ if is_never_encoded(text) && is_without_dots(true, text.as_bytes()) => Some(text),
-        _ => None,
+        Form::SchemeOpaque => false,
+        _ => is_without_dots(true, parts.path_text().as_bytes()),
     }
 }
 

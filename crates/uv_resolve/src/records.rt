@@ -1,5 +1,5 @@
 //! The record that the parts of a valid text denote, after the URL Standard, section 4.4.
-ghost use Rattle.std.specs.Prelude.{◌≡◌, IfOk, IfSome, None, false, chars, option_copied, option_map, string_bytes};
+ghost use Rattle.std.specs.Prelude.{◌≡◌, IfOk, IfSome, None, false, chars, option_copied, option_map};
 ghost use Rattle.std.specs.Cow.{cow_str_bytes};
 ghost use Rattle.std.specs.Str.{IsAscii};
 ghost use Rattle.uv_model.specs.Records.Denote as spec;
@@ -7,26 +7,28 @@ ghost use Rattle.uv_model.specs.Encoding.{encoded};
 ghost use Rattle.uv_model.specs.Scheme.{lowercase, scheme_class};
 ghost use Rattle.uv_model.specs.Valid.{scheme_in};
 ghost use Rattle.uv_model.specs.Records.WellFormed.{WellFormed};
-ghost use Rattle.uv_resolve.specs.OwnText.{IsHttpName};
-ghost use Rattle.uv_resolve.specs.Resolve.{HaveValidText};
+ghost use Rattle.uv_resolve.specs.OwnText.{IsKnownScheme};
+ghost use Rattle.uv_resolve.specs.Resolve.{HaveValidText, IsDenoted};
 ghost use Rattle.uv_grammar.specs.Slices.{chars_of_option};
 
-use crate::encoded_parts::encoded_part;
+use crate::absolute_text::special_name;
+use crate::encoded_parts::encoded_text;
+use crate::fault::ResolveFault;
 use crate::paths::path_of;
 use std::alloc::{AllocError, Global};
 use std::borrow::CowStr;
-use uv_grammar::{Form, Parts};
+use uv_grammar::{Form, HostRef, Parts};
 use uv_model::{Class, Host, Profile, Record, Text, class_of};
 
-/// The record that the parts denote against the base.
+/// The record that the parts denote against the base. The only fault is out of memory.
 pub(crate) fn denoted(
     alloc: Global,
     parts: Parts<'_>,
     base: Option<&Record>,
-) -> Result<Record, AllocError>
+) -> Result<Record, ResolveFault>
     requires valid { HaveValidText (option_copied base) parts }
     requires well_formed { WellFormed Profile.Parser (spec.denote (option_copied base) parts) }
-    ensures { IfOk result (λ url. url ≡ spec.denote (option_copied base.entry) parts.entry) }
+    ensures { IsDenoted (spec.denote (option_copied base.entry) parts.entry) result }
 {
     let class = class_in(&parts, base);
     let scheme = scheme_of(alloc, &parts, base)?;
@@ -34,7 +36,7 @@ pub(crate) fn denoted(
     let path = path_of(alloc, class, &parts, base)?;
     let query = query_of(alloc, class, &parts, base)?;
     let fragment = fragment_of(alloc, &parts)?;
-    let host = host_of(alloc, parts, base)?;
+    let host = host_of(alloc, &parts, base)?;
     Ok(Record::make_with(scheme, host, port, path, query, fragment))
 }
 
@@ -57,29 +59,49 @@ fn base_class(base: Option<&Record>) -> Class
     }
 }
 
-// The class of a scheme, of the two that most links have at once.
+// The class of a scheme, of one that most links have at once.
 fn class_by(scheme: &str) -> Class
     ensures { result ≡ scheme_class (chars scheme.now) }
 {
-    match http_name(scheme) {
-        Some(_) => Class::Special,
+    match known_scheme(scheme) {
+        Some(known) => known.class,
         None => class_of(scheme),
     }
 }
 
-// The name of a scheme of HTTP that is written in lower case.
-fn http_name(scheme: &str) -> Option<&'static str>
-    ensures { IfSome result (λ name. IsHttpName (chars scheme.now) name.now) }
+// A scheme that most links have, by its name in lower case.
+#[derive(Clone, Copy)]
+pub(crate) struct KnownScheme {
+    pub class: Class,
+    pub name: &'static str,
+}
+
+// One that is written in lower case.
+fn known_scheme(scheme: &str) -> Option<KnownScheme>
+    ensures { IfSome result (λ known. IsKnownScheme (chars scheme.now) known.class known.name.now) }
 {
     if scheme == "https" {
-        return Some("https");
+        return Some(KnownScheme {
+            class: Class::Special,
+            name: "https",
+        });
     }
     if scheme == "http" {
-        return Some("http");
+        return Some(KnownScheme {
+            class: Class::Special,
+            name: "http",
+        });
+    }
+    if scheme == "file" {
+        return Some(KnownScheme {
+            class: Class::File,
+            name: "file",
+        });
     }
     None
 }
 
+#[inline(always)]
 fn scheme_of(
     alloc: Global,
     parts: &Parts<'_>,
@@ -99,7 +121,10 @@ fn lowered(alloc: Global, scheme: &str) -> Result<CowStr<'static>, AllocError>
     requires { IsAscii (chars scheme.now) }
     ensures { IfOk result (λ text. cow_str_bytes text ≡ lowercase (chars scheme.now)) }
 {
-    match http_name(scheme) {
+    if let Some(known) = known_scheme(scheme) {
+        return Ok(CowStr::Borrowed(known.name));
+    }
+    match special_name(scheme) {
         Some(name) => Ok(CowStr::Borrowed(name)),
         None => Ok(CowStr::Owned(scheme.to_ascii_lowercase(alloc)?)),
     }
@@ -119,20 +144,21 @@ fn copied(alloc: Global, scheme: &str) -> Result<CowStr<'static>, AllocError>
     requires { IsAscii scheme.now }
     ensures { IfOk result (λ text. cow_str_bytes text ≡ scheme.now) }
 {
-    match http_name(scheme) {
-        Some(name) => Ok(CowStr::Borrowed(name)),
+    match known_scheme(scheme) {
+        Some(known) => Ok(CowStr::Borrowed(known.name)),
         None => Ok(CowStr::Owned(String::from_str(alloc, scheme)?)),
     }
 }
 
-// The host of the authority, taken from the parts, else a copy of the base's.
+// The host of the authority, else the base's.
+#[inline(always)]
 fn host_of(
     alloc: Global,
-    parts: Parts<'_>,
+    parts: &Parts<'_>,
     base: Option<&Record>,
 ) -> Result<Option<Host>, AllocError>
     ensures { IfOk result (λ host.
-        host ≡ spec.denoted_host (option_copied base.entry) parts.entry.form parts.entry) }
+        host ≡ spec.denoted_host (option_copied base.entry) parts.now.form parts.now) }
 {
     match parts.form() {
         Form::SchemeAuthority | Form::Authority => authority_host(alloc, parts),
@@ -141,13 +167,14 @@ fn host_of(
     }
 }
 
-fn authority_host(alloc: Global, parts: Parts<'_>) -> Result<Option<Host>, AllocError>
-    ensures { IfOk result (λ host. host ≡ spec.authority_host parts.entry) }
+#[inline(always)]
+fn authority_host(alloc: Global, parts: &Parts<'_>) -> Result<Option<Host>, AllocError>
+    ensures { IfOk result (λ host. host ≡ spec.authority_host parts.now) }
 {
-    let text = parts.host_text();
-    match parts.into_host(alloc)? {
-        Some(host) => Ok(Some(host)),
-        None => opaque_host(alloc, text),
+    match parts.host() {
+        Some(HostRef::Domain(form)) => Ok(Some(Host::Domain(Text::copy_of(alloc, form.as_str())?))),
+        Some(host) => Ok(Some(host.copy(alloc)?)),
+        None => opaque_host(alloc, parts.host_text()),
     }
 }
 
@@ -156,7 +183,7 @@ fn opaque_host(alloc: Global, text: Option<&str>) -> Result<Option<Host>, AllocE
         host ≡ option_map (λ t. Host.Opaque (encoded false t)) (chars_of_option text.entry)) }
 {
     match text {
-        Some(text) => Ok(Some(Host::Opaque(Text::of(encoded_part(alloc, text, false)?)))),
+        Some(text) => Ok(Some(Host::Opaque(encoded_text(alloc, text, false)?))),
         None => Ok(None),
     }
 }
@@ -173,6 +200,7 @@ fn base_host(alloc: Global, base: Option<&Record>) -> Result<Option<Host>, Alloc
     }
 }
 
+#[inline(always)]
 fn port_of(parts: &Parts<'_>, base: Option<&Record>) -> Option<u16>
     ensures { result ≡ spec.denoted_port (option_copied base.entry) parts.now.form parts.now }
 {
@@ -193,17 +221,18 @@ fn base_port(base: Option<&Record>) -> Option<u16>
 }
 
 // The text's query, else in a reference without a path the base's.
+#[inline(always)]
 fn query_of(
     alloc: Global,
     class: Class,
     parts: &Parts<'_>,
     base: Option<&Record>,
-) -> Result<Option<String>, AllocError>
-    ensures { IfOk result (λ query. option_map (λ s. string_bytes s) query
+) -> Result<Option<Text>, AllocError>
+    ensures { IfOk result (λ query. query
         ≡ spec.denoted_query (option_copied base.entry) class parts.now.form parts.now.query) }
 {
     match (parts.query(), parts.form()) {
-        (Some(query), _) => encoded_text(alloc, Some(query), quotes(class)),
+        (Some(query), _) => encoded_option(alloc, Some(query), quotes(class)),
         (None, Form::NoPath) => base_query(alloc, base),
         (None, _) => Ok(None),
     }
@@ -219,37 +248,38 @@ fn quotes(class: Class) -> bool
     }
 }
 
-fn base_query(alloc: Global, base: Option<&Record>) -> Result<Option<String>, AllocError>
-    ensures { IfOk result (λ query. option_map (λ s. string_bytes s) query
+fn base_query(alloc: Global, base: Option<&Record>) -> Result<Option<Text>, AllocError>
+    ensures { IfOk result (λ query. query
         ≡ spec.base_query (option_copied base.entry)) }
 {
     let Some(base) = base else {
         return Ok(None);
     };
-    match base.query() {
-        Some(query) => Ok(Some(String::from_str(alloc, query)?)),
+    match base.query_text() {
+        Some(query) => Ok(Some(query.copy(alloc)?)),
         None => Ok(None),
     }
 }
 
 // The text's fragment, never the base's.
-fn fragment_of(alloc: Global, parts: &Parts<'_>) -> Result<Option<String>, AllocError>
-    ensures { IfOk result (λ fragment. option_map (λ s. string_bytes s) fragment
+fn fragment_of(alloc: Global, parts: &Parts<'_>) -> Result<Option<Text>, AllocError>
+    ensures { IfOk result (λ fragment. fragment
         ≡ option_map (encoded false) parts.now.fragment) }
 {
-    encoded_text(alloc, parts.fragment(), false)
+    encoded_option(alloc, parts.fragment(), false)
 }
 
-fn encoded_text(
+#[inline(always)]
+fn encoded_option(
     alloc: Global,
     text: Option<&str>,
     quote: bool,
-) -> Result<Option<String>, AllocError>
-    ensures { IfOk result (λ out. option_map (λ s. string_bytes s) out
+) -> Result<Option<Text>, AllocError>
+    ensures { IfOk result (λ out. out
         ≡ option_map (encoded quote) (chars_of_option text.entry)) }
 {
     match text {
-        Some(text) => Ok(Some(encoded_part(alloc, text, quote)?)),
+        Some(text) => Ok(Some(encoded_text(alloc, text, quote)?)),
         None => Ok(None),
     }
 }

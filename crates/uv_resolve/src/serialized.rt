@@ -93,7 +93,10 @@ fn write_parts(
         return Ok(written);
     }
     see_base(base);
-    denoted(alloc, parts, base)?.text(alloc)
+    match denoted(alloc, parts, base) {
+        Ok(record) => record.text(alloc),
+        Err(ResolveFault::Refused(_) | ResolveFault::Memory(_)) => Err(AllocError),
+    }
 }
 
 // The text with a `/` behind it, in one allocation.

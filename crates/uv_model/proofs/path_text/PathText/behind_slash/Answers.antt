@@ -10,12 +10,12 @@ use Rattle.uv_model.proofs.path_text.PathText.behind_slash.Goals as goal
 pub returns-clause-segments : goal.returns-clause-segments
 returns-clause-segments c =
     behind_start c.as_str.result.now c.strip_prefix.result
-    (subst IsPathText (sym c.as_str.ensures.value) c.self.invariant)
+    (subst IsPathText (sym c.as_str.ensures) c.self.invariant)
     (strip_prefix_char slash c.as_str.result.now c.strip_prefix.result c.strip_prefix.ensures.cases (lit< tt))
-    ∙ ap segments_behind c.as_str.ensures.value ∙ c.self.view_is
+    ∙ ap segments_behind c.as_str.ensures ∙ c.self.view_is
 
 pub returns-clause-ascii : goal.returns-clause-ascii
 returns-clause-ascii c =
     behind_ascii c.as_str.result.now c.strip_prefix.result
-    (subst IsPathText (sym c.as_str.ensures.value) c.self.invariant)
+    (subst IsPathText (sym c.as_str.ensures) c.self.invariant)
     (strip_prefix_char slash c.as_str.result.now c.strip_prefix.result c.strip_prefix.ensures.cases (lit< tt))

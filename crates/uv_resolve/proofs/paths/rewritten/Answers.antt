@@ -1,10 +1,10 @@
--- The segments are those of the path's text.
+-- The segments of a path are without `/`.
 use Rattle.std.proofs.Common.{◌≡◌, ◌∙◌, sym, subst, true, List, ℕ}
 use Rattle.std.specs.List.{list_all}
 use Rattle.uv_model.specs.Ascii.{slash}
 use Rattle.uv_model.specs.Path.{is_without}
 use Rattle.uv_resolve.proofs.PathTextLemmas.{unslashed_by_form}
-use Rattle.uv_resolve.proofs.paths.walk_segments.Goals as goal
+use Rattle.uv_resolve.proofs.paths.rewritten.Goals as goal
 
 pub walk-requires : goal.walk-requires
 walk-requires c =

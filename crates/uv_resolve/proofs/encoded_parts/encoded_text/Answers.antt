@@ -1,0 +1,9 @@
+-- A text that no part encodes is its own encoding.
+use Rattle.std.proofs.Common.{rules, sym}
+use Rattle.uv_resolve.proofs.AbsoluteTextLemmas.{never_encoded-encoded}
+use Rattle.uv_resolve.proofs.encoded_parts.encoded_text.Goals as goal
+
+pub returns-then-is_never_encoded : goal.returns-then-is_never_encoded
+returns-then-is_never_encoded c =
+    rw (sym (never_encoded-encoded c.args.quote c.args.text.now (c.is_never_encoded.ensures c.if-is_never_encoded.true)))
+    (search rules)
