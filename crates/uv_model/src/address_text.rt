@@ -1,14 +1,19 @@
 //! IPv4 and IPv6 addresses and ports as the serializers write them, appended to a text.
 ghost use Rattle.std.specs.Prelude.{◌≡◌, ◌+◌, ◌/◌, ◌%◌, ◌<◌, ◌≤◌, ◌++◌, ◌∷◌, [], OnOk, OnErr, codes, decimal};
-ghost use Rattle.std.specs.Prelude.{length, string_bytes};
+ghost use Rattle.std.specs.Prelude.{All, length, string_bytes};
 ghost use Rattle.std.specs.Char.{digit_char};
 ghost use Rattle.std.specs.Io.{StartsWith};
 ghost use Rattle.std.specs.Net.Text as address;
 ghost use Rattle.uv_model.specs.Records.AddressText.{later_groups};
 ghost use Rattle.uv_model.specs.Records.Serialize.{serial_ipv4, serial_ipv6, serial_port};
 
+use arrayvec::ArrayString;
 use itoa::Buffer;
 use std::alloc::AllocError;
+use std::str::from_utf8_unchecked;
+
+// The text of an address is gathered in place, where the longest has room, and appended at once.
+type AddressText = ArrayString<48>;
 
 // The hex digits in lower case.
 const HEX_DIGITS: &[u8; 16] = b"0123456789abcdef";
@@ -19,13 +24,48 @@ pub fn push_ipv4(out: &mut String, value: u32) -> Result<(), AllocError>
     ensures ok { OnOk result (string_bytes out.new ≡ string_bytes out.old ++ serial_ipv4 value) }
     ensures err { OnErr result (StartsWith (string_bytes out.new) (string_bytes out.old)) }
 {
-    push_number(out, value / 16_777_216 % 256)?;
-    out.push_str(".")?;
-    push_number(out, value / 65_536 % 256)?;
-    out.push_str(".")?;
-    push_number(out, value / 256 % 256)?;
-    out.push_str(".")?;
-    push_number(out, value % 256)
+    let mut text = ArrayString::new();
+    push_octet(&mut text, (value / 16_777_216 % 256) as u8);
+    push_ascii(&mut text, b".");
+    push_octet(&mut text, (value / 65_536 % 256) as u8);
+    push_ascii(&mut text, b".");
+    push_octet(&mut text, (value / 256 % 256) as u8);
+    push_ascii(&mut text, b".");
+    push_octet(&mut text, (value % 256) as u8);
+    out.push_str(text.as_str())
+}
+
+// One of the four numbers of an IPv4 address.
+#[tactic(auto, using(crate::proofs::Addresses::AddressTextLemmas::octet_digits))]
+fn push_octet(text: &mut AddressText, number: u8)
+    requires { length text.old.bytes + 3 ≤ 48 }
+    ensures bytes { text.new.bytes ≡ text.old.bytes ++ decimal number }
+    ensures len { length text.new.bytes ≤ length text.old.bytes + 3 }
+{
+    match number {
+        100.. => push_ascii(
+            text,
+            &[
+                b'0' + number / 100,
+                b'0' + number / 10 % 10,
+                b'0' + number % 10,
+            ],
+        ),
+        10.. => push_ascii(text, &[b'0' + number / 10, b'0' + number % 10]),
+        _ => push_ascii(text, &[b'0' + number]),
+    }
+}
+
+// ASCII bytes. Where a caller's number of them is fixed, they are written in a few instructions and without a call.
+#[tactic(auto, using(crate::proofs::Addresses::AddressTextLemmas::utf8_from_all))]
+#[inline(always)]
+fn push_ascii(text: &mut AddressText, bytes: &[u8])
+    requires ascii { All (λ b. b < 128) bytes.now }
+    requires room { length text.old.bytes + length bytes.now ≤ 48 }
+    ensures bytes { text.new.bytes ≡ text.old.bytes ++ bytes.now }
+    ensures len { length text.new.bytes ≡ length text.old.bytes + length bytes.now }
+{
+    text.push_str(unsafe { from_utf8_unchecked(bytes) });
 }
 
 /// Appends a port behind a `:`, where there is one. An error means that memory ran out: `out` then still begins with

@@ -1,8 +1,35 @@
--- The hex digits of a piece, without leading zeros.
-use Rattle.std.proofs.Common.{◌≡◌, ℕ, zero, suc, ◌/◌, ◌%◌, ◌<◌, ◌≤◌, [], ◌∷◌, codes, get_or, refl, arith, le-leb}
+-- The hex digits of a piece, without leading zeros, and the decimal digits of an octet.
+use Rattle.std.proofs.Common.{◌≡◌, ℕ, zero, suc, ◌+◌, ◌/◌, ◌%◌, ◌<◌, ◌≤◌, List, [], ◌∷◌, ◌++◌, All}
+use Rattle.std.proofs.Common.{codes, decimal, get_or, refl, ap, ◌∙◌, arith, le-leb}
 use Rattle.std.proofs.lemmas.Bool.{lt-leb}
+use Rattle.std.proofs.lemmas.Fmt.{decimal_digit, decimal_step}
+use Rattle.std.proofs.lemmas.Str.{IsUtf8-from_ascii}
+use Rattle.std.proofs.lemmas.Str.Ascii.{IsAscii-from_all}
 use Rattle.std.specs.Char.{digit_char}
 use Rattle.std.specs.Net.Text.{hex}
+use Rattle.std.specs.Str.{IsUtf8}
+
+-- bytes below 128 are a text
+pub utf8_from_all : (bytes : List ℕ) → All (λ b. b < 128) bytes → IsUtf8 bytes
+utf8_from_all bytes all = IsUtf8-from_ascii bytes (IsAscii-from_all bytes all)
+
+-- two digits of an octet
+pub two_decimals : (n : ℕ) → n < 100 → 10 ≤ n → decimal n ≡ (48 + n / 10) ∷ (48 + n % 10) ∷ []
+two_decimals n below least =
+    decimal_step n least (omega arith)
+    ∙ ap (λ front. front ++ ((48 + n % 10) ∷ [])) (decimal_digit (n / 10) (omega arith))
+
+-- three
+pub three_decimals : (n : ℕ) → n < 256 → 100 ≤ n
+    → decimal n ≡ (48 + n / 100) ∷ (48 + n / 10 % 10) ∷ (48 + n % 10) ∷ []
+three_decimals n below least =
+    let first : n / 10 / 10 ≡ n / 100 = omega arith in
+    decimal_step n (omega arith) (omega arith)
+    ∙ ap (λ front. front ++ ((48 + n % 10) ∷ [])) (two_decimals (n / 10) (omega arith) (omega arith))
+    ∙ ap (λ d. (48 + d) ∷ (48 + n / 10 % 10) ∷ (48 + n % 10) ∷ []) first
+
+-- the digits that an octet is written by
+pub ruleset octet_digits = (three_decimals, two_decimals, decimal_digit)
 
 -- four digits
 pub four_digits : (n : ℕ) → n < 0x10000 → 0x1000 ≤ n → hex n ≡ digit_char (n / 0x1000 % 16)
