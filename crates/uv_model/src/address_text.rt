@@ -1,6 +1,6 @@
 //! IPv4 and IPv6 addresses and ports as the serializers write them, appended to a text.
-ghost use Rattle.std.specs.Prelude.{◌≡◌, ◌+◌, ◌/◌, ◌%◌, ◌<◌, ◌≤◌, ◌++◌, ◌∷◌, [], OnOk, OnErr, codes, decimal};
-ghost use Rattle.std.specs.Prelude.{All, length, string_bytes};
+ghost use Rattle.std.specs.Prelude.{◌≡◌, ◌+◌, ◌*◌, ◌%◌, ◌<◌, ◌≤◌, ◌++◌, All, OnOk, OnErr, decimal, length};
+ghost use Rattle.std.specs.Prelude.{string_bytes};
 ghost use Rattle.std.specs.Char.{digit_char};
 ghost use Rattle.std.specs.Io.{StartsWith};
 ghost use Rattle.std.specs.Net.Text as address;
@@ -96,111 +96,85 @@ pub fn push_ipv6(out: &mut String, pieces: &[u16; 8]) -> Result<(), AllocError>
     ensures ok { OnOk result (string_bytes out.new ≡ string_bytes out.old ++ serial_ipv6 pieces.now) }
     ensures err { OnErr result (StartsWith (string_bytes out.new) (string_bytes out.old)) }
 {
-    out.push('[')?;
-    push_pieces(out, pieces)?;
-    out.push(']')
+    let mut text = ArrayString::new();
+    push_ascii(&mut text, b"[");
+    push_pieces(&mut text, pieces);
+    push_ascii(&mut text, b"]");
+    out.push_str(text.as_str())
 }
 
 // The pieces, where `::` stands for the first longest run of two zero pieces or more.
 #[tactic(auto, unfolding(std::specs::Net::Text::hex_groups_text))]
-fn push_pieces(out: &mut String, pieces: &[u16]) -> Result<(), AllocError>
-    ensures ok { OnOk result (string_bytes out.new ≡ string_bytes out.old ++ address.hex_groups_text pieces.now) }
-    ensures err { OnErr result (StartsWith (string_bytes out.new) (string_bytes out.old)) }
+fn push_pieces(text: &mut AddressText, pieces: &[u16])
+    requires { length text.old.bytes + 5 * length pieces.now + 2 ≤ 48 }
+    ensures bytes { text.new.bytes ≡ text.old.bytes ++ address.hex_groups_text pieces.now }
+    ensures len { length text.new.bytes ≤ length text.old.bytes + 5 * length pieces.now + 2 }
 {
     let (start, count) = longest_zero_run(pieces);
     if count > 1 {
-        push_groups(out, &pieces[..start])?;
-        return push_behind_zeros(out, &pieces[start + count..]);
+        push_groups(text, &pieces[..start]);
+        push_ascii(text, b"::");
+        push_groups(text, &pieces[start + count..]);
+    } else {
+        push_groups(text, pieces);
     }
-    push_groups(out, pieces)
-}
-
-// `::` for zero pieces, and the groups behind them.
-fn push_behind_zeros(out: &mut String, pieces: &[u16]) -> Result<(), AllocError>
-    ensures ok { OnOk result (string_bytes out.new
-        ≡ string_bytes out.old ++ (codes "::" ++ address.groups_text pieces.now)) }
-    ensures err { OnErr result (StartsWith (string_bytes out.new) (string_bytes out.old)) }
-{
-    out.push_str("::")?;
-    push_groups(out, pieces)
 }
 
 // Groups with `:` between each two.
-fn push_groups(out: &mut String, pieces: &[u16]) -> Result<(), AllocError>
-    ensures ok { OnOk result (string_bytes out.new ≡ string_bytes out.old ++ address.groups_text pieces.now) }
-    ensures err { OnErr result (StartsWith (string_bytes out.new) (string_bytes out.old)) }
+fn push_groups(text: &mut AddressText, pieces: &[u16])
+    requires { length text.old.bytes + 5 * length pieces.now ≤ 48 }
+    ensures bytes { text.new.bytes ≡ text.old.bytes ++ address.groups_text pieces.now }
+    ensures len { length text.new.bytes ≤ length text.old.bytes + 5 * length pieces.now }
 {
     match pieces {
         [first, others @ ..] => {
-            push_group(out, *first)?;
-            push_later_groups(out, others)
+            push_group(text, *first);
+            push_later_groups(text, others);
         }
-        [] => Ok(()),
+        [] => {}
     }
 }
 
 // Groups with `:` before each.
-fn push_later_groups(out: &mut String, pieces: &[u16]) -> Result<(), AllocError>
-    ensures ok { OnOk result (string_bytes out.new ≡ string_bytes out.old ++ later_groups pieces.now) }
-    ensures err { OnErr result (StartsWith (string_bytes out.new) (string_bytes out.old)) }
+fn push_later_groups(text: &mut AddressText, pieces: &[u16])
+    requires { length text.old.bytes + 5 * length pieces.now ≤ 48 }
+    ensures bytes { text.new.bytes ≡ text.old.bytes ++ later_groups pieces.now }
+    ensures len { length text.new.bytes ≤ length text.old.bytes + 5 * length pieces.now }
 {
     for piece in pieces {
-        out.push(':')?;
-        push_group(out, *piece)?;
+        push_ascii(text, b":");
+        push_group(text, *piece);
     }
-    Ok(())
 }
 
 // A piece in lower-case hex, without leading zeros.
 #[tactic(auto, using(crate::proofs::Addresses::AddressTextLemmas::shown_digits))]
-fn push_group(out: &mut String, piece: u16) -> Result<(), AllocError>
-    ensures ok { OnOk result (string_bytes out.new ≡ string_bytes out.old ++ address.hex piece) }
-    ensures err { OnErr result (StartsWith (string_bytes out.new) (string_bytes out.old)) }
+fn push_group(text: &mut AddressText, piece: u16)
+    requires { length text.old.bytes + 4 ≤ 48 }
+    ensures bytes { text.new.bytes ≡ text.old.bytes ++ address.hex piece }
+    ensures len { length text.new.bytes ≤ length text.old.bytes + 4 }
 {
     match piece {
-        0x1000.. => push_four(out, piece),
-        0x100.. => push_three(out, piece),
-        0x10.. => push_two(out, piece),
-        _ => push_digit(out, piece),
+        0x1000.. => push_ascii(
+            text,
+            &[
+                hex_digit(piece / 0x1000),
+                hex_digit(piece / 0x100),
+                hex_digit(piece / 0x10),
+                hex_digit(piece),
+            ],
+        ),
+        0x100.. => push_ascii(
+            text,
+            &[
+                hex_digit(piece / 0x100),
+                hex_digit(piece / 0x10),
+                hex_digit(piece),
+            ],
+        ),
+        0x10.. => push_ascii(text, &[hex_digit(piece / 0x10), hex_digit(piece)]),
+        _ => push_ascii(text, &[hex_digit(piece)]),
     }
-}
-
-// The four hex digits of a piece.
-fn push_four(out: &mut String, piece: u16) -> Result<(), AllocError>
-    ensures ok { OnOk result (string_bytes out.new ≡ string_bytes out.old ++ (digit_char (piece / 0x1000 % 16)
-        ∷ digit_char (piece / 0x100 % 16) ∷ digit_char (piece / 0x10 % 16) ∷ digit_char (piece % 16) ∷ [])) }
-    ensures err { OnErr result (StartsWith (string_bytes out.new) (string_bytes out.old)) }
-{
-    push_digit(out, piece / 0x1000)?;
-    push_three(out, piece)
-}
-
-// The last three hex digits of a piece.
-fn push_three(out: &mut String, piece: u16) -> Result<(), AllocError>
-    ensures ok { OnOk result (string_bytes out.new ≡ string_bytes out.old ++ (digit_char (piece / 0x100 % 16)
-        ∷ digit_char (piece / 0x10 % 16) ∷ digit_char (piece % 16) ∷ [])) }
-    ensures err { OnErr result (StartsWith (string_bytes out.new) (string_bytes out.old)) }
-{
-    push_digit(out, piece / 0x100)?;
-    push_two(out, piece)
-}
-
-// The last two hex digits of a piece.
-fn push_two(out: &mut String, piece: u16) -> Result<(), AllocError>
-    ensures ok { OnOk result (string_bytes out.new
-        ≡ string_bytes out.old ++ (digit_char (piece / 0x10 % 16) ∷ digit_char (piece % 16) ∷ [])) }
-    ensures err { OnErr result (StartsWith (string_bytes out.new) (string_bytes out.old)) }
-{
-    push_digit(out, piece / 0x10)?;
-    push_digit(out, piece)
-}
-
-// The last hex digit of a number.
-fn push_digit(out: &mut String, number: u16) -> Result<(), AllocError>
-    ensures ok { OnOk result (string_bytes out.new ≡ string_bytes out.old ++ (digit_char (number % 16) ∷ [])) }
-    ensures err { OnErr result (string_bytes out.new ≡ string_bytes out.old) }
-{
-    out.push(char::from(hex_digit(number)))
 }
 
 /// The start and the length of the longest run of zeros, and of two such runs the first.
