@@ -47,8 +47,8 @@ fn push_octet(text: &mut AddressText, number: u8)
             text,
             &[
                 b'0' + number / 100,
-                b'0' + number / 10 % 10,
-                b'0' + number % 10,
+                b'0' + number % 100 / 10,
+                b'0' + number % 100 % 10,
             ],
         ),
         10.. => push_ascii(text, &[b'0' + number / 10, b'0' + number % 10]),

@@ -21,12 +21,13 @@ two_decimals n below least =
 
 -- three
 pub three_decimals : (n : ℕ) → n < 256 → 100 ≤ n
-    → decimal n ≡ (48 + n / 100) ∷ (48 + n / 10 % 10) ∷ (48 + n % 10) ∷ []
+    → decimal n ≡ (48 + n / 100) ∷ (48 + n % 100 / 10) ∷ (48 + n % 100 % 10) ∷ []
 three_decimals n below least =
     let first : n / 10 / 10 ≡ n / 100 = omega arith in
-    decimal_step n (omega arith) (omega arith)
-    ∙ ap (λ front. front ++ ((48 + n % 10) ∷ [])) (two_decimals (n / 10) (omega arith) (omega arith))
-    ∙ ap (λ d. (48 + d) ∷ (48 + n / 10 % 10) ∷ (48 + n % 10) ∷ []) first
+    let second : n / 10 % 10 ≡ n % 100 / 10 = omega arith in
+    let third : n % 10 ≡ n % 100 % 10 = omega arith in
+    let front = two_decimals (n / 10) (omega arith) (omega arith) in
+    rw (decimal_step n (omega arith) (omega arith), front, first, second, third) refl
 
 -- the digits that an octet is written by
 pub ruleset octet_digits = (three_decimals, two_decimals, decimal_digit)
