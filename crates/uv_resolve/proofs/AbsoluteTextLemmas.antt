@@ -1,10 +1,9 @@
 -- The text of the URL that an absolute text of a special scheme denotes.
-use Rattle.std.proofs.Common.{◌≡◌, ◌≢◌, ℕ, Bool, true, false, List, [], ◌∷◌, ◌++◌, Option, Some, None, codes, refl, sym, ap}
-use Rattle.std.proofs.Common.{◌∙◌, subst, inl, inr, append_assoc, chars}
+use Rattle.std.proofs.Common.{◌≡◌, ◌≢◌, ℕ, Bool, true, false, List, [], ◌∷◌, ◌++◌, Option, Some, None, codes, refl}
+use Rattle.std.proofs.Common.{sym, ap, ◌∙◌, subst, inl, inr, append_assoc, chars}
 use Rattle.std.specs.Prelude.{option_map}
 use Rattle.std.specs.List.{list_all}
-use Rattle.std.specs.Str.{IsUtf8, bytes_eq}
-use Rattle.std.proofs.lemmas.Slice.Eq.{bytes_eq-Decides}
+use Rattle.std.specs.Str.{IsUtf8}
 use Rattle.std.proofs.lemmas.Str.{chars-IsAscii}
 use Rattle.uv_model.specs.declared.profile.Profile.{Profile}
 use Rattle.uv_model.specs.declared.host.Host.{Host}
@@ -19,14 +18,13 @@ use Rattle.uv_model.specs.Records.Denote.{authority_path, denote, denoted_path, 
 use Rattle.uv_model.specs.Records.Denote.{denoted_scheme}
 use Rattle.uv_model.specs.Records.Serialize.{serial, serial_host, serial_port, serial_segments}
 use Rattle.uv_model.specs.Records.Url.{Url}
-use Rattle.uv_model.specs.Scheme.{lowercase, scheme_class}
+use Rattle.uv_model.specs.Scheme.{scheme_class}
 use Rattle.uv_model.specs.Setting.{scheme_or}
 use Rattle.uv_model.specs.Valid.{Valid}
-use Rattle.uv_model.proofs.SchemeLemmas.{scheme_class-lowercase}
 use Rattle.uv_model.proofs.Texts.AsciiLemmas.{IsAscii-from_test}
-use Rattle.uv_resolve.specs.AbsoluteText.{AreSomeParts, HasLowerScheme, IsLowerScheme, KeepsSegments, path_or_slash}
-use Rattle.uv_resolve.specs.AbsoluteText.{written_parts}
+use Rattle.uv_resolve.specs.AbsoluteText.{AreSomeParts, HasLowerScheme, KeepsSegments, path_or_slash, written_parts}
 use Rattle.uv_resolve.specs.OwnText.{has_no_dots, is_kept_segment, is_never_encoded}
+use Rattle.uv_resolve.specs.Schemes.{IsLowerScheme}
 use Rattle.uv_resolve.proofs.KeptPathLemmas.{authority_path-encoded, authority_path-none, serial_segments-encoded}
 use Rattle.uv_resolve.proofs.KeptPathLemmas.{kept-segments, no_dots-chars, slashed_text, special_path}
 use Rattle.uv_resolve.proofs.OwnTextLemmas.{encoded-kept, never_encoded-IsAscii}
@@ -133,16 +131,6 @@ absolute_written parts name host some formed lower hosted keeps any = go parts.s
         absolute-schemed profile base text parts scheme name host any valid formed e is hosted keeps
 
 -- ---- what the code sees
-
--- a text that is the name of a special scheme in any case
-pub named : (scheme name : List ℕ) (is : Bool) → scheme_class name ≢ Other
-    → is ≡ bytes_eq (lowercase scheme) name → is ≡ true → IsLowerScheme scheme name
-named scheme name is special says holds =
-    let lower : lowercase scheme ≡ name = (bytes_eq-Decides (lowercase scheme) name).0 (sym says ∙ holds) in
-    record {
-      special = λ other. special (sym (ap scheme_class lower) ∙ scheme_class-lowercase scheme ∙ other);
-      lower = lower;
-    }
 
 -- a path that isn't empty stays
 pub path-some : (text : List ℕ) → text ≢ [] → text ≡ path_or_slash text

@@ -8,5 +8,6 @@ pub mod PlainReferenceLemmas
 pub mod RecordLemmas
 pub mod SpacedEndLemmas
 pub mod RunLemmas
+pub mod SchemeNameLemmas
 pub mod PathTextLemmas
 mod WalkLemmas

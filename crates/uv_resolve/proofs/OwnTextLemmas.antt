@@ -1,13 +1,12 @@
 -- A text that is the text of the URL that it denotes.
 use Rattle.std.proofs.Common.{◌≡◌, ◌≢◌, ℕ, Bool, true, false, not, ◌==◌, List, [], ◌∷◌, ◌++◌, Option, Some}
-use Rattle.std.proofs.Common.{None, codes, refl, sym, ap, ◌∙◌, subst, inl, inr, append_assoc, arith}
+use Rattle.std.proofs.Common.{None, refl, sym, ap, ◌∙◌, subst, inl, inr, append_assoc, arith}
 use Rattle.std.proofs.Common.{cond, length, suc, ◌+◌}
 use Rattle.std.specs.Prelude.{option_map}
 use Rattle.std.specs.List.{list_all, prefix_len}
 use Rattle.std.specs.Char.{is_ascii}
-use Rattle.std.specs.Str.{IsAscii, IsUtf8, bytes_eq, chars}
+use Rattle.std.specs.Str.{IsAscii, IsUtf8, chars}
 use Rattle.std.proofs.lemmas.Str.{chars-IsAscii, encodes-chars, encodes-IsAscii}
-use Rattle.std.proofs.lemmas.Slice.Eq.{bytes_eq-Decides}
 use Rattle.std.proofs.lemmas.Bool.Decides.{nat_tests}
 use Rattle.std.proofs.lemmas.Bool.{and_parts, and_from}
 use Rattle.std.proofs.lemmas.List.Folds.{list_all-append}
@@ -24,10 +23,9 @@ use Rattle.uv_model.specs.Records.Denote.{authority_path, denote, denoted_scheme
 use Rattle.uv_model.specs.Records.Denote.{denoted_query}
 use Rattle.uv_model.specs.Records.Serialize.{serial, serial_host, serial_segments}
 use Rattle.uv_model.specs.Records.Url.{Url}
-use Rattle.uv_model.specs.Scheme.{default_port, scheme_class}
+use Rattle.uv_model.specs.Scheme.{scheme_class}
 use Rattle.uv_model.specs.Setting.{scheme_or}
 use Rattle.uv_model.specs.Valid.{Valid}
-use Rattle.uv_model.proofs.Deciding.Decisions.{file_not_other, special_not_other}
 use Rattle.uv_model.proofs.Texts.AsciiLemmas.{IsAscii-from_test}
 use Rattle.uv_model.proofs.Texts.EncodingLemmas.{is_kept, encoded_code_point-kept}
 use Rattle.uv_text.specs.Class.{in_class}
@@ -35,9 +33,9 @@ use Rattle.uv_grammar.proofs.HostLemmas.{some_chars}
 use Rattle.uv_resolve.proofs.KeptPathLemmas.{authority_path-encoded, authority_path-none, encoded_each, slashed_text}
 use Rattle.uv_resolve.proofs.KeptPathLemmas.{kept-segments, special_path, walk-encoded}
 use Rattle.uv_resolve.proofs.RecordLemmas.{fields, denote-fields}
-use Rattle.uv_resolve.specs.OwnText.{HasOwnPrefix, HasOwnScheme, IsKnownScheme, IsOwnPath, IsOwnRoot, IsOwnScheme}
-use Rattle.uv_resolve.specs.OwnText.{IsOwnText}
-use Rattle.uv_resolve.specs.OwnText.{has_no_dots, is_kept_segment, is_never_encoded}
+use Rattle.uv_resolve.specs.OwnText.{HasOwnPrefix, HasOwnScheme, IsOwnPath, IsOwnRoot, IsOwnText, has_no_dots}
+use Rattle.uv_resolve.specs.OwnText.{is_kept_segment, is_never_encoded}
+use Rattle.uv_resolve.specs.Schemes.{IsOwnScheme}
 
 -- ---- texts that no part encodes
 
@@ -125,13 +123,15 @@ authority_path-kept class segments some no_dots bytes =
     authority_path-encoded class segments some no_dots ∙ segments-kept segments bytes
 
 -- a path text that isn't empty has segments
-pub some_segments : (segments : List (List ℕ)) (text : List ℕ) → text ≢ [] → MayBePathSlashed segments text → segments ≢ []
+pub some_segments : (segments : List (List ℕ)) (text : List ℕ) → text ≢ [] → MayBePathSlashed segments text
+    → segments ≢ []
 some_segments segments text some (inl none) = absurd (some none.0)
 some_segments segments text some (inr path) =
     λ none. let both_ways : [] ≡ path.joins.first ∷ path.joins.others = sym none ∙ path.joins.some in absurd cc
 
 -- and an empty one has none
-pub no_segments : (segments : List (List ℕ)) (text : List ℕ) → MayBePathSlashed segments text → text ≡ [] → segments ≡ []
+pub no_segments : (segments : List (List ℕ)) (text : List ℕ) → MayBePathSlashed segments text → text ≡ []
+    → segments ≡ []
 no_segments segments text (inl none) is = none.1
 no_segments segments text (inr path) is =
     let both_ways : [] ≡ slash ∷ path.behind = sym is ∙ path.slashed in absurd cc
@@ -330,10 +330,6 @@ own_root profile base text parts valid own = go parts.scheme refl own.prefix.sch
 
 -- ---- what the code sees
 
--- bytes that are an ASCII text have its code points
-pub ascii_chars : (bytes text : List ℕ) → IsAscii text → bytes ≡ text → chars bytes ≡ text
-ascii_chars bytes text ascii e = ap chars e ∙ chars-IsAscii text ascii
-
 -- a text that no part encodes has the code points of its bytes
 pub never_encoded-IsAscii : (text : List ℕ) → list_all is_never_encoded text ≡ true → IsAscii text
 never_encoded-IsAscii text bytes = IsAscii-from_test text (never_encoded-ascii text bytes)
@@ -370,68 +366,3 @@ own_path bytes utf8 some no_dots = (
   some_chars bytes utf8 some,
   λ ascii. subst (λ t. has_no_dots false t ≡ true) (ascii_bytes bytes utf8 ascii) no_dots,
 )
-
--- the two schemes
-https_is_own : IsOwnScheme (codes "https")
-unfolding scheme_class default_port
-https_is_own = record { special = special_not_other; lower = refl }
-
-http_is_own : IsOwnScheme (codes "http")
-unfolding scheme_class default_port
-http_is_own = record { special = special_not_other; lower = refl }
-
-file_is_own : IsOwnScheme (codes "file")
-unfolding scheme_class default_port
-file_is_own = record { special = file_not_other; lower = refl }
-
-own_scheme : (bytes name : List ℕ) → IsOwnScheme name → list_all is_ascii name ≡ true → bytes ≡ name
-    → IsOwnScheme (chars bytes)
-own_scheme bytes name own ascii e =
-    subst IsOwnScheme (sym (ascii_chars bytes name (IsAscii-from_test name ascii) e)) own
-
--- `https`, `http` and `file` are schemes that stand as they are written
-pub https : (bytes : List ℕ) → bytes_eq bytes (codes "https") ≡ true → IsOwnScheme (chars bytes)
-https bytes same =
-    own_scheme bytes (codes "https") https_is_own refl ((bytes_eq-Decides bytes (codes "https")).0 same)
-
-pub http : (bytes : List ℕ) → bytes_eq bytes (codes "http") ≡ true → IsOwnScheme (chars bytes)
-http bytes same =
-    own_scheme bytes (codes "http") http_is_own refl ((bytes_eq-Decides bytes (codes "http")).0 same)
-
-pub file : (bytes : List ℕ) → bytes_eq bytes (codes "file") ≡ true → IsOwnScheme (chars bytes)
-file bytes same =
-    own_scheme bytes (codes "file") file_is_own refl ((bytes_eq-Decides bytes (codes "file")).0 same)
-
--- ---- the names of the schemes that most links have
-
-https_is_known : IsKnownScheme (codes "https") Special (codes "https")
-unfolding scheme_class default_port
-https_is_known = record { classed = refl; lower = refl; own = refl }
-
-http_is_known : IsKnownScheme (codes "http") Special (codes "http")
-unfolding scheme_class default_port
-http_is_known = record { classed = refl; lower = refl; own = refl }
-
-file_is_known : IsKnownScheme (codes "file") File (codes "file")
-unfolding scheme_class default_port
-file_is_known = record { classed = refl; lower = refl; own = refl }
-
--- a text with the bytes of such a name
-known : (bytes : List ℕ) (class : Class) (name : List ℕ) → IsKnownScheme name class name
-    → list_all is_ascii name ≡ true → bytes_eq bytes name ≡ true → IsKnownScheme (chars bytes) class name
-known bytes class name is ascii same =
-    let bytes_is : bytes ≡ name = (bytes_eq-Decides bytes name).0 same in
-    subst (λ (text : List ℕ). IsKnownScheme text class name)
-    (sym (ascii_chars bytes name (IsAscii-from_test name ascii) bytes_is)) is
-
-pub https_known : (bytes : List ℕ) → bytes_eq bytes (codes "https") ≡ true
-    → IsKnownScheme (chars bytes) Special (codes "https")
-https_known bytes same = known bytes Special (codes "https") https_is_known refl same
-
-pub http_known : (bytes : List ℕ) → bytes_eq bytes (codes "http") ≡ true
-    → IsKnownScheme (chars bytes) Special (codes "http")
-http_known bytes same = known bytes Special (codes "http") http_is_known refl same
-
-pub file_known : (bytes : List ℕ) → bytes_eq bytes (codes "file") ≡ true
-    → IsKnownScheme (chars bytes) File (codes "file")
-file_known bytes same = known bytes File (codes "file") file_is_known refl same

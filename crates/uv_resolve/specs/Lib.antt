@@ -6,5 +6,6 @@ pub mod OwnAuthority
 pub mod OwnText
 pub mod PlainReference
 pub mod Resolve
+pub mod Schemes
 pub mod Serialized
 pub mod Walk

@@ -5,12 +5,10 @@ use Rattle.std.specs.List.{list_all}
 use Rattle.std.specs.Char.{is_ascii}
 use Rattle.uv_model.specs.Ascii.{apostrophe, full_stop, percent_sign, slash}
 use Rattle.uv_model.specs.declared.host.Host.{Host}
-use Rattle.uv_model.specs.declared.scheme.Class.{Class}
-use Rattle.uv_model.specs.declared.scheme.Class.TheVariants.{Other}
 use Rattle.uv_model.specs.Parts.{SchemeAuthority, Parts}
 use Rattle.uv_model.specs.Path.{is_double_dot, is_single_dot}
 use Rattle.uv_model.specs.Records.Serialize.{serial_host}
-use Rattle.uv_model.specs.Scheme.{lowercase, scheme_class}
+use Rattle.uv_resolve.specs.Schemes.{IsOwnScheme}
 
 -- a code point that no part encodes: ASCII, and not `'`, which a query of a special URL encodes
 abbrev pub is_never_encoded : ℕ → Bool
@@ -20,18 +18,7 @@ is_never_encoded c = is_ascii c && not (c == apostrophe)
 abbrev pub is_kept_segment : List ℕ → Bool
 is_kept_segment segment = not (is_double_dot segment) && not (is_single_dot segment)
 
--- a special scheme in lower case
-pub record IsOwnScheme (scheme : List ℕ) : Type 0 where
-  pub special : scheme_class scheme ≢ Other
-  pub lower : lowercase scheme ≡ scheme
-
--- a scheme of this class, written as its name
-pub record IsKnownScheme (scheme : List ℕ) (class : Class) (name : List ℕ) : Type 0 where
-  pub classed : scheme_class scheme ≡ class
-  pub lower : lowercase scheme ≡ name
-  pub own : scheme ≡ name
-
--- the scheme of the text is one
+-- the scheme of the text is a special one in lower case
 abbrev pub HasOwnScheme : Option (List ℕ) → Type 0
 HasOwnScheme None = ⊥
 HasOwnScheme (Some scheme) = IsOwnScheme scheme

@@ -9,15 +9,15 @@ ghost use Rattle.uv_model.specs.Records.Serialize.{serial_host};
 ghost use Rattle.uv_grammar.specs.PartsHost.{referred};
 ghost use Rattle.uv_grammar.specs.Slices.{chars_of_option};
 ghost use Rattle.uv_resolve.specs.AbsoluteText as spec;
-ghost use Rattle.uv_resolve.specs.AbsoluteText.{AreSomeParts, HasLowerScheme, IsLowerScheme, IsSerialOnAnyBase};
-ghost use Rattle.uv_resolve.specs.AbsoluteText.{KeepsSegments};
+ghost use Rattle.uv_resolve.specs.AbsoluteText.{AreSomeParts, HasLowerScheme, IsSerialOnAnyBase, KeepsSegments};
 ghost use Rattle.uv_resolve.specs.OwnText.{is_kept_segment};
 
 use crate::encoded_parts::push_encoded_part;
 use crate::own_text::{is_dot_mark, is_without_dots};
+use crate::schemes::special_name;
 use std::alloc::{AllocError, Global};
 use uv_grammar::{Form, HostRef, Parts, Segments};
-use uv_model::{is_double_dot, is_name, is_single_dot, push_ipv4, push_ipv6, push_port};
+use uv_model::{is_double_dot, is_single_dot, push_ipv4, push_ipv6, push_port};
 
 /// The text of the URL that a valid text with these parts denotes against any base, where it begins with a special
 /// scheme and an authority, and has no dot segment. None says nothing, and the error is out of memory.
@@ -48,31 +48,6 @@ fn lower_scheme(scheme: Option<&str>) -> Option<&'static str>
         Some(scheme) => special_name(scheme),
         None => None,
     }
-}
-
-/// The name of a special scheme in lower case.
-pub(crate) fn special_name(scheme: &str) -> Option<&'static str>
-    ensures { IfSome result (λ name. IsLowerScheme (chars scheme.now) name.now) }
-{
-    if is_name(scheme, "https") {
-        return Some("https");
-    }
-    if is_name(scheme, "http") {
-        return Some("http");
-    }
-    if is_name(scheme, "file") {
-        return Some("file");
-    }
-    if is_name(scheme, "ftp") {
-        return Some("ftp");
-    }
-    if is_name(scheme, "wss") {
-        return Some("wss");
-    }
-    if is_name(scheme, "ws") {
-        return Some("ws");
-    }
-    None
 }
 
 // Whether a walk keeps each segment of the path. They are cut only where one begins as a dot segment does: of the first

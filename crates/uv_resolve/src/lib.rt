@@ -15,6 +15,7 @@ mod paths;
 mod plain_reference;
 mod records;
 mod resolver;
+mod schemes;
 mod serialized;
 mod walker;
 

@@ -5,8 +5,8 @@ ghost use Rattle.std.specs.List.{list_all};
 ghost use Rattle.std.specs.Str.{chars};
 ghost use Rattle.uv_grammar.specs.Slices.{chars_of_option};
 ghost use Rattle.uv_resolve.specs.OwnText.{EndsInHost, HasNoPort, HasOwnPrefix, HasOwnHost, HasOwnScheme, IsOwnPath};
-ghost use Rattle.uv_resolve.specs.OwnText.{IsOwnRoot, IsOwnScheme, IsOwnText, has_no_dots, is_dot_mark};
-ghost use Rattle.uv_resolve.specs.OwnText.{is_never_encoded};
+ghost use Rattle.uv_resolve.specs.OwnText.{IsOwnRoot, IsOwnText, has_no_dots, is_dot_mark, is_never_encoded};
+ghost use Rattle.uv_resolve.specs.Schemes.{IsOwnScheme};
 
 use crate::host_text::is_serialized;
 use uv_grammar::{Form, Parts};

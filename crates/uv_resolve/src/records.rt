@@ -1,24 +1,22 @@
 //! The record that the parts of a valid text denote, after the URL Standard, section 4.4.
-ghost use Rattle.std.specs.Prelude.{◌≡◌, IfOk, IfSome, None, false, chars, option_copied, option_map};
+ghost use Rattle.std.specs.Prelude.{◌≡◌, IfOk, None, false, option_copied, option_map};
 ghost use Rattle.std.specs.Cow.{cow_str_bytes};
-ghost use Rattle.std.specs.Str.{IsAscii};
 ghost use Rattle.uv_model.specs.Records.Denote as spec;
 ghost use Rattle.uv_model.specs.Encoding.{encoded};
-ghost use Rattle.uv_model.specs.Scheme.{lowercase, scheme_class};
+ghost use Rattle.uv_model.specs.Scheme.{scheme_class};
 ghost use Rattle.uv_model.specs.Valid.{scheme_in};
 ghost use Rattle.uv_model.specs.Records.WellFormed.{WellFormed};
-ghost use Rattle.uv_resolve.specs.OwnText.{IsKnownScheme};
 ghost use Rattle.uv_resolve.specs.Resolve.{HaveValidText, IsDenoted};
 ghost use Rattle.uv_grammar.specs.Slices.{chars_of_option};
 
-use crate::absolute_text::special_name;
 use crate::encoded_parts::encoded_text;
 use crate::fault::ResolveFault;
 use crate::paths::path_of;
+use crate::schemes::{class_by, copied, lowered};
 use std::alloc::{AllocError, Global};
 use std::borrow::CowStr;
 use uv_grammar::{Form, HostRef, Parts};
-use uv_model::{Class, Host, Profile, Record, Text, class_of};
+use uv_model::{Class, Host, Profile, Record, Text};
 
 /// The record that the parts denote against the base. The only fault is out of memory.
 pub(crate) fn denoted(
@@ -40,7 +38,7 @@ pub(crate) fn denoted(
     Ok(Record::make_with(scheme, host, port, path, query, fragment))
 }
 
-// The class of the text's scheme, else of the base's.
+// The class of the text's scheme, or of the base's where the text has none.
 fn class_in(parts: &Parts<'_>, base: Option<&Record>) -> Class
     ensures { result ≡ scheme_class (scheme_in (option_copied base.entry) parts.now) }
 {
@@ -59,48 +57,6 @@ fn base_class(base: Option<&Record>) -> Class
     }
 }
 
-// The class of a scheme, of one that most links have at once.
-fn class_by(scheme: &str) -> Class
-    ensures { result ≡ scheme_class (chars scheme.now) }
-{
-    match known_scheme(scheme) {
-        Some(known) => known.class,
-        None => class_of(scheme),
-    }
-}
-
-// A scheme that most links have, by its name in lower case.
-#[derive(Clone, Copy)]
-pub(crate) struct KnownScheme {
-    pub class: Class,
-    pub name: &'static str,
-}
-
-// One that is written in lower case.
-fn known_scheme(scheme: &str) -> Option<KnownScheme>
-    ensures { IfSome result (λ known. IsKnownScheme (chars scheme.now) known.class known.name.now) }
-{
-    if scheme == "https" {
-        return Some(KnownScheme {
-            class: Class::Special,
-            name: "https",
-        });
-    }
-    if scheme == "http" {
-        return Some(KnownScheme {
-            class: Class::Special,
-            name: "http",
-        });
-    }
-    if scheme == "file" {
-        return Some(KnownScheme {
-            class: Class::File,
-            name: "file",
-        });
-    }
-    None
-}
-
 #[inline(always)]
 fn scheme_of(
     alloc: Global,
@@ -117,19 +73,6 @@ fn scheme_of(
     }
 }
 
-fn lowered(alloc: Global, scheme: &str) -> Result<CowStr<'static>, AllocError>
-    requires { IsAscii (chars scheme.now) }
-    ensures { IfOk result (λ text. cow_str_bytes text ≡ lowercase (chars scheme.now)) }
-{
-    if let Some(known) = known_scheme(scheme) {
-        return Ok(CowStr::Borrowed(known.name));
-    }
-    match special_name(scheme) {
-        Some(name) => Ok(CowStr::Borrowed(name)),
-        None => Ok(CowStr::Owned(scheme.to_ascii_lowercase(alloc)?)),
-    }
-}
-
 fn base_scheme(alloc: Global, base: Option<&Record>) -> Result<CowStr<'static>, AllocError>
     ensures { IfOk result (λ scheme.
         cow_str_bytes scheme ≡ spec.denoted_scheme (option_copied base.entry) None) }
@@ -140,17 +83,7 @@ fn base_scheme(alloc: Global, base: Option<&Record>) -> Result<CowStr<'static>, 
     }
 }
 
-fn copied(alloc: Global, scheme: &str) -> Result<CowStr<'static>, AllocError>
-    requires { IsAscii scheme.now }
-    ensures { IfOk result (λ text. cow_str_bytes text ≡ scheme.now) }
-{
-    match known_scheme(scheme) {
-        Some(known) => Ok(CowStr::Borrowed(known.name)),
-        None => Ok(CowStr::Owned(String::from_str(alloc, scheme)?)),
-    }
-}
-
-// The host of the authority, else the base's.
+// The host of the authority, or the base's where the text has neither a scheme nor an authority.
 #[inline(always)]
 fn host_of(
     alloc: Global,
@@ -220,7 +153,7 @@ fn base_port(base: Option<&Record>) -> Option<u16>
     }
 }
 
-// The text's query, else in a reference without a path the base's.
+// The text's query. A reference without a path and without a query has the base's.
 #[inline(always)]
 fn query_of(
     alloc: Global,
@@ -238,7 +171,7 @@ fn query_of(
     }
 }
 
-// In a query of a URL of class Special or File `'` is encoded too.
+// Whether a query encodes `'` too, as that of a URL of class Special or File does.
 fn quotes(class: Class) -> bool
     ensures { result ≡ spec.quotes class }
 {
@@ -261,7 +194,7 @@ fn base_query(alloc: Global, base: Option<&Record>) -> Result<Option<Text>, Allo
     }
 }
 
-// The text's fragment, never the base's.
+// The text's fragment. The base's is never taken.
 fn fragment_of(alloc: Global, parts: &Parts<'_>) -> Result<Option<Text>, AllocError>
     ensures { IfOk result (λ fragment. fragment
         ≡ option_map (encoded false) parts.now.fragment) }

@@ -1,6 +1,6 @@
 -- Each of the two schemes is special and in lower case.
 use Rattle.std.proofs.Common.{◌∙◌, sym}
-use Rattle.uv_resolve.proofs.OwnTextLemmas.{http, https}
+use Rattle.uv_resolve.proofs.SchemeNameLemmas.{http, https}
 use Rattle.uv_resolve.proofs.own_text.is_http_scheme.Goals as goal
 
 pub returns-then-eq : goal.returns-then-eq

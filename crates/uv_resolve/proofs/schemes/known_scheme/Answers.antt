@@ -1,7 +1,7 @@
 -- Each of the names, where the bytes are its.
 use Rattle.std.proofs.Common.{◌∙◌, sym}
-use Rattle.uv_resolve.proofs.OwnTextLemmas.{file_known, http_known, https_known}
-use Rattle.uv_resolve.proofs.records.known_scheme.Goals as goal
+use Rattle.uv_resolve.proofs.SchemeNameLemmas.{file_known, http_known, https_known}
+use Rattle.uv_resolve.proofs.schemes.known_scheme.Goals as goal
 
 pub returns-then-eq : goal.returns-then-eq
 returns-then-eq c = https_known c.args.scheme.now (sym c.eq.ensures ∙ c.if-eq.true)

@@ -1,8 +1,8 @@
 -- Each name is that of a special scheme, and the text is the name in lower case.
 use Rattle.uv_model.specs.Scheme.{default_port, scheme_class}
 use Rattle.uv_model.proofs.Deciding.Decisions.{file_not_other, special_not_other}
-use Rattle.uv_resolve.proofs.AbsoluteTextLemmas.{named}
-use Rattle.uv_resolve.proofs.absolute_text.special_name.Goals as goal
+use Rattle.uv_resolve.proofs.SchemeNameLemmas.{named}
+use Rattle.uv_resolve.proofs.schemes.special_name.Goals as goal
 
 pub returns-then-is_name : goal.returns-then-is_name
 unfolding scheme_class default_port

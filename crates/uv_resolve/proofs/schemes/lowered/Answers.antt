@@ -2,7 +2,7 @@
 use Rattle.std.proofs.Common.{sym, ap, ◌∙◌}
 use Rattle.uv_model.specs.Scheme.{lowercase}
 use Rattle.uv_model.proofs.Texts.AsciiLemmas.{chars-from_IsAscii}
-use Rattle.uv_resolve.proofs.records.lowered.Goals as goal
+use Rattle.uv_resolve.proofs.schemes.lowered.Goals as goal
 
 pub returns-in_ok-to_ascii_lowercase-in-None : goal.returns-in_ok-to_ascii_lowercase-in-None
 returns-in_ok-to_ascii_lowercase-in-None c =

@@ -1,0 +1,102 @@
+//! Schemes by their names: the class of a scheme, and its name in lower case.
+ghost use Rattle.std.specs.Prelude.{◌≡◌, IfOk, IfSome, chars};
+ghost use Rattle.std.specs.Cow.{cow_str_bytes};
+ghost use Rattle.std.specs.Str.{IsAscii};
+ghost use Rattle.uv_model.specs.Scheme.{lowercase, scheme_class};
+ghost use Rattle.uv_resolve.specs.Schemes.{IsKnownScheme, IsLowerScheme};
+
+use std::alloc::{AllocError, Global};
+use std::borrow::CowStr;
+use uv_model::{Class, class_of, is_name};
+
+/// The class of a scheme. Those that most links have are compared first.
+pub(crate) fn class_by(scheme: &str) -> Class
+    ensures { result ≡ scheme_class (chars scheme.now) }
+{
+    match known_scheme(scheme) {
+        Some(known) => known.class,
+        None => class_of(scheme),
+    }
+}
+
+/// A scheme in lower case, which takes no memory where the scheme is special.
+pub(crate) fn lowered(alloc: Global, scheme: &str) -> Result<CowStr<'static>, AllocError>
+    requires { IsAscii (chars scheme.now) }
+    ensures { IfOk result (λ text. cow_str_bytes text ≡ lowercase (chars scheme.now)) }
+{
+    if let Some(known) = known_scheme(scheme) {
+        return Ok(CowStr::Borrowed(known.name));
+    }
+    match special_name(scheme) {
+        Some(name) => Ok(CowStr::Borrowed(name)),
+        None => Ok(CowStr::Owned(scheme.to_ascii_lowercase(alloc)?)),
+    }
+}
+
+/// A copy of a scheme, which takes no memory where the scheme is one that most links have.
+pub(crate) fn copied(alloc: Global, scheme: &str) -> Result<CowStr<'static>, AllocError>
+    requires { IsAscii scheme.now }
+    ensures { IfOk result (λ text. cow_str_bytes text ≡ scheme.now) }
+{
+    match known_scheme(scheme) {
+        Some(known) => Ok(CowStr::Borrowed(known.name)),
+        None => Ok(CowStr::Owned(String::from_str(alloc, scheme)?)),
+    }
+}
+
+/// The name of a special scheme in lower case, in whichever case the scheme is written.
+pub(crate) fn special_name(scheme: &str) -> Option<&'static str>
+    ensures { IfSome result (λ name. IsLowerScheme (chars scheme.now) name.now) }
+{
+    if is_name(scheme, "https") {
+        return Some("https");
+    }
+    if is_name(scheme, "http") {
+        return Some("http");
+    }
+    if is_name(scheme, "file") {
+        return Some("file");
+    }
+    if is_name(scheme, "ftp") {
+        return Some("ftp");
+    }
+    if is_name(scheme, "wss") {
+        return Some("wss");
+    }
+    if is_name(scheme, "ws") {
+        return Some("ws");
+    }
+    None
+}
+
+// A scheme that most links have: its class, and its name in lower case.
+#[derive(Clone, Copy)]
+struct KnownScheme {
+    class: Class,
+    name: &'static str,
+}
+
+// What is known of a scheme that most links have, where it is written in lower case.
+fn known_scheme(scheme: &str) -> Option<KnownScheme>
+    ensures { IfSome result (λ known. IsKnownScheme (chars scheme.now) known.class known.name.now) }
+{
+    if scheme == "https" {
+        return Some(KnownScheme {
+            class: Class::Special,
+            name: "https",
+        });
+    }
+    if scheme == "http" {
+        return Some(KnownScheme {
+            class: Class::Special,
+            name: "http",
+        });
+    }
+    if scheme == "file" {
+        return Some(KnownScheme {
+            class: Class::File,
+            name: "file",
+        });
+    }
+    None
+}
