@@ -9,7 +9,7 @@ use Rattle.std.specs.List.{join_with_byte, list_all}
 use Rattle.std.proofs.lemmas.Slice.Eq.{bytes_eq-Decides}
 use Rattle.std.proofs.lemmas.Str.{encode_ascii, encodes-chars}
 use Rattle.std.proofs.lemmas.Bool.Decides.{nat_tests}
-use Rattle.std.proofs.lemmas.Bool.{and_parts, and_from, cases_lt, false_from_ne_true, false≢true, not-true}
+use Rattle.std.proofs.lemmas.Bool.{and_parts, and_from, cases_lt, false_from_ne_true, false≢true, not-true, or_parts}
 use Rattle.uv_model.specs.declared.profile.Profile.{Profile}
 use Rattle.uv_model.specs.declared.scheme.Class.{Class}
 use Rattle.uv_model.specs.declared.scheme.Class.TheVariants.{File, Other, Special}
@@ -38,9 +38,9 @@ encoded_each segments = map (encoded false) segments
 walk_one-encoded : (class : Class) (last : Bool) (path : List (List ℕ)) (segment : List ℕ)
     → is_kept_segment segment ≡ true → walk_one class last path segment ≡ path ++ (encoded false segment ∷ [])
 walk_one-encoded class last path segment no_dots =
-    let parts = and_parts (not (is_double_dot segment)) (not (is_single_dot segment)) no_dots in
-    let double : is_double_dot segment ≡ false = not-true _ parts.0 in
-    let single : is_single_dot segment ≡ false = not-true _ parts.1 in
+    let parts = or_parts (is_double_dot segment) (is_single_dot segment) (not-true _ no_dots) in
+    let double : is_double_dot segment ≡ false = parts.0 in
+    let single : is_single_dot segment ≡ false = parts.1 in
     rw (double, single) refl
 
 -- and all of them

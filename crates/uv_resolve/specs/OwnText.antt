@@ -6,9 +6,9 @@ use Rattle.std.specs.Char.{is_ascii}
 use Rattle.uv_model.specs.Ascii.{apostrophe, full_stop, percent_sign, slash}
 use Rattle.uv_model.specs.declared.host.Host.{Host}
 use Rattle.uv_model.specs.Parts.{SchemeAuthority, Parts}
-use Rattle.uv_model.specs.Path.{is_double_dot, is_single_dot}
 use Rattle.uv_model.specs.Records.Serialize.{serial_host}
 use Rattle.uv_resolve.specs.Schemes.{IsOwnScheme}
+use Rattle.uv_resolve.specs.Walk.{is_dots}
 
 -- a code point that no part encodes: ASCII, and not `'`, which a query of a special URL encodes
 abbrev pub is_never_encoded : ℕ → Bool
@@ -16,7 +16,7 @@ is_never_encoded c = is_ascii c && not (c == apostrophe)
 
 -- a segment that a walk keeps: it isn't a dot segment
 abbrev pub is_kept_segment : List ℕ → Bool
-is_kept_segment segment = not (is_double_dot segment) && not (is_single_dot segment)
+is_kept_segment segment = not (is_dots segment)
 
 -- the scheme of the text is a special one in lower case
 abbrev pub HasOwnScheme : Option (List ℕ) → Type 0

@@ -78,7 +78,7 @@ fn keeps_each(segments: Segments<'_, '_>) -> bool
 fn is_kept(segment: &str) -> bool
     ensures { result ≡ is_kept_segment (chars segment.now) }
 {
-    !is_double_dot(segment) && !is_single_dot(segment)
+    !(is_double_dot(segment) || is_single_dot(segment))
 }
 
 // The text of the URL, in one allocation but where many a `'` in a query asks for more.
