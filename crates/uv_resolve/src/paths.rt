@@ -47,6 +47,8 @@ fn authority_path(alloc: Global, class: Class, parts: &Parts<'_>) -> Result<UrlP
     ensures { IfOk result (λ path.
         path ≡ UrlPath.Segments (spec.authority_path class parts.now.segments)) }
 {
+    // They are asked for before the path is seen: the clause of this call says how they follow from the path's text, and
+    // the proof wants that where the text is kept.
     let mut segments = parts.segments();
     match kept_path(parts) {
         Some(text) if !text.is_empty() => kept(alloc, text),
@@ -57,7 +59,7 @@ fn authority_path(alloc: Global, class: Class, parts: &Parts<'_>) -> Result<UrlP
     }
 }
 
-// The path of a text that is taken as it stands.
+// The path of a text that stays as it is.
 fn kept(alloc: Global, text: &str) -> Result<UrlPath, AllocError>
     requires { IsAscii text.now }
     ensures { IfOk result (λ path. path ≡ UrlPath.Segments (path_spec.segments_of text.now)) }
@@ -85,7 +87,7 @@ fn path_for(alloc: Global, parts: &Parts<'_>) -> Result<PathText, AllocError>
     PathText::with_capacity(alloc, parts.path_text().len().saturating_add(1))
 }
 
-// A walk from a start list over the segments: at once where each stays as it is.
+// What a walk over the segments makes of the path `start`. Where each segment stays as it is, they are appended at once.
 fn walked(
     alloc: Global,
     class: Class,
@@ -95,6 +97,7 @@ fn walked(
     ensures { IfOk result (λ path.
         path ≡ UrlPath.Segments (path_spec.walk class start parts.now.segments)) }
 {
+    // For the proof alone: the clause of this call says how the segments follow from the path's text.
     let _segments = parts.segments();
     match kept_path(parts) {
         Some(text) => {
@@ -106,7 +109,9 @@ fn walked(
     }
 }
 
-// A walk from none over the segments, where some segment changes.
+// What a walk over the segments makes of an empty path, where some segment changes. `rewritten` would make it too, but
+// with a copy: here the string of the encoded path becomes the path, and room is asked for only where the segments are
+// walked.
 fn rewritten_alone(alloc: Global, class: Class, parts: &Parts<'_>) -> Result<UrlPath, AllocError>
     ensures { IfOk result (λ path. path ≡ UrlPath.Segments (path_spec.walk class [] parts.now.segments)) }
 {
@@ -118,7 +123,8 @@ fn rewritten_alone(alloc: Global, class: Class, parts: &Parts<'_>) -> Result<Url
     Ok(UrlPath::Segments(TextList::of_path(path)))
 }
 
-// A walk from a start list, where some segment changes: at once where each is no more than encoded, else one after the other.
+// What a walk over the segments makes of the path `start`, where some segment changes. Where they are only encoded, that
+// is done at once, and else segment by segment.
 fn rewritten(
     alloc: Global,
     class: Class,
@@ -140,12 +146,12 @@ fn rewritten(
     Ok(UrlPath::Segments(TextList::of_path(path)))
 }
 
-// The path's text, where it is written as it stands and a walk keeps each segment. None says nothing.
+// The path's text, where it is written as it is, and a walk keeps each segment. None says nothing.
 fn kept_path<'t>(parts: &Parts<'t>) -> Option<&'t str>
     ensures { IfSome result (λ text. IsKeptPath parts.now.form parts.now.path_text text.now) }
 {
     let text = parts.path_text();
-    if text.is_ascii() && keeps_segments(parts) {
+    if text.is_ascii() && is_segmented_without_dots(parts) {
         Some(text)
     } else {
         None
@@ -158,7 +164,7 @@ fn encoded_path_of(alloc: Global, parts: &Parts<'_>) -> Result<Option<String>, A
         IsKeptPath parts.now.form parts.now.path_text (string_bytes text))) }
 {
     let text = parts.path_text();
-    if !keeps_segments(parts) {
+    if !is_segmented_without_dots(parts) {
         return Ok(None);
     }
     match text.strip_prefix('/') {
@@ -169,7 +175,7 @@ fn encoded_path_of(alloc: Global, parts: &Parts<'_>) -> Result<Option<String>, A
 
 // Whether the path isn't opaque, and no segment of it begins as a dot segment does.
 #[inline(always)]
-fn keeps_segments(parts: &Parts<'_>) -> bool
+fn is_segmented_without_dots(parts: &Parts<'_>) -> bool
     ensures form { IsTrue result → IsSegmented parts.now.form }
     ensures no_dots { IsTrue result → has_no_dots true parts.now.path_text ≡ true }
 {
@@ -179,7 +185,7 @@ fn keeps_segments(parts: &Parts<'_>) -> bool
     }
 }
 
-// A query or a fragment follows the path.
+// Whether a query or a fragment follows the path.
 fn has_tail(parts: &Parts<'_>) -> bool
     ensures { result ≡ spec.has_tail parts.now }
 {
@@ -276,7 +282,7 @@ fn base_list<'b>(base: Option<&'b Record>) -> Option<&'b TextList>
     }
 }
 
-// The base's path without its last segment, with room for the text's.
+// The base's path without its last segment, with room for the segments of the text.
 fn shortened(
     alloc: Global,
     class: Class,
@@ -307,7 +313,7 @@ fn path_with(alloc: Global, list: &TextList, room: usize) -> Result<PathText, Al
     Ok(path)
 }
 
-// The same of segments one by one.
+// The same path, made segment by segment.
 fn path_of_each(
     alloc: Global,
     segments: ListedTexts<'_>,

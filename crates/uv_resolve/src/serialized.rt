@@ -54,8 +54,7 @@ pub fn serialize_parts(
     write_parts(alloc, text, parts, base)
 }
 
-/// The same, as a loan of the text where it is known to be the URL's text itself: as most links are, which then take no
-/// memory.
+/// The same, but lends the text where it is known to be the URL's text itself. Most links are, and take no memory then.
 pub fn serialized_text<'t>(
     alloc: Global,
     text: &'t str,

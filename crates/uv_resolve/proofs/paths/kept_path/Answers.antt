@@ -5,12 +5,12 @@ use Rattle.uv_resolve.specs.Walk.{IsKeptPath}
 use Rattle.uv_resolve.proofs.EncodedPathLemmas.{written_as_is}
 use Rattle.uv_resolve.proofs.paths.kept_path.Goals as goal
 
-pub returns-then-keeps_segments : goal.returns-then-keeps_segments
-returns-then-keeps_segments c =
+pub returns-then-is_segmented_without_dots : goal.returns-then-is_segmented_without_dots
+returns-then-is_segmented_without_dots c =
     let bytes = c.path_text-text.result.now in
     let form = c.args.parts.now.form in
-    let yes = c.if-keeps_segments.true in
+    let yes = c.if-is_segmented_without_dots.true in
     subst (λ (text : List ℕ). IsKeptPath form text bytes) c.path_text-text.ensures
-    (written_as_is form bytes (c.keeps_segments.ensures.form yes)
+    (written_as_is form bytes (c.is_segmented_without_dots.ensures.form yes)
     (rw c.if-is_ascii.true at c.is_ascii.ensures.cases)
-    (ap (has_no_dots true) c.path_text-text.ensures ∙ c.keeps_segments.ensures.no_dots yes))
+    (ap (has_no_dots true) c.path_text-text.ensures ∙ c.is_segmented_without_dots.ensures.no_dots yes))

@@ -3,7 +3,7 @@ use Rattle.std.proofs.Common.{◌∙◌, ap, subst, sym, true, ◌≡◌, List, 
 use Rattle.uv_resolve.specs.OwnText.{has_no_dots}
 use Rattle.uv_resolve.proofs.KeptPathLemmas.{no_dots-chars}
 use Rattle.uv_resolve.proofs.PathTextLemmas.{segmented}
-use Rattle.uv_resolve.proofs.paths.keeps_segments.Goals as goal
+use Rattle.uv_resolve.proofs.paths.is_segmented_without_dots.Goals as goal
 
 pub returns-in_default : goal.returns-in_default
 returns-in_default c = record {
