@@ -140,7 +140,8 @@ behind_origin base text parts domain segments kept rest form path query is alone
     ∙ origin-kept base parts domain segments path query is alone.keeps path_is query_is alone.fragment_bytes
 
 -- a query of a form that never takes the base's
-pub query-own : (base : Option Url) (form : Form) (query : Option (List ℕ)) → denoted_query base Special form None ≡ None
+pub query-own : (base : Option Url) (form : Form) (query : Option (List ℕ))
+    → denoted_query base Special form None ≡ None
     → list_all is_never_encoded (written_behind question_mark query) ≡ true
     → query ≡ denoted_query base Special form query
 query-own base form None none bytes = sym none
@@ -306,4 +307,5 @@ pub seen_relative : (bytes : List ℕ) → IsUtf8 bytes → (segments : List (Li
     → IfSome found (λ f. IsPlainPath PathRelative (chars bytes) segments (segments_behind f.0.now) f.1)
 seen_relative bytes utf8 segments None goes = tt
 seen_relative bytes utf8 segments (Some f) goes =
-    λ ascii. subst (λ t. GoesOnBehind (without_last segments) t (segments_behind f.0.now) f.1) (ascii_bytes bytes utf8 ascii) goes
+    λ ascii. subst (λ t. GoesOnBehind (without_last segments) t (segments_behind f.0.now) f.1)
+    (ascii_bytes bytes utf8 ascii) goes

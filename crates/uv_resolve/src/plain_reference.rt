@@ -21,8 +21,8 @@ use uv_grammar::{Form, Parts};
 use uv_model::{Host, Record, UrlPath, push_port, without_last_segment};
 
 /// The text of the URL that a valid reference denotes against its base, where the base has a special scheme and a
-/// domain, no segment of the reference begins as a dot segment does but for `./` and `../` at its start, and nothing is
-/// encoded. None says nothing, and the error is out of memory.
+/// domain, and nothing is encoded. The reference may begin with any number of `./` and `../`; no other segment of it
+/// begins as a dot segment does. None says nothing, and the error is out of memory.
 pub(crate) fn plain_reference(
     alloc: Global,
     text: &str,
@@ -122,7 +122,7 @@ fn plain_path<'b>(form: Form, path_text: &str, path: &'b str) -> Option<(&'b str
     }
 }
 
-// Where the walk over a path goes on behind its leading dot segments, if no other may be a dot segment.
+// Where the walk over a path goes on behind the dot segments at its start, if no other may be a dot segment.
 fn goes_on_behind<'b>(start: &'b str, path: &[u8]) -> Option<(&'b str, usize)>
     requires { IsPathText start.now }
     ensures goes_on { IfSome result (λ found.
@@ -137,7 +137,7 @@ fn goes_on_behind<'b>(start: &'b str, path: &[u8]) -> Option<(&'b str, usize)>
     }
 }
 
-// What is kept behind a path's leading dot segments, and what is left of the path.
+// What the dot segments at the start of a path leave of the base's path, and what is left of the path behind them.
 fn behind_dots<'b, 'p>(start: &'b str, path: &'p [u8]) -> (&'b str, &'p [u8])
     requires { IsPathText start.now }
     ensures goes_on { GoesOn (segments_behind start.now) path.now (segments_behind result.0.now) result.1.now }
@@ -186,8 +186,9 @@ fn write(
     kept: &str,
 ) -> Result<String, AllocError>
     requires { IsPathText kept.now }
-    ensures { IfOk result (λ written. string_bytes written ≡ (spec.origin base.now domain.now
-        ++ serial_segments (segments_behind kept.now)) ++ (spec.between parts.now.form parts.now.query base.now.query ++ text.now)) }
+    ensures { IfOk result (λ written. string_bytes written
+        ≡ (spec.origin base.now domain.now ++ serial_segments (segments_behind kept.now))
+        ++ (spec.between parts.now.form parts.now.query base.now.query ++ text.now)) }
 {
     let room = room_for(text, parts, base, domain, kept);
     let mut written = String::with_capacity(alloc, room)?;

@@ -5,5 +5,5 @@ use Rattle.uv_resolve.proofs.encoded_parts.encoded_text.Goals as goal
 
 pub returns-then-is_never_encoded : goal.returns-then-is_never_encoded
 returns-then-is_never_encoded c =
-    rw (sym (never_encoded-encoded c.args.quote c.args.text.now (c.is_never_encoded.ensures c.if-is_never_encoded.true)))
-    (search rules)
+    let never = c.is_never_encoded.ensures c.if-is_never_encoded.true in
+    rw (sym (never_encoded-encoded c.args.quote c.args.text.now never)) (search rules)

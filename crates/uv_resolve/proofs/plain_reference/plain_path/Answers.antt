@@ -21,5 +21,6 @@ returns-in-PathRelative-clause-plain c =
     (subst (λ (s : List (List ℕ)). IfSome found (λ f. GoesOnBehind s bytes (segments_behind f.0.now) f.1))
     c.without_last_segment.ensures.text.behind
     (subst (λ (b : List ℕ).
-    IfSome found (λ f. GoesOnBehind (segments_behind c.without_last_segment.result.now) b (segments_behind f.0.now) f.1))
+    IfSome found (λ f.
+    GoesOnBehind (segments_behind c.without_last_segment.result.now) b (segments_behind f.0.now) f.1))
     c.as_bytes-in-PathRelative.ensures.value c.goes_on_behind.ensures.goes_on)))
