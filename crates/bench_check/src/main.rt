@@ -174,10 +174,8 @@ fn url_text(
 
 // The text of a text's record.
 fn record_text(text: &str, setting: Setting<'_>) -> Result<String, ResolveFault> {
-    match resolve(setting.alloc, text, setting.base, setting.profile) {
-        Ok(record) => Ok(record.text(setting.alloc)?),
-        Err(fault) => Err(fault),
-    }
+    let record = resolve(setting.alloc, text, setting.base, setting.profile)?;
+    Ok(record.text(setting.alloc)?)
 }
 
 // A `1` for each valid text and a `0` for each other, and a line's end.
