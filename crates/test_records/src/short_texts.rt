@@ -68,7 +68,7 @@ fn grows_paths_of_each_length(rt: HostRuntime) -> Result<(), AllocError> {
 }
 
 #[test]
-fn shortens_paths_of_each_length(rt: HostRuntime) -> Result<(), AllocError> {
+fn shortens_short_and_long_paths(rt: HostRuntime) -> Result<(), AllocError> {
     let alloc = rt.alloc();
     let mut path = path_of(alloc, "/a/b")?;
     path.pop();
