@@ -6,11 +6,10 @@ ghost use Rattle.uv_model.specs.Encoding.{encoded};
 ghost use Rattle.uv_model.specs.Scheme.{scheme_class};
 ghost use Rattle.uv_model.specs.Valid.{scheme_in};
 ghost use Rattle.uv_model.specs.Records.WellFormed.{WellFormed};
-ghost use Rattle.uv_resolve.specs.Resolve.{HaveValidText, IsDenoted};
+ghost use Rattle.uv_resolve.specs.Resolve.{HaveValidText};
 ghost use Rattle.uv_grammar.specs.Slices.{chars_of_option};
 
 use crate::encoded_parts::encoded_text;
-use crate::fault::ResolveFault;
 use crate::paths::path_of;
 use crate::schemes::{class_by, copied, lowered};
 use std::alloc::{AllocError, Global};
@@ -18,15 +17,15 @@ use std::borrow::CowStr;
 use uv_grammar::{Form, HostRef, Parts};
 use uv_model::{Class, Host, Profile, Record, Text};
 
-/// The record that the parts denote against the base. The only fault is out of memory.
+/// The record that the parts denote against the base. The error is out of memory.
 pub(crate) fn denoted(
     alloc: Global,
     parts: Parts<'_>,
     base: Option<&Record>,
-) -> Result<Record, ResolveFault>
+) -> Result<Record, AllocError>
     requires valid { HaveValidText (option_copied base) parts }
     requires well_formed { WellFormed Profile.Parser (spec.denote (option_copied base) parts) }
-    ensures { IsDenoted (spec.denote (option_copied base.entry) parts.entry) result }
+    ensures { IfOk result (λ made. made ≡ spec.denote (option_copied base.entry) parts.entry) }
 {
     let class = class_in(&parts, base);
     let scheme = scheme_of(alloc, &parts, base)?;

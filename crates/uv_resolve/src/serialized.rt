@@ -92,10 +92,7 @@ fn write_parts(
         return Ok(written);
     }
     see_base(base);
-    match denoted(alloc, parts, base) {
-        Ok(record) => record.text(alloc),
-        Err(ResolveFault::Refused(_) | ResolveFault::Memory(_)) => Err(AllocError),
-    }
+    denoted(alloc, parts, base)?.text(alloc)
 }
 
 // The text with a `/` behind it, in one allocation.
