@@ -9,9 +9,10 @@ ghost use Rattle.uv_resolve.specs.PlainReference.{IsSerialWhere};
 ghost use Rattle.uv_resolve.specs.Serialized.{ArePartsOf};
 
 use crate::own_text::{ends_in_host, has_no_port, has_own_host, is_never_encoded, is_own_path};
+use crate::schemes::class_by;
 use std::alloc::{AllocError, Global};
 use uv_grammar::{Form, Parts};
-use uv_model::{Class, Record, class_of};
+use uv_model::{Class, Record};
 
 /// The text of the URL that a valid reference with these parts denotes against its base, where the base's scheme is
 /// special, the reference begins with `//`, a host whose text is that of its value and no port, and is its own URL's
@@ -42,7 +43,7 @@ pub(crate) fn own_authority(
 pub(crate) fn is_special(base: &Record) -> bool
     ensures { IsTrue result → scheme_class base.now.scheme ≡ Special }
 {
-    match class_of(base.scheme()) {
+    match class_by(base.scheme()) {
         Class::Special => true,
         _ => false,
     }

@@ -7,4 +7,4 @@ use Rattle.uv_resolve.proofs.own_authority.is_special.Goals as goal
 pub returns-in-Special : goal.returns-in-Special
 returns-in-Special c = λ _.
     sym (ap scheme_class (ap chars c.scheme.ensures.text ∙ chars-IsAscii _ c.scheme.ensures.ascii))
-    ∙ sym c.class_of.ensures ∙ c.in-Special.is
+    ∙ sym c.class_by.ensures ∙ c.in-Special.is
