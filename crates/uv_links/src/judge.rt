@@ -111,8 +111,7 @@ impl<'b> Judge<'b> {
         requires alone { self.now.base ≡ None }
         ensures { IfOk result (λ j. IsSaid self.now text.now (judged_said j)) }
     {
-        let answer = check_alone(alloc, text, self.profile);
-        self.judge_answer(alloc, text, answer)
+        self.judge_answer(alloc, text, &check_alone(alloc, text, self.profile))
     }
 
     // The same against a base.
@@ -126,19 +125,18 @@ impl<'b> Judge<'b> {
         requires base { self.now.base ≡ Some base.now }
         ensures { IfOk result (λ j. IsSaid self.now text.now (judged_said j)) }
     {
-        let answer = check(alloc, text, Some(base), self.profile);
-        self.judge_answer(alloc, text, answer)
+        self.judge_answer(alloc, text, &check(alloc, text, Some(base), self.profile))
     }
 
-    // What is said of a text on which this is the checker's answer.
+    // What is said of a text on which this is the checker's answer, which is large and stays where it was written.
     fn judge_answer<'l>(
         &self,
         alloc: Global,
         text: &'l str,
-        answer: Result<Verdict<'_>, AllocError>,
+        answer: &Result<Verdict<'_>, AllocError>,
     ) -> Result<Judgement<'l>, RoomFault>
         requires short { length text.now ≤ self.now.line_bytes }
-        requires answer { IfOk answer (IsVerdict self.now.profile self.now.base (chars text.now)) }
+        requires answer { IfOk answer.now (IsVerdict self.now.profile self.now.base (chars text.now)) }
         ensures { IfOk result (λ j. IsSaid self.now text.now (judged_said j)) }
     {
         match answer {
@@ -146,7 +144,7 @@ impl<'b> Judge<'b> {
                 let written = serialized_text(alloc, text, parts, self.base)?;
                 self.compare(alloc, text, written)
             }
-            Ok(Verdict::No(refusal)) => Ok(Judgement::Refused(refusal)),
+            Ok(Verdict::No(refusal)) => Ok(Judgement::Refused(*refusal)),
             Err(AllocError) => Err(RoomFault::Memory),
         }
     }

@@ -20,20 +20,20 @@ use uv_model::{Class, Host, Profile, Record, Text};
 /// The record that the parts denote against the base. The error is out of memory.
 pub(crate) fn denoted(
     alloc: Global,
-    parts: Parts<'_>,
+    parts: &Parts<'_>,
     base: Option<&Record>,
 ) -> Result<Record, AllocError>
-    requires valid { HaveValidText (option_copied base) parts }
-    requires well_formed { WellFormed Profile.Parser (spec.denote (option_copied base) parts) }
-    ensures { IfOk result (λ made. made ≡ spec.denote (option_copied base.entry) parts.entry) }
+    requires valid { HaveValidText (option_copied base) parts.now }
+    requires well_formed { WellFormed Profile.Parser (spec.denote (option_copied base) parts.now) }
+    ensures { IfOk result (λ made. made ≡ spec.denote (option_copied base.entry) parts.now) }
 {
-    let class = class_in(&parts, base);
-    let scheme = scheme_of(alloc, &parts, base)?;
-    let port = port_of(&parts, base);
-    let path = path_of(alloc, class, &parts, base)?;
-    let query = query_of(alloc, class, &parts, base)?;
-    let fragment = fragment_of(alloc, &parts)?;
-    let host = host_of(alloc, &parts, base)?;
+    let class = class_in(parts, base);
+    let scheme = scheme_of(alloc, parts, base)?;
+    let port = port_of(parts, base);
+    let path = path_of(alloc, class, parts, base)?;
+    let query = query_of(alloc, class, parts, base)?;
+    let fragment = fragment_of(alloc, parts)?;
+    let host = host_of(alloc, parts, base)?;
     Ok(Record::make_with(scheme, host, port, path, query, fragment))
 }
 

@@ -51,21 +51,21 @@ pub fn serialize_parts(
     if is_own_text(text, &parts) {
         return String::from_str(alloc, text);
     }
-    write_parts(alloc, text, parts, base)
+    write_parts(alloc, text, &parts, base)
 }
 
 /// The same, but lends the text where it is known to be the URL's text itself. Most links are, and take no memory then.
 pub fn serialized_text<'t>(
     alloc: Global,
     text: &'t str,
-    parts: Parts<'_>,
+    parts: &Parts<'_>,
     base: Option<&Record>,
 ) -> Result<CowStr<'t>, AllocError>
-    requires { ArePartsOf (option_copied base) (chars text.now) parts }
+    requires { ArePartsOf (option_copied base) (chars text.now) parts.now }
     ensures { IfOk result (λ written.
-        cow_str_bytes written ≡ serial (denote (option_copied base.entry) parts.entry)) }
+        cow_str_bytes written ≡ serial (denote (option_copied base.entry) parts.now)) }
 {
-    if is_own_text(text, &parts) {
+    if is_own_text(text, parts) {
         return Ok(CowStr::Borrowed(text));
     }
     Ok(CowStr::Owned(write_parts(alloc, text, parts, base)?))
@@ -75,22 +75,38 @@ pub fn serialized_text<'t>(
 fn write_parts(
     alloc: Global,
     text: &str,
-    parts: Parts<'_>,
+    parts: &Parts<'_>,
     base: Option<&Record>,
 ) -> Result<String, AllocError>
-    requires { ArePartsOf (option_copied base) (chars text.now) parts }
+    requires { ArePartsOf (option_copied base) (chars text.now) parts.now }
     ensures { IfOk result (λ written.
-        string_bytes written ≡ serial (denote (option_copied base.entry) parts.entry)) }
+        string_bytes written ≡ serial (denote (option_copied base.entry) parts.now)) }
 {
-    if is_own_root(text, &parts) {
+    if is_own_root(text, parts) {
         return with_slash(alloc, text);
     }
-    if let Some(written) = absolute_text(alloc, &parts)? {
+    if let Some(written) = absolute_text(alloc, parts)? {
         return Ok(written);
     }
-    if let Some(written) = plain_reference(alloc, text, &parts, base)? {
+    if let Some(written) = plain_reference(alloc, text, parts, base)? {
         return Ok(written);
     }
+    record_text(alloc, text, parts, base)
+}
+
+// The same, by the record. A function clears room for a value as large as that where it begins, so that this one stands
+// apart from what is written without a record.
+#[inline(never)]
+fn record_text(
+    alloc: Global,
+    _text: &str,
+    parts: &Parts<'_>,
+    base: Option<&Record>,
+) -> Result<String, AllocError>
+    requires { ArePartsOf (option_copied base) (chars _text.now) parts.now }
+    ensures { IfOk result (λ written.
+        string_bytes written ≡ serial (denote (option_copied base.entry) parts.now)) }
+{
     see_base(base);
     denoted(alloc, parts, base)?.text(alloc)
 }

@@ -80,7 +80,7 @@ fn is_lent(alloc: Global, text: &str) -> Result<Option<bool>, AllocError> {
     let Verdict::Yes(parts) = check(alloc, text, None, Profile::Standard)? else {
         return Ok(None);
     };
-    match serialized_text(alloc, text, parts, None)? {
+    match serialized_text(alloc, text, &parts, None)? {
         CowStr::Borrowed(lent) => Ok(Some(lent == text)),
         CowStr::Owned(_) => Ok(Some(false)),
     }
