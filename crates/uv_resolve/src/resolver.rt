@@ -15,6 +15,7 @@ use uv_model::{Profile, Record};
 ///
 /// A text that isn't a valid URL string of the profile is refused before any allocation for the record. By the parser's
 /// profile the answer is a record exactly where the URL parser's run ends in that record without an error.
+#[inline(always)]
 pub fn resolve(
     alloc: Global,
     text: &str,
