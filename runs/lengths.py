@@ -134,6 +134,33 @@ def brackets():
         yield refused("foo://" + "x" * held + "x[:]:8x", None, *codes, (at + 5, "port-digit"))
 
 
+def bracketed_hosts():
+    """The host of a special URL in brackets, with each end that may follow it, and with a mark in it that ends it."""
+    ends = {"": "/", "/": "/", "?q": "/?q", "#f": "/#f", ":81": ":81/", ":80/a": "/a", ":/": "/"}
+    for held, (end, written) in itertools.product(LENGTHS, ends.items()):
+        text = "http://[" + ":" * held + "]"
+        yield valid(text + end, None, text + written) if held == 2 else refused(text + end, None, (7, "host-ipv6"))
+    for held, mark in itertools.product(LENGTHS, "/?#"):
+        yield refused("http://[" + ":" * held + mark + "]", None, (7, "host-ipv6"), (held + 9, "code-point"))
+    for pieces, digits, (end, written) in itertools.product((1, 2, 6, 8), range(1, 5), ends.items()):
+        address = ":".join(["a" * digits] * pieces) + ("" if pieces == 8 else "::")
+        yield valid("http://[" + address + "]" + end, None, "http://[" + address + "]" + written)
+
+
+def addresses():
+    """IPv4 addresses of each length behind a special scheme, with each end that may follow them."""
+    ends = {"": "/", "/": "/", "?q": "/?q", "#f": "/#f", ":81": ":81/", ":80/a": "/a", ".": None, "a": None}
+    for first, last, (end, written) in itertools.product((1, 12, 123), (0, 45, 255, 256), ends.items()):
+        host = "{0}.{0}.{1}.{1}".format(first, last)
+        text = "http://" + host + end
+        # (behind the root's full stop these are no four numbers, and "256a" is no number)
+        name = end == "a"
+        if name or (last < 256 and written):
+            yield valid(text, None, text + "/" if name else "http://" + host + written)
+        else:
+            yield refused(text, None, (7, "host-number"))
+
+
 def schemes():
     """A scheme is a letter and then letters, digits and marks before the first `:`; a text without one is a path."""
     for held in LENGTHS:
@@ -144,7 +171,8 @@ def schemes():
 
 
 def cases():
-    made = (labels, names, hosts_of_references, wrong_places, parts, references, bases, marks, brackets, schemes)
+    hosts = (labels, names, hosts_of_references, brackets, bracketed_hosts, addresses)
+    made = (*hosts, wrong_places, parts, references, bases, marks, schemes)
     return [case for make in made for case in make()]
 
 

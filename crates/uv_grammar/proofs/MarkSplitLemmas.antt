@@ -13,15 +13,8 @@ use Rattle.uv_model.specs.Path.{is_without}
 use Rattle.uv_model.proofs.Texts.MarkLemmas.{is_without-append, is_without-more}
 use Rattle.uv_text.proofs.SplitsLemmas.{prefix_slice}
 use Rattle.uv_grammar.specs.TextSplits.{IsFirstMark, SplitsMarks}
-use Rattle.uv_grammar.proofs.SearchLemmas.{nowhere}
+use Rattle.uv_grammar.proofs.SearchLemmas.{not_found, nowhere}
 use Rattle.uv_grammar.proofs.SliceLemmas.{is_without-chars, splits_at_mark}
-
--- where neither is found, neither stands
-none_without : (mark : ℕ) (bytes : List ℕ) → is_byte2 question_mark number_sign mark ≡ true
-    → IsFirstByte (is_byte2 question_mark number_sign) bytes None → is_without mark bytes ≡ true
-none_without mark bytes either none =
-    nowhere mark bytes (λ k below e. none k (omega arith) below
-    (ap (is_byte2 question_mark number_sign) e ∙ either))
 
 module _ (bytes : List ℕ) (end : ℕ)
     (found : IsFirstByte (is_byte2 question_mark number_sign) bytes (Some end)) where
@@ -104,9 +97,9 @@ splits_at_none bytes utf8 none =
       joined = sym (append-nil (chars bytes ++ []) ∙ append-nil (chars bytes));
       prefix =
           ap (is_without number_sign) (append-nil (chars bytes))
-          ∙ is_without-chars number_sign bytes (lit< tt) utf8 (none_without number_sign bytes refl none);
+          ∙ is_without-chars number_sign bytes (lit< tt) utf8 (not_found (is_byte2 question_mark number_sign) number_sign bytes refl none);
       no_question_mark =
-          is_without-chars question_mark bytes (lit< tt) utf8 (none_without question_mark bytes refl none);
+          is_without-chars question_mark bytes (lit< tt) utf8 (not_found (is_byte2 question_mark number_sign) question_mark bytes refl none);
     }
 
 -- split at `#`, and what stands before it at `?`

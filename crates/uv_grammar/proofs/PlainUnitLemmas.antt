@@ -1,18 +1,22 @@
 -- The prefix of a text that the scan of units passes is URL units, without the marks that its class lacks.
 use Rattle.std.proofs.Common.{◌≡◌, ℕ, ◌<◌, ◌==◌, Bool, true, false, not, ◌&&◌, List, [], ◌∷◌, ◌++◌, take, refl, sym}
-use Rattle.std.proofs.Common.{◌∙◌, subst, inl, inr, arith, eqb-true, ne_eqb}
+use Rattle.std.proofs.Common.{◌≤◌, ◌∙◌, subst, inl, inr, arith, eqb-true, ne_eqb}
 use Rattle.std.specs.Prelude.{nat_le}
 use Rattle.std.specs.Char.{is_ascii, is_ascii_hexdigit}
-use Rattle.std.proofs.lemmas.Bool.{and_parts, cases_Bool, cases_eq, false≢true, or_cases}
+use Rattle.std.specs.List.{list_all}
+use Rattle.std.proofs.lemmas.Bool.{and_from, and_parts, cases_Bool, cases_eq, false≢true, or_cases}
 use Rattle.std.proofs.lemmas.Bool.Decides.{nat_tests}
 use Rattle.std.proofs.lemmas.List.{take-append-drop}
 use Rattle.uv_model.specs.Ascii.{number_sign, percent_sign, question_mark}
+use Rattle.uv_model.specs.Hosts.OpaqueHost.{is_forbidden_host}
 use Rattle.uv_model.specs.Path.{is_without}
 use Rattle.uv_model.specs.Units.{is_faultless, is_unit_at, is_url_code_point, starts_with_two_hex}
+use Rattle.uv_model.proofs.Cuts.HostCutLemmas.{word_passes}
 use Rattle.uv_model.proofs.Texts.MarkLemmas.{is_without-more}
-use Rattle.uv_text.specs.Class.{HasHexDigits, HoldsPathBytes, HoldsUrlBytes}
+use Rattle.uv_text.specs.Class.{HasHexDigits, HoldsOpaqueHostBytes, HoldsPathBytes, HoldsUrlBytes}
 use Rattle.uv_text.specs.Splits.{IsUnitSplit, begins_mark, begins_unit, unit_length}
 use Rattle.uv_grammar.specs.PlainLinks.{AreUnits}
+use Rattle.uv_grammar.specs.SpecialLinks.{IsHostTextCut}
 
 -- `%` and `#` are no URL code points
 percent_sign-unit : is_url_code_point percent_sign ≡ false
@@ -96,6 +100,32 @@ module _ (held : ℕ → Bool) where
             | inr different ↦ different
           ]
 
+  -- each code point of the prefix passes a test that those of the class, `%` and those beyond ASCII pass
+  passes_prefix : (test : ℕ → Bool) → ((c : ℕ) → held c ≡ true → test c ≡ true) → test percent_sign ≡ true
+      → ((c : ℕ) → 128 ≤ c → test c ≡ true) → (text : List ℕ) → list_all test (prefix text) ≡ true
+  passes_prefix test class percent beyond [] = refl
+  passes_prefix test class percent beyond (c ∷ rest) =
+      elim (cases_Bool (begins_unit held c rest)) [
+        | inl begins ↦ rw begins (and_from (test c) (list_all test (prefix rest)) (here begins)
+            (passes_prefix test class percent beyond rest))
+        | inr stops ↦ rw stops refl
+      ]
+    where
+      here : begins_unit held c rest ≡ true → test c ≡ true
+      here begins =
+          elim (cases_eq c percent_sign) [
+            | inl same ↦ rw same percent
+            | inr other ↦
+                let no_percent : (c == percent_sign) ≡ false = ne_eqb c percent_sign other in
+                elim (or_cases (held c) (begins_mark c rest) begins) [
+                  | inl in_class ↦ class c in_class
+                  | inr mark ↦
+                      let both : (nat_le 128 c && is_url_code_point c) ≡ true = rw no_percent at mark in
+                      let far = (and_parts (nat_le 128 c) (is_url_code_point c) both).0 in
+                      beyond c (grind (arith, nat_tests, far))
+                ]
+          ]
+
 -- a byte of a class of URL code points is one
 url_byte : (held : ℕ → Bool) → HoldsUrlBytes held → (c : ℕ) → held c ≡ true
     → is_url_code_point c ≡ true
@@ -136,3 +166,25 @@ path_units held text prefix rest holds digits cut =
       | inl is ↦ rw is refl
       | inr not ↦ rw not refl
     ]
+
+-- a byte of an opaque host is no forbidden host code point
+host_byte : (held : ℕ → Bool) → HoldsOpaqueHostBytes held → (c : ℕ) → held c ≡ true → not (is_forbidden_host c) ≡ true
+host_byte held holds c here =
+    let both = and_parts (is_ascii c) (is_url_code_point c && not (is_forbidden_host c)) (sym (holds c) ∙ here) in
+    (and_parts (is_url_code_point c) (not (is_forbidden_host c)) both.1).1
+
+-- the units of the text of a host
+pub host_units : (held : ℕ → Bool) (text prefix rest : List ℕ) → HoldsOpaqueHostBytes held
+    → IsUnitSplit held text prefix rest → IsHostTextCut text prefix rest
+host_units held text prefix rest holds cut =
+    let permitted : ℕ → Bool = λ c. not (is_forbidden_host c) in
+    let each : list_all permitted prefix ≡ true =
+    rw cut.is_prefix (passes_prefix held permitted (host_byte held holds) refl (λ c far. grind (arith, nat_tests)) text) in
+    let word = word_passes permitted refl refl refl refl refl prefix each in
+    record {
+      joined = split_joined held text prefix rest cut;
+      no_slash = word.no_slash;
+      no_question_mark = word.no_question_mark;
+      no_number_sign = word.no_number_sign;
+      ends = word.ends;
+    }

@@ -22,11 +22,16 @@ nowhere mark (c ∷ rest) none =
     is_without-more mark c rest (ne_eqb c mark (none 0 (omega arith)))
     (nowhere mark rest (λ k below. none (suc k) (omega (arith, below))))
 
+-- a mark that a search looks for and that it finds nowhere
+pub not_found : (test : ℕ → Bool) (mark : ℕ) (bytes : List ℕ) → test mark ≡ true → IsFirstByte test bytes None
+    → is_without mark bytes ≡ true
+not_found test mark bytes wanted none =
+    nowhere mark bytes (λ k below e. none k (omega arith) below (ap test e ∙ wanted))
+
 -- what a search finds is the first mark
 pub first_mark_found : (mark : ℕ) (bytes : List ℕ) (found : Option ℕ) → IsFirstByte (is_byte mark) bytes found
     → IsFirstMark mark bytes found
-first_mark_found mark bytes None none =
-    nowhere mark bytes (λ k below e. none k (omega arith) below (rw e (eq-eqb mark mark refl)))
+first_mark_found mark bytes None none = not_found (is_byte mark) mark bytes (eq-eqb mark mark refl) none
 first_mark_found mark bytes (Some place) first =
     let before : is_without mark (take place bytes) ≡ true =
     nowhere mark (take place bytes) (λ k below e.

@@ -1,6 +1,8 @@
 -- The class of a scheme by its default port.
 use Rattle.std.proofs.Common.{◌≡◌, ℕ, List, true, false, Some, None, refl, sym, ap, ◌∙◌, inl, inr}
 use Rattle.std.specs.Prelude.{codes}
+use Rattle.std.specs.Char.{is_ascii}
+use Rattle.std.specs.List.{list_all}
 use Rattle.std.specs.Str.{bytes_eq, chars}
 use Rattle.std.proofs.lemmas.Bool.{cases_Bool}
 use Rattle.std.proofs.lemmas.Option.{none-some}
@@ -35,20 +37,28 @@ pub class_without_port : (scheme : List ℕ) → bytes_eq (lowercase scheme) (co
 unfolding scheme_class
 class_without_port scheme other none = rw (other, sym none) refl
 
+-- ---- schemes as they are mostly written
+
+-- bytes that are an ASCII name are its code points
+named : (bytes name : List ℕ) → list_all is_ascii name ≡ true → bytes_eq bytes name ≡ true → chars bytes ≡ name
+named bytes name ascii same =
+    ap chars ((bytes_eq-Decides bytes name).0 same) ∙ chars-IsAscii name (IsAscii-from_test name ascii)
+
 -- the default port of bytes that are `https`
 pub port_of_https : (bytes : List ℕ) → bytes_eq bytes (codes "https") ≡ true → Some 443 ≡ default_port (chars bytes)
 unfolding default_port
-port_of_https bytes same =
-    let is = (bytes_eq-Decides bytes (codes "https")).0 same in
-    let read : chars bytes ≡ codes "https"
-    = ap chars is ∙ chars-IsAscii (codes "https") (IsAscii-from_test (codes "https") refl) in
-    rw read refl
+port_of_https bytes same = rw (named bytes (codes "https") refl same) refl
 
 -- the default port of bytes that are `http`
 pub port_of_http : (bytes : List ℕ) → bytes_eq bytes (codes "http") ≡ true → Some 80 ≡ default_port (chars bytes)
 unfolding default_port
-port_of_http bytes same =
-    let is = (bytes_eq-Decides bytes (codes "http")).0 same in
-    let read : chars bytes ≡ codes "http"
-    = ap chars is ∙ chars-IsAscii (codes "http") (IsAscii-from_test (codes "http") refl) in
-    rw read refl
+port_of_http bytes same = rw (named bytes (codes "http") refl same) refl
+
+-- bytes that are `file` are so in lower case
+pub file_in_lowercase : (bytes : List ℕ) → bytes_eq bytes (codes "file") ≡ true
+    → bytes_eq (lowercase (chars bytes)) (codes "file") ≡ true
+file_in_lowercase bytes same = rw (named bytes (codes "file") refl same) refl
+
+-- and have no default port
+pub no_port_of_file : (bytes : List ℕ) → bytes_eq bytes (codes "file") ≡ true → None ≡ default_port (chars bytes)
+no_port_of_file bytes same = file_without_port (chars bytes) (file_in_lowercase bytes same)

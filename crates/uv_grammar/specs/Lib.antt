@@ -11,6 +11,7 @@ pub mod PartViolations
 pub mod PartValues
 pub mod PlainLinks
 pub mod SpacedPaths
+pub mod SpecialLinks
 pub mod Scan
 pub mod Slices
 pub mod TextSplits

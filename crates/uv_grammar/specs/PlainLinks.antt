@@ -120,6 +120,14 @@ abbrev pub begins_behind : List ℕ → Bool
 begins_behind [] = true
 begins_behind (c ∷ rest) = (c == slash) || ((c == question_mark) || (c == number_sign))
 
+-- the text is a path of units, `?` and a query of units or none, and `#` and a fragment of units or none
+pub record AreUnitsBehind (text path : List ℕ) (query fragment : Option (List ℕ)) : Type 0 where
+  pub tail : List ℕ
+  pub end : List ℕ
+  pub path_cut : IsPathCut text path tail
+  pub query_cut : IsPartCut question_mark tail query end
+  pub fragment_cut : IsPartCut number_sign end fragment []
+
 -- the texts of a plain link by the profile
 pub record IsPlainLink (profile : Profile) (base : Option Url) (text : List ℕ) (scheme : Option (List ℕ))
     (name form : List ℕ) (port_text : Option (List ℕ)) (port : Option ℕ) (path : List ℕ)
@@ -127,14 +135,10 @@ pub record IsPlainLink (profile : Profile) (base : Option Url) (text : List ℕ)
   pub behind : List ℕ
   pub rest : List ℕ
   pub after : List ℕ
-  pub tail : List ℕ
-  pub end : List ℕ
   pub special : IsSpecialStart base text scheme behind
   pub named : IsNameCut profile behind name form rest
   pub port_cut : IsPortCut (default_port (scheme_or base scheme)) rest port_text port after
-  pub path_cut : IsPathCut after path tail
-  pub query_cut : IsPartCut question_mark tail query end
-  pub fragment_cut : IsPartCut number_sign end fragment []
+  pub units : AreUnitsBehind after path query fragment
 
 -- the text, against the base, is by the profile a plain link of these texts and this port
 abbrev pub IsPlainCut : Profile → Option Url → List ℕ → PlainCut → Type 0

@@ -2,6 +2,7 @@
 ghost use Rattle.std.specs.Prelude.{◌≡◌, ◌==◌, IfOk, IsOk, length};
 ghost use Rattle.std.specs.Str.{chars};
 ghost use Rattle.uv_model.specs.Cut.{ends_at_host};
+ghost use Rattle.uv_model.specs.Setting.{Setting};
 ghost use Rattle.uv_model.specs.Violations.Violation.{HostPartViolation, PortPartViolation};
 ghost use Rattle.uv_grammar.specs.PartsHost.{FitsPartsHost};
 ghost use Rattle.uv_grammar.specs.Judged.{IsJudged};
@@ -18,8 +19,10 @@ use crate::port::judge_port;
 use crate::setting::Setting;
 use crate::spaced_paths::is_followed;
 use std::alloc::{AllocError, Global};
+use uv_model::{Class, Profile};
 
 /// The host of a cut text, a refusal counted from the text's start. The error is out of memory.
+#[inline(always)]
 pub(crate) fn judge_host_part<'t>(
     alloc: Global,
     cut: &Cut<'t>,
@@ -30,17 +33,34 @@ pub(crate) fn judge_host_part<'t>(
         (IsJudged (FitsPartsHost (FitsHostPart setting.now cut.now)) (HostPartViolation setting.now cut.now)) }
     ensures memory { HostPartTakesNoMemory setting.now cut.now.host_text → IsOk result }
 {
+    judge_host_of_class(alloc, cut, setting.class, setting.profile)
+}
+
+/// The same by the class and the profile of the setting. It is inlined, as the texts of the cut would else be stored.
+#[inline(always)]
+pub(crate) fn judge_host_of_class<'t>(
+    alloc: Global,
+    cut: &Cut<'t>,
+    class: Class,
+    profile: Profile,
+) -> Result<Judged<Option<PartsHost<'t>>>, AllocError>
+    requires { IsCountable cut.now }
+    ensures answer { (setting : Setting) → setting.class ≡ class → setting.profile ≡ profile → IfOk result
+        (IsJudged (FitsPartsHost (FitsHostPart setting cut.now)) (HostPartViolation setting cut.now)) }
+    ensures memory { (setting : Setting) → setting.class ≡ class → setting.profile ≡ profile
+        → HostPartTakesNoMemory setting cut.now.host_text → IsOk result }
+{
     let Some(host_text) = cut.host_text else {
         return Ok(Judged::Valid(None));
     };
     match judge_host(
         alloc,
-        setting.class,
+        class,
         host_text,
         cut.port_text,
         cut.path_text,
         ends_at_host(cut),
-        setting.profile,
+        profile,
     )? {
         Judged::Valid(host) => Ok(Judged::Valid(host)),
         Judged::Refused(refusal) => Ok(Judged::Refused(refusal_behind(host_place(cut), refusal))),
@@ -48,6 +68,7 @@ pub(crate) fn judge_host_part<'t>(
 }
 
 // Nothing of the text stands behind the host.
+#[inline(always)]
 fn ends_at_host(cut: &Cut) -> bool
     ensures { result ≡ ends_at_host cut.now }
 {

@@ -6,12 +6,14 @@ ghost use Rattle.uv_model.specs.Records.Url.{Url};
 ghost use Rattle.uv_grammar.specs.Bases.{IsOfKind, as_base};
 ghost use Rattle.uv_grammar.specs.NoMemory.{TakesNoMemoryAgainst};
 ghost use Rattle.uv_grammar.specs.PlainLinks.{IsPlainStart, begins_behind};
+ghost use Rattle.uv_grammar.specs.SpecialLinks.{IsJudgedButHost};
 ghost use Rattle.uv_grammar.specs.Verdict.{IsVerdict};
 
-use crate::authority::{judge_host_part, judge_port_part};
+use crate::authority::{judge_host_of_class, judge_host_part, judge_port_part};
 use crate::bases::{Base, BaseKind};
 use crate::built::build;
 use crate::cut::{Cut, cut_text};
+use crate::file_links::file_parts;
 use crate::judged::Judged;
 use crate::marks::split_marks;
 use crate::parts::Parts;
@@ -21,10 +23,11 @@ use crate::plain_links::{
     plain_start, wide_start,
 };
 use crate::setting::Setting;
+use crate::special_links::{address_of, may_be_special, special_cut};
 use crate::start_rules::start_fault;
 use crate::unit_faults::fault_behind_authority;
 use std::alloc::{AllocError, Global};
-use uv_model::{Profile, Record, Refusal};
+use uv_model::{Class, Profile, Record, Refusal};
 
 /// What a text is against a base.
 #[derive(Drop)]
@@ -111,7 +114,7 @@ pub(crate) fn check_started<'t>(
     if goes_on(start.rest.as_str(), profile) {
         check_from(alloc, text, start, base, profile)
     } else {
-        check_by_parts(alloc, text, base, profile)
+        check_otherwise(alloc, text, base, profile)
     }
 }
 
@@ -129,7 +132,7 @@ pub(crate) fn check_unstarted<'t>(
     if may_start_otherwise(text) {
         check_other_start(alloc, text, base, profile)
     } else {
-        check_by_parts(alloc, text, base, profile)
+        check_otherwise(alloc, text, base, profile)
     }
 }
 
@@ -159,7 +162,7 @@ pub(crate) fn check_from<'t>(
     } else if goes_on_wide(rest, profile) {
         check_wide(alloc, text, base)
     } else {
-        check_by_parts(alloc, text, base, profile)
+        check_otherwise(alloc, text, base, profile)
     }
 }
 
@@ -186,7 +189,7 @@ fn check_wide<'t>(
     ensures memory { TakesNoMemoryAgainst Profile.Wide (as_base base.entry) (chars text.now) → IsOk result }
 {
     let Some(start) = wide_start(text) else {
-        return check_by_parts(alloc, text, base, Profile::Wide);
+        return check_otherwise(alloc, text, base, Profile::Wide);
     };
     if let Some(cut) = plain_cut(&start) {
         return Ok(Verdict::Yes(plain_parts(&cut)));
@@ -194,7 +197,7 @@ fn check_wide<'t>(
     if begins_behind(start.rest.as_str()) {
         Ok(check_behind(text, &start, base, Profile::Wide))
     } else {
-        check_by_parts(alloc, text, base, Profile::Wide)
+        check_otherwise(alloc, text, base, Profile::Wide)
     }
 }
 
@@ -241,7 +244,7 @@ pub(crate) fn check_other_start<'t>(
     ensures memory { TakesNoMemoryAgainst profile (as_base base.entry) (chars text.now) → IsOk result }
 {
     let Some(start) = other_start(text, base) else {
-        return check_by_parts(alloc, text, base, profile);
+        return check_otherwise(alloc, text, base, profile);
     };
     match plain_cut(&start) {
         Some(cut) => Ok(Verdict::Yes(plain_parts(&cut))),
@@ -249,10 +252,55 @@ pub(crate) fn check_other_start<'t>(
     }
 }
 
-/// The verdict on any text, part by part in the order of their places. It is never inlined, as plain links would then
-/// have to keep registers free for it.
+/// The verdict on any text. It is never inlined, as plain links would then have to keep registers free for it; what it
+/// calls is inlined, as each verdict would else be copied once more.
 #[inline(never)]
-pub(crate) fn check_by_parts<'t>(
+pub(crate) fn check_otherwise<'t>(
+    alloc: Global,
+    text: &'t str,
+    base: Option<Base<'_>>,
+    profile: Profile,
+) -> Result<Verdict<'t>, AllocError>
+    ensures answer { IfOk result (IsVerdict profile (as_base base.entry) (chars text.now)) }
+    ensures memory { TakesNoMemoryAgainst profile (as_base base.entry) (chars text.now) → IsOk result }
+{
+    if may_be_special(text) {
+        if let Some((cut, port)) = special_cut(text) {
+            return check_host(alloc, text, cut, port, base, profile);
+        }
+        if let Some(parts) = file_parts(text) {
+            return Ok(Verdict::Yes(parts));
+        }
+    }
+    check_by_parts(alloc, text, base, profile)
+}
+
+// The same of a text of which nothing but the host can be wrong: that alone is judged.
+#[inline(always)]
+fn check_host<'t>(
+    alloc: Global,
+    text: &'t str,
+    cut: Cut<'t>,
+    port: Option<u16>,
+    base: Option<Base<'_>>,
+    profile: Profile,
+) -> Result<Verdict<'t>, AllocError>
+    requires { IsJudgedButHost profile (as_base base) (chars text.now) cut port }
+    ensures answer { IfOk result (IsVerdict profile (as_base base.entry) (chars text.now)) }
+    ensures memory { TakesNoMemoryAgainst profile (as_base base.entry) (chars text.now) → IsOk result }
+{
+    if let Some(address) = address_of(&cut) {
+        return Ok(Verdict::Yes(build(cut, Some(PartsHost::Made(address)), port)));
+    }
+    match judge_host_of_class(alloc, &cut, Class::Special, profile)? {
+        Judged::Valid(host) => Ok(Verdict::Yes(build(cut, host, port))),
+        Judged::Refused(refusal) => refused(refusal),
+    }
+}
+
+// The same part by part, in the order of their places.
+#[inline(always)]
+fn check_by_parts<'t>(
     alloc: Global,
     text: &'t str,
     base: Option<Base<'_>>,

@@ -20,7 +20,8 @@ use uv_model::{Class, Host, Profile, Refusal, Rule};
 
 /// The host, judged by its class, beside the port and the path that follow it, with its value where it isn't an opaque
 /// host. Nothing of the text follows the host where `last` says so. A refusal's place is counted in code points from
-/// the host's start. The error is out of memory.
+/// the host's start. The error is out of memory. It is inlined, as a host would else be copied once more.
+#[inline(always)]
 pub(crate) fn judge_host<'t>(
     alloc: Global,
     class: Class,

@@ -8,8 +8,8 @@ ghost use Rattle.uv_model.specs.Cut.{starts_with_two_slashes};
 ghost use Rattle.uv_model.specs.Path.{starts_with_slash};
 ghost use Rattle.uv_model.specs.Records.Url.{Url};
 ghost use Rattle.uv_grammar.specs.Bases.{as_base};
-ghost use Rattle.uv_grammar.specs.PlainLinks.{IsPartCut, IsPathCut, IsPlainCut, IsPlainStart, IsSpecialBase};
-ghost use Rattle.uv_grammar.specs.PlainLinks.{IsStartBehind, begins_behind};
+ghost use Rattle.uv_grammar.specs.PlainLinks.{AreUnitsBehind, IsPartCut, IsPathCut, IsPlainCut, IsPlainStart};
+ghost use Rattle.uv_grammar.specs.PlainLinks.{IsSpecialBase, IsStartBehind, begins_behind};
 ghost use Rattle.uv_grammar.specs.Slices.{chars_of, chars_of_option};
 ghost use Rattle.uv_grammar.specs.Verdict.{IsAccepted};
 
@@ -177,14 +177,9 @@ pub(crate) fn plain_cut<'t>(start: &PlainStart<'t>) -> Option<PlainCut<'t>>
     ensures { IfSome result (λ cut. (profile : Profile) (base : Option Url) (text : List ℕ)
         → IsPlainStart profile base text start.now → IsPlainCut profile base text cut) }
 {
-    let Some((path_text, rest)) = split_path(&start.rest) else {
+    let Some((path_text, query, fragment)) = split_behind(&start.rest) else {
         return None;
     };
-    let (query, rest) = split_part(rest, b'?');
-    let (fragment, rest) = split_part(rest, b'#');
-    if !rest.as_str().is_empty() {
-        return None;
-    }
     Some(PlainCut {
         scheme: start.scheme,
         name: start.name,
@@ -194,6 +189,25 @@ pub(crate) fn plain_cut<'t>(start: &PlainStart<'t>) -> Option<PlainCut<'t>>
         query,
         fragment,
     })
+}
+
+/// A path, a query and a fragment of URL units, which are the whole of a text. Where there are none, that says nothing.
+#[inline(always)]
+pub(crate) fn split_behind<'t>(
+    text: &Tail<'t>,
+) -> Option<(&'t str, Option<&'t str>, Option<&'t str>)>
+    ensures { IfSome result (λ r. AreUnitsBehind (chars text.now) (chars_of r.0) (chars_of_option r.1)
+        (chars_of_option r.2)) }
+{
+    let Some((path_text, rest)) = split_path(text) else {
+        return None;
+    };
+    let (query, rest) = split_part(rest, b'?');
+    let (fragment, rest) = split_part(rest, b'#');
+    if !rest.as_str().is_empty() {
+        return None;
+    }
+    Some((path_text, query, fragment))
 }
 
 /// Whether a text is empty, or begins a path behind an authority, a query or a fragment.

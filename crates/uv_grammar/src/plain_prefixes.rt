@@ -105,9 +105,9 @@ fn special_end(bytes: &[u8]) -> Option<usize>
     }
 }
 
-// Whether the bytes begin with these, of which there are four to eight. Four bytes at the start are compared at once, and
-// the four that end there, since the compiler makes much more of eight comparisons.
-fn has_prefix(bytes: &[u8], prefix: &[u8]) -> bool
+/// Whether the bytes begin with these, of which there are four to eight. Four bytes at the start are compared at once,
+/// and the four that end there, since the compiler makes much more of eight comparisons.
+pub(crate) fn has_prefix(bytes: &[u8], prefix: &[u8]) -> bool
     requires four { 4 ≤ length prefix.now }
     requires eight { length prefix.now ≤ 8 }
     ensures { IsTrue result → bytes.now ≡ prefix.now ++ drop (length prefix.now) bytes.now }

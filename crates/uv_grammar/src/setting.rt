@@ -1,5 +1,5 @@
 //! What a text is read against.
-ghost use Rattle.std.specs.Prelude.{◌≡◌};
+ghost use Rattle.std.specs.Prelude.{◌≡◌, None};
 ghost use Rattle.std.specs.Str.{chars};
 ghost use Rattle.uv_model.specs.Scheme.{default_port, scheme_class};
 ghost use Rattle.uv_model.specs.Setting.{scheme_or, setting_of};
@@ -71,6 +71,9 @@ fn port_of(scheme: &str) -> Option<u16>
     if scheme == "http" {
         return Some(80);
     }
+    if scheme == "file" {
+        return None;
+    }
     default_port(scheme)
 }
 
@@ -88,12 +91,21 @@ fn class_beside(scheme: &str, port: Option<u16>) -> Class
 {
     match port {
         Some(_) => Class::Special,
-        None => {
-            if is_name(scheme, "file") {
-                Class::File
-            } else {
-                Class::Other
-            }
-        }
+        None => class_without_port(scheme),
+    }
+}
+
+// The class of a scheme that has no default port.
+fn class_without_port(scheme: &str) -> Class
+    requires { None ≡ default_port (chars scheme.now) }
+    ensures { result ≡ scheme_class (chars scheme.now) }
+{
+    if scheme == "file" {
+        return Class::File;
+    }
+    if is_name(scheme, "file") {
+        Class::File
+    } else {
+        Class::Other
     }
 }

@@ -13,7 +13,8 @@ use Rattle.uv_grammar.specs.Built.{built}
 use Rattle.uv_grammar.specs.PartViolations.{BehindAuthority}
 use Rattle.uv_grammar.specs.Slices.{chars_of, chars_of_option}
 use Rattle.uv_grammar.specs.Verdict.{IsAccepted}
-use Rattle.uv_grammar.proofs.PlainLinkLemmas.{behind_cut, plain_cut, start_accepted, start_countable, start_refused}
+use Rattle.uv_grammar.proofs.PlainLinkLemmas.{behind_cut, start_accepted, start_countable, start_refused}
+use Rattle.uv_grammar.proofs.SpecialLinkLemmas.{link_cut}
 use Rattle.uv_grammar.proofs.checker.check_behind.Goals as goal
 
 pub fault_behind_authority-requires : goal.fault_behind_authority-requires
@@ -40,7 +41,7 @@ returns-in-Some c =
     let path = chars_of c.split_marks.result.0 in
     let query = chars_of_option c.split_marks.result.1 in
     let fragment = chars_of_option c.split_marks.result.2 in
-    let cut = plain_cut (chars_of_option s.scheme) (chars_of s.name) (chars_of_option s.port_text) path query fragment in
+    let cut = link_cut (chars_of_option s.scheme) (chars_of s.name) (chars_of_option s.port_text) path query fragment in
     start_refused c.args.profile (as_base c.args.base) (chars c.args.text.now) (chars_of_option s.scheme) (chars_of s.name)
     s.name.now (chars_of_option s.port_text) s.port (chars s.rest) path query fragment c.in-Some.refusal refl
     c.requires.start
@@ -56,7 +57,7 @@ returns-in-None c =
     let path = chars_of c.split_marks.result.0 in
     let query = chars_of_option c.split_marks.result.1 in
     let fragment = chars_of_option c.split_marks.result.2 in
-    let cut = plain_cut (chars_of_option s.scheme) (chars_of s.name) (chars_of_option s.port_text) path query fragment in
+    let cut = link_cut (chars_of_option s.scheme) (chars_of s.name) (chars_of_option s.port_text) path query fragment in
     let text = chars c.args.text.now in
     subst (λ (parts : Parts). IsAccepted c.args.profile (as_base c.args.base) text parts)
     (sym (c.build.ensures ∙ ap (λ (form : List ℕ). built cut (Some (Domain form)) s.port) c.of.ensures))

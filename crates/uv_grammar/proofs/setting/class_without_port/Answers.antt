@@ -1,0 +1,16 @@
+-- The class by the name.
+use Rattle.std.proofs.Common.{◌∙◌, sym}
+use Rattle.std.specs.Str.{chars}
+use Rattle.uv_grammar.proofs.SettingLemmas.{class_of_file, class_without_port, file_in_lowercase}
+use Rattle.uv_grammar.proofs.setting.class_without_port.Goals as goal
+
+pub returns-then-eq : goal.returns-then-eq
+returns-then-eq c =
+    class_of_file (chars c.args.scheme.now) (file_in_lowercase c.args.scheme.now (sym c.eq.ensures ∙ c.if-eq.true))
+
+pub returns-then-is_name : goal.returns-then-is_name
+returns-then-is_name c = class_of_file (chars c.args.scheme.now) (sym c.is_name.ensures ∙ c.if-is_name.true)
+
+pub returns-else-is_name : goal.returns-else-is_name
+returns-else-is_name c =
+    class_without_port (chars c.args.scheme.now) (sym c.is_name.ensures ∙ c.if-is_name.false) c.requires
