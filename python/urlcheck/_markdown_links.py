@@ -1,7 +1,8 @@
 """The links of a Markdown document (CommonMark), by the package ``markdown-it-py``, and those of the HTML within it."""
 
+import re
 from types import SimpleNamespace
-from typing import Any, Dict, List, Optional, Set, Tuple
+from typing import Any, Callable, Dict, List, Optional, Set, Tuple
 
 from . import _html_links
 from ._source import Link, Source
@@ -33,9 +34,11 @@ class _Reader:
     """Collects the links of the tokens."""
 
     def __init__(self, source: Source) -> None:
-        from markdown_it import MarkdownIt, helpers
+        from markdown_it import MarkdownIt, helpers, rules_inline
 
         self.markdown: Any = MarkdownIt("commonmark")
+        self.markdown.inline.ruler.at("autolink", _placing(rules_inline.autolink))
+        self.markdown.inline.ruler.at("html_inline", _placing(rules_inline.html_inline))
         self.markdown.helpers = SimpleNamespace(
             parseLinkLabel=helpers.parseLinkLabel,
             parseLinkTitle=helpers.parseLinkTitle,
@@ -49,6 +52,9 @@ class _Reader:
         self.links: List[Link] = []
         self.ignored: Set[int] = set()
         self._source = source
+        # The same as the package reads it, place by place: there a carriage return ends a line too.
+        text = re.sub("\r(?!\n)", "\n", source.text).replace("\0", "\ufffd")
+        self._seen = source if text == source.text else Source(text)
         # What was looked at last: a block's content, and one of its lines with how far it is shifted.
         self._block: Tuple[str, Source] = ("", Source(""))
         self._lines: Tuple[Tuple[int, int], str, Optional[int]] = ((0, 0), "", None)
@@ -76,38 +82,26 @@ class _Reader:
     def take(self, token: Any) -> None:
         """Takes the links of a block."""
         if token.type == "html_block":
-            first, last = token.map
-            start = self._source.offset(first + 1, 0)
-            end = start + sum(len(self._source.line(line + 1)) + 1 for line in range(first, last))
-            self._take_html(start, end)
+            self._take_html(token.map[0], token.content, token.content, 0)
         elif token.type == "inline":
             self._take_inline(token)
 
     def _take_inline(self, block: Any) -> None:
-        at = 0
         for token in block.children or []:
             if token.type == "html_inline":
-                at = block.content.find(token.content, at)
-                start = self._offset(block.map[0], block.content, at)
-                if start is not None:
-                    self._take_html(start, start + len(token.content))
-                at += len(token.content)
+                self._take_html(block.map[0], block.content, token.content, token.meta[_AT])
             elif token.type in ("link_open", "image"):
                 url = token.attrGet("href" if token.type == "link_open" else "src")
                 if token.info == "auto":
-                    at = self._take_autolink(block, url, at)
+                    self._take_autolink(block, url, token.meta[_AT] + 1)
                 elif url.content == block.content:
                     self._take_destination(block.map[0], url)
 
-    def _take_autolink(self, block: Any, url: str, at: int) -> int:
+    def _take_autolink(self, block: Any, url: str, at: int) -> None:
         """Takes ``<http://a/>``; an e-mail address is no URL as it stands."""
-        found: int = block.content.find("<" + url + ">", at)
-        if found < 0:
-            return at
-        start = self._offset(block.map[0], block.content, found + 1)
-        if start is not None:
+        start = self._offset(block.map[0], block.content, at)
+        if start is not None and block.content.startswith(url, at):
             self.links.append(Link(str(url), start, True))
-        return found + len(url)
 
     def take_references(self, environment: Dict[str, Any]) -> None:
         """Takes the links of the definitions ``[name]: link``."""
@@ -120,15 +114,28 @@ class _Reader:
             return
         start = self._offset(line, url.content, url.at)
         if start is None:
-            self.links.append(Link(str(url), self._source.offset(line + 1, 0), False))
+            self.links.append(Link(str(url), self._seen.offset(line + 1, 0), False))
         else:
             is_verbatim = url.is_verbatim and self._source.text.startswith(url, start)
             self.links.append(Link(str(url), start, is_verbatim))
 
-    def _take_html(self, start: int, end: int) -> None:
-        links, ignored, _ = _html_links.links_of(self._source, start, end)
-        self.links += [link._replace(base=None) for link in links]
-        self.ignored |= ignored
+    def _take_html(self, line: int, content: str, html: str, at: int) -> None:
+        """Takes the links of HTML that stands at a place of a block's content. It is read without what nests the block,
+        which may stand within a tag of several lines."""
+        links, ignored, _ = _html_links.links_of(Source(html))
+        self.links += [self._moved(link, line, content, at) for link in links]
+        before = line + content.count("\n", 0, at) if ignored else 0
+        self.ignored |= {before + it for it in ignored}
+
+    def _moved(self, link: Link, line: int, content: str, at: int) -> Link:
+        """A link of HTML that begins at a place of a block's content, with its places in the source."""
+        found = [(begin, self._offset(line, content, at + place)) for begin, place in link.pieces or ((0, link.offset),)]
+        pieces = tuple((begin, place) for begin, place in found if place is not None)
+        if len(pieces) < len(found):
+            return Link(link.text, self._seen.offset(line + 1, 0), False)
+        offset = pieces[0][1]
+        is_verbatim = link.is_verbatim and self._source.text.startswith(link.text, offset)
+        return Link(link.text, offset, is_verbatim, None, pieces)
 
     def _offset(self, line: int, content: str, at: int) -> Optional[int]:
         """The source's place of a place of a block's content, which lacks what nests the block; none where it isn't
@@ -140,11 +147,28 @@ class _Reader:
         if self._lines[0] != key or self._lines[1] is not content:
             self._lines = key, content, self._shift(line, number)
         shift = self._lines[2]
-        return None if shift is None else self._source.offset(line + number, column - 1 + shift)
+        return None if shift is None else self._seen.offset(line + number, column - 1 + shift)
 
     def _shift(self, line: int, number: int) -> Optional[int]:
         """How many columns further right a line of the content stands in the source."""
         content = self._block[1].line(number)
-        within, written = content.strip(), self._source.line(line + number).rstrip()
+        within, written = content.strip(), self._seen.line(line + number).rstrip()
         start = len(written) - len(within) if written.endswith(within) else written.find(within)
         return None if start < 0 else start - (len(content) - len(content.lstrip()))
+
+
+_AT = "at"
+"""By what name a token has its place."""
+
+
+def _placing(rule: Callable[[Any, bool], bool]) -> Callable[[Any, bool], bool]:
+    """A rule whose tokens have the place where they begin in their block's content."""
+
+    def placing(state: Any, silent: bool) -> bool:
+        at, count = state.pos, len(state.tokens)
+        is_found = rule(state, silent)
+        for token in state.tokens[count:]:
+            token.meta[_AT] = at
+        return is_found
+
+    return placing

@@ -151,6 +151,31 @@ class Documents(Texts):
         self.finds("a.md", "[a]() ![]( ) [b](<>) [c](x)\n\n[d]: )\n", "1:5:\n1:12:\n1:19:\n1:26:x\n")
         self.judges("a.md", [])
 
+    @unittest.skipUnless(importlib.util.find_spec("markdown_it"), "markdown-it-py isn't installed")
+    def test_what_stands_twice_in_markdown(self):
+        """A link is that of its own place, also where the same stands before it as text or in a destination."""
+        self.finds("a.md", "`<http://h/a>` <http://h/a>\n\n`<a href='x'>` <a href='x'>\n\n\\<http://h/b> <http://h/b>\n\n"
+                   "[x](<http://h/c>) <http://h/c>\n\n![<q cite=y>](z) <q cite=y>\n",
+                   "1:17:http://h/a\n3:25:x\n5:16:http://h/b\n7:6:http://h/c\n7:20:http://h/c\n9:15:z\n9:26:y\n")
+
+    @unittest.skipUnless(importlib.util.find_spec("markdown_it"), "markdown-it-py isn't installed")
+    def test_tags_over_lines_of_markdown(self):
+        """What nests a block is no part of a tag that reaches over its lines, and places are those of the source."""
+        text = ("- a <a\n  href=\"m n\">b</a>\n\n> c <a\n> href='o\n> p'>\n\n> <div>\n> <img\n>  src=\"s t\">\n> </div>\n\n"
+                "d <a\nhref='?u&amp;v w'>\n\n> - <!-- urlcheck: ignore -->\n>   <a href='^'>\n\n- e <!-- urlcheck: ignore -->\n"
+                "  [f](^)\n")
+        links = "2:9:m n\n5:9:o\tp\n10:9:s t\n14:7:?u&v w\n"
+        places = [(place, "code-point") for place in ("2:10", "5:10", "10:10", "14:15")]
+        for end in ("\n", "\r\n"):
+            self.finds("a.md", text.replace("\n", end), links)
+            self.judges("a.md", places)
+
+    @unittest.skipUnless(importlib.util.find_spec("markdown_it"), "markdown-it-py isn't installed")
+    def test_code_points_that_markdown_replaces(self):
+        """A carriage return alone ends a line of Markdown (CommonMark, section 2.1), and U+0000 is read as U+FFFD."""
+        self.finds("a.md", "a\r[b](c)\r\r# [d](e)\n\n[f](g)\n", "1:7:c\n1:17:e\n3:5:g\n")
+        self.finds("b.md", "[a](b\0c) [d](e)\n", "1:5:b\ufffdc\n1:14:e\n")
+
     @unittest.skipIf(importlib.util.find_spec("markdown_it"), "markdown-it-py is installed")
     def test_markdown_without_its_package(self):
         self.write("a.md", NOTES)
