@@ -59,6 +59,7 @@ _REFERENCE = re.compile("&[^;]*;|\r\n")
 
 # The start of a start tag, and an attribute of it; both are well-formed.
 _NAME = re.compile(r"<[^\s/>]+")
+_TARGET = re.compile(r"<\?[^\s?]+")
 _ATTRIBUTE = re.compile(r"\s+(?P<name>[^\s=]+)\s*=\s*(?:\"(?P<double>[^\"]*)\"|'(?P<single>[^']*)')")
 
 
@@ -89,6 +90,7 @@ class _Reader:
         self.parser.EndElementHandler = self._end
         self.parser.CharacterDataHandler = self._characters
         self.parser.CommentHandler = self._comment
+        self.parser.ProcessingInstructionHandler = self._instruction
         self.parser.EntityDeclHandler = self._entity
         self.links: List[Link] = []
         self.ignored: Set[int] = set()
@@ -135,11 +137,25 @@ class _Reader:
             line, _ = self._source.position(self._offset())
             self.ignored.add(line + data.count("\n") + 1)
 
+    def _instruction(self, target: str, data: str) -> None:
+        """Takes the link of a style sheet's instruction before the outermost element; further down it is none."""
+        start = self._offset()
+        end = self._source.text.find("?>", start)
+        found = _TARGET.match(self._source.text, start, end)
+        while found and target == "xml-stylesheet":
+            found = _ATTRIBUTE.match(self._source.text, found.end(), end)
+            if found and found["name"] == "href":
+                # (each reference of XML is one of HTML)
+                kind = found.lastgroup or "double"
+                value, written = _html_links.unescaped(found[kind], found.start(kind))
+                self.links.append(written.stripped(value))
+
     def _start(self, name: str, attributes: List[str]) -> None:
         if len(self._bases) > MOST_DEPTH:
             raise self.broken("more than {} elements stand within one another".format(MOST_DEPTH))
         element = _split(name)
         if len(self._bases) == 1:
+            self.parser.ProcessingInstructionHandler = None
             self._is_rss = element == ("", "rss")
         if element[0] == "" and not self._is_rss:
             element = (NOWHERE, element[1])

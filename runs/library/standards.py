@@ -121,6 +121,20 @@ class Standards(Texts):
             self.write("z.html", "<a href='" + "&amp;" * count + "^'>")
             self.judges("z.html", [(place, space)])
 
+    def test_style_sheets(self):
+        """Associating Style Sheets with XML documents: an instruction counts before the outermost element alone."""
+        text = ('<?xml version="1.0"?>\n<?xml-stylesheet href="a b.css" title="t>1"\n  type=\'text/css\'?><?other href="^"?>\n'
+                '<?xml-stylesheet type="text/xsl" href=\' \u00e9&amp;c d.xsl \' ?>\n<?xml-stylesheet?><?xml-stylesheet href=^?>\n'
+                '<!-- urlcheck: ignore -->\n<?xml-stylesheet href="^"?>\n<?xml-stylesheet-2 href="^"?>\n'
+                '<urlset>\n<?xml-stylesheet href="^"?>\n</urlset><?xml-stylesheet href="^"?>\n')
+        for before in ("", "\ufeff"):
+            for end in ("\n", "\r\n"):
+                self.finds("a.xml", before + text.replace("\n", end), "2:24:a b.css\n4:41:\u00e9&c d.xsl\n")
+                self.judges("a.xml", [("2:25", "code-point"), ("4:48", "code-point")])
+        self.write("b.xhtml", '<?xml-stylesheet href="x"?><html xmlns="{}"><base href="urn:a"/></html>'.format(XHTML))
+        self.judges("b.xhtml", [])
+        self.judges("b.xhtml", [("1:24", "opaque-base")], "--base", "urn:b")
+
     def test_bases_within_bases(self):
         """XML Base, section 4: each `xml:base` is relative to the one around it, the outermost to the document's own."""
         link = '<link href="//a^b"/>'
