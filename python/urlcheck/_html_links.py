@@ -38,6 +38,9 @@ _ATTRIBUTE = re.compile(
 _REFERENCE = re.compile(
     r"&(?:#(?P<digits>[0-9]+);?|#[xX](?P<hex>[0-9A-Fa-f]+);?|(?P<name>[A-Za-z][A-Za-z0-9]*)(?P<end>[;=]?))"
 )
+# What ends a comment, and what does so right behind its beginning.
+_COMMENT_END = re.compile("--!?>")
+_NO_COMMENT = re.compile("-?>")
 _TAG_NAME = re.compile(r"<[A-Za-z][^ \t\n\f\r/>]*")
 # What stands before the URL of a refresh: a time, what ends it, and perhaps `url=` and a quote.
 _REFRESH = re.compile(
@@ -150,7 +153,13 @@ class _Reader(HTMLParser):
         return self._whole(super().parse_endtag(i))
 
     def parse_comment(self, i: int, report: int = 1) -> int:
-        return self._whole(super().parse_comment(i, report))
+        # (what ends a comment differs between the versions of this library)
+        start = i + len("<!--")
+        end = _NO_COMMENT.match(self.rawdata, start) or _COMMENT_END.search(self.rawdata, start)
+        if end is None:
+            return self._whole(-1)
+        self.handle_comment(self.rawdata[start : end.start()])
+        return end.end()
 
     def parse_pi(self, i: int) -> int:
         return self._whole(super().parse_pi(i))

@@ -121,6 +121,16 @@ class Standards(Texts):
             self.write("z.html", "<a href='" + "&amp;" * count + "^'>")
             self.judges("z.html", [(place, space)])
 
+    def test_comments(self):
+        """HTML Standard, sections 13.2.5.43 to 13.2.5.52: what ends a comment, and what doesn't."""
+        for comment in ("<!-->", "<!--->", "<!---->", "<!----->", "<!--x-->", "<!--x--!>", "<!----!>", "<!--<!-->", "<!--> -->",
+                        "<!--<a href=z>-- >->--!-->"):
+            with self.subTest(comment):
+                text = comment + "<a href=x><!-- y -->"
+                self.finds("a.html", text, "1:{}:x\n".format(len(comment) + 9))
+        self.finds("a.html", "<!-- <a href=x> -- > --! > -><a href=y>", "")
+        self.finds("a.html", "<!-- urlcheck: ignore --!>\n<a href=x>\n<a href=y>", "3:9:y\n")
+
     def test_style_sheets(self):
         """Associating Style Sheets with XML documents: an instruction counts before the outermost element alone."""
         text = ('<?xml version="1.0"?>\n<?xml-stylesheet href="a b.css" title="t>1"\n  type=\'text/css\'?><?other href="^"?>\n'
