@@ -124,8 +124,10 @@ class _Reader:
         which may stand within a tag of several lines."""
         links, ignored, _ = _html_links.links_of(Source(html))
         self.links += [self._moved(link, line, content, at) for link in links]
-        before = line + content.count("\n", 0, at) if ignored else 0
-        self.ignored |= {before + it for it in ignored}
+        start = self._offset(line, content, at) if ignored else None
+        if start is not None:
+            before = self._seen.position(start)[0] - 1
+            self.ignored |= {before + it for it in ignored}
 
     def _moved(self, link: Link, line: int, content: str, at: int) -> Link:
         """A link of HTML that begins at a place of a block's content, with its places in the source."""

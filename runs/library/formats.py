@@ -151,6 +151,17 @@ class Compared(Reported):
                 wanted = said.replace(b"urlcheck: ", b"urlcheck-documents: ").replace(b"\nwords\n", b"\n")
                 self.assertEqual(self.run_on("--base", base, "--check", *words, "a.html"), (2, b"", wanted))
 
+    def test_documents_that_are_not_read(self):
+        """Of a document that can't be read each format has what that of `lint` has of a file, and `github` a line more."""
+        for form in FORMATS:
+            status, wanted, _ = self.run_on("--format", form, "missing.html", program=LINT)
+            if form == "github":
+                wanted += b"::error file=missing.html,title=not-read::can't be read: there is no such file\n"
+            with self.subTest(form):
+                found = self.run_on("--quiet", "--check", "--format", form, "missing.html")
+                self.assertEqual(found[:2], (status, wanted))
+                self.assertEqual((status, b"missing.html" in wanted), (2, form == "github"))
+
     def test_nothing_refused(self):
         self.write("a.html", page(["a", "http://h/"]))
         self.write("b.html", "")
