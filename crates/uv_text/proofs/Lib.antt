@@ -5,4 +5,5 @@ pub mod LookupLemmas
 pub mod MaskLemmas
 pub mod RowsLemmas
 pub mod SplitsLemmas
+pub mod StopLemmas
 pub mod UnitBitsLemmas

@@ -1,5 +1,5 @@
 -- Look-ups by the halves of bytes, lane by lane.
-use Rattle.std.proofs.Common.{◌≡◌, ◌≢◌, ℕ, zero, suc, Bool, inl, inr, not, ◌+◌, ◌*◌, ◌/◌, ◌^◌, ◌%◌, ◌<◌, ◌≤◌, eqb, cond}
+use Rattle.std.proofs.Common.{◌≡◌, ◌≢◌, ℕ, zero, suc, Bool, inl, inr, ◌+◌, ◌*◌, ◌/◌, ◌^◌, ◌%◌, ◌<◌, ◌≤◌, cond}
 use Rattle.std.proofs.Common.{[], ◌∷◌, List, length, map, get_or, take, take_all, drop, ◌++◌, replicate, bit_and, refl}
 use Rattle.std.proofs.Common.{sym, ap, ◌∙◌, arith, w8, Fits}
 use Rattle.std.proofs.lemmas.List.{get_or-map, length-map, length-take, ext_get_or}
@@ -7,7 +7,7 @@ use Rattle.std.proofs.lemmas.List.Sums.{prefix_len-le-length}
 use Rattle.std.proofs.lemmas.Nat.{and_le_r}
 use Rattle.std.proofs.lemmas.Simd.{Each1-all, Each1-weaker, Each1-zip2, Each2-splat, Each1-get_or, below_from_Fits}
 use Rattle.std.proofs.lemmas.Simd.{length-zip2, swz_l, SwzOk, SwzOk-from_below, length-swz_l, get_or-swz_l_below}
-use Rattle.std.proofs.lemmas.Simd.{bitmask_splat, map-map, zip2_of_maps}
+use Rattle.std.proofs.lemmas.Simd.{bitmask_splat, map-map}
 use Rattle.std.specs.List.{prefix_len}
 use Rattle.std.proofs.lemmas.Bool.{cases_Bool, cases_lt}
 use lib.Lanes.{zip2, Each1, mask_l, top}
@@ -59,16 +59,14 @@ looked_up table lanes g v js stands fits e small =
     ∙ stands.each place (omega arith) ∙ ap (λ k. slice_index table k) (row ∙ is)
     ∙ sym (get_or-map (λ x. slice_index table (g x)) v i 0 0 within))
 
--- the lanes whose row has their bit
-pub inside_is : (f g : ℕ → ℕ) (v rows bits : List ℕ) → length v ≡ 32 → rows ≡ map f v → bits ≡ map g v
-    → mask_l (map (top 7) (zip2 (λ a b. cond (not (eqb a b)) 255 0) (zip2 bit_and rows bits) (replicate 32 0))) % 2 ^ 64
-    ≡ mask_l (map (λ b. not (eqb (bit_and (f b) (g b)) 0)) v)
-inside_is f g v rows bits long row bit =
-    let joined : zip2 bit_and rows bits ≡ map (λ b. bit_and (f b) (g b)) v = zip2_of_maps bit_and f g v row bit in
-    bitmask_splat w8 (λ a b. not (eqb a b)) (zip2 bit_and rows bits) 32 0 (ap length joined ∙ length-map v _ ∙ long)
-    (omega arith)
-    ∙ ap (λ l. mask_l (map (λ x. not (eqb x 0)) l)) joined
-    ∙ ap mask_l (map-map (λ x. not (eqb x 0)) (λ b. bit_and (f b) (g b)) v)
+-- the lanes of which a value stands to 0 as a test asks
+pub tested_is : (t : ℕ → ℕ → Bool) (f : ℕ → ℕ) (v values : List ℕ) → length v ≡ 32 → values ≡ map f v
+    → mask_l (map (top 7) (zip2 (λ a b. cond (t a b) 255 0) values (replicate 32 0))) % 2 ^ 64
+    ≡ mask_l (map (λ b. t (f b) 0) v)
+tested_is t f v values long value =
+    bitmask_splat w8 t values 32 0 (ap length value ∙ length-map v f ∙ long) (omega arith)
+    ∙ ap (λ l. mask_l (map (λ x. t x 0) l)) value
+    ∙ ap mask_l (map-map (λ x. t x 0) f v)
 
 -- ---- the longest prefix, a piece at a time
 

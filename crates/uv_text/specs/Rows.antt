@@ -12,9 +12,13 @@ row_at rows b = slice_index rows (bit_and b 15)
 abbrev pub high_bit : ℕ → ℕ
 high_bit b = slice_index (1 ∷ 2 ∷ 4 ∷ 8 ∷ 16 ∷ 32 ∷ 64 ∷ 128 ∷ 0 ∷ 0 ∷ 0 ∷ 0 ∷ 0 ∷ 0 ∷ 0 ∷ 0 ∷ []) (b / 16)
 
+-- of the row of the low half the bit of the high half
+abbrev pub row_bit : List ℕ → ℕ → ℕ
+row_bit rows b = bit_and (row_at rows b) (high_bit b)
+
 -- the row of the low half has the bit of the high half
 abbrev pub is_in_rows : List ℕ → ℕ → Bool
-is_in_rows rows b = not (bit_and (row_at rows b) (high_bit b) == 0)
+is_in_rows rows b = not (row_bit rows b == 0)
 
 -- the bit, where there is one
 abbrev pub bit_if : Bool → ℕ → ℕ

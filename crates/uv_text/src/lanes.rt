@@ -1,9 +1,9 @@
 //! Prefixes of bytes by lanes, 32 bytes a turn: the longest whose bytes are all in a class, and the longest of a class
 //! and of percent-encoded bytes.
-ghost use Rattle.std.specs.Prelude.{◌≡◌, ◌+◌, ◌≤◌, ◌==◌, drop, length, map, take};
+ghost use Rattle.std.specs.Prelude.{◌≡◌, ◌+◌, ◌≤◌, ◌==◌, drop, length, map, not, take};
 ghost use Rattle.std.specs.Simd.Lanes.{mask_l};
 ghost use Rattle.std.specs.List.{prefix_len};
-ghost use Rattle.uv_text.specs.Rows.{HasBitsOf, StandsTwice, high_bit, is_in_rows, row_at};
+ghost use Rattle.uv_text.specs.Rows.{HasBitsOf, StandsTwice, high_bit, is_in_rows, row_at, row_bit};
 ghost use Rattle.uv_text.specs.Splits.{ascii_unit_length};
 
 use std::marker::Model;
@@ -48,14 +48,28 @@ fn bits_of(v: u8x32) -> u8x32
     twice(&HIGH_BITS).swizzle_dyn_within::<16>(v >> u8x32::splat(4))
 }
 
+// The bit of each high half in the row of the low half: 0 where the byte isn't in the rows.
+#[inline(always)]
+fn row_bit_of(rows: &[u8; 16], v: u8x32) -> u8x32
+    ensures { result ≡ map (row_bit rows.now) v }
+{
+    rows_of(rows, v) & bits_of(v)
+}
+
 // At each lane a bit, the first the lowest, which is set where the byte is in the rows.
 #[inline(always)]
 fn lane_bits(v: u8x32, rows: &[u8; 16]) -> u64
     ensures { result ≡ mask_l (map (is_in_rows rows.now) v) }
 {
-    (rows_of(rows, v) & bits_of(v))
-        .simd_ne(u8x32::splat(0))
-        .to_bitmask()
+    row_bit_of(rows, v).simd_ne(u8x32::splat(0)).to_bitmask()
+}
+
+// The same of the bytes that aren't in the rows.
+#[inline(always)]
+fn stop_bits(v: u8x32, rows: &[u8; 16]) -> u64
+    ensures { result ≡ mask_l (map (λ b. not (is_in_rows rows.now b)) v) }
+{
+    row_bit_of(rows, v).simd_eq(u8x32::splat(0)).to_bitmask()
 }
 
 /// Up to 32 bytes of a text from a place on, loaded at once. Contracts see them, with what fills a load up behind the
@@ -67,13 +81,13 @@ pub struct Load {
 }
 
 impl Model for Load {
-    ghost use Rattle.std.specs.Prelude.{ℕ, List, ◌≤◌, drop};
+    ghost use Rattle.std.specs.Prelude.{ℕ, List, ◌≡◌, ◌≤◌, drop, length};
 
     ghost Value = { List ℕ };
 
     ghost view = { λ l. drop l.before l.lanes };
 
-    ghost invariant = { λ l. l.before ≤ 32 };
+    ghost invariant = { λ l. (length l.lanes ≡ 32) × (l.before ≤ 32) };
 }
 
 impl Load {
@@ -116,6 +130,15 @@ impl Load {
     {
         lane_bits(self.lanes, rows) >> self.before
     }
+
+    // How many of the bytes are in the rows before one that isn't. Where all are, a bit behind the lanes is the end.
+    #[inline(always)]
+    fn row_prefix(&self, rows: &[u8; 16]) -> usize
+        ensures { result ≡ prefix_len (is_in_rows rows.now) self.now }
+    {
+        let stops = stop_bits(self.lanes, rows);
+        ((stops | 1 << 32) >> self.before).trailing_zeros() as usize
+    }
 }
 
 // How many of the 32 bytes from a place on are in the rows before one that isn't.
@@ -124,8 +147,7 @@ fn row_prefix(bytes: &[u8], place: usize, rows: &[u8; 16]) -> usize
     requires { place ≤ length bytes.now }
     ensures { result ≡ prefix_len (is_in_rows rows.now) (take 32 (drop place bytes.now)) }
 {
-    let load = Load::of(bytes, place);
-    load.row_bits(rows).trailing_ones() as usize
+    Load::of(bytes, place).row_prefix(rows)
 }
 
 /// The place behind the longest run of bytes in the rows that begins at a place.

@@ -2,6 +2,7 @@
 use Rattle.std.proofs.Common.{◌≡◌, ◌+◌, ◌-◌, ◌≤◌, ℕ, List, length, map, take, take_all, drop, ap, sym, ◌∙◌, arith}
 use Rattle.std.specs.Simd.Lanes.{mask_l}
 use Rattle.std.proofs.lemmas.List.{length-drop}
+use Rattle.std.proofs.lemmas.Simd.{length-chunk}
 use Rattle.uv_text.specs.Rows.{is_in_rows}
 use Rattle.uv_text.proofs.MaskLemmas.{taken-behind}
 use Rattle.uv_text.proofs.lanes.Load.of.Goals as goal
@@ -24,3 +25,7 @@ returns c = λ rows.
     let there : start + k ≡ c.args.place = omega arith in
     ap (λ (l : List ℕ). mask_l (map (is_in_rows rows) l))
     (taken-behind start k xs (λ some. omega arith) ∙ ap (λ n. take 32 (drop n xs)) there)
+
+pub invariant_of-result : goal.invariant_of-result
+invariant_of-result c =
+    (length-chunk c.min-start.result 32 c.args.bytes.now (omega arith), omega arith)
