@@ -77,7 +77,7 @@ word_name prefix c word name root =
     rw same (no_number label.0 c word)
 
 -- its code points but the last, and the last
-end_parts : (name : List ℕ) → 1 ≤ length name
+pub end_parts : (name : List ℕ) → 1 ≤ length name
     → name ≡ take (length name - 1) name ++ slice_index name (length name - 1) ∷ []
 end_parts name some =
     let next : suc (length name - 1) ≡ length name = omega arith in

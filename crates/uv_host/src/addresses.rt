@@ -24,21 +24,25 @@ pub fn ipv4(text: &str) -> Option<u32>
 pub fn ipv6(text: &str) -> Option<[u16; 8]>
     ensures { Reads IsIpv6 (chars text.now) result }
 {
-    match text.parse::<Ipv6Addr>() {
-        Ok(address) => Some(address.segments()),
-        Err(_) => None,
-    }
+    ipv6_of(text.as_bytes())
 }
 
 /// The eight pieces of an IPv6 text in brackets, or `None` where the text is none (URL Standard, sections 3.4 and 3.5).
 pub fn bracketed_ipv6(text: &str) -> Option<[u16; 8]>
     ensures { Reads IsBracketedIpv6 (chars text.now) result }
 {
-    match text.strip_prefix('[') {
-        Some(behind) => match behind.strip_suffix(']') {
-            Some(inner) => ipv6(inner),
-            None => None,
-        },
-        None => None,
+    match text.as_bytes() {
+        [b'[', inner @ .., b']'] => ipv6_of(inner),
+        _ => None,
+    }
+}
+
+// The eight pieces of an IPv6 text, or `None` where the bytes are no IPv6 text.
+fn ipv6_of(bytes: &[u8]) -> Option<[u16; 8]>
+    ensures { Reads IsIpv6 bytes.now result }
+{
+    match Ipv6Addr::parse_ascii(bytes) {
+        Ok(address) => Some(address.segments()),
+        Err(_) => None,
     }
 }
