@@ -19,7 +19,7 @@ use Rattle.uv_model.proofs.Texts.AsciiLemmas.{AreBeyond, AreBeyond-encode}
 use Rattle.uv_model.proofs.Texts.MarkLemmas.{is_without-cons}
 use Rattle.uv_model.proofs.Cuts.AuthorityCutLemmas.{host_cut-is, written_host_cut}
 use Rattle.uv_model.specs.Ascii.{colon, left_bracket, right_bracket}
-use Rattle.uv_model.specs.Cut.{EndsAtPort, host_before, host_cut, port_cut, is_port_mark, is_within, port_behind}
+use Rattle.uv_model.specs.Cut.{host_before, host_cut, port_cut, is_port_mark, is_within, port_behind}
 use Rattle.uv_text.proofs.SplitsLemmas.{prefix_slice}
 
 -- a byte beyond ASCII is no `:`
@@ -258,20 +258,6 @@ anew_behind_bracket (c ∷ prefix) rest starts none =
     let parts = is_without-cons right_bracket c prefix none in
     let more = within_to_bracket prefix rest parts.1 in
     rw (eqb-true c left_bracket starts) (ap (λ s. left_bracket ∷ s) more.0, more.1)
-
--- a text from `[` to the first `]` ends at its port
-pub bracketed_ends : (prefix : List ℕ) → starts_with_bracket (prefix ++ right_bracket ∷ []) ≡ true
-    → is_without right_bracket prefix ≡ true → (port_text : Option (List ℕ))
-    → EndsAtPort (prefix ++ right_bracket ∷ []) port_text
-bracketed_ends [] starts none port_text = absurd (false≢true starts)
-bracketed_ends (c ∷ prefix) starts none None =
-    let both = anew_behind_bracket (c ∷ prefix) [] starts none in
-    (splits_host Special (c ∷ prefix ++ right_bracket ∷ []) (c ∷ prefix ++ right_bracket ∷ []) None (sym both.0)
-    (sym both.1)).host
-bracketed_ends (c ∷ prefix) starts none (Some text) =
-    let both = anew_behind_bracket (c ∷ prefix) (colon ∷ text) starts none in
-    (splits_host Special (c ∷ prefix ++ right_bracket ∷ colon ∷ text) (c ∷ prefix ++ right_bracket ∷ []) (Some text)
-    (sym both.0) (sym both.1)).host
 
 module _ (bytes : List ℕ) (end : ℕ) (starts : starts_with_bracket bytes ≡ true)
     (first : IsFirstMark right_bracket bytes (Some end)) where

@@ -1,5 +1,5 @@
 -- A link to a file with an empty host is valid with its parts.
-use Rattle.std.proofs.Common.{◌≡◌, ◌≢◌, ℕ, true, false, List, [], ◌∷◌, ◌++◌, Option, Some, None, refl, sym, ap, ◌∙◌}
+use Rattle.std.proofs.Common.{◌≡◌, ℕ, true, false, List, [], ◌∷◌, ◌++◌, Option, Some, None, refl, ap, ◌∙◌}
 use Rattle.std.proofs.Common.{drop, take, inl, inr, subst, append-nil}
 use Rattle.std.specs.Prelude.{codes}
 use Rattle.std.specs.Str.{chars}
@@ -10,7 +10,7 @@ use Rattle.uv_model.specs.declared.rule.Rule.{Rule}
 use Rattle.uv_model.specs.declared.rule.Rule.TheVariants.{FirstSegmentEmpty, DriveAfterHost}
 use Rattle.uv_model.specs.declared.scheme.Class.TheVariants.{File}
 use Rattle.uv_model.specs.Ascii.{colon, number_sign, question_mark, slash}
-use Rattle.uv_model.specs.Cut.{Cut, IsCut, IsHostCut, class_in, starts_with_two_slashes, written_cut, written_start}
+use Rattle.uv_model.specs.Cut.{Cut, IsCut, IsHostCut, starts_with_two_slashes, written_start}
 use Rattle.uv_model.specs.Parts.{written_behind}
 use Rattle.uv_model.specs.Path.{starts_with_slash}
 use Rattle.uv_model.specs.Records.Url.{Url}

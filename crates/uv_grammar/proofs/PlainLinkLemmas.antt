@@ -1,50 +1,40 @@
 -- A link of plain parts is valid with them, and a text with a plain start is judged by what stands behind that.
 use Rattle.std.proofs.Common.{◌≡◌, ◌≢◌, ℕ, Bool, true, false, ◌==◌, List, [], ◌∷◌, ◌++◌, Option, Some, None, refl, sym, ap}
-use Rattle.std.proofs.Common.{◌∙◌, ◌<◌, ◌^◌, ◌||◌, length, subst, inl, inr, arith, append_assoc, append-nil}
-use Rattle.std.specs.Char.{is_ascii_alphabetic, is_ascii_digit}
+use Rattle.std.proofs.Common.{◌∙◌, ◌<◌, ◌^◌, ◌||◌, length, subst, inl, arith, append_assoc}
 use Rattle.std.specs.List.{list_all}
 use Rattle.std.specs.Str.{chars, IsUtf8}
-use Rattle.std.proofs.lemmas.Bool.{and_parts, cases_Bool, false≢true}
+use Rattle.std.proofs.lemmas.Bool.{false≢true}
 use Rattle.std.proofs.lemmas.Bool.Decides.{nat_tests}
 use Rattle.std.proofs.lemmas.List.Sums.{list_all-from_AllPass}
-use Rattle.std.proofs.lemmas.Option.{none-some}
 use Rattle.std.proofs.lemmas.Str.{chars-IsAscii, chars-nil}
 use Rattle.uv_model.specs.declared.host.Host.TheVariants.{Domain}
 use Rattle.uv_model.specs.declared.profile.Profile.{Profile}
 use Rattle.uv_model.specs.declared.profile.Profile.TheVariants.{Standard, Wide, Parser}
 use Rattle.uv_model.specs.declared.rule.Refusal.{Refusal}
-use Rattle.uv_model.specs.declared.rule.Rule.{Rule}
-use Rattle.uv_model.specs.declared.rule.Rule.TheVariants.{NoScheme, OpaqueBase, TwoSlashes, FirstSegmentEmpty}
-use Rattle.uv_model.specs.declared.rule.Rule.TheVariants.{DriveAfterHost}
 use Rattle.uv_model.specs.declared.scheme.Class.TheVariants.{Special}
-use Rattle.uv_model.specs.Ascii.{slash, colon, question_mark, number_sign, left_bracket, right_bracket}
+use Rattle.uv_model.specs.Ascii.{slash, colon, question_mark, number_sign}
 use Rattle.uv_model.specs.Valid.{MayBePortText}
 use Rattle.uv_model.specs.Hosts.StoppedHost.{is_stopped}
 use Rattle.uv_model.specs.Violations.Refusal.{IsLeast}
-use Rattle.uv_model.specs.Violations.Violation.{HostPartViolation, HostViolation, IsStarted}
-use Rattle.uv_model.specs.Violations.Violation.{MayBeUnitViolation, PathStartViolation, PortPartViolation}
-use Rattle.uv_model.specs.Violations.Violation.{has_opaque_path}
-use Rattle.uv_model.specs.Cut.{Cut, IsCut, EndsAtPort, IsHostCut, IsSchemeCut, is_within, is_within_at_end, written_cut}
-use Rattle.uv_model.specs.Cut.{ends_at_host, is_followed, written_start, starts_with_two_slashes}
+use Rattle.uv_model.specs.Violations.Violation.{HostPartViolation, HostViolation}
+use Rattle.uv_model.specs.Violations.Violation.{PortPartViolation}
+use Rattle.uv_model.specs.Cut.{IsCut, IsHostCut}
+use Rattle.uv_model.specs.Cut.{ends_at_host, written_start}
 use Rattle.uv_model.specs.Hosts.Domain.{IsDomain, is_form_code_point}
-use Rattle.uv_model.specs.Parts.{written_authority, written_behind, written_scheme}
+use Rattle.uv_model.specs.Parts.{written_behind, written_scheme}
 use Rattle.uv_model.specs.Path.{is_without, starts_with_slash}
 use Rattle.uv_model.specs.Records.Url.{Url}
-use Rattle.uv_model.specs.Scheme.{is_scheme_code_point, scheme_class}
-use Rattle.uv_model.specs.Setting.{Setting, scheme_or, setting_of}
+use Rattle.uv_model.specs.Setting.{Setting, setting_of}
 use Rattle.uv_model.proofs.Hosts.DomainLemmas.{IsAscii-form}
 use Rattle.uv_model.proofs.Cuts.HostCutLemmas.{IsHostWord, word_passes}
-use Rattle.uv_model.proofs.Cuts.ValidCutLemmas.{scheme_without}
-use Rattle.uv_model.proofs.Texts.MarkLemmas.{is_without-append, is_without-cons, is_without-more, is_without-parts, has_mark}
+use Rattle.uv_model.proofs.Texts.MarkLemmas.{is_without-append, is_without-cons, is_without-parts}
 use Rattle.uv_model.proofs.Hosts.ParserForms.{wide_host_not_stopped}
 use Rattle.uv_model.proofs.Violations.FaultlessHosts.{host_text_faultless, port_faultless}
-use Rattle.uv_model.proofs.Violations.SpacedPathLemmas.{path_violation-unit}
-use Rattle.uv_model.proofs.Violations.UnitViolationLemmas.{no_violation-faultless}
 use Rattle.uv_grammar.specs.Built.{built}
 use Rattle.uv_grammar.specs.PartViolations.{BehindAuthority, IsCountable}
-use Rattle.uv_grammar.specs.PartValues.{FitsHostPart, FitsPortPart}
+use Rattle.uv_grammar.specs.PartValues.{FitsHostPart}
 use Rattle.uv_grammar.specs.declared.plain_links.PlainCut.{PlainCut}
-use Rattle.uv_grammar.specs.PlainLinks.{IsPlainCut, IsPlainLink, IsPortCut, IsSpecialStart, IsStartCut, MayBeUnits}
+use Rattle.uv_grammar.specs.PlainLinks.{IsPlainCut, IsPlainLink, IsStartCut}
 use Rattle.uv_grammar.specs.PlainLinks.{begins_behind}
 use Rattle.uv_grammar.specs.Slices.{chars_of, chars_of_option}
 use Rattle.uv_grammar.proofs.SpecialLinkLemmas.{IsSpecialLink, arranged, link_cut, link_judged, link_port, port_without}
@@ -52,7 +42,7 @@ use Rattle.uv_grammar.proofs.SpecialLinkLemmas.{special_class, special_joined, s
 use Rattle.uv_grammar.specs.Verdict.{IsAccepted, IsRefused, IsValidity}
 use Rattle.uv_grammar.proofs.VerdictLemmas.{accepted, countable, refused_behind}
 use Rattle.uv_text.proofs.SplitsLemmas.{chars-ascii_first}
-use Rattle.uv_model.proofs.Violations.ViolationsExcludeParts.{one_slash_start, special_host_faultless}
+use Rattle.uv_model.proofs.Violations.ViolationsExcludeParts.{special_host_faultless}
 
 -- the name of a domain that is its own form
 form_each : (name form : List ℕ) → IsDomain Wide name form → list_all (is_form_code_point Wide) form ≡ true

@@ -2,13 +2,13 @@
 use Rattle.std.proofs.Common.{◌≡◌, ℕ, Bool, true, false, ◌==◌, List, [], ◌∷◌, ◌++◌, Option, Some, None, refl, sym, ap}
 use Rattle.std.proofs.Common.{take, drop, lit<, ◌+◌, ◌∙◌, subst, inl, inr, append_assoc, append-nil}
 use Rattle.std.specs.Char.{is_ascii_alphabetic, is_ascii_digit}
-use Rattle.std.specs.Prelude.{slice_range}
 use Rattle.std.specs.Str.{chars, IsUtf8}
 use Rattle.std.proofs.lemmas.Bool.{false≢true}
-use Rattle.std.proofs.lemmas.List.{append_cancel_right, take-append-drop}
+use Rattle.std.proofs.lemmas.List.{take-append-drop}
 use Rattle.std.proofs.lemmas.Option.{none-some}
-use Rattle.std.proofs.lemmas.Str.{chars-append}
+use Rattle.std.proofs.lemmas.Str.{chars-append, IsUtf8-take}
 use Rattle.uv_model.specs.declared.host.Host.{Host}
+use Rattle.uv_model.specs.declared.host.Host.TheVariants.{V6}
 use Rattle.uv_model.specs.declared.profile.Profile.{Profile}
 use Rattle.uv_model.specs.declared.profile.Profile.TheVariants.{Standard, Wide, Parser}
 use Rattle.uv_model.specs.declared.rule.Rule.{Rule}
@@ -16,18 +16,18 @@ use Rattle.uv_model.specs.declared.rule.Rule.TheVariants.{NoScheme, OpaqueBase, 
 use Rattle.uv_model.specs.declared.rule.Rule.TheVariants.{DriveAfterHost}
 use Rattle.uv_model.specs.declared.scheme.Class.TheVariants.{Special}
 use Rattle.uv_model.specs.Ascii.{slash, colon, question_mark, number_sign, right_bracket}
+use Rattle.uv_model.specs.Hosts.Address.{IsBracketedIpv6}
 use Rattle.uv_model.specs.Hosts.StoppedHost.{is_stopped}
 use Rattle.uv_model.specs.Valid.{IsHostText, MayBePortText}
 use Rattle.uv_model.specs.Violations.Violation.{ContentViolation, IsStarted, MayBeUnitViolation, PathStartViolation, has_opaque_path}
 use Rattle.uv_model.specs.Cut.{Cut, IsCut, IsHostCut, IsSchemeCut, ends_at_host, is_followed, starts_with_two_slashes, written_cut}
 use Rattle.uv_model.specs.Cut.{written_start}
 use Rattle.uv_model.specs.Parts.{written_authority, written_behind, written_scheme}
-use Rattle.uv_model.specs.Hosts.OpaqueHost.{starts_with_bracket}
 use Rattle.uv_model.specs.Path.{is_without}
 use Rattle.uv_model.specs.Records.Url.{Url}
 use Rattle.uv_model.specs.Scheme.{default_port, is_scheme_code_point, scheme_class}
 use Rattle.uv_model.specs.Setting.{Setting, scheme_or, setting_of}
-use Rattle.uv_model.proofs.Cuts.HostCutLemmas.{is_without-passes}
+use Rattle.uv_model.proofs.Cuts.HostCutLemmas.{is_without-passes, word_of_ipv6}
 use Rattle.uv_model.proofs.Cuts.ValidCutLemmas.{scheme_without}
 use Rattle.uv_model.proofs.Hosts.ParserForms.{wide_host_not_stopped}
 use Rattle.uv_model.proofs.Texts.MarkLemmas.{is_without-append, is_without-more}
@@ -38,10 +38,9 @@ use Rattle.uv_model.proofs.Violations.ViolationsExcludeParts.{one_slash_start}
 use Rattle.uv_grammar.specs.PartViolations.{BehindAuthority}
 use Rattle.uv_grammar.specs.PartValues.{FitsHostPart, FitsPortPart}
 use Rattle.uv_grammar.specs.PlainLinks.{AreUnitsBehind, IsPortCut, IsSpecialStart, MayBeUnits}
-use Rattle.uv_grammar.specs.SpecialLinks.{IsHostTextCut, IsJudgedButHost}
+use Rattle.uv_grammar.specs.SpecialLinks.{IsAddressOf, IsHostTextCut, IsJudgedButHost}
 use Rattle.uv_grammar.specs.TextSplits.{IsFirstMark}
-use Rattle.uv_grammar.proofs.AuthorityLemmas.{bracketed_ends}
-use Rattle.uv_grammar.proofs.SliceLemmas.{is_without-chars, splits_at_mark}
+use Rattle.uv_grammar.proofs.SliceLemmas.{first_mark_boundary}
 
 -- the texts of such a link: what follows its host is a port or none, and units
 pub record IsSpecialLink (base : Option Url) (text : List ℕ) (scheme : Option (List ℕ)) (name : List ℕ)
@@ -294,36 +293,27 @@ host_fits setting cut text host same special is =
     not_stopped Wide = refl
     not_stopped Parser = wide_host_not_stopped Special last text host (is Wide)
 
+-- so is an address in brackets
+pub pieces_fit : (cut : Cut) (text : List ℕ) → cut.host_text ≡ Some text → (pieces : List ℕ)
+    → IsBracketedIpv6 text pieces → IsAddressOf cut (V6 pieces)
+pieces_fit cut text same pieces is setting special = host_fits setting cut text (V6 pieces) same special (λ profile. is)
+
 -- ---- the text of a host in brackets
 
--- up to the first `]` a text that begins with `[` is that of a host, where no mark stands in it that ends an authority
-pub bracketed_cut : (bytes name rest : List ℕ) (end : ℕ) → IsUtf8 bytes → IsUtf8 name
-    → starts_with_bracket (chars bytes) ≡ true → IsFirstMark right_bracket bytes (Some end)
-    → name ≡ take (end + 1) bytes → rest ≡ drop (end + 1) bytes → is_without slash name ≡ true
-    → is_without question_mark name ≡ true → is_without number_sign name ≡ true
-    → IsHostTextCut (chars bytes) (chars name) (chars rest)
-bracketed_cut bytes name rest end utf8 name_utf8 starts first is_name is_rest no_slash no_question_mark no_number_sign =
-    let sides = splits_at_mark right_bracket bytes (slice_range bytes 0 end) rest end (lit< tt) utf8 first refl is_rest in
-    let inner = chars (slice_range bytes 0 end) in
-    let joined : chars bytes ≡ chars name ++ chars rest =
-    ap chars (sym (take-append-drop (end + 1) bytes))
-    ∙ ap (λ s. chars (s ++ drop (end + 1) bytes)) (sym is_name)
-    ∙ chars-append name (drop (end + 1) bytes) name_utf8
-    ∙ ap (λ s. chars name ++ chars s) (sym is_rest) in
-    let closed : chars name ≡ inner ++ right_bracket ∷ [] =
-    append_cancel_right (chars name) (inner ++ right_bracket ∷ []) (chars rest)
-    (sym joined ∙ (sides.0 ∙ sym (append_assoc inner (right_bracket ∷ []) (chars rest)))) in
+-- up to the first `]` an address in brackets is the text of a host, and the rest follows it
+pub bracketed_cut : (bytes name rest pieces : List ℕ) (end : ℕ) → IsUtf8 bytes
+    → IsFirstMark right_bracket bytes (Some end) → name ≡ take (end + 1) bytes → rest ≡ drop (end + 1) bytes
+    → IsBracketedIpv6 (chars name) pieces → IsHostTextCut (chars bytes) (chars name) (chars rest)
+bracketed_cut bytes name rest pieces end utf8 first is_name is_rest is =
+    let word = word_of_ipv6 (chars name) pieces is in
+    let boundary = first_mark_boundary right_bracket bytes end (lit< tt) utf8 first in
     record {
-      joined = joined;
-      no_slash = is_without-chars slash name (lit< tt) name_utf8 no_slash;
-      no_question_mark = is_without-chars question_mark name (lit< tt) name_utf8 no_question_mark;
-      no_number_sign = is_without-chars number_sign name (lit< tt) name_utf8 no_number_sign;
-      ends = λ port_text.
-          rw closed (bracketed_ends inner (begins inner (subst (λ s. starts_with_bracket s ≡ true) sides.0 starts)) sides.1
-          port_text);
+      joined =
+          rw (is_name, is_rest)
+          (ap chars (sym (take-append-drop (end + 1) bytes))
+          ∙ chars-append (take (end + 1) bytes) (drop (end + 1) bytes) (IsUtf8-take bytes (end + 1) utf8 boundary));
+      no_slash = word.no_slash;
+      no_question_mark = word.no_question_mark;
+      no_number_sign = word.no_number_sign;
+      ends = word.ends;
     }
-  where
-    begins : (inner : List ℕ) → starts_with_bracket (inner ++ right_bracket ∷ chars rest) ≡ true
-        → starts_with_bracket (inner ++ right_bracket ∷ []) ≡ true
-    begins [] is = is
-    begins (c ∷ inner) is = is
