@@ -1,6 +1,6 @@
 -- A link to a file with an empty host is valid with its parts.
 use Rattle.std.proofs.Common.{◌≡◌, ℕ, true, false, List, [], ◌∷◌, ◌++◌, Option, Some, None, refl, ap, ◌∙◌}
-use Rattle.std.proofs.Common.{drop, take, inl, inr, subst, append-nil}
+use Rattle.std.proofs.Common.{drop, take, inl, inr, subst}
 use Rattle.std.specs.Prelude.{codes}
 use Rattle.std.specs.Str.{chars}
 use Rattle.uv_model.specs.declared.host.Host.TheVariants.{Empty}
@@ -25,7 +25,7 @@ use Rattle.uv_grammar.specs.PartViolations.{BehindAuthority}
 use Rattle.uv_grammar.specs.PlainLinks.{AreUnitsBehind, IsPrefixCut}
 use Rattle.uv_grammar.specs.Verdict.{IsAccepted}
 use Rattle.uv_grammar.proofs.SpecialLinkLemmas.{arranged, link_cut, part_without, scheme_started, start_without}
-use Rattle.uv_grammar.proofs.SpecialLinkLemmas.{units_silent}
+use Rattle.uv_grammar.proofs.SpecialLinkLemmas.{units_cut, units_silent}
 use Rattle.uv_grammar.proofs.VerdictLemmas.{accepted}
 
 -- the class of `file`
@@ -43,8 +43,7 @@ file_is_cut : (base : Option Url) (text after path : List ℕ) (query fragment :
 file_is_cut base text after path query fragment joined units = record {
   whole =
       joined ∙ ap (λ (s : List ℕ). codes "file" ++ colon ∷ slash ∷ slash ∷ s)
-      (units.path_cut.joined ∙ ap (λ (s : List ℕ). path ++ s) (units.query_cut.joined
-      ∙ ap (λ (s : List ℕ). written_behind question_mark query ++ s) (units.fragment_cut.joined ∙ append-nil _)))
+      (units_cut after path query fragment units).joined
       ∙ arranged (codes "file" ++ colon ∷ []) [] [] path (written_behind question_mark query)
       (written_behind number_sign fragment);
   prefix =

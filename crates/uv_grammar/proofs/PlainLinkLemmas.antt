@@ -12,22 +12,20 @@ use Rattle.uv_model.specs.declared.profile.Profile.{Profile}
 use Rattle.uv_model.specs.declared.profile.Profile.TheVariants.{Standard, Wide, Parser}
 use Rattle.uv_model.specs.declared.rule.Refusal.{Refusal}
 use Rattle.uv_model.specs.declared.scheme.Class.TheVariants.{Special}
-use Rattle.uv_model.specs.Ascii.{slash, colon, question_mark, number_sign}
+use Rattle.uv_model.specs.Ascii.{slash, question_mark, number_sign}
 use Rattle.uv_model.specs.Valid.{MayBePortText}
 use Rattle.uv_model.specs.Hosts.StoppedHost.{is_stopped}
 use Rattle.uv_model.specs.Violations.Refusal.{IsLeast}
-use Rattle.uv_model.specs.Violations.Violation.{HostPartViolation, HostViolation}
-use Rattle.uv_model.specs.Violations.Violation.{PortPartViolation}
-use Rattle.uv_model.specs.Cut.{IsCut, IsHostCut}
-use Rattle.uv_model.specs.Cut.{ends_at_host, written_start}
+use Rattle.uv_model.specs.Violations.Violation.{HostPartViolation, HostViolation, PortPartViolation}
+use Rattle.uv_model.specs.Cut.{IsCut, ends_at_host}
 use Rattle.uv_model.specs.Hosts.Domain.{IsDomain, is_form_code_point}
-use Rattle.uv_model.specs.Parts.{written_behind, written_scheme}
+use Rattle.uv_model.specs.Parts.{written_behind}
 use Rattle.uv_model.specs.Path.{is_without, starts_with_slash}
 use Rattle.uv_model.specs.Records.Url.{Url}
 use Rattle.uv_model.specs.Setting.{Setting, setting_of}
 use Rattle.uv_model.proofs.Hosts.DomainLemmas.{IsAscii-form}
 use Rattle.uv_model.proofs.Cuts.HostCutLemmas.{IsHostWord, word_passes}
-use Rattle.uv_model.proofs.Texts.MarkLemmas.{is_without-append, is_without-cons, is_without-parts}
+use Rattle.uv_model.proofs.Texts.MarkLemmas.{is_without-cons, is_without-parts}
 use Rattle.uv_model.proofs.Hosts.ParserForms.{wide_host_not_stopped}
 use Rattle.uv_model.proofs.Violations.FaultlessHosts.{host_text_faultless, port_faultless}
 use Rattle.uv_grammar.specs.Built.{built}
@@ -37,8 +35,8 @@ use Rattle.uv_grammar.specs.declared.plain_links.PlainCut.{PlainCut}
 use Rattle.uv_grammar.specs.PlainLinks.{IsPlainCut, IsPlainLink, IsStartCut}
 use Rattle.uv_grammar.specs.PlainLinks.{begins_behind}
 use Rattle.uv_grammar.specs.Slices.{chars_of, chars_of_option}
-use Rattle.uv_grammar.proofs.SpecialLinkLemmas.{IsSpecialLink, arranged, link_cut, link_judged, link_port, port_without}
-use Rattle.uv_grammar.proofs.SpecialLinkLemmas.{special_class, special_joined, special_scheme, special_started, special_without, start_without}
+use Rattle.uv_grammar.proofs.SpecialLinkLemmas.{IsBehindCut, IsSpecialLink, link_cut, link_judged, link_port}
+use Rattle.uv_grammar.proofs.SpecialLinkLemmas.{parts_are_cut, special_class, special_started, word_cut}
 use Rattle.uv_grammar.specs.Verdict.{IsAccepted, IsRefused, IsValidity}
 use Rattle.uv_grammar.proofs.VerdictLemmas.{accepted, countable, refused_behind}
 use Rattle.uv_text.proofs.SplitsLemmas.{chars-ascii_first}
@@ -62,23 +60,15 @@ plain_link : (profile : Profile) (base : Option Url) (text : List ℕ) (scheme :
     (port_text : Option (List ℕ)) (port : Option ℕ) (path : List ℕ) (query fragment : Option (List ℕ)) → name ≡ form
     → IsPlainLink profile base text scheme name form port_text port path query fragment
     → IsSpecialLink base text scheme name port_text port path query fragment
-plain_link profile base text scheme name form port_text port path query fragment own l =
-    let word = name_word name form own l.named.wide in
-    record {
-      behind = l.behind;
-      rest = l.rest;
-      after = l.after;
-      special = l.special;
-      host_cut = record {
-        joined = l.named.joined;
-        no_slash = word.no_slash;
-        no_question_mark = word.no_question_mark;
-        no_number_sign = word.no_number_sign;
-        ends = word.ends;
-      };
-      port_cut = l.port_cut;
-      units = l.units;
-    }
+plain_link profile base text scheme name form port_text port path query fragment own l = record {
+  behind = l.behind;
+  rest = l.rest;
+  after = l.after;
+  special = l.special;
+  host_cut = word_cut l.behind name l.rest l.named.joined (name_word name form own l.named.wide);
+  port_cut = l.port_cut;
+  units = l.units;
+}
 
 -- a domain has a code point
 some_name : (name form : List ℕ) → name ≡ form → IsDomain Wide name form → name ≢ []
@@ -168,33 +158,25 @@ begins_slashed after (c ∷ rest) more begins same no_number_sign no_question_ma
     slash_left true h = refl
     slash_left false h = h
 
--- the texts behind a plain start, as they are cut
-pub record IsBehindCut (after path : List ℕ) (query fragment : Option (List ℕ)) : Type 0 where
-  pub prefix : List ℕ
-  pub begins : begins_behind after ≡ true
-  pub joined : after ≡ prefix ++ written_behind number_sign fragment
-  pub no_number_sign : is_without number_sign prefix ≡ true
-  pub split : prefix ≡ path ++ written_behind question_mark query
-  pub no_question_mark : is_without question_mark path ≡ true
-
+-- the texts behind a plain start are cut at their marks
 pub behind_cut : (after prefix path : List ℕ) (query fragment : Option (List ℕ)) → begins_behind after ≡ true
     → after ≡ prefix ++ written_behind number_sign fragment → is_without number_sign prefix ≡ true
     → prefix ≡ path ++ written_behind question_mark query → is_without question_mark path ≡ true
     → IsBehindCut after path query fragment
-behind_cut after prefix path query fragment begins joined no_number_sign split no_question_mark = record {
-  prefix = prefix;
-  begins = begins;
-  joined = joined;
-  no_number_sign = no_number_sign;
-  split = split;
-  no_question_mark = no_question_mark;
-}
-
-behind_joined : (after path : List ℕ) (query fragment : Option (List ℕ)) → IsBehindCut after path query fragment
-    → after ≡ path ++ (written_behind question_mark query ++ written_behind number_sign fragment)
-behind_joined after path query fragment b =
-    b.joined ∙ ap (λ (s : List ℕ). s ++ written_behind number_sign fragment) b.split
-    ∙ append_assoc path (written_behind question_mark query) (written_behind number_sign fragment)
+behind_cut after prefix path query fragment begins joined no_number_sign split no_question_mark =
+    let asked = written_behind question_mark query in
+    let behind = written_behind number_sign fragment in
+    let whole : after ≡ path ++ (asked ++ behind) =
+    joined ∙ ap (λ (s : List ℕ). s ++ behind) split ∙ append_assoc path asked behind in
+    let parts = is_without-parts number_sign path asked
+    (subst (λ (s : List ℕ). is_without number_sign s ≡ true) split no_number_sign) in
+    record {
+      joined = whole;
+      no_question_mark = no_question_mark;
+      no_number_sign = parts.0;
+      none_in_query = parts.1;
+      slashed = begins_slashed after path (asked ++ behind) begins whole parts.0 no_question_mark;
+    }
 
 start_is_cut : (profile : Profile) (base : Option Url) (text : List ℕ) (scheme : Option (List ℕ))
     (name form : List ℕ) (port_text : Option (List ℕ)) (port : Option ℕ)
@@ -202,40 +184,8 @@ start_is_cut : (profile : Profile) (base : Option Url) (text : List ℕ) (scheme
     → IsStartCut profile base text scheme name form port_text port after → IsBehindCut after path query fragment
     → IsCut base text (link_cut scheme name port_text path query fragment)
 start_is_cut profile base text scheme name form port_text port after path query fragment own l b =
-    let word = name_word name form own l.named.wide in
-    let ported = written_behind colon port_text in
-    let asked = written_behind question_mark query in
-    let joined = behind_joined after path query fragment b in
-    let parts = is_without-parts number_sign path asked
-    (subst (λ (s : List ℕ). is_without number_sign s ≡ true) b.split b.no_number_sign) in
-    record {
-      whole =
-          special_joined base text scheme l.behind l.special
-          ∙ ap (λ s. written_scheme scheme ++ slash ∷ slash ∷ s)
-          (l.named.joined ∙ ap (λ s. name ++ s) (l.port_cut.joined ∙ ap (λ s. ported ++ s) joined))
-          ∙ arranged (written_scheme scheme) name ported path asked (written_behind number_sign fragment);
-      prefix =
-          is_without-append number_sign (written_start (link_cut scheme name port_text path query fragment)) asked
-          (start_without number_sign (written_scheme scheme) name ported path refl
-          (special_without number_sign base text scheme l.behind refl refl refl l.special)
-          word.no_number_sign
-          (port_without number_sign port_text refl refl l.port_cut.valid) parts.0)
-          parts.1;
-      start =
-          start_without question_mark (written_scheme scheme) name ported path refl
-          (special_without question_mark base text scheme l.behind refl refl refl l.special)
-          word.no_question_mark
-          (port_without question_mark port_text refl refl l.port_cut.valid) b.no_question_mark;
-      scheme = special_scheme base text scheme l.behind name port_text path l.special;
-      authority = (
-        is_without-append slash name ported word.no_slash
-            (port_without slash port_text refl refl l.port_cut.valid),
-        begins_slashed after path (asked ++ written_behind number_sign fragment) b.begins joined parts.0
-            b.no_question_mark,
-        subst (λ k. IsHostCut k name port_text) (sym (special_class base text scheme l.behind l.special))
-            (word.ends port_text),
-      );
-    }
+    parts_are_cut base text scheme l.behind name l.rest port_text port after path query fragment l.special
+    (word_cut l.behind name l.rest l.named.joined (name_word name form own l.named.wide)) l.port_cut b
 
 -- its host is valid
 start_host : (setting : Setting) (scheme : Option (List ℕ)) (name form : List ℕ) (port_text : Option (List ℕ)) (path : List ℕ)

@@ -17,6 +17,7 @@ use Rattle.uv_text.specs.Class.{HasHexDigits, HoldsOpaqueHostBytes, HoldsPathByt
 use Rattle.uv_text.specs.Splits.{IsUnitSplit, begins_mark, begins_unit, unit_length}
 use Rattle.uv_grammar.specs.PlainLinks.{AreUnits}
 use Rattle.uv_grammar.specs.SpecialLinks.{IsHostTextCut}
+use Rattle.uv_grammar.proofs.SpecialLinkLemmas.{word_cut}
 
 -- `%` and `#` are no URL code points
 percent_sign-unit : is_url_code_point percent_sign ≡ false
@@ -180,11 +181,5 @@ host_units held text prefix rest holds cut =
     let permitted : ℕ → Bool = λ c. not (is_forbidden_host c) in
     let each : list_all permitted prefix ≡ true =
     rw cut.is_prefix (passes_prefix held permitted (host_byte held holds) refl (λ c far. grind (arith, nat_tests)) text) in
-    let word = word_passes permitted refl refl refl refl refl prefix each in
-    record {
-      joined = split_joined held text prefix rest cut;
-      no_slash = word.no_slash;
-      no_question_mark = word.no_question_mark;
-      no_number_sign = word.no_number_sign;
-      ends = word.ends;
-    }
+    word_cut text prefix rest (split_joined held text prefix rest cut)
+    (word_passes permitted refl refl refl refl refl prefix each)

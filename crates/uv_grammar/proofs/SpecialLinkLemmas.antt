@@ -1,6 +1,6 @@
 -- The links of a special scheme: the cut of one whose host is any text is known, and what stands behind the host is valid.
 use Rattle.std.proofs.Common.{◌≡◌, ℕ, Bool, true, false, ◌==◌, List, [], ◌∷◌, ◌++◌, Option, Some, None, refl, sym, ap}
-use Rattle.std.proofs.Common.{take, drop, lit<, ◌+◌, ◌∙◌, subst, inl, inr, append_assoc, append-nil}
+use Rattle.std.proofs.Common.{◌≢◌, take, drop, lit<, ◌+◌, ◌∙◌, subst, inl, inr, append_assoc, append-nil}
 use Rattle.std.specs.Char.{is_ascii_alphabetic, is_ascii_digit}
 use Rattle.std.specs.Str.{chars, IsUtf8}
 use Rattle.std.proofs.lemmas.Bool.{false≢true}
@@ -8,7 +8,6 @@ use Rattle.std.proofs.lemmas.List.{take-append-drop}
 use Rattle.std.proofs.lemmas.Option.{none-some}
 use Rattle.std.proofs.lemmas.Str.{chars-append, IsUtf8-take}
 use Rattle.uv_model.specs.declared.host.Host.{Host}
-use Rattle.uv_model.specs.declared.host.Host.TheVariants.{V6}
 use Rattle.uv_model.specs.declared.profile.Profile.{Profile}
 use Rattle.uv_model.specs.declared.profile.Profile.TheVariants.{Standard, Wide, Parser}
 use Rattle.uv_model.specs.declared.rule.Rule.{Rule}
@@ -16,18 +15,18 @@ use Rattle.uv_model.specs.declared.rule.Rule.TheVariants.{NoScheme, OpaqueBase, 
 use Rattle.uv_model.specs.declared.rule.Rule.TheVariants.{DriveAfterHost}
 use Rattle.uv_model.specs.declared.scheme.Class.TheVariants.{Special}
 use Rattle.uv_model.specs.Ascii.{slash, colon, question_mark, number_sign, right_bracket}
-use Rattle.uv_model.specs.Hosts.Address.{IsBracketedIpv6}
+use Rattle.uv_model.specs.Hosts.OpaqueHost.{starts_with_bracket}
 use Rattle.uv_model.specs.Hosts.StoppedHost.{is_stopped}
 use Rattle.uv_model.specs.Valid.{IsHostText, MayBePortText}
 use Rattle.uv_model.specs.Violations.Violation.{ContentViolation, IsStarted, MayBeUnitViolation, PathStartViolation, has_opaque_path}
-use Rattle.uv_model.specs.Cut.{Cut, IsCut, IsHostCut, IsSchemeCut, ends_at_host, is_followed, starts_with_two_slashes, written_cut}
+use Rattle.uv_model.specs.Cut.{Cut, IsCut, IsHostCut, IsSchemeCut, ends_at_host, is_followed, starts_with_two_slashes}
 use Rattle.uv_model.specs.Cut.{written_start}
 use Rattle.uv_model.specs.Parts.{written_authority, written_behind, written_scheme}
-use Rattle.uv_model.specs.Path.{is_without}
+use Rattle.uv_model.specs.Path.{is_without, starts_with_slash}
 use Rattle.uv_model.specs.Records.Url.{Url}
 use Rattle.uv_model.specs.Scheme.{default_port, is_scheme_code_point, scheme_class}
 use Rattle.uv_model.specs.Setting.{Setting, scheme_or, setting_of}
-use Rattle.uv_model.proofs.Cuts.HostCutLemmas.{is_without-passes, word_of_ipv6}
+use Rattle.uv_model.proofs.Cuts.HostCutLemmas.{IsHostWord, is_without-passes, word_of_ipv6, word_of_nothing}
 use Rattle.uv_model.proofs.Cuts.ValidCutLemmas.{scheme_without}
 use Rattle.uv_model.proofs.Hosts.ParserForms.{wide_host_not_stopped}
 use Rattle.uv_model.proofs.Texts.MarkLemmas.{is_without-append, is_without-more}
@@ -38,7 +37,7 @@ use Rattle.uv_model.proofs.Violations.ViolationsExcludeParts.{one_slash_start}
 use Rattle.uv_grammar.specs.PartViolations.{BehindAuthority}
 use Rattle.uv_grammar.specs.PartValues.{FitsHostPart, FitsPortPart}
 use Rattle.uv_grammar.specs.PlainLinks.{AreUnitsBehind, IsPortCut, IsSpecialStart, MayBeUnits}
-use Rattle.uv_grammar.specs.SpecialLinks.{IsAddressOf, IsHostTextCut, IsJudgedButHost}
+use Rattle.uv_grammar.specs.SpecialLinks.{IsAddressOrBare, IsHostTextCut, IsJudgedButHost}
 use Rattle.uv_grammar.specs.TextSplits.{IsFirstMark}
 use Rattle.uv_grammar.proofs.SliceLemmas.{first_mark_boundary}
 
@@ -138,49 +137,58 @@ arranged before name port path query fragment =
     ap (λ (s : List ℕ). before ++ slash ∷ slash ∷ s) (sym (middle_joined name port path query fragment))
     ∙ sym (start_joined before ((name ++ port) ++ path) query fragment)
 
-link_whole : (base : Option Url) (text : List ℕ) (scheme : Option (List ℕ)) (name : List ℕ)
-    (port_text : Option (List ℕ)) (port : Option ℕ) (path : List ℕ) (query fragment : Option (List ℕ))
-    → IsSpecialLink base text scheme name port_text port path query fragment
-    → text ≡ written_cut (link_cut scheme name port_text path query fragment)
-link_whole base text scheme name port_text port path query fragment l =
-    special_joined base text scheme l.behind l.special
-    ∙ ap (λ s. written_scheme scheme ++ slash ∷ slash ∷ s)
-    (l.host_cut.joined ∙ ap (λ s. name ++ s) (l.port_cut.joined ∙ ap (λ s. written_behind colon port_text ++ s)
-    (l.units.path_cut.joined ∙ ap (λ s. path ++ s) (l.units.query_cut.joined
-    ∙ ap (λ s. written_behind question_mark query ++ s) (l.units.fragment_cut.joined ∙ append-nil _)))))
-    ∙ arranged (written_scheme scheme) name (written_behind colon port_text) path (written_behind question_mark query)
-    (written_behind number_sign fragment)
+-- a path, a query and a fragment are cut so
+pub record IsBehindCut (after path : List ℕ) (query fragment : Option (List ℕ)) : Type 0 where
+  pub joined : after ≡ path ++ (written_behind question_mark query ++ written_behind number_sign fragment)
+  pub no_question_mark : is_without question_mark path ≡ true
+  pub no_number_sign : is_without number_sign path ≡ true
+  pub none_in_query : is_without number_sign (written_behind question_mark query) ≡ true
+  pub slashed : path ≢ [] → starts_with_slash path ≡ true
 
-pub link_is_cut : (base : Option Url) (text : List ℕ) (scheme : Option (List ℕ)) (name : List ℕ)
-    (port_text : Option (List ℕ)) (port : Option ℕ) (path : List ℕ) (query fragment : Option (List ℕ))
-    → IsSpecialLink base text scheme name port_text port path query fragment
-    → IsCut base text (link_cut scheme name port_text path query fragment)
-link_is_cut base text scheme name port_text port path query fragment l =
-    let ported = written_behind colon port_text in
+-- units are
+pub units_cut : (after path : List ℕ) (query fragment : Option (List ℕ)) → AreUnitsBehind after path query fragment
+    → IsBehindCut after path query fragment
+units_cut after path query fragment units = record {
+  joined =
+      units.path_cut.joined ∙ ap (λ s. path ++ s) (units.query_cut.joined
+      ∙ ap (λ s. written_behind question_mark query ++ s) (units.fragment_cut.joined ∙ append-nil _));
+  no_question_mark = units.path_cut.units.no_question_mark refl;
+  no_number_sign = units.path_cut.units.no_number_sign;
+  none_in_query = part_without query units.query_cut.units;
+  slashed = units.path_cut.slashed;
+}
+
+-- a special start, the text of a host, a port and such parts are a cut
+pub parts_are_cut : (base : Option Url) (text : List ℕ) (scheme : Option (List ℕ)) (behind name rest : List ℕ)
+    (port_text : Option (List ℕ)) (port : Option ℕ) (after path : List ℕ) (query fragment : Option (List ℕ))
+    → IsSpecialStart base text scheme behind → IsHostTextCut behind name rest
+    → IsPortCut (default_port (scheme_or base scheme)) rest port_text port after
+    → IsBehindCut after path query fragment → IsCut base text (link_cut scheme name port_text path query fragment)
+parts_are_cut base text scheme behind name rest port_text port after path query fragment special host ported cut =
+    let port_part = written_behind colon port_text in
+    let asked = written_behind question_mark query in
     record {
-      whole = link_whole base text scheme name port_text port path query fragment l;
+      whole =
+          special_joined base text scheme behind special
+          ∙ ap (λ s. written_scheme scheme ++ slash ∷ slash ∷ s)
+          (host.joined ∙ ap (λ s. name ++ s) (ported.joined ∙ ap (λ s. port_part ++ s) cut.joined))
+          ∙ arranged (written_scheme scheme) name port_part path asked (written_behind number_sign fragment);
       prefix =
-          is_without-append number_sign (written_start (link_cut scheme name port_text path query fragment))
-          (written_behind question_mark query)
-          (start_without number_sign (written_scheme scheme) name ported path refl
-          (special_without number_sign base text scheme l.behind refl refl refl l.special)
-          l.host_cut.no_number_sign
-          (port_without number_sign port_text refl refl l.port_cut.valid)
-          l.units.path_cut.units.no_number_sign)
-          (part_without query l.units.query_cut.units);
+          is_without-append number_sign (written_start (link_cut scheme name port_text path query fragment)) asked
+          (start_without number_sign (written_scheme scheme) name port_part path refl
+          (special_without number_sign base text scheme behind refl refl refl special)
+          host.no_number_sign (port_without number_sign port_text refl refl ported.valid) cut.no_number_sign)
+          cut.none_in_query;
       start =
-          start_without question_mark (written_scheme scheme) name ported path refl
-          (special_without question_mark base text scheme l.behind refl refl refl l.special)
-          l.host_cut.no_question_mark
-          (port_without question_mark port_text refl refl l.port_cut.valid)
-          (l.units.path_cut.units.no_question_mark refl);
-      scheme = special_scheme base text scheme l.behind name port_text path l.special;
+          start_without question_mark (written_scheme scheme) name port_part path refl
+          (special_without question_mark base text scheme behind refl refl refl special)
+          host.no_question_mark (port_without question_mark port_text refl refl ported.valid) cut.no_question_mark;
+      scheme = special_scheme base text scheme behind name port_text path special;
       authority = (
-        is_without-append slash name ported l.host_cut.no_slash
-            (port_without slash port_text refl refl l.port_cut.valid),
-        l.units.path_cut.slashed,
-        subst (λ k. IsHostCut k name port_text) (sym (special_class base text scheme l.behind l.special))
-            (l.host_cut.ends port_text),
+        is_without-append slash name port_part host.no_slash (port_without slash port_text refl refl ported.valid),
+        cut.slashed,
+        subst (λ k. IsHostCut k name port_text) (sym (special_class base text scheme behind special))
+            (host.ends port_text),
       );
     }
 
@@ -266,7 +274,9 @@ pub link_judged : (profile : Profile) (base : Option Url) (text : List ℕ) (sch
 link_judged profile base text scheme name port_text port path query fragment l =
     let setting = setting_of profile base scheme in
     record {
-      is_cut = link_is_cut base text scheme name port_text port path query fragment l;
+      is_cut =
+          parts_are_cut base text scheme l.behind name l.rest port_text port l.after path query fragment l.special
+          l.host_cut l.port_cut (units_cut l.after path query fragment l.units);
       special = special_class base text scheme l.behind l.special;
       started = special_started profile base text scheme l.behind name port_text path query fragment l.special;
       fits_port = link_port setting scheme name port_text port path query fragment l.rest l.after l.port_cut;
@@ -293,27 +303,33 @@ host_fits setting cut text host same special is =
     not_stopped Wide = refl
     not_stopped Parser = wide_host_not_stopped Special last text host (is Wide)
 
--- so is an address in brackets
-pub pieces_fit : (cut : Cut) (text : List ℕ) → cut.host_text ≡ Some text → (pieces : List ℕ)
-    → IsBracketedIpv6 text pieces → IsAddressOf cut (V6 pieces)
-pieces_fit cut text same pieces is setting special = host_fits setting cut text (V6 pieces) same special (λ profile. is)
+-- ---- the text of a host
 
--- ---- the text of a host in brackets
+-- a text without the marks that end a host, and what follows it
+pub word_cut : (text name rest : List ℕ) → text ≡ name ++ rest → IsHostWord name → IsHostTextCut text name rest
+word_cut text name rest joined word = record {
+  joined = joined;
+  no_slash = word.no_slash;
+  no_question_mark = word.no_question_mark;
+  no_number_sign = word.no_number_sign;
+  ends = word.ends;
+}
+
+-- an address, or what begins a text with `[` and doesn't begin so itself, holds no such mark
+no_mark : (name rest : List ℕ) → starts_with_bracket (name ++ rest) ≡ true → IsAddressOrBare name → IsHostWord name
+no_mark name rest starts (inl (pieces, is)) = word_of_ipv6 name pieces is
+no_mark [] rest starts (inr bare) = word_of_nothing
+no_mark (c ∷ name) rest starts (inr bare) = absurd (false≢true (sym bare ∙ starts))
 
 -- up to the first `]` an address in brackets is the text of a host, and the rest follows it
-pub bracketed_cut : (bytes name rest pieces : List ℕ) (end : ℕ) → IsUtf8 bytes
+pub bracketed_cut : (bytes name rest : List ℕ) (end : ℕ) → IsUtf8 bytes → starts_with_bracket (chars bytes) ≡ true
     → IsFirstMark right_bracket bytes (Some end) → name ≡ take (end + 1) bytes → rest ≡ drop (end + 1) bytes
-    → IsBracketedIpv6 (chars name) pieces → IsHostTextCut (chars bytes) (chars name) (chars rest)
-bracketed_cut bytes name rest pieces end utf8 first is_name is_rest is =
-    let word = word_of_ipv6 (chars name) pieces is in
+    → IsAddressOrBare (chars name) → IsHostTextCut (chars bytes) (chars name) (chars rest)
+bracketed_cut bytes name rest end utf8 starts first is_name is_rest known =
     let boundary = first_mark_boundary right_bracket bytes end (lit< tt) utf8 first in
-    record {
-      joined =
-          rw (is_name, is_rest)
-          (ap chars (sym (take-append-drop (end + 1) bytes))
-          ∙ chars-append (take (end + 1) bytes) (drop (end + 1) bytes) (IsUtf8-take bytes (end + 1) utf8 boundary));
-      no_slash = word.no_slash;
-      no_question_mark = word.no_question_mark;
-      no_number_sign = word.no_number_sign;
-      ends = word.ends;
-    }
+    let joined : chars bytes ≡ chars name ++ chars rest =
+    rw (is_name, is_rest)
+    (ap chars (sym (take-append-drop (end + 1) bytes))
+    ∙ chars-append (take (end + 1) bytes) (drop (end + 1) bytes) (IsUtf8-take bytes (end + 1) utf8 boundary)) in
+    word_cut (chars bytes) (chars name) (chars rest) joined
+    (no_mark (chars name) (chars rest) (subst (λ s. starts_with_bracket s ≡ true) joined starts) known)

@@ -1,16 +1,17 @@
 -- The cuts of texts of a special scheme with any host, after the URL Standard, sections 3.4 and 4.3.
-use Rattle.std.specs.Prelude.{◌≡◌, ℕ, true, List, ◌++◌, Option, None, Some}
-use Rattle.uv_model.specs.declared.host.Host.{Host}
+use Rattle.std.specs.Prelude.{◌≡◌, ℕ, false, true, List, ◌++◌, Option, None, ◌⊎◌}
 use Rattle.uv_model.specs.declared.profile.Profile.{Profile}
 use Rattle.uv_model.specs.declared.scheme.Class.TheVariants.{Special}
 use Rattle.uv_model.specs.Ascii.{number_sign, question_mark, slash}
 use Rattle.uv_model.specs.Cut.{Cut, EndsAtPort, IsCut, class_in}
+use Rattle.uv_model.specs.Hosts.Address.{IsBracketedIpv6}
+use Rattle.uv_model.specs.Hosts.OpaqueHost.{starts_with_bracket}
 use Rattle.uv_model.specs.Path.{is_without}
 use Rattle.uv_model.specs.Records.Url.{Url}
-use Rattle.uv_model.specs.Setting.{Setting, setting_of}
+use Rattle.uv_model.specs.Setting.{setting_of}
 use Rattle.uv_model.specs.Violations.Refusal.{IsLeast}
 use Rattle.uv_model.specs.Violations.Violation.{IsStarted}
-use Rattle.uv_grammar.specs.PartValues.{FitsHostPart, FitsPortPart}
+use Rattle.uv_grammar.specs.PartValues.{FitsPortPart}
 use Rattle.uv_grammar.specs.PartViolations.{BehindAuthority}
 
 -- the text is that of a host, in which no mark stands that ends one but a `:` within brackets, and a rest
@@ -31,6 +32,6 @@ pub record IsJudgedButHost (profile : Profile) (base : Option Url) (text : List 
   pub fits_port : FitsPortPart (setting_of profile base cut.scheme) cut port
   pub silent : IsLeast (BehindAuthority (setting_of profile base cut.scheme) cut) None
 
--- the host is that of the cut of a special URL, by each profile
-abbrev pub IsAddressOf : Cut → Host → Type 0
-IsAddressOf cut host = (setting : Setting) → setting.class ≡ Special → FitsHostPart setting cut (Some host)
+-- the text of a host is an IPv6 address in brackets, or doesn't begin with `[`
+abbrev pub IsAddressOrBare : List ℕ → Type 0
+IsAddressOrBare name = ((pieces : List ℕ) × IsBracketedIpv6 name pieces) ⊎ (starts_with_bracket name ≡ false)

@@ -1,13 +1,12 @@
 //! The checker of valid URL strings.
-ghost use Rattle.std.specs.Prelude.{◌≡◌, IfOk, IfSome, IsOk, IsTrue, None, Ok, Some, option_copied, true};
+ghost use Rattle.std.specs.Prelude.{◌≡◌, IfOk, IsOk, IsTrue, None, Ok, Some, option_copied, true};
 ghost use Rattle.std.specs.Str.{chars};
-ghost use Rattle.uv_model.specs.declared.host.Host.TheVariants.{V6};
 ghost use Rattle.uv_model.specs.declared.profile.Profile.{Profile};
 ghost use Rattle.uv_model.specs.Records.Url.{Url};
 ghost use Rattle.uv_grammar.specs.Bases.{IsOfKind, as_base};
 ghost use Rattle.uv_grammar.specs.NoMemory.{TakesNoMemoryAgainst};
 ghost use Rattle.uv_grammar.specs.PlainLinks.{IsPlainStart, begins_behind};
-ghost use Rattle.uv_grammar.specs.SpecialLinks.{IsAddressOf, IsJudgedButHost};
+ghost use Rattle.uv_grammar.specs.SpecialLinks.{IsJudgedButHost};
 ghost use Rattle.uv_grammar.specs.Verdict.{IsVerdict};
 
 use crate::authority::{judge_host_of_class, judge_host_part, judge_port_part};
@@ -24,7 +23,7 @@ use crate::plain_links::{
     plain_start, wide_start,
 };
 use crate::setting::Setting;
-use crate::special_links::{address_of, may_be_special, special_cut};
+use crate::special_links::{address_of, begins_with_http_or_file, is_bracketed, special_cut};
 use crate::start_rules::start_fault;
 use crate::unit_faults::fault_behind_authority;
 use std::alloc::{AllocError, Global};
@@ -265,9 +264,14 @@ pub(crate) fn check_otherwise<'t>(
     ensures answer { IfOk result (IsVerdict profile (as_base base.entry) (chars text.now)) }
     ensures memory { TakesNoMemoryAgainst profile (as_base base.entry) (chars text.now) → IsOk result }
 {
-    if may_be_special(text) {
-        if let Some((cut, pieces, port)) = special_cut(text) {
-            return check_host(alloc, text, cut, pieces, port, base, profile);
+    if begins_with_http_or_file(text) {
+        if let Some((cut, port)) = special_cut(text) {
+            if let Some(address) = address_of(&cut) {
+                return Ok(Verdict::Yes(build(cut, Some(PartsHost::Made(address)), port)));
+            }
+            if !is_bracketed(&cut) {
+                return check_host(alloc, text, cut, port, base, profile);
+            }
         }
         if let Some(parts) = file_parts(text) {
             return Ok(Verdict::Yes(parts));
@@ -282,19 +286,14 @@ fn check_host<'t>(
     alloc: Global,
     text: &'t str,
     cut: Cut<'t>,
-    pieces: Option<[u16; 8]>,
     port: Option<u16>,
     base: Option<Base<'_>>,
     profile: Profile,
 ) -> Result<Verdict<'t>, AllocError>
-    requires judged { IsJudgedButHost profile (as_base base) (chars text.now) cut port }
-    requires address { IfSome pieces (λ it. IsAddressOf cut (V6 it)) }
+    requires { IsJudgedButHost profile (as_base base) (chars text.now) cut port }
     ensures answer { IfOk result (IsVerdict profile (as_base base.entry) (chars text.now)) }
     ensures memory { TakesNoMemoryAgainst profile (as_base base.entry) (chars text.now) → IsOk result }
 {
-    if let Some(address) = address_of(&cut, pieces) {
-        return Ok(Verdict::Yes(build(cut, Some(PartsHost::Made(address)), port)));
-    }
     match judge_host_of_class(alloc, &cut, Class::Special, profile)? {
         Judged::Valid(host) => Ok(Verdict::Yes(build(cut, host, port))),
         Judged::Refused(refusal) => refused(refusal),

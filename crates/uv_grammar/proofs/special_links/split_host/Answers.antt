@@ -6,7 +6,7 @@ use Rattle.uv_text.specs.declared.units.UnitClass.TheVariants.{OpaqueHost}
 use Rattle.uv_grammar.proofs.PlainUnitLemmas.{host_units}
 use Rattle.uv_grammar.proofs.special_links.split_host.Goals as goal
 
-pub returns-clause-cut : goal.returns-clause-cut
-returns-clause-cut c =
-    host_units (class_has OpaqueHost) (chars c.args.text.now) (chars c.split_tail-rest.result.0.now)
-    (chars c.split_tail-rest.result.1) (λ byte. refl) c.split_tail-rest.ensures
+pub returns : goal.returns
+returns c = λ known.
+    host_units (class_has OpaqueHost) (chars c.args.text.now) (chars c.split_tail.result.0.now)
+    (chars c.split_tail.result.1) (λ byte. refl) c.split_tail.ensures
