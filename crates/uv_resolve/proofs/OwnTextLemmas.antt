@@ -1,7 +1,7 @@
 -- A text that is the text of the URL that it denotes.
 use Rattle.std.proofs.Common.{◌≡◌, ◌≢◌, ℕ, Bool, true, false, not, ◌==◌, List, [], ◌∷◌, ◌++◌, Option, Some}
 use Rattle.std.proofs.Common.{None, refl, sym, ap, ◌∙◌, subst, inl, inr, append_assoc, arith}
-use Rattle.std.proofs.Common.{cond, length, suc, ◌+◌}
+use Rattle.std.proofs.Common.{cond, drop, length, suc, take, zero, ◌&&◌, ◌+◌, ◌<◌}
 use Rattle.std.specs.Prelude.{option_map}
 use Rattle.std.specs.List.{list_all, prefix_len}
 use Rattle.std.specs.Char.{is_ascii}
@@ -34,7 +34,7 @@ use Rattle.uv_resolve.proofs.KeptPathLemmas.{authority_path-encoded, authority_p
 use Rattle.uv_resolve.proofs.KeptPathLemmas.{kept-segments, special_path, walk-encoded}
 use Rattle.uv_resolve.proofs.RecordLemmas.{fields, denote-fields}
 use Rattle.uv_resolve.specs.OwnText.{HasOwnPrefix, HasOwnScheme, IsOwnPath, IsOwnRoot, IsOwnText, has_no_dots}
-use Rattle.uv_resolve.specs.OwnText.{is_kept_segment, is_never_encoded}
+use Rattle.uv_resolve.specs.OwnText.{is_dot_mark, is_kept_segment, is_never_encoded}
 use Rattle.uv_resolve.specs.Schemes.{IsOwnScheme}
 
 -- ---- texts that no part encodes
@@ -366,3 +366,37 @@ own_path bytes utf8 some no_dots = (
   some_chars bytes utf8 some,
   λ ascii. subst (λ t. has_no_dots false t ≡ true) (ascii_bytes bytes utf8 ascii) no_dots,
 )
+
+-- ---- paths without dots, seen by windows
+
+-- none begins in the first so many bytes where none does in all
+none-taken : (begins : Bool) (n : ℕ) (path : List ℕ) → has_no_dots begins path ≡ true
+    → has_no_dots begins (take n path) ≡ true
+none-taken begins zero path none = refl
+none-taken begins (suc n) [] none = refl
+none-taken begins (suc n) (c ∷ rest) none =
+    let parts = and_parts (not (begins && is_dot_mark c)) (has_no_dots (c == slash) rest) none in
+    and_from _ _ parts.0 (none-taken (c == slash) n rest parts.1)
+
+absorbed : (here taken rest : Bool) → (rest ≡ true → taken ≡ true) → ((here && taken) && rest) ≡ (here && rest)
+absorbed false taken rest implied = refl
+absorbed true true rest implied = refl
+absorbed true false false implied = refl
+absorbed true false true implied = implied refl
+
+grouped : (here taken left rest : Bool) → (taken && left) ≡ rest → ((here && taken) && left) ≡ (here && rest)
+grouped false taken left rest is = refl
+grouped true taken left rest is = is
+
+-- none begins in a path where none does in its first so many bytes nor behind so many, by which these overlap
+pub windows-joined : (begins : Bool) (n k : ℕ) (path : List ℕ) → k < n
+    → (has_no_dots begins (take n path) && has_no_dots false (drop k path)) ≡ has_no_dots begins path
+windows-joined begins zero k path over = absurd (omega (arith, over))
+windows-joined begins (suc n) zero [] over = refl
+windows-joined begins (suc n) zero (c ∷ rest) over =
+    absorbed (not (begins && is_dot_mark c)) (has_no_dots (c == slash) (take n rest)) (has_no_dots (c == slash) rest)
+    (none-taken (c == slash) n rest)
+windows-joined begins (suc n) (suc k) [] over = refl
+windows-joined begins (suc n) (suc k) (c ∷ rest) over =
+    grouped (not (begins && is_dot_mark c)) (has_no_dots (c == slash) (take n rest)) (has_no_dots false (drop k rest))
+    (has_no_dots (c == slash) rest) (windows-joined (c == slash) n k rest (omega (arith, over)))

@@ -12,7 +12,10 @@ use Rattle.uv_parser.proofs.Counting.DecidedSoon.{texts_are_decided_soon}
 use Rattle.uv_parser.proofs.Silence.ValidSilent.{scheme_runs_silently, valid_by_parser, valid_runs_silently}
 use Rattle.uv_resolve.specs.Laws.{ReferencesRunSilently, SchemeTextsRunSilently}
 use Rattle.uv_resolve.specs.ParserAnswer.{AnswersAsParser, IsParserAnswer}
-use Rattle.uv_resolve.specs.Resolve.{IsResolved, RunsToItsRecord}
+use Rattle.uv_model.specs.Parts.{Parts}
+use Rattle.uv_model.specs.Records.Denote.{denote}
+use Rattle.uv_model.specs.Valid.{Valid}
+use Rattle.uv_resolve.specs.Resolve.{IsDenoted, IsResolved, RunsToItsRecord}
 
 -- alone, or against a record
 pub runs_to_its_record : (profile : Profile) (base : Option Url) (text : List ℕ) → MayBeWellFormed Parser base
@@ -34,6 +37,14 @@ parser_answers base text (Err (Refused refusal)) decided refused = elim decided.
   | inr stopped ↦ stopped
 ]
 parser_answers base text (Err (Memory error)) decided resolved = tt
+
+-- the URL that the parts of a valid text denote resolves it
+pub denoted_resolves : (profile : Profile) (base : Option Url) (text : List ℕ) (parts : Parts)
+    (result : Result Url ResolveFault) → Valid profile base text parts → IsDenoted (denote base parts) result
+    → IsResolved profile base text result
+denoted_resolves profile base text parts (Ok url) valid is = (parts, valid, is)
+denoted_resolves profile base text parts (Err (Refused refusal)) valid is = absurd is
+denoted_resolves profile base text parts (Err (Memory error)) valid is = tt
 
 pub answers_as_parser : (profile : Profile) (base : Option Url) (text : List ℕ) (result : Result Url ResolveFault)
     → IsDecided base text → IsResolved profile base text result → AnswersAsParser profile base text result

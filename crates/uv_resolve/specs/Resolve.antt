@@ -37,6 +37,12 @@ IsResolved profile base text (Ok url) = Denotes profile base text url
 IsResolved profile base text (Err (Refused refusal)) = IsRefused profile base text refusal
 IsResolved profile base text (Err (Memory error)) = Unit {0}
 
+-- the URL is answered, or memory ran out
+abbrev pub IsDenoted : Url → Result Url ResolveFault → Type 0
+IsDenoted url (Ok made) = made ≡ url
+IsDenoted url (Err (Refused refusal)) = ⊥
+IsDenoted url (Err (Memory error)) = Unit {0}
+
 -- a text that is valid with no parts and is judged without memory is answered by a refusal, whatever memory there is
 abbrev pub RefusesWithoutMemory : Profile → Option Url → List ℕ → Result Url ResolveFault → Type 0
 RefusesWithoutMemory profile base text result =

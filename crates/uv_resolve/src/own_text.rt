@@ -1,6 +1,6 @@
 //! Texts that are the text of the URL that they denote, but perhaps for a `/` at the end, as most links are: no record
 //! has to be made of them.
-ghost use Rattle.std.specs.Prelude.{◌≡◌, [], false, IsTrue, true};
+ghost use Rattle.std.specs.Prelude.{◌≡◌, ◌<◌, ◌≤◌, ◌+◌, [], false, IsTrue, length, true};
 ghost use Rattle.std.specs.List.{list_all};
 ghost use Rattle.std.specs.Str.{chars};
 ghost use Rattle.uv_grammar.specs.Slices.{chars_of_option};
@@ -135,9 +135,34 @@ pub(crate) fn is_without_dots(at_start: bool, path: &[u8]) -> bool
     }
 }
 
-// Whether no `.` and no `%` stands behind a `/`. No branch is taken for a byte, since those at a segment's start would
-// be guessed wrong, and no byte waits for what was found of the one before it, so that many are compared at once.
+// Whether no `.` and no `%` stands behind a `/`. The paths of most links are short: two windows of a fixed length, which
+// overlap, cover such a one, and each is compared at once. So is the end of a longer one.
 fn is_without_dots_within(path: &[u8]) -> bool
+    ensures { result ≡ has_no_dots false path.now }
+{
+    match path.len() {
+        0..=8 => is_window_without_dots(path),
+        9..=16 => are_windows_without_dots(path, 9, 9),
+        17..=32 => are_windows_without_dots(path, 17, 17),
+        length => are_windows_without_dots(path, (length - 1) / 32 * 32 + 1, 33),
+    }
+}
+
+// The same of the first so many bytes and of the last so many, which overlap.
+#[inline(always)]
+fn are_windows_without_dots(path: &[u8], first: usize, last: usize) -> bool
+    requires first { first ≤ length path.now }
+    requires last { last ≤ length path.now }
+    requires overlap { length path.now < first + last }
+    ensures { result ≡ has_no_dots false path.now }
+{
+    is_window_without_dots(&path[..first]) & is_window_without_dots(&path[path.len() - last..])
+}
+
+// The same of each byte in turn. No branch is taken for a byte, since those at a segment's start would be guessed wrong,
+// and no byte waits for what was found of the one before it, so that many are compared at once.
+#[inline(always)]
+fn is_window_without_dots(path: &[u8]) -> bool
     ensures { result ≡ has_no_dots false path.now }
 {
     let mut has_dots = false;

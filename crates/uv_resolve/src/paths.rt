@@ -47,12 +47,11 @@ fn authority_path(alloc: Global, class: Class, parts: &Parts<'_>) -> Result<UrlP
     ensures { IfOk result (λ path.
         path ≡ UrlPath.Segments (spec.authority_path class parts.now.segments)) }
 {
-    // They are asked for before the path is seen: the clause of this call says how they follow from the path's text, and
-    // the proof wants that where the text is kept.
-    let mut segments = parts.segments();
+    // For the proof alone: the clause of this call says how the segments follow from the path's text.
+    let _segments = parts.segments();
     match kept_path(parts) {
         Some(text) if !text.is_empty() => kept(alloc, text),
-        _ => match segments.next() {
+        _ => match parts.segments().next() {
             Some(_) => rewritten_alone(alloc, class, parts),
             None => root(alloc, class),
         },

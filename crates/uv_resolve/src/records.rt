@@ -6,10 +6,11 @@ ghost use Rattle.uv_model.specs.Encoding.{encoded};
 ghost use Rattle.uv_model.specs.Scheme.{scheme_class};
 ghost use Rattle.uv_model.specs.Valid.{scheme_in};
 ghost use Rattle.uv_model.specs.Records.WellFormed.{WellFormed};
-ghost use Rattle.uv_resolve.specs.Resolve.{HaveValidText};
+ghost use Rattle.uv_resolve.specs.Resolve.{HaveValidText, IsDenoted};
 ghost use Rattle.uv_grammar.specs.Slices.{chars_of_option};
 
 use crate::encoded_parts::encoded_text;
+use crate::fault::ResolveFault;
 use crate::paths::path_of;
 use crate::schemes::{class_by, copied, lowered};
 use std::alloc::{AllocError, Global};
@@ -17,15 +18,16 @@ use std::borrow::CowStr;
 use uv_grammar::{Form, HostRef, Parts};
 use uv_model::{Class, Host, Profile, Record, Text};
 
-/// The record that the parts denote against the base. The error is out of memory.
+/// The record that the parts denote against the base. The only fault is out of memory: it has the type of a resolver's,
+/// which so hands the answer on, without a copy of the record.
 pub(crate) fn denoted(
     alloc: Global,
     parts: &Parts<'_>,
     base: Option<&Record>,
-) -> Result<Record, AllocError>
+) -> Result<Record, ResolveFault>
     requires valid { HaveValidText (option_copied base) parts.now }
     requires well_formed { WellFormed Profile.Parser (spec.denote (option_copied base) parts.now) }
-    ensures { IfOk result (λ made. made ≡ spec.denote (option_copied base.entry) parts.now) }
+    ensures { IsDenoted (spec.denote (option_copied base.entry) parts.now) result }
 {
     let class = class_in(parts, base);
     let scheme = scheme_of(alloc, parts, base)?;
@@ -105,6 +107,8 @@ fn authority_host(alloc: Global, parts: &Parts<'_>) -> Result<Option<Host>, Allo
 {
     match parts.host() {
         Some(HostRef::Domain(form)) => Ok(Some(Host::Domain(Text::copy_of(alloc, form.as_str())?))),
+        Some(HostRef::V4(value)) => Ok(Some(Host::V4(value))),
+        Some(HostRef::V6(pieces)) => Ok(Some(Host::V6(pieces))),
         Some(host) => Ok(Some(host.copy(alloc)?)),
         None => opaque_host(alloc, parts.host_text()),
     }

@@ -30,7 +30,7 @@ pub fn resolve(
     valid_text_runs_to_its_record(text, base, profile);
     parser_decides(text, base);
     match check(alloc, text, base, profile)? {
-        Verdict::Yes(parts) => Ok(denoted(alloc, &parts, base)?),
+        Verdict::Yes(parts) => denoted(alloc, &parts, base),
         Verdict::No(refusal) => Err(ResolveFault::Refused(refusal)),
     }
 }

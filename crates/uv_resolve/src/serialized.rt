@@ -108,7 +108,10 @@ fn record_text(
         string_bytes written ≡ serial (denote (option_copied base.entry) parts.now)) }
 {
     see_base(base);
-    denoted(alloc, parts, base)?.text(alloc)
+    match denoted(alloc, parts, base) {
+        Ok(record) => record.text(alloc),
+        Err(ResolveFault::Refused(_) | ResolveFault::Memory(_)) => Err(AllocError),
+    }
 }
 
 // The text with a `/` behind it, in one allocation.

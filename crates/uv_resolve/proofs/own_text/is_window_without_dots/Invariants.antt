@@ -2,7 +2,7 @@
 use Rattle.std.proofs.Common.{◌≡◌, ◌≤◌, ◌-◌, ◌==◌, ◌&&◌, drop, false, not, slice_index_or}
 use Rattle.uv_model.specs.Ascii.{slash}
 use Rattle.uv_resolve.specs.OwnText.{has_no_dots}
-use Rattle.uv_resolve.proofs.own_text.is_without_dots_within.Given as goal
+use Rattle.uv_resolve.proofs.own_text.is_window_without_dots.Given as goal
 
 abbrev pub invariant-loop-at : goal.invariant-loop-at
 invariant-loop-at l = (1 ≤ l.at) × ((not l.has_dots
