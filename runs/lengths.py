@@ -89,6 +89,17 @@ def parts():
         yield valid(letters + end, None, letters + encoded)
 
 
+def dots():
+    """Paths with a dot segment at each place, written out or as `%2e`, and with a segment that begins as one does."""
+    for before, behind in itertools.product(LENGTHS, LENGTHS):
+        if before + behind not in LENGTHS:
+            continue
+        start, end = "http://h" + ("/" + "a" * before if before else ""), "b" * behind
+        yield valid(start + "/./" + end, None, start + "/" + end)
+        yield valid(start + "/%2e/" + end, None, start + "/" + end)
+        yield valid(start + "/.c" + end, None, start + "/.c" + end)
+
+
 def references():
     """References of each length, against a base."""
     written = {"": "http://h/a/", "../": "http://h/", "/": "http://h/", "?": "http://h/a/b?"}
@@ -172,7 +183,7 @@ def schemes():
 
 def cases():
     hosts = (labels, names, hosts_of_references, brackets, bracketed_hosts, addresses)
-    made = (*hosts, wrong_places, parts, references, bases, marks, schemes)
+    made = (*hosts, wrong_places, parts, dots, references, bases, marks, schemes)
     return [case for make in made for case in make()]
 
 
