@@ -74,7 +74,7 @@ fn copies_a_record_with_a_domain(rt: HostRuntime) -> Result<(), ResolveFault> {
 // Whether the text of a record is pushed behind another.
 fn is_pushed(alloc: Global, record: &Record, text: &str) -> Result<bool, AllocError> {
     let mut line = String::from_str(alloc, "ok ")?;
-    record.push_text(alloc, &mut line)?;
+    record.push_text(&mut line)?;
     Ok(line.as_str().strip_prefix("ok ") == Some(text))
 }
 

@@ -121,7 +121,7 @@ impl PathText {
         }
     }
 
-    // A `/` and a text behind it.
+    // A `/` and a text behind it. A path in an allocation, as most that grow are, is asked once where it stands.
     fn push_pieces(&mut self, text: &str) -> Result<(), AllocError>
         requires { IsAscii text.now }
         ensures { OnOk result (self.new ≡ self.old ++ pieces text.now) }

@@ -22,14 +22,14 @@ impl Record {
         ensures { IfOk result (λ text. string_bytes text ≡ serial self.now) }
     {
         let mut text = String::with_capacity(alloc, room_for(self))?;
-        self.push_text(alloc, &mut text)?;
+        self.push_text(&mut text)?;
         Ok(text)
     }
 
     /// Appends the record's URL serialized (URL Standard, section 4.5). An error means that memory ran out: `out` then
     /// still begins with what it held.
     #[tactic(auto, unfolding(crate::specs::Records::Serialize::serial))]
-    pub fn push_text(&self, alloc: Global, out: &mut String) -> Result<(), AllocError>
+    pub fn push_text(&self, out: &mut String) -> Result<(), AllocError>
         ensures ok { OnOk result (string_bytes out.new ≡ string_bytes out.old ++ serial self.now) }
         ensures err { OnErr result (StartsWith (string_bytes out.new) (string_bytes out.old)) }
     {
