@@ -1,5 +1,5 @@
 -- Names of letters and digits, after the URL Standard, section 3.3, and UTS #46, section 4.
-use Rattle.std.specs.Prelude.{◌≡◌, ℕ, zero, suc, ◌-◌, ◌<◌, ◌≤◌, nat_le, nat_lt, Bool, true, false, not, ◌&&◌, ◌||◌}
+use Rattle.std.specs.Prelude.{◌≡◌, ℕ, zero, suc, ◌-◌, ◌<◌, ◌≤◌, nat_lt, Bool, true, false, ◌&&◌, ◌||◌}
 use Rattle.std.specs.Prelude.{◌==◌, List, [], ◌∷◌, length, slice_index, take}
 use Rattle.std.specs.Char.{is_ascii_digit, is_ascii_lowercase}
 use Rattle.uv_model.specs.Ascii.{full_stop, hyphen, underscore}
@@ -60,9 +60,9 @@ IsWideChainPrefix bytes n = IsChainPrefixOf true bytes n
 abbrev pub IsShortWideName : List ℕ → Type 0
 IsShortWideName name = (length name ≤ 63) × (is_rooted_chain_of true name ≡ true)
 
--- a lower-case letter that is no hex digit and not the `x` of a number
+-- a lower-case letter between the hex digits and the `x` of a number
 abbrev pub is_word_letter : ℕ → Bool
-is_word_letter c = nat_lt 102 c && (nat_le c 122 && not (c == 120))
+is_word_letter c = nat_lt 102 c && nat_lt c 120
 
 -- the last code point is such a letter
 abbrev pub HasWordEnd : List ℕ → Type 0
