@@ -66,12 +66,31 @@ static uint8_t *written_to(uint8_t *bytes) { return bytes ? bytes : no_bytes; }
 static const urlcheck_base *held_in(const urlcheck_base *base) { return base ? base : &no_base; }
 static urlcheck_fault *listed_in(urlcheck_fault *faults) { return faults ? faults : no_faults; }
 
+/*
+ * The functions that are called most take a branch for a null pointer, as few calls hand one over. A function of its own
+ * answers there, which gcc has to leave as it is: it would else hand over fewer arguments, and move them in each call.
+ */
+#ifdef __clang__
+#define RARE static __attribute__((noinline, cold))
+#else
+#define RARE static __attribute__((noinline, noclone, cold))
+#endif
+
+RARE urlcheck_answer *check_null(urlcheck_answer *answer, const uint8_t *text, size_t length, uint32_t profile) {
+    return __atomic_load_n(&check_here, __ATOMIC_RELAXED)(answer, read_from(text), length, profile);
+}
+
+RARE urlcheck_answer *check_with_null(urlcheck_answer *answer, const uint8_t *text, size_t length,
+                                      const urlcheck_base *base) {
+    return __atomic_load_n(&check_with_here, __ATOMIC_RELAXED)(answer, read_from(text), length, held_in(base));
+}
+
 EXPORT urlcheck_answer *check(urlcheck_answer *, const uint8_t *, size_t, uint32_t) __asm__("urlcheck_check");
 EXPORT urlcheck_answer *check_with(urlcheck_answer *, const uint8_t *, size_t,
                                    const urlcheck_base *) __asm__("urlcheck_check_with");
 
 urlcheck_answer *check(urlcheck_answer *answer, const uint8_t *text, size_t length, uint32_t profile) {
-    text = read_from(text);
+    if (!text) return check_null(answer, text, length, profile);
     return __atomic_load_n(&check_here, __ATOMIC_RELAXED)(answer, text, length, profile);
 }
 
@@ -85,8 +104,7 @@ EXPORT urlcheck_base urlcheck_prepare(const uint8_t *base, size_t length, uint32
 }
 
 urlcheck_answer *check_with(urlcheck_answer *answer, const uint8_t *text, size_t length, const urlcheck_base *base) {
-    text = read_from(text);
-    base = held_in(base);
+    if (!text || !base) return check_with_null(answer, text, length, base);
     return __atomic_load_n(&check_with_here, __ATOMIC_RELAXED)(answer, text, length, base);
 }
 
