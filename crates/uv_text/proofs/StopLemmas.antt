@@ -1,11 +1,9 @@
 -- The first of bytes that fails a test, by bits of those that fail and one behind the last of them.
 use Rattle.std.proofs.Common.{◌≡◌, ℕ, zero, suc, ◌+◌, ◌-◌, ◌*◌, ◌/◌, ◌^◌, ◌<◌, ◌≤◌, Bool, true, false, List, [], ◌∷◌}
-use Rattle.std.proofs.Common.{◌++◌, ◌==◌, length, map, drop, cond, not, bit_or, w64, refl, sym, ap, ◌∙◌, inl, inr}
-use Rattle.std.proofs.Common.{arith}
+use Rattle.std.proofs.Common.{◌++◌, length, map, drop, cond, not, bit_or, w64, refl, sym, ap, ◌∙◌, arith}
 use Rattle.std.specs.Int.{trailing_zeros}
 use Rattle.std.specs.List.{prefix_len, drop-map}
 use Rattle.std.specs.Simd.Lanes.{mask_l}
-use Rattle.std.proofs.lemmas.Bool.{cases_eq, eq-eqb, ne_eqb}
 use Rattle.std.proofs.lemmas.Grind.{or_numeral}
 use Rattle.std.proofs.lemmas.List.{length-append, length-drop, length-map}
 use Rattle.std.proofs.lemmas.Nat.{pow_pos}
@@ -92,36 +90,3 @@ same-prefix p (x ∷ xs) [] even =
 same-prefix p (x ∷ xs) (y ∷ ys) even =
     further (p x) (p y) (mask_l (map p xs)) (mask_l (map p ys)) (prefix_len p xs) (prefix_len p ys) even
     (same-prefix p xs ys)
-
--- ---- bytes of which none fails
-
--- without a bit all pass
-all-pass : (p : ℕ → Bool) (xs : List ℕ) → mask_l (map (λ x. not (p x)) xs) ≡ 0 → prefix_len p xs ≡ length xs
-all-pass p [] none = refl
-all-pass p (x ∷ xs) none = one (p x) (mask_l (map (λ x. not (p x)) xs)) (prefix_len p xs) none (all-pass p xs)
-  where
-    one : {l : ℕ} (b : Bool) (m k : ℕ) → cond (not b) 1 0 + 2 * m ≡ 0 → (m ≡ 0 → k ≡ l) → cond b (1 + k) 0 ≡ suc l
-    one true m k none rest =
-        let same = rest (omega (arith, none)) in
-        omega arith
-    one false m k none rest = absurd (omega (arith, none))
-
--- and where all pass there is none
-none-fails : (p : ℕ → Bool) (xs : List ℕ) → prefix_len p xs ≡ length xs → mask_l (map (λ x. not (p x)) xs) ≡ 0
-none-fails p [] all = refl
-none-fails p (x ∷ xs) all = one (p x) (mask_l (map (λ x. not (p x)) xs)) (prefix_len p xs) all (none-fails p xs)
-  where
-    one : {l : ℕ} (b : Bool) (m k : ℕ) → cond b (1 + k) 0 ≡ suc l → (k ≡ l → m ≡ 0) → cond (not b) 1 0 + 2 * m ≡ 0
-    one true m k all rest =
-        let none = rest (omega (arith, all)) in
-        omega arith
-    one false m k all rest = absurd (omega (arith, all))
-
--- so many bytes pass whole where no bit is set
-pub whole-passes : (p : ℕ → Bool) (xs : List ℕ) (n : ℕ) → length xs ≡ n
-    → (mask_l (map (λ x. not (p x)) xs) == 0) ≡ (prefix_len p xs == n)
-whole-passes p xs n long =
-    elim (cases_eq (mask_l (map (λ x. not (p x)) xs)) 0) [
-      | inl none ↦ eq-eqb _ _ none ∙ sym (eq-eqb _ _ (all-pass p xs none ∙ long))
-      | inr some ↦ ne_eqb _ _ some ∙ sym (ne_eqb _ _ (λ all. some (none-fails p xs (all ∙ sym long))))
-    ]

@@ -185,7 +185,7 @@ fn is_whole(bytes: &[u8], place: usize, rows: &[u8; 16]) -> bool
     if bytes.len() - place < 32 {
         return false;
     }
-    stop_bits(u8x32::from_slice(&bytes[place..]), rows) == 0
+    lane_bits(u8x32::from_slice(&bytes[place..]), rows).trailing_ones() == 32
 }
 
 // How many of the 32 bytes from a place on are in the rows, or `%` with two hex digits behind it among the 32, before
