@@ -1,8 +1,8 @@
 -- Bytes that are ASCII, lane by lane and load by load.
 use Rattle.std.proofs.Common.{◌≡◌, ℕ, zero, suc, ◌+◌, ◌-◌, ◌^◌, ◌%◌, ◌<◌, ◌≤◌, ◌↔◌, Bool, true, false, cond, leb}
 use Rattle.std.proofs.Common.{List, [], ◌∷◌, map, length, take, drop, replicate, refl, sym, ap, subst, ◌∙◌}
-use Rattle.std.proofs.Common.{arith, leb-true, leb-false, take-append-drop}
-use Rattle.std.proofs.lemmas.List.{drop-drop, length-map, length-replicate}
+use Rattle.std.proofs.Common.{arith, leb-true, leb-false, take-append-drop, take_all}
+use Rattle.std.proofs.lemmas.List.{drop-drop, length-drop, length-map, length-replicate}
 use Rattle.std.proofs.lemmas.Simd.{length-zip2, mask_l-mod}
 use Rattle.std.proofs.lemmas.Str.{IsAscii-append, IsAscii-drop}
 use Rattle.std.specs.Str.{IsAscii}
@@ -57,3 +57,12 @@ ascii_joined n m bytes within first last =
     (drop-drop (n - m) m bytes ∙ ap (λ k. drop k bytes) there) (IsAscii-drop (drop m bytes) (n - m) last) in
     subst (λ (l : List ℕ). IsAscii l) (take-append-drop n bytes)
     (IsAscii-append (take n bytes) (drop n bytes) first behind)
+
+-- so are bytes of which the first and the last so many are, which are all
+pub ascii_by_two : (n : ℕ) (bytes : List ℕ) → n ≤ length bytes → length bytes ≤ n + n → IsAscii (take n bytes)
+    → IsAscii (take n (drop (length bytes - n) bytes)) → IsAscii bytes
+ascii_by_two n bytes enough few first last =
+    let start = length bytes - n in
+    let long = length-drop start bytes in
+    let whole : take n (drop start bytes) ≡ drop start bytes = take_all n (drop start bytes) (omega arith) in
+    ascii_joined n start bytes (omega arith) first (subst (λ (l : List ℕ). IsAscii l) whole last)

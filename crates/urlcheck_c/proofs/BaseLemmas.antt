@@ -72,13 +72,6 @@ no_base number base bytes held (inl (inr (profile, is, x), numbers)) other unrea
 no_base number base bytes held (inr (kind, of_kind, same)) other unread utf8 =
     absurd (unread (ap (λ (b : Base). b.found.verdict) same))
 
--- nothing is read from a base that isn't valid
-pub unread_base : (number : ℕ) (bytes : List ℕ) (held : Base) → IsPreparedBase number bytes held
-    → held.found.verdict ≢ 0 → IsUnread number bytes held.found
-unread_base number bytes held (inl (unread, numbers)) other = unread
-unread_base number bytes held (inr (kind, of_kind, same)) other =
-    absurd (other (ap (λ (b : Base). b.found.verdict) same))
-
 -- a base from which nothing is read isn't valid
 pub unread_other : (number : ℕ) (bytes : List ℕ) (finding : Finding) → IsUnread number bytes finding
     → finding.verdict ≢ 0
@@ -88,36 +81,35 @@ unread_other number bytes finding (inr (profile, is, x)) = (unread_verdict profi
 
 -- ---- what is judged
 
--- a valid base is that of its kind
-pub valid_base : (number : ℕ) (bytes : List ℕ) (held : Base) → IsPreparedBase number bytes held
-    → held.found.verdict ≡ 0
+-- a base whose numbers say a kind is that of a kind
+pub base_of_kind : (number : ℕ) (bytes : List ℕ) (held : Base) (said : BaseKind) → IsPreparedBase number bytes held
+    → kind_in held ≡ Some said
     → (kind : BaseKind) × IsBaseOfKind number bytes kind × (held ≡ held_base number kind)
-valid_base number bytes held (inl (unread, numbers)) valid =
-    absurd (unread_other number bytes held.found unread valid)
-valid_base number bytes held (inr x) valid = x
+base_of_kind number bytes held said (inl (unread, numbers)) says =
+    let none : kind_in held ≡ None = ap kind_in numbers in cc
+base_of_kind number bytes held said (inr x) says = x
 
--- the numbers of a valid base say a profile
-pub says_profile : (number : ℕ) (bytes : List ℕ) (held : Base) → IsPreparedBase number bytes held
-    → held.found.verdict ≡ 0 → profile_of held.profile ≢ None
-says_profile number bytes held is valid none =
-    let made = valid_base number bytes held is valid in
+-- nothing is read from a base whose numbers say no kind
+pub no_kind : (number : ℕ) (bytes : List ℕ) (held : Base) → IsPreparedBase number bytes held → kind_in held ≡ None
+    → IsUnread number bytes held.found
+no_kind number bytes held (inl (unread, numbers)) none = unread
+no_kind number bytes held (inr (kind, of_kind, same)) none =
+    let said : kind_in held ≡ Some kind = ap kind_in same ∙ kind_back number kind in cc
+
+-- the numbers of a base of a kind say a profile
+pub says_profile : (number : ℕ) (bytes : List ℕ) (held : Base) (said : BaseKind) → IsPreparedBase number bytes held
+    → kind_in held ≡ Some said → profile_of held.profile ≢ None
+says_profile number bytes held said is says none =
+    let made = base_of_kind number bytes held said is says in
     let given : profile_of number ≡ None = sym (ap (λ (b : Base). profile_of b.profile) made.2) ∙ none in
     let some = made.1.profile_is in cc
 
--- the numbers of a valid base say a kind
-pub says_kind : (number : ℕ) (bytes : List ℕ) (held : Base) → IsPreparedBase number bytes held
-    → held.found.verdict ≡ 0 → kind_in held ≢ None
-says_kind number bytes held is valid none =
-    let made = valid_base number bytes held is valid in
-    let said : kind_in held ≡ Some made.0 = ap kind_in made.2 ∙ kind_back number made.0 in cc
-
 -- the profile and the kind that the numbers say are those of the base
 pub read_base : (number : ℕ) (bytes : List ℕ) (held : Base) (profile : Profile) (kind : BaseKind)
-    → IsPreparedBase number bytes held → held.found.verdict ≡ 0 → profile_of held.profile ≡ Some profile
-    → kind_in held ≡ Some kind
+    → IsPreparedBase number bytes held → kind_in held ≡ Some kind → profile_of held.profile ≡ Some profile
     → (profile_of number ≡ Some profile) × IsBaseOfKind number bytes kind
-read_base number bytes held profile kind is valid by says =
-    let made = valid_base number bytes held is valid in
+read_base number bytes held profile kind is says by =
+    let made = base_of_kind number bytes held kind is says in
     let kinds = same_Some made.0 kind (sym (ap kind_in made.2 ∙ kind_back number made.0) ∙ says) in (
       sym (ap (λ (b : Base). profile_of b.profile) made.2) ∙ by,
       subst (λ (k : BaseKind). IsBaseOfKind number bytes k) kinds made.1,

@@ -4,6 +4,9 @@ ghost use Rattle.std.specs.Str.{IsAscii};
 
 use std::simd::prelude::*;
 
+// As many bytes as two loads hold.
+const TWO_LOADS: usize = 64;
+
 /// The bytes as a text, where they are ASCII.
 #[inline(always)]
 pub(crate) fn ascii_text(bytes: &[u8]) -> Option<&str>
@@ -16,19 +19,32 @@ pub(crate) fn ascii_text(bytes: &[u8]) -> Option<&str>
     }
 }
 
-// Whether all bytes are ASCII. What fills no load is seen by one that begins before it, and few bytes by none.
+// Whether all bytes are ASCII. Two loads see most texts, the first of them and the last, which may overlap.
 #[inline(always)]
 fn is_ascii(bytes: &[u8]) -> bool
+    ensures { IsTrue result ↔ IsAscii bytes.now }
+{
+    if bytes.len() > TWO_LOADS {
+        return are_loads_ascii(bytes);
+    }
+    if bytes.len() < 32 {
+        return is_short_ascii(bytes);
+    }
+    let last = u8x32::from_slice(&bytes[bytes.len() - 32..]);
+    is_load_ascii(u8x32::from_slice(bytes)) && is_load_ascii(last)
+}
+
+// The same of fewer than 32 bytes: of 16 and more by two halves of a load.
+#[inline(always)]
+fn is_short_ascii(bytes: &[u8]) -> bool
+    requires { length bytes.now < 32 }
     ensures { IsTrue result ↔ IsAscii bytes.now }
 {
     if bytes.len() < 16 {
         return bytes.is_ascii();
     }
-    if bytes.len() < 32 {
-        let last = u8x16::from_slice(&bytes[bytes.len() - 16..]);
-        return is_half_ascii(u8x16::from_slice(bytes)) && is_half_ascii(last);
-    }
-    are_loads_ascii(bytes)
+    let last = u8x16::from_slice(&bytes[bytes.len() - 16..]);
+    is_half_ascii(u8x16::from_slice(bytes)) && is_half_ascii(last)
 }
 
 // The same of 32 bytes and more.

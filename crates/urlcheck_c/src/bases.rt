@@ -76,20 +76,17 @@ impl Base {
         }
     }
 
-    /// How texts are judged against a valid base.
+    /// How texts are judged against a valid base, which is the only one whose scheme has a number.
     #[inline(always)]
     pub(crate) fn read(&self) -> Option<HeldBase>
         ensures { (number : ℕ) (bytes : List ℕ) → IsPreparedBase number bytes self.now
             → IsHeld number bytes self.now.found result }
     {
-        if self.found.verdict != CallOutcome::Valid.number() {
-            return None;
-        }
-        let Some(profile) = profile_of(self.profile) else {
+        let Some(kind) = self.kind() else {
             return None;
         };
-        match self.kind() {
-            Some(kind) => Some(HeldBase { kind, profile }),
+        match profile_of(self.profile) {
+            Some(profile) => Some(HeldBase { kind, profile }),
             None => None,
         }
     }
@@ -104,7 +101,7 @@ impl Base {
         self.found
     }
 
-    // The kind of a valid base.
+    // The kind of a base, where its scheme has a number.
     #[inline(always)]
     fn kind(&self) -> Option<BaseKind>
         ensures { result ≡ kind_in self.now }
