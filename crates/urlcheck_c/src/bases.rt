@@ -76,7 +76,7 @@ impl Base {
         }
     }
 
-    /// How texts are judged against a valid base, which is the only one whose scheme has a number.
+    /// How texts are judged against a valid base. Any other says no scheme, so its verdict needn't be read.
     #[inline(always)]
     pub(crate) fn read(&self) -> Option<HeldBase>
         ensures { (number : ℕ) (bytes : List ℕ) → IsPreparedBase number bytes self.now
@@ -101,7 +101,7 @@ impl Base {
         self.found
     }
 
-    // The kind of a base, where its scheme has a number.
+    // The kind that the numbers of a base say: none where no scheme has its number, as 0.
     #[inline(always)]
     fn kind(&self) -> Option<BaseKind>
         ensures { result ≡ kind_in self.now }
