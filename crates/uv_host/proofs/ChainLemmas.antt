@@ -21,7 +21,7 @@ use Rattle.uv_model.specs.declared.profile.Profile.{Profile}
 use Rattle.uv_model.specs.declared.profile.Profile.TheVariants.{Standard, Wide}
 use Rattle.uv_model.specs.Hosts.Domain.{IsForm, has_lengths, is_form_code_point, without_root}
 use Rattle.uv_host.specs.Domains.{is_lower_name}
-use Rattle.uv_host.specs.PlainNames.{goes_on, is_chain, is_rooted_chain, is_rooted_chain_of, is_sign, IsShortWideName}
+use Rattle.uv_host.specs.PlainNames.{goes_on, is_chain, is_rooted_chain, is_rooted_chain_of, is_sign}
 use Rattle.uv_host.proofs.OwnFormLemmas.{form_ascii, lower_own_form}
 use Rattle.uv_host.proofs.ParserFormLemmas.{fits_from_lengths}
 use Rattle.uv_host.proofs.PlainLemmas.{plain_ascii, plain_from_form, plain_is_form}
@@ -314,10 +314,6 @@ rooted_is_form profile name utf8 h lengths =
 pub wide_is_form : (name : List ℕ) → IsUtf8 name → is_rooted_chain_of true name ≡ true → has_lengths name ≡ true
     → IsForm Wide (chars name) name
 wide_is_form name utf8 h lengths = (lower_own_form Wide name utf8 (rooted_wide name h) refl).fits lengths
-
--- which it is where it is short
-pub short_wide_form : (name : List ℕ) → IsUtf8 name → IsShortWideName name → IsForm Wide (chars name) name
-short_wide_form name utf8 is = wide_is_form name utf8 is.1 (rooted_lengths true name is.1 is.0)
 
 -- and it is ASCII
 pub wide_ascii : (name : List ℕ) → is_rooted_chain_of true name ≡ true → IsAscii name

@@ -56,10 +56,6 @@ IsChainPrefix bytes n = IsChainPrefixOf false bytes n
 abbrev pub IsWideChainPrefix : List ℕ → ℕ → Type 0
 IsWideChainPrefix bytes n = IsChainPrefixOf true bytes n
 
--- such a name with low lines, of at most 63 bytes
-abbrev pub IsShortWideName : List ℕ → Type 0
-IsShortWideName name = (length name ≤ 63) × (is_rooted_chain_of true name ≡ true)
-
 -- a lower-case letter between the hex digits and the `x` of a number
 abbrev pub is_word_letter : ℕ → Bool
 is_word_letter c = nat_lt 102 c && nat_lt c 120

@@ -12,7 +12,7 @@ ghost use Rattle.uv_model.specs.WrittenProfiles.{IsWritten};
 use crate::fitting_forms::fitting_form;
 use crate::names::Name;
 use crate::parser_hosts::parser_form;
-use crate::plain_names::{ends_in_word, is_short_wide_name};
+use crate::plain_names::ends_in_word;
 use idna::AsciiDenyList;
 use idna::uts46::{Hyphens, verify_dns_length};
 use std::alloc::{AllocError, Global};
@@ -158,9 +158,6 @@ pub fn plain_answer(name: &str, profile: Profile) -> Option<PlainAnswer>
     ensures answer { IfSome result (IsPlainAnswer profile (chars name.now) name.now) }
     ensures plain { is_plain_name (chars name.now) ≡ true → IsSome result }
 {
-    if is_short_name(name, profile) {
-        return Some(judge_own_form(name, profile));
-    }
     let known = Name::of(name.as_bytes());
     if known.is_simple() {
         return Some(judge_own(name, profile));
@@ -172,29 +169,6 @@ pub fn plain_answer(name: &str, profile: Profile) -> Option<PlainAnswer>
         Some(judge_own(name, profile))
     } else {
         Some(PlainAnswer::Not)
-    }
-}
-
-/// Whether a name is known to be its own form by one look at 32 bytes a turn, as most short ones with `_` are by the
-/// wide profile. Where the answer is no, that says nothing. By the other profiles such a name is found with its link.
-fn is_short_name(name: &str, profile: Profile) -> bool
-    ensures { IsTrue result → spec.IsForm profile (chars name.now) name.now }
-{
-    match profile {
-        Profile::Wide => is_short_wide_name(name),
-        Profile::Standard | Profile::Parser => false,
-    }
-}
-
-/// The answer on a name that is its own form.
-fn judge_own_form(name: &str, profile: Profile) -> PlainAnswer
-    requires { spec.IsForm profile (chars name.now) name.now }
-    ensures { IsPlainAnswer profile (chars name.now) name.now result }
-{
-    if is_number(name) {
-        PlainAnswer::Number
-    } else {
-        PlainAnswer::Domain
     }
 }
 

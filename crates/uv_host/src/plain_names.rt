@@ -2,7 +2,7 @@
 ghost use Rattle.std.specs.Prelude.{◌≡◌, ◌^◌, ◌<◌, ◌≤◌, false, IfSome, IsTrue, chars, drop, length, map, slice_index};
 ghost use Rattle.std.specs.Prelude.{true};
 ghost use Rattle.std.specs.Simd.Lanes.{mask_l};
-ghost use Rattle.uv_host.specs.PlainNames.{IsChainPrefix, IsChainPrefixOf, IsJoined, IsRootedChain, IsShortWideName};
+ghost use Rattle.uv_host.specs.PlainNames.{IsChainPrefix, IsChainPrefixOf, IsJoined, IsRootedChain};
 ghost use Rattle.uv_host.specs.PlainNames.{IsWideChainPrefix, is_rooted_chain, is_rooted_chain_of, is_sign};
 ghost use Rattle.uv_host.specs.PlainNames.{is_word_letter};
 ghost use Rattle.uv_model.specs.declared.profile.Profile.{Profile};
@@ -40,14 +40,6 @@ pub fn wide_name_prefix(text: &Tail<'_>) -> Option<usize>
     ensures { IfSome result (IsWideChainPrefix text.now) }
 {
     chain_prefix(text, true)
-}
-
-/// Whether a name has at most 63 bytes and is such a name, where low lines count as letters. Where the answer is no,
-/// that says nothing.
-pub(crate) fn is_short_wide_name(name: &str) -> bool
-    ensures { IsTrue result → IsShortWideName name.now }
-{
-    name.len() <= 63 && chain_prefix(&Tail::of(name), true) == Some(name.len())
 }
 
 // How many bytes such a name has at the start of a text, where `low` says whether low lines count as letters.
