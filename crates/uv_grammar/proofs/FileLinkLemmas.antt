@@ -37,7 +37,8 @@ file_class = refl
 abbrev pub file_cut : List ℕ → Option (List ℕ) → Option (List ℕ) → Cut
 file_cut path query fragment = link_cut (Some (codes "file")) [] None path query fragment
 
-file_is_cut : (base : Option Url) (text after path : List ℕ) (query fragment : Option (List ℕ))
+-- such a link is cut into its texts
+pub file_is_cut : (base : Option Url) (text after path : List ℕ) (query fragment : Option (List ℕ))
     → text ≡ codes "file" ++ colon ∷ slash ∷ slash ∷ after → AreUnitsBehind after path query fragment
     → IsCut base text (file_cut path query fragment)
 file_is_cut base text after path query fragment joined units = record {

@@ -1,5 +1,6 @@
 pub mod AuthorityLemmas
 pub mod BuiltLemmas
+pub mod EndLemmas
 pub mod FileLinkLemmas
 pub mod HostLemmas
 pub mod KindLemmas

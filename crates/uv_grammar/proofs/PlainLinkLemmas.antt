@@ -261,3 +261,29 @@ start_countable profile base bytes scheme name form port_text port after path qu
     countable bytes (link_cut scheme name port_text path query fragment) utf8 small
     (start_is_cut profile base (chars bytes) scheme name form port_text port after path query fragment
     (own_form name form l.named.wide same) l b).whole
+
+-- such a text is cut into its start and what follows
+pub start_cut : (profile : Profile) (base : Option Url) (text : List ℕ) (scheme : Option (List ℕ))
+    (name form : List ℕ) (port_text : Option (List ℕ)) (port : Option ℕ) (after path : List ℕ)
+    (query fragment : Option (List ℕ)) → chars form ≡ name
+    → IsStartCut profile base text scheme name form port_text port after → IsBehindCut after path query fragment
+    → IsCut base text (link_cut scheme name port_text path query fragment)
+start_cut profile base text scheme name form port_text port after path query fragment same l b =
+    start_is_cut profile base text scheme name form port_text port after path query fragment
+    (own_form name form l.named.wide same) l b
+
+-- a plain link is cut into its texts
+pub plain_is_cut : (profile : Profile) (base : Option Url) (text : List ℕ) (cut : PlainCut)
+    → IsPlainCut profile base text cut → IsCut base text (link_cut (chars_of_option cut.scheme) (chars_of cut.name)
+    (chars_of_option cut.port_text) (chars_of cut.path_text) (chars_of_option cut.query) (chars_of_option cut.fragment))
+plain_is_cut profile base text cut l =
+    let scheme = chars_of_option cut.scheme in
+    let name = chars_of cut.name in
+    let form = cut.name.now in
+    let port_text = chars_of_option cut.port_text in
+    let path = chars_of cut.path_text in
+    let query = chars_of_option cut.query in
+    let fragment = chars_of_option cut.fragment in
+    let own = own_form name form l.named.wide refl in
+    (link_judged profile base text scheme name port_text cut.port path query fragment
+    (plain_link profile base text scheme name form port_text cut.port path query fragment own l)).is_cut

@@ -23,17 +23,21 @@ abbrev pub segments_in : Form → List ℕ → List (List ℕ)
 segments_in SchemeOpaque path_text = []
 segments_in _ path_text = segments_of path_text
 
--- the parts of a cut text, with the values of its host and its port
-abbrev pub built : Cut → Option Host → Option ℕ → Parts
-built cut host port = record {
-  form = form_of cut;
+-- the parts of a cut text of a form, with the values of its host and its port
+abbrev pub built_as : Form → Cut → Option Host → Option ℕ → Parts
+built_as form cut host port = record {
+  form = form;
   scheme = cut.scheme;
   host_text = cut.host_text;
   host = host;
   port_text = cut.port_text;
   port = port;
   path_text = cut.path_text;
-  segments = segments_in (form_of cut) cut.path_text;
+  segments = segments_in form cut.path_text;
   query = cut.query;
   fragment = cut.fragment;
 }
+
+-- the same, of the form that the cut has
+abbrev pub built : Cut → Option Host → Option ℕ → Parts
+built cut host port = built_as (form_of cut) cut host port

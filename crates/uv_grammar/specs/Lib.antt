@@ -1,5 +1,6 @@
 pub mod Bases
 pub mod Built
+pub mod Ends
 pub mod Faults
 pub mod Form
 pub mod PartsHost

@@ -1,9 +1,16 @@
 //! What a verdict asks of a base.
-ghost use Rattle.std.specs.Prelude.{◌≡◌, ◌↔◌, IsTrue, Some, option_copied};
+ghost use Rattle.std.specs.Prelude.{◌≡◌, ◌↔◌, IsTrue, None, Some, option_copied, option_map};
 ghost use Rattle.std.specs.Str.{chars};
 ghost use Rattle.uv_grammar.specs.Bases.{IsOfKind, IsOfScheme, as_base, as_url, scheme_name};
+ghost use Rattle.uv_grammar.specs.PartsHost.{referred};
+ghost use Rattle.uv_model.specs.Records.Denote.{denote, denoted_host, denoted_path, denoted_scheme};
+ghost use Rattle.uv_model.specs.declared.scheme.Class.{Class};
 ghost use Rattle.uv_model.specs.Records.Url.{is_opaque};
+ghost use Rattle.uv_model.specs.Scheme.{lowercase};
 
+use crate::form::Form;
+use crate::parts::Parts;
+use crate::parts_host::HostRef;
 use uv_model::{Host, Record, is_name};
 
 /// The scheme of a base, as far as a verdict asks for it: its class and its default port.
@@ -44,6 +51,56 @@ impl BaseKind {
             has_empty_host: is_empty_host(base.host()),
         }
     }
+
+    /// The kind of the base that a text with these parts denotes alone. No record is made, and so no memory is taken.
+    pub fn of_parts(parts: &Parts<'_>) -> BaseKind
+        ensures { IsOfKind (denote None parts.now) result }
+    {
+        BaseKind {
+            scheme: BaseScheme::of(written_scheme(parts)),
+            has_opaque_path: denotes_opaque_path(parts),
+            has_empty_host: denotes_empty_host(parts),
+        }
+    }
+}
+
+// The scheme as it is written, or nothing of parts without one.
+fn written_scheme<'t>(parts: &Parts<'t>) -> &'t str
+    ensures { lowercase (chars result.now) ≡ denoted_scheme None parts.now.scheme }
+{
+    match parts.scheme() {
+        Some(scheme) => scheme,
+        None => "",
+    }
+}
+
+// Whether parts denote an opaque path alone.
+fn denotes_opaque_path(parts: &Parts<'_>) -> bool
+    ensures { (class : Class) → is_opaque (denoted_path None class parts.now.form parts.now) ≡ result }
+{
+    match parts.form() {
+        Form::SchemeOpaque => true,
+        Form::SchemeAuthority | Form::SchemePath | Form::Authority => false,
+        Form::PathAbsolute | Form::PathRelative | Form::NoPath => false,
+    }
+}
+
+// Whether parts denote the empty host alone.
+fn denotes_empty_host(parts: &Parts<'_>) -> bool
+    ensures { IsTrue result ↔ (denoted_host None parts.now.form parts.now ≡ Some Host.Empty) }
+{
+    match parts.form() {
+        Form::SchemeAuthority | Form::Authority => is_empty_value(parts.host()),
+        Form::SchemePath | Form::SchemeOpaque => false,
+        Form::PathAbsolute | Form::PathRelative | Form::NoPath => false,
+    }
+}
+
+// The value of a host is the empty one.
+fn is_empty_value(host: Option<HostRef<'_>>) -> bool
+    ensures { IsTrue result ↔ (option_map referred host.entry ≡ Some Host.Empty) }
+{
+    matches!(host, Some(HostRef::Empty))
 }
 
 impl BaseScheme {

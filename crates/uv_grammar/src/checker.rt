@@ -53,7 +53,7 @@ pub fn check<'t>(
         return check_unstarted(alloc, text, Base::whole(base), profile);
     };
     if let Some(cut) = plain_cut(&start) {
-        return Ok(Verdict::Yes(plain_parts(&cut)));
+        return Ok(Verdict::Yes(plain_parts(text, &cut)));
     }
     check_started(alloc, text, start, Base::whole(base), profile)
 }
@@ -71,7 +71,7 @@ pub fn check_alone<'t>(
         return check_unstarted(alloc, text, None, profile);
     };
     if let Some(cut) = plain_cut(&start) {
-        return Ok(Verdict::Yes(plain_parts(&cut)));
+        return Ok(Verdict::Yes(plain_parts(text, &cut)));
     }
     check_started(alloc, text, start, None, profile)
 }
@@ -91,7 +91,7 @@ pub fn check_of_kind<'t>(
         return check_unstarted(alloc, text, Some(Base::Kind(base)), profile);
     };
     if let Some(cut) = plain_cut(&start) {
-        return Ok(Verdict::Yes(plain_parts(&cut)));
+        return Ok(Verdict::Yes(plain_parts(text, &cut)));
     }
     check_started(alloc, text, start, Some(Base::Kind(base)), profile)
 }
@@ -192,7 +192,7 @@ fn check_wide<'t>(
         return check_otherwise(alloc, text, base, Profile::Wide);
     };
     if let Some(cut) = plain_cut(&start) {
-        return Ok(Verdict::Yes(plain_parts(&cut)));
+        return Ok(Verdict::Yes(plain_parts(text, &cut)));
     }
     if begins_behind(start.rest.as_str()) {
         Ok(check_behind(text, &start, base, Profile::Wide))
@@ -226,7 +226,7 @@ fn check_behind<'t>(
         Some(refusal) => Verdict::No(refusal),
         None => {
             let host = PartsHost::Plain(AsciiText::of(start.name));
-            Verdict::Yes(build(cut, Some(host), start.port))
+            Verdict::Yes(build(text, cut, Some(host), start.port))
         }
     }
 }
@@ -247,7 +247,7 @@ pub(crate) fn check_other_start<'t>(
         return check_otherwise(alloc, text, base, profile);
     };
     match plain_cut(&start) {
-        Some(cut) => Ok(Verdict::Yes(plain_parts(&cut))),
+        Some(cut) => Ok(Verdict::Yes(plain_parts(text, &cut))),
         None => check_from(alloc, text, start, base, profile),
     }
 }
@@ -267,7 +267,7 @@ pub(crate) fn check_otherwise<'t>(
     if begins_with_http_or_file(text) {
         if let Some((cut, port)) = special_cut(text) {
             if let Some(address) = address_of(&cut) {
-                return Ok(Verdict::Yes(build(cut, Some(PartsHost::Made(address)), port)));
+                return Ok(Verdict::Yes(build(text, cut, Some(PartsHost::Made(address)), port)));
             }
             if !is_bracketed(&cut) {
                 return check_host(alloc, text, cut, port, base, profile);
@@ -295,7 +295,7 @@ fn check_host<'t>(
     ensures memory { TakesNoMemoryAgainst profile (as_base base.entry) (chars text.now) → IsOk result }
 {
     match judge_host_of_class(alloc, &cut, Class::Special, profile)? {
-        Judged::Valid(host) => Ok(Verdict::Yes(build(cut, host, port))),
+        Judged::Valid(host) => Ok(Verdict::Yes(build(text, cut, host, port))),
         Judged::Refused(refusal) => refused(refusal),
     }
 }
@@ -325,7 +325,7 @@ fn check_by_parts<'t>(
     };
     match fault_behind_authority(&cut, &setting) {
         Some(refusal) => refused(refusal),
-        None => Ok(Verdict::Yes(build(cut, host, port))),
+        None => Ok(Verdict::Yes(build(text, cut, host, port))),
     }
 }
 

@@ -42,5 +42,5 @@ pub(crate) fn file_parts<'t>(text: &'t str) -> Option<Parts<'t>>
         query,
         fragment,
     };
-    Some(build(cut, Some(PartsHost::Made(Host::Empty)), None))
+    Some(build(text, cut, Some(PartsHost::Made(Host::Empty)), None))
 }

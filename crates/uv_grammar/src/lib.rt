@@ -7,6 +7,7 @@ mod bases;
 mod built;
 mod checker;
 mod cut;
+mod ends;
 mod file_links;
 mod form;
 mod host;

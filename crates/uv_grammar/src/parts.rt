@@ -8,7 +8,7 @@ ghost use Rattle.uv_grammar.specs.Slices.{chars_of, chars_of_option};
 ghost use Rattle.uv_grammar.specs.Built.{segments_in};
 ghost use Rattle.uv_model.specs.Path.{left_segments, segments_of};
 
-use crate::cut::Cut;
+use crate::ends::{Ends, part_between, scheme_before};
 use crate::form::Form;
 use crate::marks::{behind_slash, split_at_mark};
 use crate::parts_host::{HostRef, PartsHost};
@@ -16,11 +16,12 @@ use std::alloc::{AllocError, Global};
 use std::marker::{Model, PhantomData};
 use uv_model::Host;
 
-/// The parts of a valid URL string, as slices of it, and the values of its host and port.
+/// The parts of a valid URL string, as places in it, and the values of its host and port.
 #[derive(Drop)]
 pub struct Parts<'t> {
+    pub(crate) text: &'t str,
+    pub(crate) ends: Ends,
     pub(crate) form: Form,
-    pub(crate) cut: Cut<'t>,
     pub(crate) host: Option<PartsHost<'t>>,
     pub(crate) port: Option<u16>,
 }
@@ -28,24 +29,16 @@ pub struct Parts<'t> {
 impl<'t> Model for Parts<'t> {
     ghost use Rattle.uv_model.specs.Parts.{Parts};
     ghost use Rattle.std.specs.Prelude.{option_map};
+    ghost use Rattle.uv_grammar.specs.Ends.{AreEnds, cut_at};
     ghost use Rattle.uv_grammar.specs.Form.{seen_form};
     ghost use Rattle.uv_grammar.specs.PartsHost.{as_host};
-    ghost use Rattle.uv_grammar.specs.Built.{segments_in};
+    ghost use Rattle.uv_grammar.specs.Built.{built_as};
 
     ghost Value = { Parts };
 
-    ghost view = { λ p. record {
-      form = seen_form p.form;
-      scheme = p.cut.scheme;
-      host_text = p.cut.host_text;
-      host = option_map as_host p.host;
-      port_text = p.cut.port_text;
-      port = p.port;
-      path_text = p.cut.path_text;
-      segments = segments_in (seen_form p.form) p.cut.path_text;
-      query = p.cut.query;
-      fragment = p.cut.fragment;
-    } };
+    ghost view = { λ p. built_as (seen_form p.form) (cut_at p.text.now p.ends) (option_map as_host p.host) p.port };
+
+    ghost invariant = { λ p. AreEnds p.text.now p.ends };
 }
 
 impl<'t> Parts<'t> {
@@ -60,14 +53,14 @@ impl<'t> Parts<'t> {
     pub fn scheme(&self) -> Option<&'t str>
         ensures { chars_of_option result ≡ self.now.scheme }
     {
-        self.cut.scheme
+        scheme_before(self.text, self.ends.scheme)
     }
 
     /// The host's text, where there is an authority.
     pub fn host_text(&self) -> Option<&'t str>
         ensures { chars_of_option result ≡ self.now.host_text }
     {
-        self.cut.host_text
+        part_between(self.text, 2, self.ends.scheme, self.ends.host)
     }
 
     /// The host, where its value isn't its text: not for an opaque host.
@@ -94,7 +87,7 @@ impl<'t> Parts<'t> {
     pub fn port_text(&self) -> Option<&'t str>
         ensures { chars_of_option result ≡ self.now.port_text }
     {
-        self.cut.port_text
+        part_between(self.text, 1, self.ends.host, self.ends.port)
     }
 
     /// The port, where it isn't the scheme's default.
@@ -108,7 +101,7 @@ impl<'t> Parts<'t> {
     pub fn path_text(&self) -> &'t str
         ensures { chars_of result ≡ self.now.path_text }
     {
-        self.cut.path_text
+        &self.text[self.ends.port..self.ends.path]
     }
 
     /// The segments of the path: none of an opaque one, and none of an empty one.
@@ -116,21 +109,21 @@ impl<'t> Parts<'t> {
         ensures segments { result ≡ self.now.segments }
         ensures text { self.now.segments ≡ segments_in self.now.form self.now.path_text }
     {
-        Segments::of(self.form, self.cut.path_text)
+        Segments::of(self.form, self.path_text())
     }
 
     /// The query, without its `?`.
     pub fn query(&self) -> Option<&'t str>
         ensures { chars_of_option result ≡ self.now.query }
     {
-        self.cut.query
+        part_between(self.text, 1, self.ends.path, self.ends.query)
     }
 
     /// The fragment, without its `#`.
     pub fn fragment(&self) -> Option<&'t str>
         ensures { chars_of_option result ≡ self.now.fragment }
     {
-        self.cut.fragment
+        part_between(self.text, 1, self.ends.query, self.text.len())
     }
 }
 

@@ -2,7 +2,7 @@
 //! query and a fragment of URL units; against a base of a special scheme also without the scheme. Where only what
 //! stands before the path is so, that is known of the text, and all other texts are judged by their parts.
 ghost use Rattle.std.specs.Prelude.{◌≡◌, ◌≢◌, ◌<◌, [], ℕ, List, false, true, Option, IfSome, IsTrue};
-ghost use Rattle.std.specs.Str.{IsAscii, chars};
+ghost use Rattle.std.specs.Str.{chars};
 ghost use Rattle.uv_model.specs.declared.profile.Profile.{Profile};
 ghost use Rattle.uv_model.specs.Cut.{starts_with_two_slashes};
 ghost use Rattle.uv_model.specs.Path.{starts_with_slash};
@@ -52,10 +52,10 @@ pub(crate) struct PlainCut<'t> {
 
 /// The parts of a plain link. By its profile it is valid with these.
 #[inline(always)]
-pub(crate) fn plain_parts<'t>(cut: &PlainCut<'t>) -> Parts<'t>
-    requires { IsAscii cut.now.name.now }
-    ensures { (text : List ℕ) (profile : Profile) (base : Option Url) → IsPlainCut profile base text cut.now
-        → IsAccepted profile base text result }
+pub(crate) fn plain_parts<'t>(text: &'t str, cut: &PlainCut<'t>) -> Parts<'t>
+    requires { (profile : Profile) × (base : Option Url) × IsPlainCut profile base (chars text.now) cut.now }
+    ensures { (profile : Profile) (base : Option Url) → IsPlainCut profile base (chars text.now) cut.now
+        → IsAccepted profile base (chars text.now) result }
 {
     let texts = Cut {
         scheme: cut.scheme,
@@ -66,7 +66,7 @@ pub(crate) fn plain_parts<'t>(cut: &PlainCut<'t>) -> Parts<'t>
         fragment: cut.fragment,
     };
     let host = PartsHost::Plain(AsciiText::of(cut.name));
-    build(texts, Some(host), cut.port)
+    build(text, texts, Some(host), cut.port)
 }
 
 /// The texts of a plain start: a special scheme, `://`, a domain that is its own ASCII form, and a port or none. They

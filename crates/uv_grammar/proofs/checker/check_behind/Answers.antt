@@ -13,7 +13,8 @@ use Rattle.uv_grammar.specs.Built.{built}
 use Rattle.uv_grammar.specs.PartViolations.{BehindAuthority}
 use Rattle.uv_grammar.specs.Slices.{chars_of, chars_of_option}
 use Rattle.uv_grammar.specs.Verdict.{IsAccepted}
-use Rattle.uv_grammar.proofs.PlainLinkLemmas.{behind_cut, start_accepted, start_countable, start_refused}
+use Rattle.uv_grammar.proofs.PlainLinkLemmas.{behind_cut, start_accepted, start_countable, start_cut}
+use Rattle.uv_grammar.proofs.PlainLinkLemmas.{start_refused}
 use Rattle.uv_grammar.proofs.SpecialLinkLemmas.{link_cut}
 use Rattle.uv_grammar.proofs.checker.check_behind.Goals as goal
 
@@ -34,6 +35,21 @@ pub of-requires : goal.of-requires
 of-requires c =
     let name = c.args.start.now.name in
     IsAscii-form Wide (chars_of name) name.now c.requires.start.named.wide.0
+
+pub build-requires : goal.build-requires
+build-requires c =
+    let s = c.args.start.now in
+    let base = as_base c.args.base in
+    let path = chars_of c.split_marks.result.0 in
+    let query = chars_of_option c.split_marks.result.1 in
+    let fragment = chars_of_option c.split_marks.result.2 in (
+      base,
+      start_cut c.args.profile base (chars c.args.text.now) (chars_of_option s.scheme) (chars_of s.name) s.name.now
+          (chars_of_option s.port_text) s.port (chars s.rest) path query fragment refl c.requires.start
+          (behind_cut (chars s.rest) (path ++ written_behind question_mark query) path query fragment c.requires.behind
+          (ap chars (sym c.as_str.ensures) ∙ c.split_marks.ensures.joined) c.split_marks.ensures.prefix refl
+          c.split_marks.ensures.no_question_mark),
+    )
 
 pub returns-in-Some : goal.returns-in-Some
 returns-in-Some c =

@@ -55,6 +55,9 @@ returns-in-Some-fault_behind_authority-clause-answer c =
     c.cut_text-cut.ensures.setting c.in_default.ensures (rw c.in-Valid.is at c.in_ok-host.ensures.answer).1
     c.in-Valid-judge_port_part.ensures.1 c.in-Some-fault_behind_authority.ensures)
 
+pub build-requires : goal.build-requires
+build-requires c = (as_base c.args.base, c.cut_text-cut.ensures.cut)
+
 pub returns-clause-answer : goal.returns-clause-answer
 returns-clause-answer c =
     accepted c.args.profile (as_base c.args.base) (chars c.args.text.now) c.cut_text-cut.result.0

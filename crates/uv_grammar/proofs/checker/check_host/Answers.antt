@@ -23,6 +23,9 @@ returns-in_err-host-clause-memory c = λ h.
     (host_without_memory c.args.profile base (chars c.args.text.now) c.args.cut setting judged.is_cut refl
     judged.started h)))
 
+pub build-requires : goal.build-requires
+build-requires c = (as_base c.args.base, c.requires.is_cut)
+
 pub returns-in-Valid-clause-answer : goal.returns-in-Valid-clause-answer
 returns-in-Valid-clause-answer c =
     let base = as_base c.args.base in

@@ -2,24 +2,20 @@
 use Rattle.std.specs.Prelude.{Some}
 use Rattle.std.specs.Str.{chars}
 use Rattle.std.proofs.lemmas.Result.{IfOk-weaker}
-use Rattle.uv_model.specs.declared.profile.Profile.TheVariants.{Wide}
-use Rattle.uv_model.proofs.Hosts.DomainLemmas.{IsAscii-form}
 use Rattle.uv_grammar.specs.Bases.{url_of_kind}
-use Rattle.uv_grammar.specs.Slices.{chars_of}
 use Rattle.uv_grammar.specs.Verdict.{IsVerdict}
 use Rattle.uv_grammar.proofs.KindLemmas.{flip, kind_alike, memory_alike, verdict_alike}
 use Rattle.uv_grammar.proofs.checker.check_of_kind.Goals as goal
 
 pub plain_parts-requires : goal.plain_parts-requires
 plain_parts-requires c =
-    let name = c.in-Some-plain_cut.cut.name in
+    let profile = c.args.profile in
     let base = Some (url_of_kind c.args.base) in
-    let plain = c.in-Some-plain_cut.ensures Wide base (chars c.args.text.now) (c.in-Some.ensures Wide base) in
-    IsAscii-form Wide (chars_of name) name.now plain.named.wide.0
+    (profile, base, c.in-Some-plain_cut.ensures profile base (chars c.args.text.now) (c.in-Some.ensures profile base))
 
 pub returns-in-Some-plain_cut-clause-answer : goal.returns-in-Some-plain_cut-clause-answer
 returns-in-Some-plain_cut-clause-answer c = λ url is.
-    c.plain_parts.ensures (chars c.args.text.now) c.args.profile (Some url)
+    c.plain_parts.ensures c.args.profile (Some url)
     (c.in-Some-plain_cut.ensures c.args.profile (Some url) (chars c.args.text.now)
     (c.in-Some.ensures c.args.profile (Some url)))
 

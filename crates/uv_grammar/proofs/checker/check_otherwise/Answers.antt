@@ -7,6 +7,11 @@ use Rattle.uv_grammar.specs.Bases.{as_base}
 use Rattle.uv_grammar.proofs.VerdictLemmas.{accepted}
 use Rattle.uv_grammar.proofs.checker.check_otherwise.Goals as goal
 
+pub build-requires : goal.build-requires
+build-requires c =
+    let base = as_base c.args.base in
+    (base, (c.in-Some.ensures c.in-Some-address_of.ensures.text c.args.profile base).is_cut)
+
 pub returns-in-Some-address_of-clause-answer : goal.returns-in-Some-address_of-clause-answer
 returns-in-Some-address_of-clause-answer c =
     let base = as_base c.args.base in

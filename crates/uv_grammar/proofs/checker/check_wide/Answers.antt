@@ -1,22 +1,18 @@
 -- A plain link of the wide profile is valid by it, against any base.
 use Rattle.std.specs.Str.{chars}
 use Rattle.uv_model.specs.declared.profile.Profile.TheVariants.{Wide}
-use Rattle.uv_model.proofs.Hosts.DomainLemmas.{IsAscii-form}
 use Rattle.uv_grammar.specs.Bases.{as_base}
-use Rattle.uv_grammar.specs.Slices.{chars_of}
 use Rattle.uv_grammar.proofs.checker.check_wide.Goals as goal
 
 pub plain_parts-requires : goal.plain_parts-requires
 plain_parts-requires c =
-    let name = c.in-Some-plain_cut.cut.name in
     let base = as_base c.args.base in
-    let plain = c.in-Some-plain_cut.ensures Wide base (chars c.args.text.now) (c.in-Some.ensures base) in
-    IsAscii-form Wide (chars_of name) name.now plain.named.wide.0
+    (Wide, base, c.in-Some-plain_cut.ensures Wide base (chars c.args.text.now) (c.in-Some.ensures base))
 
 pub returns-in-Some-plain_cut-clause-answer : goal.returns-in-Some-plain_cut-clause-answer
 returns-in-Some-plain_cut-clause-answer c =
     let base = as_base c.args.base in
-    c.plain_parts.ensures (chars c.args.text.now) Wide base
+    c.plain_parts.ensures Wide base
     (c.in-Some-plain_cut.ensures Wide base (chars c.args.text.now) (c.in-Some.ensures base))
 
 pub check_behind-requires-clause-start : goal.check_behind-requires-clause-start

@@ -8,9 +8,28 @@ use Rattle.uv_grammar.specs.Built.{built}
 use Rattle.uv_grammar.specs.PlainLinks.{IsPrefixCut}
 use Rattle.uv_grammar.specs.Slices.{chars_of, chars_of_option}
 use Rattle.uv_grammar.specs.Verdict.{IsAccepted}
-use Rattle.uv_grammar.proofs.FileLinkLemmas.{file_accepted, file_joined}
+use Rattle.uv_grammar.proofs.FileLinkLemmas.{file_accepted, file_is_cut, file_joined}
 use Rattle.uv_grammar.proofs.SpecialLinkLemmas.{link_cut}
 use Rattle.uv_grammar.proofs.file_links.file_parts.Goals as goal
+
+pub build-requires : goal.build-requires
+build-requires c =
+    let text = c.args.text.now in
+    let scheme = c.split_prefix-behind.result.0.now in
+    let rest = c.split_prefix-rest.result.1 in
+    let path = chars_of c.in-Some.path_text in
+    let query = chars_of_option c.in-Some.query in
+    let fragment = chars_of_option c.in-Some.fragment in
+    let same : text ≡ codes "file://" ++ drop 7 text =
+    subst (λ (s : List ℕ). s ≡ codes "file://" ++ drop 7 s) c.as_bytes.ensures.value
+    (c.has_prefix.ensures c.if-not-has_prefix.false) in
+    let joined = file_joined text scheme c.split_prefix-behind.result.1 c.split_prefix-rest.result.0.now rest same
+    (subst (λ (s : List ℕ). IsPrefixCut s 4 scheme c.split_prefix-behind.result.1) c.of.ensures
+    c.split_prefix-behind.ensures) c.split_prefix-rest.ensures in (
+      None,
+      rw (joined.1, c.split_prefix.ensures.code_points)
+          (file_is_cut None (chars text) (chars rest) path query fragment joined.0 c.in-Some.ensures),
+    )
 
 pub returns : goal.returns
 returns c = λ profile base.
