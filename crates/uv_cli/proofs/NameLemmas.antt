@@ -1,12 +1,13 @@
 -- Names that none has, with a further name.
 use Rattle.std.proofs.Common.{◌≡◌, ◌∙◌, ◌++◌, Bool, true, false, ℕ, List, [], ◌∷◌, ap, append-nil}
-use Rattle.std.proofs.Common.{filter, not, refl}
+use Rattle.std.proofs.Common.{filter, not, refl, Global, IfOk, Result, String, string_bytes, subst}
 use Rattle.std.proofs.lemmas.List.Elements.{filter-append}
 use Rattle.std.proofs.lemmas.Map.Views.{any-filter_same}
 use Rattle.std.proofs.lemmas.Slice.Eq.{bytes_eq-Decides}
 use Rattle.std.specs.List.{list_any}
 use Rattle.std.specs.Str.{bytes_eq}
 use Rattle.uv_cli.specs.Explain.{is_explained}
+use Rattle.uv_cli.specs.Messages.{unknown_name_text}
 use Rattle.uv_cli.specs.Names.{each_once, with_further, with_unknown, unknown_rules}
 
 -- the names that aren't the first one
@@ -57,3 +58,13 @@ pub unknown_rules-further : (names : List (List ℕ)) (name : List ℕ)
     ≡ with_unknown (unknown_rules names) name
 unknown_rules-further names name =
     ap each_once (filter-append (λ n. not (is_explained n)) names (name ∷ [])) ∙ further_where names name _ refl
+
+-- a name that none has, and the names that there are, by the ones that were given
+pub unknown_with : {E : Type 0} (result : Result (String Global) E) (one all : List ℕ) (given names : List (List ℕ))
+    (name : List ℕ) → given ≡ names
+    → IfOk result (λ text. string_bytes text ≡ unknown_name_text one all given name)
+    → IfOk result (λ text. string_bytes text ≡ unknown_name_text one all names name)
+unknown_with result one all given names name same said =
+    subst
+    (λ (n : List (List ℕ)). IfOk result (λ text. string_bytes text ≡ unknown_name_text one all n name))
+    same said

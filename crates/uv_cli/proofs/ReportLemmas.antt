@@ -1,8 +1,6 @@
 -- The lines of segments, one after the other.
-use Rattle.std.proofs.Common.{◌≡◌, ℕ, ◌+◌, ◌<◌, List, [], ◌∷◌, ◌++◌, codes, length, take, get_or, refl, sym, ap, ◌∙◌}
-use Rattle.std.proofs.Common.{append_assoc, append-nil}
-use Rattle.std.proofs.lemmas.List.{take_more}
-use Rattle.uv_cli.specs.CheckText.{line, segment_lines}
+use Rattle.std.proofs.Common.{◌≡◌, ℕ, List, ◌++◌, refl, ◌∙◌}
+use Rattle.std.proofs.Common.{append_assoc}
 
 -- six pieces put one after the other behind a start
 pub six_pieces : (start a b c d e f t1 t2 t3 t4 t5 t6 : List ℕ)

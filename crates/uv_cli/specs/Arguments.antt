@@ -1,9 +1,13 @@
 -- What the words of the command line are, by the arguments that the system gives.
-use Rattle.std.specs.Prelude.{◌≡◌, ◌==◌, ◌<◌, ℕ, Bool, true, false, List, [], ◌∷◌, ◌++◌, Option, Some, None, Result, Ok, Err}
-use Rattle.std.specs.Prelude.{codes, decimal, length, slice_index_or, take}
+use Rattle.std.specs.Prelude.{◌≡◌, ◌==◌, ◌<◌, ℕ, Bool, true, false, List, [], ◌∷◌, ◌++◌, Option, Some, None, Result, Ok}
+use Rattle.std.specs.Prelude.{Err, codes, decimal, filter, is_some, length, map, option_map, slice_index_or, string_bytes}
+use Rattle.std.specs.Prelude.{take, if◌then◌else◌}
+use Rattle.std.specs.List.{before_first, position}
 use Rattle.std.specs.Prelude.{IsUtf8}
 use Rattle.std.specs.declared.env.FillError.{FillError}
 use Rattle.std.specs.declared.env.FillError.TheVariants.{NotPresent, TooLong}
+use Rattle.uv_words.specs.declared.words.Job.{Job}
+use Rattle.uv_words.specs.declared.words.Job.TheVariants as job
 
 -- ---- an argument
 
@@ -42,3 +46,33 @@ pub record AreWords (gives : ℕ → Option (List ℕ) → Type 0) (words : List
   pub each : (number : ℕ) → number < length words
       → IsWordAt (gives number) number (Some (slice_index_or words number []))
   pub all : gives (length words) None
+
+-- ---- arguments that aren't UTF-8
+
+-- a text without the hyphen that it begins with
+abbrev pub without_hyphen : List ℕ → List ℕ
+without_hyphen [] = []
+without_hyphen (first ∷ rest) = if first == 0x2D then rest else first ∷ rest
+
+-- what is said of an argument, by its word: what stands before the NUL, where it has one, without a hyphen at its start
+abbrev pub said_of : List ℕ → Option (List ℕ)
+said_of word =
+    option_map (λ at. without_hyphen (before_first (λ b. b == 0) word)) (position (λ b. b == 0) word)
+
+-- how many of the words stand for an argument that isn't UTF-8
+abbrev pub count_marked : List (List ℕ) → ℕ
+count_marked words = length (filter (λ word. is_some (said_of word)) words)
+
+-- what is said of the first of them
+abbrev pub first_said : List (List ℕ) → Option (List ℕ)
+first_said [] = None
+first_said (word ∷ rest) = if is_some (said_of word) then said_of word else first_said rest
+
+-- the files of a lint
+abbrev pub files_of : Job → List (List ℕ)
+files_of (job.Lint asked) = map string_bytes asked.files.items
+files_of other = []
+
+-- what is said of these words, where not each argument that isn't UTF-8 is one of the files of a lint
+abbrev pub refused : List (List ℕ) → List (List ℕ) → Option (List ℕ)
+refused words files = if count_marked files == count_marked words then None else first_said words

@@ -1,6 +1,6 @@
 -- How the program ends: the end of what was given, its exit status, and its line on standard error.
 use Rattle.std.specs.Prelude.{ℕ, Bool, true, false, List, [], ◌++◌, Result, Ok, Err, codes, decimal, if◌then◌else◌}
-use Rattle.std.specs.Prelude.{◌==◌}
+use Rattle.std.specs.Prelude.{◌==◌, Option, None, Some, unwrap_or}
 use Rattle.uv_model.specs.declared.rule.Refusal.{Refusal}
 use Rattle.uv_model.specs.Violations.Rule.{rule_name}
 use Rattle.uv_links.specs.declared.counts.Counts.{Counts}
@@ -123,32 +123,44 @@ stopped_text link.Endless = codes "endless\n"
 unfoldable pub malformed_text : ℕ → List ℕ
 malformed_text number = codes "vector " ++ (decimal number ++ codes " malformed\n")
 
--- the line of a vector file that isn't run
-abbrev pub vectors_text : VectorEnd → List ℕ
-vectors_text vectors.AllPass = []
-vectors_text vectors.SomeFail = []
-vectors_text vectors.NotJson = codes "vectors not json\n"
-vectors_text vectors.NotArray = codes "vectors not an array\n"
-vectors_text vectors.TooLarge = codes "vectors too large\n"
-vectors_text (vectors.Malformed number) = malformed_text number
+-- the line of a vector file that isn't run, where it is words alone
+abbrev pub fixed_vectors_text : VectorEnd → Option (List ℕ)
+fixed_vectors_text vectors.AllPass = Some []
+fixed_vectors_text vectors.SomeFail = Some []
+fixed_vectors_text vectors.NotJson = Some (codes "vectors not json\n")
+fixed_vectors_text vectors.NotArray = Some (codes "vectors not an array\n")
+fixed_vectors_text vectors.TooLarge = Some (codes "vectors too large\n")
+fixed_vectors_text (vectors.Malformed number) = None
+
+-- the last line on standard error where it is words alone, or nothing: no memory is needed for it
+abbrev pub fixed_text : End → Option (List ℕ)
+fixed_text Valid = Some []
+fixed_text Refused = Some []
+fixed_text Shown = Some []
+fixed_text Words = Some (codes "words\n")
+fixed_text UnknownRule = Some (codes "words\n")
+fixed_text UnknownFormat = Some (codes "words\n")
+fixed_text UnknownColumns = Some (codes "words\n")
+fixed_text ColumnsRefused = Some (codes "words\n")
+fixed_text UnknownProfile = Some (codes "words\n")
+fixed_text UnknownKind = Some (codes "words\n")
+fixed_text (BaseRefused refusal) = None
+fixed_text (Fault cli.Memory) = Some (codes "memory\n")
+fixed_text (Fault cli.Write) = Some (codes "write\n")
+fixed_text (Linted linted) = None
+fixed_text (Filtered filtered) = None
+fixed_text (Stopped fault) = Some (stopped_text fault)
+fixed_text (Vectors end) = fixed_vectors_text end
+fixed_text Unread = Some (codes "read\n")
+
+-- the last line where it has numbers, with the counts of a lint or a filter before it
+abbrev pub numbered_text : End → List ℕ
+numbered_text (BaseRefused refusal) = base_refused_text refusal
+numbered_text (Linted linted) = linted_text linted
+numbered_text (Filtered filtered) = filtered_text filtered
+numbered_text (Vectors (vectors.Malformed number)) = malformed_text number
+numbered_text other = []
 
 -- the last line on standard error, with the counts of a lint or a filter before it, or nothing
 abbrev pub error_text : End → List ℕ
-error_text Valid = []
-error_text Refused = []
-error_text Shown = []
-error_text Words = codes "words\n"
-error_text UnknownRule = codes "words\n"
-error_text UnknownFormat = codes "words\n"
-error_text UnknownColumns = codes "words\n"
-error_text ColumnsRefused = codes "words\n"
-error_text UnknownProfile = codes "words\n"
-error_text UnknownKind = codes "words\n"
-error_text (BaseRefused refusal) = base_refused_text refusal
-error_text (Fault cli.Memory) = codes "memory\n"
-error_text (Fault cli.Write) = codes "write\n"
-error_text (Linted linted) = linted_text linted
-error_text (Filtered filtered) = filtered_text filtered
-error_text (Stopped fault) = stopped_text fault
-error_text (Vectors end) = vectors_text end
-error_text Unread = codes "read\n"
+error_text end = unwrap_or (fixed_text end) (numbered_text end)

@@ -1,10 +1,11 @@
 -- What an explanation of a rule says: the rule, what it asks, its section of the URL Standard, a text that is refused
--- by it, and that text mended.
+-- by it, what its author may have meant, and that text mended.
 use Rattle.std.specs.Prelude.{◌≡◌, ℕ, Bool, List, [], ◌∷◌, ◌++◌, codes, filter_map, Option, Some, None}
 use Rattle.std.specs.Prelude.{is_some, map, option_map, take, if◌then◌else◌}
 use Rattle.std.specs.List.{join_by, list_all}
 use Rattle.std.specs.Io.KnownBytes.{Appends}
 use Rattle.uv_model.specs.declared.rule.Rule.{Rule}
+use Rattle.uv_model.specs.declared.rule.Rule.TheVariants.{HostMissing, FirstSegmentEmpty, DriveAfterHost, Percent}
 use Rattle.uv_model.specs.Violations.Rule.{named_rule, rule_name, rule_sentence, rules_in_order}
 use Rattle.uv_report.specs.Explanation.{rule_asks, rule_base, rule_mended, rule_place, rule_section, rule_wrong}
 use Rattle.uv_report.specs.declared.line_violation.LineViolation.{LineViolation}
@@ -19,12 +20,21 @@ rule_lines rule =
     line (codes "rule ") (rule_name rule) ++ (line (codes "means ") (rule_sentence rule)
     ++ (line (codes "asks ") (rule_asks rule) ++ line (codes "section ") (rule_section rule)))
 
--- the lines of its example: the base, where there is one, the wrong text with what a check writes of it, and the text
--- mended
+-- what `mend` writes in place of the wrong text, where it writes another than the meant one
+abbrev pub mended_otherwise : Rule → Option (List ℕ)
+mended_otherwise HostMissing = Some (codes "https://a")
+mended_otherwise FirstSegmentEmpty = Some (codes "https://example.com/.//a")
+mended_otherwise DriveAfterHost = Some (codes "file://h/./C:/x")
+mended_otherwise Percent = Some (codes "http://h/%254?a")
+mended_otherwise rule = None
+
+-- the lines of its example: the base, where there is one, the wrong text with what a check writes of it, the text that
+-- its author may have meant, and the text mended, where it is another
 abbrev pub example_lines : Rule → List ℕ
 example_lines rule =
     line_of (codes "base ") (rule_base rule) ++ (line (codes "text ") (rule_wrong rule)
-    ++ (refused_text (record { place = rule_place rule; rule = rule }) ++ line (codes "mended ") (rule_mended rule)))
+    ++ (refused_text (record { place = rule_place rule; rule = rule }) ++ (line (codes "meant ") (rule_mended rule)
+    ++ line_of (codes "mended ") (mended_otherwise rule))))
 
 -- the explanation of a rule
 unfoldable pub explanation_text : Rule → List ℕ

@@ -1,11 +1,43 @@
 -- What is reported on standard error before the last line: lines behind the program's name.
-use Rattle.std.specs.Prelude.{ℕ, ◌==◌, List, [], ◌++◌, codes, flat_map, length, Option, Some, None, if◌then◌else◌}
+use Rattle.std.specs.Prelude.{ℕ, ◌==◌, ◌&&◌, Bool, List, [], ◌++◌, codes, drop, flat_map, length, map, nat_eq, not}
+use Rattle.std.specs.Prelude.{Option, Some, None, string_bytes, if◌then◌else◌}
+use Rattle.std.specs.List.{starts_with}
+use Rattle.std.specs.Option.{option_map_or}
+use Rattle.std.specs.Str.Lines.{lines}
 use Rattle.uv_report.specs.Escapes.{shown_text}
-use Rattle.uv_cli.specs.Names.{longer_names, nearest, rule_names, unknown_rules}
+use Rattle.uv_report.specs.declared.format.Format.TheVariants.{Sarif}
+use Rattle.uv_words.specs.declared.words.FilterJob.{FilterJob}
+use Rattle.uv_words.specs.declared.words.Job.{Job}
+use Rattle.uv_words.specs.declared.words.Job.TheVariants as job
+use Rattle.uv_words.specs.declared.words.LintJob.{LintJob}
+use Rattle.uv_cli.specs.Names.{format_names, kind_names, longer_names, nearest, profile_names, rule_names, unit_names}
+use Rattle.uv_cli.specs.Names.{unknown_rules}
+use Rattle.uv_cli.specs.declared.ends.End.{End}
+use Rattle.uv_cli.specs.declared.ends.End.TheVariants as end
 
 -- a line, as a terminal may show it
 abbrev pub message_line : List ℕ → List ℕ
 message_line text = codes "urlcheck: " ++ (shown_text text ++ codes "\n")
+
+-- a line of `clap` without the word for an error
+abbrev pub without_error : List ℕ → List ℕ
+without_error text = if starts_with nat_eq text (codes "error: ") then drop 7 text else text
+
+-- the line is told: it isn't empty, and no tip where others stand in its place
+abbrev pub is_told : Bool → List ℕ → Bool
+is_told has_hint text = not (length text == 0) && not (has_hint && starts_with nat_eq text (codes "  tip: "))
+
+-- what is told of a line without the word for an error
+abbrev pub told_line : Bool → List ℕ → List ℕ
+told_line has_hint text = if is_told has_hint text then message_line text else []
+
+-- what is told of a line of `clap`
+abbrev pub clap_line : Bool → List ℕ → List ℕ
+clap_line has_hint text = told_line has_hint (without_error text)
+
+-- what is told of a message of `clap`, where others stand in place of its tips, or don't
+abbrev pub clap_text : Bool → List ℕ → List ℕ
+clap_text has_hint text = flat_map (clap_line has_hint) (lines text)
 
 -- the nearest name, where one is near
 abbrev pub near_text : Option (List ℕ) → List ℕ
@@ -44,6 +76,10 @@ abbrev pub unknown_names_text : List ℕ → List ℕ → List (List ℕ) → Li
 unknown_names_text one all names unknown =
     flat_map (λ name. told_text one all names name (nearest name names)) unknown ++ names_text all [] names
 
+-- a name that none has, of the kind that these nouns say, of one and of all, and the names that there are
+abbrev pub unknown_name_text : List ℕ → List ℕ → List (List ℕ) → List ℕ → List ℕ
+unknown_name_text one all names name = told_text one all names name (nearest name names) ++ names_text all [] names
+
 -- what is reported where the rules with these names are to be explained, and some of the names are those of none
 abbrev pub unknown_rules_text : List (List ℕ) → List ℕ
 unknown_rules_text rules =
@@ -54,3 +90,43 @@ abbrev pub refused_unit_text : List ℕ → List (List ℕ) → List ℕ
 refused_unit_text name names =
     codes "urlcheck: sarif doesn't take the column unit " ++ (shown_text name
     ++ (codes "\n" ++ names_text (codes "column units of sarif") [] names))
+
+-- what is reported where what columns count has this name, and a lint ended so: none has the name, or SARIF has no word
+-- for it
+abbrev pub unit_text : List ℕ → End → List ℕ
+unit_text name end.UnknownColumns =
+    unknown_name_text (codes "column unit") (codes "column units") (unit_names None) name
+unit_text name end.ColumnsRefused = refused_unit_text name (unit_names (Some Sarif))
+unit_text name other = []
+
+-- what is reported of the names that a lint is given, where it ended so
+abbrev pub unknown_of_lint : LintJob → End → List ℕ
+unknown_of_lint asked end.UnknownFormat =
+    unknown_name_text (codes "format") (codes "formats") format_names (option_map_or string_bytes asked.format [])
+unknown_of_lint asked other = unit_text (option_map_or string_bytes asked.columns []) other
+
+-- what is reported of the name that a filter is given, where it ended so
+abbrev pub unknown_of_filter : FilterJob → End → List ℕ
+unknown_of_filter asked end.UnknownKind =
+    unknown_name_text (codes "kind") (codes "kinds") kind_names (option_map_or string_bytes asked.only [])
+unknown_of_filter asked other = []
+
+-- what is reported of the names that an explanation is given, where it ended so
+abbrev pub unknown_of_rules : List (List ℕ) → End → List ℕ
+unknown_of_rules rules end.UnknownRule = unknown_rules_text rules
+unknown_of_rules rules other = []
+
+-- what is reported of a job that ended so, where it names what there is none of, or asks of a text what is for lines
+abbrev pub unknown_of_job : Job → End → List ℕ
+unknown_of_job (job.Explain rules) ended = unknown_of_rules (map string_bytes rules.items) ended
+unknown_of_job (job.Lint asked) ended = unknown_of_lint asked ended
+unknown_of_job (job.Filter asked) ended = unknown_of_filter asked ended
+unknown_of_job job.LintWithoutInput ended =
+    message_line (codes "--stdin-name is the name of standard input: one of the FILEs has to be -")
+unknown_of_job job.LintUnnamed ended =
+    message_line (codes "--stdin-name is the name of standard input, and may not be empty")
+unknown_of_job job.FilterOfText ended =
+    message_line (codes "--only and --quiet are for the lines of standard input, not for a TEXT")
+unknown_of_job (job.UnknownProfile name) ended =
+    unknown_name_text (codes "profile") (codes "profiles") profile_names (string_bytes name)
+unknown_of_job other ended = []

@@ -1,10 +1,16 @@
 -- Names that none has: which of them are told of, and the names that may have been meant.
-use Rattle.std.specs.Prelude.{ℕ, ◌+◌, ◌/◌, ◌&&◌, ◌==◌, Bool, List, [], ◌∷◌, Option, Some, None, chars}
+use Rattle.std.specs.Prelude.{ℕ, ◌+◌, ◌/◌, ◌&&◌, ◌==◌, Bool, true, List, [], ◌∷◌, Option, Some, None, chars}
 use Rattle.std.specs.Prelude.{codes, filter, ◌++◌, length, map, max, nat_eq, nat_lt, not, unwrap_or, if◌then◌else◌}
 use Rattle.std.specs.List.{list_any, starts_with}
 use Rattle.std.specs.Str.{bytes_eq, str_to_ascii_lowercase}
 use Rattle.strsim.specs.Edits.{osa_table}
+use Rattle.uv_model.specs.ProfileName.{profile_name, profiles_in_order}
 use Rattle.uv_model.specs.Violations.Rule.{rule_name, rules_in_order}
+use Rattle.uv_report.specs.Column.{columns_name}
+use Rattle.uv_report.specs.Format.{takes_columns}
+use Rattle.uv_report.specs.declared.column.Columns.{Columns}
+use Rattle.uv_report.specs.declared.column.Columns.TheVariants as columns
+use Rattle.uv_report.specs.declared.format.Format.{Format}
 use Rattle.uv_cli.specs.Explain.{is_explained}
 
 -- names without those that stand there before
@@ -29,6 +35,32 @@ abbrev pub rule_names : List (List ℕ)
 rule_names =
     map rule_name rules_in_order
     ++ (codes "not-utf8" ∷ codes "line-too-long" ∷ codes "not-located" ∷ [])
+
+-- the names of the formats
+abbrev pub format_names : List (List ℕ)
+format_names =
+    codes "gnu" ∷ codes "caret" ∷ codes "json" ∷ codes "github" ∷ codes "sarif" ∷ codes "checkstyle" ∷ []
+
+-- the names of the kinds of mended texts
+abbrev pub kind_names : List (List ℕ)
+kind_names = codes "same" ∷ codes "escaped" ∷ codes "changed" ∷ []
+
+-- the names of the profiles
+abbrev pub profile_names : List (List ℕ)
+profile_names = map profile_name profiles_in_order
+
+-- what columns may count
+abbrev pub units : List Columns
+units = columns.CodePoints ∷ columns.Bytes ∷ columns.Utf16 ∷ columns.Screen ∷ []
+
+-- columns may count this in a format, where one is given
+abbrev pub takes_unit : Option Format → Columns → Bool
+takes_unit None unit = true
+takes_unit (Some format) unit = takes_columns format unit
+
+-- the names of what columns may count in a format, where one is given
+abbrev pub unit_names : Option Format → List (List ℕ)
+unit_names format = map columns_name (filter (takes_unit format) units)
 
 -- how many letters have to be changed, taken away, added or swapped with the next one to come from one text to another
 abbrev pub edits_between : List ℕ → List ℕ → ℕ

@@ -7,7 +7,7 @@ use Rattle.uv_words.specs.Words.{asks_to_show}
 use Rattle.uv_words.specs.declared.words.Job.{Job}
 use Rattle.uv_words.specs.declared.words.Job.TheVariants as job
 use Rattle.uv_words.specs.declared.words.WordsFault.{WordsFault}
-use Rattle.uv_cli.specs.Ends.{end_without_file, end_without_job, status_of}
+use Rattle.uv_cli.specs.Ends.{end_without_file, end_without_job, fixed_text, status_of}
 use Rattle.uv_cli.specs.Flushed.{ended_after, open_end}
 use Rattle.uv_cli.specs.Jobs.{HasDone}
 use Rattle.uv_cli.specs.Stream.{Stream}
@@ -56,6 +56,7 @@ HasAnswered (Err fault) ended = HasShown fault ended
 
 -- ---- the status
 
--- the status is that of the end, or that of no memory to say it
+-- the status is that of the end, or, only where its last line has numbers, that of no memory to say it
 abbrev pub IsStatus : End → ℕ → Type 0
-IsStatus ended status = (status ≡ status_of ended) ⊎ (status ≡ status_of (end.Fault cli.Memory))
+IsStatus ended status =
+    (status ≡ status_of ended) ⊎ ((fixed_text ended ≡ None) × (status ≡ status_of (end.Fault cli.Memory)))

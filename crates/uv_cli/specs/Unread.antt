@@ -19,6 +19,14 @@ IsReason kind unread.NotPermitted = kind ≡ Some PermissionDenied
 IsReason kind unread.Other =
     (kind ≢ Some NotFound) × (kind ≢ Some IsADirectory) × (kind ≢ Some NotADirectory) × (kind ≢ Some PermissionDenied)
 
+-- the reason, by the kind of the library's error, if that is known
+abbrev pub unread_of : Option ErrorKind → Unread
+unread_of (Some NotFound) = unread.Missing
+unread_of (Some IsADirectory) = unread.Folder
+unread_of (Some NotADirectory) = unread.NoFolder
+unread_of (Some PermissionDenied) = unread.NotPermitted
+unread_of kind = unread.Other
+
 -- a file isn't read since memory ran out, or for another reason
 abbrev pub IsFault : ErrorKind → FileFault → Type 0
 IsFault kind file.Memory = kind ≡ OutOfMemory

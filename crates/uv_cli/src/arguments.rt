@@ -1,7 +1,9 @@
 //! The arguments of the process.
-ghost use Rattle.std.specs.Prelude.{◌≡◌, ℕ, List, Option, IfOk, map, option_map, string_bytes};
+ghost use Rattle.std.specs.Option.{option_map_or};
+ghost use Rattle.std.specs.Prelude.{◌≡◌, ℕ, List, [], Option, IfOk, map, option_copied, option_map, string_bytes};
 ghost use Rattle.std.specs.Io.{WritesAtMost};
-ghost use Rattle.uv_cli.specs.Arguments.{AreWords, Fills, IsWord, IsWordAt, has_hyphen, mark_text};
+ghost use Rattle.uv_cli.specs.Arguments.{AreWords, Fills, IsWord, IsWordAt, count_marked, files_of, first_said};
+ghost use Rattle.uv_cli.specs.Arguments.{has_hyphen, mark_text, refused, said_of, without_hyphen};
 
 use std::alloc::{AllocError, Global};
 use std::env::FillError;
@@ -125,22 +127,52 @@ fn mark(alloc: Global, number: usize, hyphen: bool) -> Result<String, AllocError
     }
 }
 
-/// What is said of an argument that isn't UTF-8, by the text that stands for it.
-pub(crate) fn said_of(text: &str) -> Option<&str> {
-    let said = text.strip_suffix(MARK)?;
-    Some(said.strip_prefix('-').unwrap_or(said))
+/// What is said of an argument that isn't UTF-8, by the text that stands for it; and nothing of another text.
+pub(crate) fn said_of(text: &str) -> Option<&str>
+    ensures { option_copied result ≡ said_of text.now }
+{
+    match text.split_once(MARK) {
+        Some((said, _)) => Some(without_hyphen(said)),
+        None => None,
+    }
 }
 
-/// The text that stands for the first argument that isn't UTF-8, unless each such argument is a file of a lint, which
-/// goes on without it.
-pub(crate) fn refused<'a>(texts: &'a [String], job: Option<&Job>) -> Option<&'a str> {
-    let files = match job {
-        Some(Job::Lint(asked)) => count(asked.files.as_slice()),
-        _ => 0,
-    };
-    if files == count(texts) {
+// A text without the hyphen that it begins with, if it does.
+fn without_hyphen(text: &str) -> &str
+    ensures { result.now ≡ without_hyphen text.now }
+{
+    match text.strip_prefix('-') {
+        Some(rest) => rest,
+        None => text,
+    }
+}
+
+/// What is said of the first argument that isn't UTF-8, unless each such argument is a file of a lint, which goes on
+/// without it.
+pub(crate) fn refused<'a>(texts: &'a [String], job: Option<&Job>) -> Option<&'a str>
+    ensures { option_copied result
+        ≡ refused (map string_bytes texts.now) (option_map_or files_of (option_copied job.entry) []) }
+{
+    if count_of_files(job) == count(texts) {
         return None;
     }
+    first_said(texts)
+}
+
+// How many files of a lint stand for an argument that isn't UTF-8.
+fn count_of_files(job: Option<&Job>) -> usize
+    ensures { result ≡ count_marked (option_map_or files_of (option_copied job.entry) []) }
+{
+    match job {
+        Some(Job::Lint(asked)) => count(asked.files.as_slice()),
+        _ => 0,
+    }
+}
+
+// What is said of the first of the texts that stands for an argument that isn't UTF-8.
+fn first_said(texts: &[String]) -> Option<&str>
+    ensures { option_copied result ≡ first_said (map string_bytes texts.now) }
+{
     for text in texts {
         let said = said_of(text.as_str());
         if said.is_some() {
@@ -151,11 +183,13 @@ pub(crate) fn refused<'a>(texts: &'a [String], job: Option<&Job>) -> Option<&'a 
 }
 
 // How many of the texts stand for an argument that isn't UTF-8.
-fn count(texts: &[String]) -> usize {
+fn count(texts: &[String]) -> usize
+    ensures { result ≡ count_marked (map string_bytes texts.now) }
+{
     let mut count = 0usize;
     for text in texts {
         if said_of(text.as_str()).is_some() {
-            count = count.saturating_add(1);
+            count += 1;
         }
     }
     count

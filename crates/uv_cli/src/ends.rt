@@ -1,8 +1,8 @@
 //! How the program ends: with which exit status, and what it says of that on standard error.
-ghost use Rattle.std.specs.Prelude.{◌≡◌, IfOk, string_bytes};
+ghost use Rattle.std.specs.Prelude.{◌≡◌, IfOk, option_copied, string_bytes};
 ghost use Rattle.uv_cli.specs.Ends as spec;
-ghost use Rattle.uv_cli.specs.Ends.{base_refused_text, error_text, malformed_text, status_of, stopped_text};
-ghost use Rattle.uv_cli.specs.Ends.{vectors_text};
+ghost use Rattle.uv_cli.specs.Ends.{base_refused_text, error_text, fixed_text, fixed_vectors_text, malformed_text};
+ghost use Rattle.uv_cli.specs.Ends.{numbered_text, status_of, stopped_text};
 
 use crate::check::CheckEnd;
 use crate::explain::ExplainEnd;
@@ -172,34 +172,52 @@ pub fn status(end: End) -> u8
 pub fn error_line(alloc: Global, end: End) -> Result<String, AllocError>
     ensures { IfOk result (λ text. string_bytes text ≡ error_text end) }
 {
-    match end {
-        End::Valid | End::Refused | End::Shown => Ok(String::new(alloc)),
-        End::Words | End::UnknownRule | End::UnknownFormat | End::UnknownProfile => {
-            "words\n".to_string(alloc)
-        }
-        End::UnknownColumns | End::ColumnsRefused | End::UnknownKind => {
-            "words\n".to_string(alloc)
-        }
-        End::Linted(linted) => linted.error_lines(alloc),
-        End::Filtered(filtered) => filtered.error_lines(alloc),
-        End::BaseRefused(refusal) => base_refused_line(alloc, refusal),
-        End::Fault(CliFault::Memory) => "memory\n".to_string(alloc),
-        End::Fault(CliFault::Write) => "write\n".to_string(alloc),
-        End::Stopped(fault) => stopped_line(fault).to_string(alloc),
-        End::Vectors(end) => vectors_line(alloc, end),
-        End::Unread => "read\n".to_string(alloc),
+    match fixed_line(end) {
+        Some(line) => line.to_string(alloc),
+        None => numbered_line(alloc, end),
     }
 }
 
-fn vectors_line(alloc: Global, end: VectorEnd) -> Result<String, AllocError>
-    ensures { IfOk result (λ text. string_bytes text ≡ vectors_text end) }
+/// The last line on standard error where it is words alone, or nothing: it takes no memory.
+pub(crate) fn fixed_line(end: End) -> Option<&'static str>
+    ensures { option_copied result ≡ fixed_text end }
 {
     match end {
-        VectorEnd::AllPass | VectorEnd::SomeFail => Ok(String::new(alloc)),
-        VectorEnd::NotJson => "vectors not json\n".to_string(alloc),
-        VectorEnd::NotArray => "vectors not an array\n".to_string(alloc),
-        VectorEnd::TooLarge => "vectors too large\n".to_string(alloc),
-        VectorEnd::Malformed(number) => malformed_line(alloc, number),
+        End::Valid | End::Refused | End::Shown => Some(""),
+        End::Words | End::UnknownRule | End::UnknownFormat | End::UnknownProfile => Some("words\n"),
+        End::UnknownColumns | End::ColumnsRefused | End::UnknownKind => Some("words\n"),
+        End::Linted(_) | End::Filtered(_) | End::BaseRefused(_) => None,
+        End::Fault(CliFault::Memory) => Some("memory\n"),
+        End::Fault(CliFault::Write) => Some("write\n"),
+        End::Stopped(fault) => Some(stopped_line(fault)),
+        End::Vectors(end) => fixed_vectors_line(end),
+        End::Unread => Some("read\n"),
+    }
+}
+
+// The line of a vector file that isn't run, where it is words alone.
+fn fixed_vectors_line(end: VectorEnd) -> Option<&'static str>
+    ensures { option_copied result ≡ fixed_vectors_text end }
+{
+    match end {
+        VectorEnd::AllPass | VectorEnd::SomeFail => Some(""),
+        VectorEnd::NotJson => Some("vectors not json\n"),
+        VectorEnd::NotArray => Some("vectors not an array\n"),
+        VectorEnd::TooLarge => Some("vectors too large\n"),
+        VectorEnd::Malformed(_) => None,
+    }
+}
+
+/// The last line where it has numbers, with the counts of a lint or a filter before it.
+pub(crate) fn numbered_line(alloc: Global, end: End) -> Result<String, AllocError>
+    ensures { IfOk result (λ text. string_bytes text ≡ numbered_text end) }
+{
+    match end {
+        End::Linted(linted) => linted.error_lines(alloc),
+        End::Filtered(filtered) => filtered.error_lines(alloc),
+        End::BaseRefused(refusal) => base_refused_line(alloc, refusal),
+        End::Vectors(VectorEnd::Malformed(number)) => malformed_line(alloc, number),
+        _ => Ok(String::new(alloc)),
     }
 }
 

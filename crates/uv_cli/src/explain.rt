@@ -1,8 +1,9 @@
 //! The command `explain`: what rules ask, their sections of the URL Standard, and an example, of some rules or of each.
-ghost use Rattle.std.specs.Prelude.{◌≡◌, ◌++◌, ◌+◌, ◌-◌, ◌^◌, ◌<◌, IfOk, OnOk, map, option_map, string_bytes};
+ghost use Rattle.std.specs.Prelude.{◌≡◌, ◌++◌, ◌+◌, ◌-◌, ◌^◌, ◌<◌, IfOk, OnOk, map, option_copied, option_map};
+ghost use Rattle.std.specs.Prelude.{string_bytes};
 ghost use Rattle.uv_cli.specs.Explain.{HasExplained, HasExplainedPrefix, asked_explanations, example_lines};
 ghost use Rattle.uv_cli.specs.Explain.{explained_name, explained_violation, explanation_text, explanations_of};
-ghost use Rattle.uv_cli.specs.Explain.{rule_lines, separated, violation_lines};
+ghost use Rattle.uv_cli.specs.Explain.{mended_otherwise, rule_lines, separated, violation_lines};
 
 use crate::report::{push_line, push_present, refused_line};
 use std::alloc::{AllocError, Global};
@@ -149,7 +150,7 @@ fn push_rule(text: &mut String, rule: Rule) -> Result<(), AllocError>
     push_line(text, "section ", explanation.section)
 }
 
-// Pushes a text that a rule refuses, and that text mended.
+// Pushes a text that a rule refuses, what its author may have meant, and that text mended, where it is another.
 fn push_example(alloc: Global, text: &mut String, rule: Rule) -> Result<(), AllocError>
     ensures { OnOk result (string_bytes text.new ≡ string_bytes text.old ++ example_lines rule) }
 {
@@ -158,5 +159,19 @@ fn push_example(alloc: Global, text: &mut String, rule: Rule) -> Result<(), Allo
     push_present(text, "base ", explanation.base)?;
     push_line(text, "text ", explanation.wrong)?;
     text.push_str(refused_line(alloc, Refusal { place, rule })?.as_str())?;
-    push_line(text, "mended ", explanation.mended)
+    push_line(text, "meant ", explanation.mended)?;
+    push_present(text, "mended ", mended_otherwise(rule))
+}
+
+// What `mend` writes in place of the text that a rule refuses, where it is another text than the meant one.
+fn mended_otherwise(rule: Rule) -> Option<&'static str>
+    ensures { option_copied result ≡ mended_otherwise rule }
+{
+    match rule {
+        Rule::HostMissing => Some("https://a"),
+        Rule::FirstSegmentEmpty => Some("https://example.com/.//a"),
+        Rule::DriveAfterHost => Some("file://h/./C:/x"),
+        Rule::Percent => Some("http://h/%254?a"),
+        _ => None,
+    }
 }

@@ -4,10 +4,10 @@ ghost use Rattle.uv_lint.specs.LineViolations.{file_setting};
 ghost use Rattle.uv_report.specs.Report.{begin_text};
 ghost use Rattle.uv_cli.specs.Hints.{file_hint};
 ghost use Rattle.uv_cli.specs.Lint.{HasLinted, HasLintedAgainst, LintsAll, LintsNamed, LintsNext, LintsNothing};
-ghost use Rattle.uv_cli.specs.Lint.{LintsOpened, IsUnopened, IsWhyUnopened, WritesPiece, columns_of, form_of};
-ghost use Rattle.uv_cli.specs.Lint.{format_of, input_name, is_input, reported_name};
+ghost use Rattle.uv_cli.specs.Lint.{LintsOpened, IsUnopened, IsWhyUnopened, WritesPiece, columns_of};
+ghost use Rattle.uv_cli.specs.Lint.{failed_read_text, form_of, format_of, input_name, is_input, reported_name};
 ghost use Rattle.uv_cli.specs.Linted.{is_stopped, is_writable};
-ghost use Rattle.uv_cli.specs.Unread.{unread_text};
+ghost use Rattle.uv_cli.specs.Unread.{unread_of, unread_text};
 
 use crate::arguments::said_of;
 use crate::ends::End;
@@ -318,8 +318,21 @@ fn report_failed_read<R: Eprint + AllocGlobal>(
     answer: Result<(), LintFault>,
     kind: Option<ErrorKind>,
 ) {
-    if answer == Err(LintFault::Read) {
-        say(rt, unread_lines(rt.alloc(), file, Unread::of(kind)));
+    say(rt, failed_read_lines(rt.alloc(), file, answer, kind));
+}
+
+// What is reported of a file that wasn't read to its end, where a read of it failed, or nothing.
+fn failed_read_lines(
+    alloc: Global,
+    file: &str,
+    answer: Result<(), LintFault>,
+    kind: Option<ErrorKind>,
+) -> Result<String, AllocError>
+    ensures { IfOk result (λ lines. string_bytes lines ≡ failed_read_text file.now answer (unread_of kind)) }
+{
+    match answer {
+        Err(LintFault::Read) => unread_lines(alloc, file, Unread::of(kind)),
+        _ => Ok(String::new(alloc)),
     }
 }
 

@@ -3,11 +3,14 @@ ghost use Rattle.std.specs.Prelude.{◌≡◌, ◌-◌, ◌^◌, ◌<◌, MatchR
 ghost use Rattle.std.specs.IoError.{error_kind};
 ghost use Rattle.std.specs.Io.KnownBytes.{Keeps};
 ghost use Rattle.uv_cli.specs.Calls.{is_closed_by};
+ghost use Rattle.uv_cli.specs.Ends.{status_of};
 ghost use Rattle.uv_cli.specs.Flushed.{ended_after, open_end};
 ghost use Rattle.uv_cli.specs.Program.{HasAnswered, HasEndedJob, HasFile, HasRun, HasShown, IsStatus};
 
 use crate::arguments::{OwnArguments, refused, words_of};
-use crate::ends::{End, end_after_output, end_without_file, end_without_job, error_line, status};
+use crate::ends::{
+    End, end_after_output, end_without_file, end_without_job, fixed_line, numbered_line, status,
+};
 use crate::hints::{job_hint, words_hint};
 use crate::jobs::run_job;
 use crate::messages::{message_line, message_lines, say};
@@ -233,14 +236,24 @@ fn clap_lines(alloc: Global, error: &clap::Error, has_hint: bool) -> Result<Stri
 fn end_with<R: Eprint + AllocGlobal>(rt: &R, end: End) -> u8
     ensures { IsStatus end result }
 {
-    match error_line(rt.alloc(), end) {
-        Ok(line) => {
-            let _ = rt.eprint(line.as_str());
+    match fixed_line(end) {
+        Some(line) => {
+            let _ = rt.eprint(line);
             status(end)
         }
-        Err(AllocError) => {
-            let _ = rt.eprintln("memory");
-            status(End::Fault(CliFault::Memory))
-        }
+        None => said(rt, end, numbered_line(rt.alloc(), end)),
     }
+}
+
+// Says a line, or that there was no memory for it, and gives the exit status: that of the end, or that of no memory.
+fn said<R: Eprint>(rt: &R, end: End, line: Result<String, AllocError>) -> u8
+    ensures { MatchResult line (λ text. result ≡ status_of end)
+        (λ fault. result ≡ status_of (End.Fault CliFault.Memory)) }
+{
+    let status = match &line {
+        Ok(_) => status(end),
+        Err(AllocError) => status(End::Fault(CliFault::Memory)),
+    };
+    say(rt, line);
+    status
 }

@@ -2,6 +2,7 @@
 ghost use Rattle.std.specs.Prelude.{◌≡◌, ◌++◌, IfOk, OnOk, string_bytes};
 ghost use Rattle.uv_cli.specs.Reasons.{base_of, base_reason, base_text, failed_stream};
 ghost use Rattle.uv_cli.specs.Reasons.{input_text, profile_of, reason_text, reasons_text, unwritten_text, write_reason};
+ghost use Rattle.uv_cli.specs.Unread.{unread_of};
 
 use crate::ends::End;
 use crate::messages::say;
@@ -62,8 +63,25 @@ pub(crate) fn report_reasons<R: Eprint + AllocGlobal>(
     read: Option<ErrorKind>,
     written: Option<ErrorKind>,
 ) {
-    let lines = reason_lines(rt.alloc(), profile, base, end, Unread::of(read), written);
-    say(rt, lines);
+    say(
+        rt,
+        fault_lines(rt.alloc(), profile, base, end, read, written),
+    );
+}
+
+// What is reported at the end, by the kinds of the last errors of both streams, if these are known.
+fn fault_lines(
+    alloc: Global,
+    profile: Profile,
+    base: &str,
+    end: End,
+    read: Option<ErrorKind>,
+    written: Option<ErrorKind>,
+) -> Result<String, AllocError>
+    ensures { IfOk result (λ lines. string_bytes lines
+        ≡ reasons_text profile base.now end (unread_of read) written) }
+{
+    reason_lines(alloc, profile, base, end, Unread::of(read), written)
 }
 
 /// The text of the job's base, or an empty one.

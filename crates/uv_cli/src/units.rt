@@ -1,6 +1,7 @@
 //! Names of what columns count that none has, or that SARIF has no word for.
-ghost use Rattle.std.specs.Prelude.{◌≡◌, IfOk, map, string_bytes};
-ghost use Rattle.uv_cli.specs.Messages.{refused_unit_text};
+ghost use Rattle.std.specs.Prelude.{◌≡◌, IfOk, None, Some, codes, map, string_bytes};
+ghost use Rattle.uv_cli.specs.Messages.{refused_unit_text, unit_text, unknown_name_text};
+ghost use Rattle.uv_cli.specs.Names.{takes_unit, unit_names};
 
 use crate::ends::End;
 use crate::unknown::{Noun, lines, push_names};
@@ -21,15 +22,32 @@ const UNIT: Noun = Noun {
 };
 
 /// What is reported of a lint that names what columns count, where nothing has that name, or SARIF no word for it.
-pub(crate) fn unit_lines(alloc: Global, name: &str, end: End) -> Result<String, AllocError> {
+pub(crate) fn unit_lines(alloc: Global, name: &str, end: End) -> Result<String, AllocError>
+    ensures { IfOk result (λ text. string_bytes text ≡ unit_text name.now end) }
+{
     match end {
-        End::UnknownColumns => lines(alloc, UNIT, name, unit_names(alloc, None)?.as_slice()),
-        End::ColumnsRefused => {
-            let names = unit_names(alloc, Some(Format::Sarif))?;
-            refused_unit_lines(alloc, name, names.as_slice())
-        }
+        End::UnknownColumns => unknown_unit_lines(alloc, name),
+        End::ColumnsRefused => sarif_lines(alloc, name),
         _ => Ok(String::new(alloc)),
     }
+}
+
+// What is reported of a name that no column unit has.
+fn unknown_unit_lines(alloc: Global, name: &str) -> Result<String, AllocError>
+    ensures { IfOk result (λ text. string_bytes text
+        ≡ unknown_name_text (codes "column unit") (codes "column units") (unit_names None) name.now) }
+{
+    let names = unit_names(alloc, None)?;
+    lines(alloc, UNIT, name, names.as_slice())
+}
+
+// What is reported of a unit that SARIF has no word for.
+fn sarif_lines(alloc: Global, name: &str) -> Result<String, AllocError>
+    ensures { IfOk result (λ text. string_bytes text
+        ≡ refused_unit_text name.now (unit_names (Some Format.Sarif))) }
+{
+    let names = unit_names(alloc, Some(Format::Sarif))?;
+    refused_unit_lines(alloc, name, names.as_slice())
 }
 
 // What is reported of a unit that SARIF has no word for, by the names of those that it has one for.
@@ -44,12 +62,24 @@ fn refused_unit_lines(alloc: Global, name: &str, names: &[&str]) -> Result<Strin
 }
 
 // The names of what columns may count, in a format where one is given.
-fn unit_names(alloc: Global, format: Option<Format>) -> Result<Vec<&'static str>, AllocError> {
+fn unit_names(alloc: Global, format: Option<Format>) -> Result<Vec<&'static str>, AllocError>
+    ensures { IfOk result (λ names. map (λ n. n.now) names.items ≡ unit_names format) }
+{
     let mut names = Vec::new(alloc);
     for columns in &COLUMNS {
-        if format.is_none_or(|format| format.takes_columns(*columns)) {
+        if takes_unit(format, *columns) {
             names.push(columns.name())?;
         }
     }
     Ok(names)
+}
+
+// Whether columns may count this in a format, where one is given.
+fn takes_unit(format: Option<Format>, columns: Columns) -> bool
+    ensures { result ≡ takes_unit format columns }
+{
+    match format {
+        Some(format) => format.takes_columns(columns),
+        None => true,
+    }
 }

@@ -1,10 +1,12 @@
 //! Names that none has: of a rule, a format, a profile or a kind of mended texts.
-ghost use Rattle.std.specs.Prelude.{◌≡◌, ◌++◌, IfOk, OnOk, map, option_copied, string_bytes};
+ghost use Rattle.std.specs.Option.{option_map_or};
+ghost use Rattle.std.specs.Prelude.{◌≡◌, ◌++◌, [], IfOk, OnOk, codes, map, option_copied, string_bytes};
 ghost use Rattle.uv_cli.specs.Messages.{longer_text, named_text, near_text, names_text, spaced_text, told_text};
-ghost use Rattle.uv_cli.specs.Messages.{unknown_names_text, unknown_rules_text, unknown_text};
+ghost use Rattle.uv_cli.specs.Messages.{unknown_name_text, unknown_names_text, unknown_rules_text, unknown_text};
+ghost use Rattle.uv_cli.specs.Messages.{unknown_of_job, unknown_of_lint};
 ghost use Rattle.uv_cli.specs.Explain.{is_explained};
 ghost use Rattle.uv_cli.specs.Names.{is_longer, longer_names, nearest, rule_names, unknown_rules};
-ghost use Rattle.uv_cli.specs.Names.{with_further, with_unknown};
+ghost use Rattle.uv_cli.specs.Names.{format_names, kind_names, profile_names, with_further, with_unknown};
 
 use crate::ends::End;
 use crate::messages::message_line;
@@ -15,7 +17,7 @@ use strsim::osa_distance;
 use uv_mend::MendKind;
 use uv_model::{Profile, Rule};
 use uv_report::{Format, LineViolation, LocatedFault, push_shown};
-use uv_words::Job;
+use uv_words::{Job, LintJob};
 
 // The formats in the order of docs and help.
 const FORMATS: [Format; 6] = [
@@ -70,31 +72,63 @@ const OF_LINES: &str = "--only and --quiet are for the lines of standard input, 
 
 /// What is reported before the last line where a job names what there is none of: the name, the nearest one, if one is
 /// near, and the names that there are; and where it asks of a text what is asked of lines.
-pub(crate) fn unknown_lines(alloc: Global, job: &Job, end: End) -> Result<String, AllocError> {
-    match job {
-        Job::Explain { rules } if end == End::UnknownRule => rule_lines(alloc, rules.as_slice()),
-        Job::Lint(asked) if end == End::UnknownFormat => {
-            let name = asked.format.as_deref().unwrap_or("");
-            lines(alloc, FORMAT, name, format_names(alloc)?.as_slice())
-        }
-        Job::Lint(asked) => unit_lines(alloc, asked.columns.as_deref().unwrap_or(""), end),
-        Job::Filter(asked) if end == End::UnknownKind => {
-            let name = asked.only.as_deref().unwrap_or("");
-            lines(alloc, KIND, name, kind_names(alloc)?.as_slice())
-        }
-        Job::LintWithoutInput => message_line(alloc, OF_INPUT),
-        Job::LintUnnamed => message_line(alloc, OF_NO_NAME),
-        Job::FilterOfText => message_line(alloc, OF_LINES),
-        Job::UnknownProfile { name } => {
-            lines(
-                alloc,
-                PROFILE,
-                name.as_str(),
-                profile_names(alloc)?.as_slice(),
-            )
-        }
+pub(crate) fn unknown_lines(alloc: Global, job: &Job, end: End) -> Result<String, AllocError>
+    ensures { IfOk result (λ text. string_bytes text ≡ unknown_of_job job.now end) }
+{
+    match (job, end) {
+        (Job::Explain { rules }, End::UnknownRule) => rule_lines(alloc, rules.as_slice()),
+        (Job::Lint(asked), _) => names_lines(alloc, asked, end),
+        (Job::Filter(asked), End::UnknownKind) => kind_lines(alloc, or_empty(&asked.only)),
+        (Job::LintWithoutInput, _) => message_line(alloc, OF_INPUT),
+        (Job::LintUnnamed, _) => message_line(alloc, OF_NO_NAME),
+        (Job::FilterOfText, _) => message_line(alloc, OF_LINES),
+        (Job::UnknownProfile { name }, _) => profile_lines(alloc, name.as_str()),
         _ => Ok(String::new(alloc)),
     }
+}
+
+// What is reported of the names that a lint is given, where it ended so.
+fn names_lines(alloc: Global, asked: &LintJob, end: End) -> Result<String, AllocError>
+    ensures { IfOk result (λ text. string_bytes text ≡ unknown_of_lint asked.now end) }
+{
+    match end {
+        End::UnknownFormat => format_lines(alloc, or_empty(&asked.format)),
+        end => unit_lines(alloc, or_empty(&asked.columns), end),
+    }
+}
+
+// A name, or an empty text where none is given.
+fn or_empty(name: &Option<String>) -> &str
+    ensures { result.now ≡ option_map_or string_bytes name.now [] }
+{
+    name.as_deref().unwrap_or("")
+}
+
+// What is reported of a name that no format has.
+fn format_lines(alloc: Global, name: &str) -> Result<String, AllocError>
+    ensures { IfOk result (λ text. string_bytes text
+        ≡ unknown_name_text (codes "format") (codes "formats") format_names name.now) }
+{
+    let names = format_names(alloc)?;
+    lines(alloc, FORMAT, name, names.as_slice())
+}
+
+// What is reported of a name that no kind has.
+fn kind_lines(alloc: Global, name: &str) -> Result<String, AllocError>
+    ensures { IfOk result (λ text. string_bytes text
+        ≡ unknown_name_text (codes "kind") (codes "kinds") kind_names name.now) }
+{
+    let names = kind_names(alloc)?;
+    lines(alloc, KIND, name, names.as_slice())
+}
+
+// What is reported of a name that no profile has.
+fn profile_lines(alloc: Global, name: &str) -> Result<String, AllocError>
+    ensures { IfOk result (λ text. string_bytes text
+        ≡ unknown_name_text (codes "profile") (codes "profiles") profile_names name.now) }
+{
+    let names = profile_names(alloc)?;
+    lines(alloc, PROFILE, name, names.as_slice())
 }
 
 // What is reported where the rules with these names are to be explained, and some of the names are those of none.
@@ -168,7 +202,10 @@ fn rule_names(alloc: Global) -> Result<Vec<&'static str>, AllocError>
     Ok(names)
 }
 
-fn format_names(alloc: Global) -> Result<Vec<&'static str>, AllocError> {
+// The names of the formats.
+fn format_names(alloc: Global) -> Result<Vec<&'static str>, AllocError>
+    ensures { IfOk result (λ names. map (λ n. n.now) names.items ≡ format_names) }
+{
     let mut names = Vec::new(alloc);
     for format in &FORMATS {
         names.push(format.name())?;
@@ -176,7 +213,10 @@ fn format_names(alloc: Global) -> Result<Vec<&'static str>, AllocError> {
     Ok(names)
 }
 
-fn kind_names(alloc: Global) -> Result<Vec<&'static str>, AllocError> {
+// The names of the kinds.
+fn kind_names(alloc: Global) -> Result<Vec<&'static str>, AllocError>
+    ensures { IfOk result (λ names. map (λ n. n.now) names.items ≡ kind_names) }
+{
     let mut names = Vec::new(alloc);
     for kind in &KINDS {
         names.push(kind.name())?;
@@ -184,7 +224,10 @@ fn kind_names(alloc: Global) -> Result<Vec<&'static str>, AllocError> {
     Ok(names)
 }
 
-fn profile_names(alloc: Global) -> Result<Vec<&'static str>, AllocError> {
+// The names of the profiles.
+fn profile_names(alloc: Global) -> Result<Vec<&'static str>, AllocError>
+    ensures { IfOk result (λ names. map (λ n. n.now) names.items ≡ profile_names) }
+{
     let mut names = Vec::new(alloc);
     for profile in &Profile::in_order() {
         names.push(profile.name())?;
@@ -198,7 +241,10 @@ pub(crate) fn lines(
     noun: Noun,
     name: &str,
     names: &[&str],
-) -> Result<String, AllocError> {
+) -> Result<String, AllocError>
+    ensures { IfOk result (λ text. string_bytes text ≡ unknown_name_text noun.one.now noun.all.now
+        (map (λ n. n.now) names.now) name.now) }
+{
     all_lines(alloc, noun.one, noun.all, &[name], names)
 }
 

@@ -1,6 +1,6 @@
 //! Files that can't be read: why, and what is reported of them on standard error.
 ghost use Rattle.std.specs.Prelude.{◌≡◌, ◌++◌, IfOk, OnOk, string_bytes};
-ghost use Rattle.uv_cli.specs.Unread.{IsFault, IsReason, name_text, reason_text, unread_text};
+ghost use Rattle.uv_cli.specs.Unread.{IsFault, IsReason, name_text, reason_text, unread_of, unread_text};
 
 use crate::messages::say;
 use std::alloc::{AllocError, Global};
@@ -28,7 +28,8 @@ pub(crate) enum Unread {
 impl Unread {
     /// The reason, by the kind of the error that the library gave, if it is known.
     pub(crate) fn of(kind: Option<ErrorKind>) -> Unread
-        ensures { IsReason kind result }
+        ensures reason { IsReason kind result }
+        ensures value { result ≡ unread_of kind }
     {
         match kind {
             Some(ErrorKind::NotFound) => Unread::Missing,

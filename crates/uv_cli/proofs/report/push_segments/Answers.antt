@@ -1,5 +1,5 @@
 -- A segment more is a line more.
-use Rattle.std.proofs.Common.{◌++◌, ◌∷◌, ap, append_assoc, append-nil, sym, ◌∙◌, codes, string_bytes}
+use Rattle.std.proofs.Common.{◌++◌, ap, append_assoc, sym, ◌∙◌, codes, string_bytes}
 use Rattle.uv_cli.specs.CheckText.{line, segment_lines}
 use Rattle.uv_cli.proofs.report.push_segments.Goals as goal
 
