@@ -52,7 +52,19 @@ enum urlcheck_outcome {
     URLCHECK_MEMORY = 5,       /* malloc gave no memory; nothing is said of the text */
     URLCHECK_NO_PROFILE = 6,   /* no profile has the number that was given */
     URLCHECK_NO_BASE = 7,      /* the base that was given is none that urlcheck_prepare made */
-    URLCHECK_MENDED = 8        /* the text violates a rule, and urlcheck_mend gives a valid one in its place */
+    URLCHECK_MENDED = 8,       /* the text violates a rule, and urlcheck_mend gives a valid one in its place */
+    URLCHECK_DONE = 9,         /* of batches and reports: what was asked for is given */
+    URLCHECK_NO_FORMAT = 10,   /* no format of reports has the number that was given */
+    URLCHECK_NO_UNIT = 11,     /* no unit of columns has the number, or the format has no word for the unit */
+    URLCHECK_NO_RULE = 12,     /* no rule has the number, of texts or of lines */
+    URLCHECK_NO_KIND = 13,     /* no kind of mended text has the number */
+    URLCHECK_NO_COMPLETION = 14, /* no urlcheck_completion has the number */
+    URLCHECK_NO_PLACE = 15,    /* the place is behind the end of the text */
+    URLCHECK_NO_COLUMN = 16,   /* a line or a column isn't from 1 to 4294967295 */
+    URLCHECK_NO_OFFSETS = 17,  /* an offset is less than the one before it, or behind the end of the texts */
+    URLCHECK_NULL = 18,        /* a null pointer stands where there are bytes, offsets or a struct */
+    URLCHECK_FILE_NO_UTF8 = 19,  /* the name of the file is no UTF-8 */
+    URLCHECK_MENDED_NO_UTF8 = 20 /* the mended text is no UTF-8 */
 };
 
 /* The rules that a text can violate. A refusal names the rule of the least number at the least place. */
@@ -151,6 +163,94 @@ typedef struct urlcheck_base {
     uint32_t empty_host;    /* 1 where the host is the empty one, else 0 */
 } urlcheck_base;
 
+/* What is wrong with a line that isn't judged, numbered behind the rules: reports take these too. */
+enum urlcheck_line_rule {
+    URLCHECK_LINE_NO_UTF8 = 101,      /* the line is no UTF-8 */
+    URLCHECK_LINE_TOO_LONG = 102,     /* the line has more than 65536 bytes */
+    URLCHECK_LINE_NO_FILE = 103,      /* of a line that isn't FILE:LINE:COLUMN:LINK: FILE is empty */
+    URLCHECK_LINE_NO_LINE = 104,      /* LINE is missing */
+    URLCHECK_LINE_LINE_RANGE = 105,   /* LINE isn't from 1 to 4294967295 */
+    URLCHECK_LINE_NO_COLUMN = 106,    /* COLUMN is missing */
+    URLCHECK_LINE_COLUMN_RANGE = 107, /* COLUMN isn't from 1 to 4294967295 */
+    URLCHECK_LINE_NO_LINK = 108       /* LINK is missing */
+};
+
+/* The formats of reports, as `urlcheck lint --format` names them. */
+enum urlcheck_format {
+    URLCHECK_GNU = 0,
+    URLCHECK_CARET = 1,
+    URLCHECK_JSON = 2,
+    URLCHECK_GITHUB = 3,
+    URLCHECK_SARIF = 4,
+    URLCHECK_CHECKSTYLE = 5
+};
+
+/* What columns count, as `urlcheck lint --columns` names it. SARIF takes code points and UTF-16 alone. */
+enum urlcheck_unit {
+    URLCHECK_CODE_POINTS = 0,
+    URLCHECK_BYTES = 1, /* the bytes of UTF-8 */
+    URLCHECK_UTF16 = 2, /* the code units of UTF-16 */
+    URLCHECK_SCREEN = 3 /* the columns of a screen, on which a tab goes on to the next of the columns 9, 17, .. */
+};
+
+/* How the run over the files of a report has ended. SARIF alone says it. */
+enum urlcheck_completion {
+    URLCHECK_WHOLE = 0,  /* every file was read to its end */
+    URLCHECK_UNREAD = 1, /* a file couldn't be read to its end */
+    URLCHECK_STOPPED = 2 /* something stopped the run before the last file's end */
+};
+
+/* The texts that explain a rule, as `urlcheck explain` prints them. */
+enum urlcheck_explanation {
+    URLCHECK_ASKS = 0,         /* what the rule asks */
+    URLCHECK_SECTION = 1,      /* the section of the URL Standard, and what it calls that */
+    URLCHECK_EXAMPLE_BASE = 2, /* the base that the example is read against; empty where it is read alone */
+    URLCHECK_EXAMPLE = 3,      /* a text that is refused by the rule */
+    URLCHECK_EXAMPLE_MENDED = 4 /* the same text, mended */
+};
+
+/* The answer of a batch. */
+typedef struct urlcheck_batch {
+    uint32_t outcome; /* URLCHECK_DONE, or why nothing was judged and nothing written: one of urlcheck_outcome */
+    size_t row;       /* of URLCHECK_NO_OFFSETS the first text whose offsets are wrong, from 0; else 0 */
+    size_t valid;     /* how many texts are valid */
+    size_t length;    /* 0: of a batch that writes texts the length of them all */
+} urlcheck_batch;
+
+/* The answer of urlcheck_next_refused: a line that isn't valid, in bytes. */
+typedef struct urlcheck_line {
+    urlcheck_finding found; /* what was found of the line; URLCHECK_VALID where no further line is refused */
+    size_t start;           /* where the line begins in the buffer */
+    size_t length;          /* the length of its text, without what ends the line */
+    size_t next;            /* where the line after it begins: the place to go on from */
+    size_t passed;          /* how many valid lines stand before it, from the place that was given on */
+} urlcheck_line;
+
+/* The answer of a call that writes a text: `found` says URLCHECK_DONE, and else why there is none. */
+typedef struct urlcheck_written {
+    urlcheck_finding found; /* of a text that is no UTF-8, also how far it is */
+    size_t length;          /* the length of the text in bytes, which isn't written where it has no room, else 0 */
+} urlcheck_written;
+
+/* The answer of urlcheck_column. */
+typedef struct urlcheck_counted {
+    urlcheck_finding found; /* URLCHECK_DONE, or why there is no column */
+    uint64_t column;        /* the column, from 1; 18446744073709551615 for each beyond that; 0 where there is none */
+} urlcheck_counted;
+
+/* What is wrong with a text that stands in a file, for urlcheck_diagnostic. */
+typedef struct urlcheck_violation {
+    uint32_t profile;    /* by which the text is judged: one of urlcheck_profile */
+    uint32_t rule;       /* one of urlcheck_rule or of urlcheck_line_rule */
+    size_t place;        /* where the text is wrong, in code points from 0 */
+    uint64_t line;       /* the line of that place in the file, from 1 */
+    uint64_t column;     /* its column, from 1 */
+    uint32_t kind;       /* of the text to write in its place: one of urlcheck_mend_kind, or 0 where there is none */
+    uint32_t has_region; /* 1 where a program may write it where this one stands, all of it in the line; else 0 */
+    uint64_t first_column; /* where has_region is 1: the column of the text's first code point, from 1 */
+    uint64_t end_column;   /* the column behind its last one, from 1 */
+} urlcheck_violation;
+
 /* Whether the text is a valid URL string alone. The verdict is never about a base. */
 urlcheck_answer urlcheck_check(const uint8_t *text, size_t length, uint32_t profile);
 
@@ -225,6 +325,94 @@ size_t urlcheck_rule_name(uint32_t rule, uint8_t *out, size_t room);
 /* The same with a sentence that says what is wrong at the place, of 84 bytes at most. */
 size_t urlcheck_rule_sentence(uint32_t rule, uint8_t *out, size_t room);
 
+/*
+ * Judges many texts alone by a profile. Text i is the bytes from offsets[i] to offsets[i + 1] of `texts`, so there are
+ * `count` + 1 offsets. Of text i, the number of the verdict goes to verdicts[i], that of the rule to rules[i] and the
+ * place in code points to places[i]: what urlcheck_check answers on that text alone. Each of the three may be null,
+ * and else has `count` elements. Where the outcome isn't URLCHECK_DONE, nothing is written.
+ */
+urlcheck_batch urlcheck_check_many(const uint8_t *texts, size_t length, const uint64_t *offsets, size_t count,
+                                   uint32_t profile, uint8_t *verdicts, uint8_t *rules, uint64_t *places);
+
+/* The same where the offsets have 32 bits. */
+urlcheck_batch urlcheck_check_many_32(const uint8_t *texts, size_t length, const uint32_t *offsets, size_t count,
+                                      uint32_t profile, uint8_t *verdicts, uint8_t *rules, uint64_t *places);
+
+/*
+ * Judges the lines of a buffer alone by a profile, from the byte `from` on, up to the first that isn't valid. A line
+ * ends with LF, and one CR before that is no part of its text; what follows the last LF is a line where it isn't empty.
+ * An empty line is the empty text. `found` is what urlcheck_check finds of the line's text. Where all lines are valid
+ * it is URLCHECK_VALID, and `start` and `next` are the end of the buffer. The next call goes on from `next`.
+ */
+urlcheck_line urlcheck_next_refused(const uint8_t *lines, size_t length, size_t from, uint32_t profile);
+
+/*
+ * The same answer as that of urlcheck_resolve_against on the base's bytes and profile. The bytes are those that the
+ * base was prepared from.
+ */
+urlcheck_resolved urlcheck_resolve_with(const uint8_t *text, size_t length, const urlcheck_base *base,
+                                        const uint8_t *base_text, size_t base_length, uint8_t *out, size_t room);
+
+/* The same answer as that of urlcheck_mend_against on the base's bytes and profile. */
+urlcheck_mended urlcheck_mend_with(const uint8_t *text, size_t length, const urlcheck_base *base,
+                                   const uint8_t *base_text, size_t base_length, uint8_t *out, size_t room);
+
+/*
+ * Reports, as `urlcheck lint` writes them: a beginning, for each file its own beginning, its diagnostics and its end,
+ * and then an end. Each call writes its text, in UTF-8 and without a NUL, to the start of `out` where `room` bytes hold
+ * it, and gives its length, which may be 0. Else `out` stays as it is. The unit of a report's columns is one for all
+ * calls.
+ */
+urlcheck_written urlcheck_report_begin(uint32_t format, uint32_t unit, uint8_t *out, size_t room);
+
+urlcheck_written urlcheck_report_file_begin(uint32_t format, const uint8_t *file, size_t length, uint8_t *out,
+                                            size_t room);
+
+/*
+ * What is reported of a violation of a text in the file of that name. `is_first` is 1 where no other diagnostic stands
+ * before it in the report, else 0. The mended text is read where the violation's kind isn't 0; the region is asked for
+ * where `has_region` is 1, and SARIF, whose fix needs it, leaves the mended text out where there is none. A format that
+ * says no text to write (urlcheck_shows_mended) leaves both out.
+ */
+urlcheck_written urlcheck_diagnostic(uint32_t format, uint32_t is_first, const urlcheck_violation *violation,
+                                     const uint8_t *file, size_t file_length, const uint8_t *text, size_t length,
+                                     const uint8_t *mended, size_t mended_length, uint8_t *out, size_t room);
+
+urlcheck_written urlcheck_report_file_end(uint32_t format, uint8_t *out, size_t room);
+
+urlcheck_written urlcheck_report_end(uint32_t format, uint32_t completion, uint8_t *out, size_t room);
+
+/*
+ * The sentence, without its end, on a violation of a text by a profile: what stands behind `error: ` in the format gnu.
+ * The rule is one of urlcheck_rule or of urlcheck_line_rule, the place is in code points.
+ */
+urlcheck_written urlcheck_message(const uint8_t *text, size_t length, uint32_t profile, uint32_t rule, size_t place,
+                                  uint8_t *out, size_t room);
+
+/* The column in a unit of a place of a text that begins in the column `start`. The place is in code points. */
+urlcheck_counted urlcheck_column(const uint8_t *text, size_t length, uint32_t unit, uint64_t start, size_t place);
+
+/* Whether diagnostics of the format say what to write in place of a text; false where no format has the number. */
+urlcheck_bool urlcheck_shows_mended(uint32_t format);
+
+/* Whether the format takes columns that count the unit; false where there is no such format or unit. */
+urlcheck_bool urlcheck_takes_unit(uint32_t format, uint32_t unit);
+
+/*
+ * Writes the name of the format, as `sarif`, to the start of `out`, as urlcheck_rule_name writes its text: of 10 bytes
+ * at most, and of 0 where no format has the number.
+ */
+size_t urlcheck_format_name(uint32_t format, uint8_t *out, size_t room);
+
+/* The same of the name of the unit, as `code-points`, of 11 bytes at most. */
+size_t urlcheck_unit_name(uint32_t unit, uint8_t *out, size_t room);
+
+/* The same of a text that explains a rule. `part` is one of urlcheck_explanation, and else the length is 0. */
+size_t urlcheck_explain(uint32_t rule, uint32_t part, uint8_t *out, size_t room);
+
+/* The place at which the example of the rule is refused, in code points; 0 where no rule has the number. */
+size_t urlcheck_example_place(uint32_t rule);
+
 /* The version of the library: 10000 times its first number, 100 times its second, and its third. */
 uint32_t urlcheck_version(void);
 
@@ -264,6 +452,21 @@ URLCHECK_HOLDS(sizeof(urlcheck_fault) == 24 && offsetof(urlcheck_fault, rule) ==
 URLCHECK_HOLDS(offsetof(urlcheck_fault, place) == 8 && offsetof(urlcheck_fault, byte_place) == 16);
 URLCHECK_HOLDS(sizeof(urlcheck_fault_count) == 32 && offsetof(urlcheck_fault_count, found) == 0);
 URLCHECK_HOLDS(offsetof(urlcheck_fault_count, count) == 24);
+URLCHECK_HOLDS(sizeof(urlcheck_batch) == 32 && offsetof(urlcheck_batch, outcome) == 0);
+URLCHECK_HOLDS(offsetof(urlcheck_batch, row) == 8 && offsetof(urlcheck_batch, valid) == 16);
+URLCHECK_HOLDS(offsetof(urlcheck_batch, length) == 24);
+URLCHECK_HOLDS(sizeof(urlcheck_line) == 56 && offsetof(urlcheck_line, found) == 0);
+URLCHECK_HOLDS(offsetof(urlcheck_line, start) == 24 && offsetof(urlcheck_line, length) == 32);
+URLCHECK_HOLDS(offsetof(urlcheck_line, next) == 40 && offsetof(urlcheck_line, passed) == 48);
+URLCHECK_HOLDS(sizeof(urlcheck_written) == 32 && offsetof(urlcheck_written, found) == 0);
+URLCHECK_HOLDS(offsetof(urlcheck_written, length) == 24);
+URLCHECK_HOLDS(sizeof(urlcheck_counted) == 32 && offsetof(urlcheck_counted, found) == 0);
+URLCHECK_HOLDS(offsetof(urlcheck_counted, column) == 24);
+URLCHECK_HOLDS(sizeof(urlcheck_violation) == 56 && offsetof(urlcheck_violation, profile) == 0);
+URLCHECK_HOLDS(offsetof(urlcheck_violation, rule) == 4 && offsetof(urlcheck_violation, place) == 8);
+URLCHECK_HOLDS(offsetof(urlcheck_violation, line) == 16 && offsetof(urlcheck_violation, column) == 24);
+URLCHECK_HOLDS(offsetof(urlcheck_violation, kind) == 32 && offsetof(urlcheck_violation, has_region) == 36);
+URLCHECK_HOLDS(offsetof(urlcheck_violation, first_column) == 40 && offsetof(urlcheck_violation, end_column) == 48);
 #undef URLCHECK_HOLDS
 #endif
 #endif

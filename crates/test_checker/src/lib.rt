@@ -1,15 +1,14 @@
-//! Tests of the checker: the verdicts and the faults of `uv_grammar`. They stand above this crate, so that it isn't
-//! proved twice. The list of faults that a text is to have is made by one function that is proved.
+//! Tests of the checker: its verdicts while no memory is left. They stand above `uv_grammar`, so that it isn't proved
+//! twice. Its verdicts and faults are tested by runs over `vectors/`, with the program and the library for C. What is asked
+//! of an answer is one function that is proved.
 #![tactic(auto)]
 
+mod answers;
 #[cfg(test)]
 mod bases;
 #[cfg(test)]
-mod faults;
-#[cfg(test)]
-mod verdicts;
-mod wanted;
+mod memory;
 #[cfg(test)]
 mod without_memory;
 
-pub use wanted::refusals_at;
+pub use answers::is_wanted;

@@ -13,7 +13,8 @@ asks After //, ftp, http, https, ws and wss have a host, file a host or a path, 
 section 3.4, 4.3
 text https:///a
 refused 8 host-missing
-mended https://example.com/a
+meant https://example.com/a
+mended https://a
 ";
 
 // The one name of a rule.

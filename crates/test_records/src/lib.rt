@@ -15,8 +15,6 @@ mod record;
 #[cfg(test)]
 mod resolved;
 #[cfg(test)]
-mod short_texts;
-#[cfg(test)]
 mod streams;
 #[cfg(test)]
 mod texts;

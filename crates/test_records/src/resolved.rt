@@ -6,9 +6,8 @@ use std::alloc::{AllocError, Global};
 use uv_model::{Profile, Record, Refusal, Rule};
 use uv_resolve::{ResolveFault, resolve, resolve_serialized};
 
+mod lent;
 mod memory;
-mod paths;
-mod serialized;
 
 // The record of a text alone.
 fn record_of(alloc: Global, text: &str) -> Result<Record, ResolveFault> {

@@ -1,23 +1,8 @@
-//! What columns count, worked out by hand from the code points of a text.
+//! Columns of places that are asked for in any order, which no run of the program does, and those beyond the greatest
+//! number of 64 bits. Each is worked out by hand from the code points of a text.
 
 use std::process::Abort;
 use uv_report::{ColumnCounter, Columns};
-
-// The unit has this name, and is found by it.
-fn is_named(rt: &impl Abort, columns: Columns, name: &str) {
-    assert!(rt; columns.name() == name && Columns::of_name(name) == Some(columns));
-}
-
-#[test]
-fn finds_each_unit_by_its_name(rt: HostRuntime) {
-    is_named(&rt, Columns::CodePoints, "code-points");
-    is_named(&rt, Columns::Bytes, "bytes");
-    is_named(&rt, Columns::Utf16, "utf16");
-    is_named(&rt, Columns::Screen, "screen");
-    for text in ["", "Bytes", "byte", "utf-16", "screens", "code points"] {
-        assert!(rt; Columns::of_name(text).is_none());
-    }
-}
 
 // The columns of these places of the text, which are asked for in this order, are these.
 fn counts(rt: &impl Abort, columns: Columns, rows: &[(usize, u64)]) {
@@ -94,23 +79,11 @@ fn counts_columns_in_each_unit(rt: HostRuntime) {
     counts(&rt, Columns::Screen, &SCREEN);
 }
 
-// The end of a text that begins at this column of a screen has this one.
-fn ends_at(rt: &impl Abort, start: u64, text: &str, column: u64) {
-    let mut counter = ColumnCounter::new(Columns::Screen, start, text);
-    assert!(rt; counter.column(text.len()) == column);
-}
-
-// Tabs go on to the columns 9, 17 and so on of the line, wherever the text begins in it; what isn't shown as it is
-// takes one column.
+// A text may be said to begin before the first column.
 #[test]
-fn counts_tabs_and_controls_on_a_screen(rt: HostRuntime) {
-    ends_at(&rt, 1, "\t", 9);
-    ends_at(&rt, 8, "\t", 9);
-    ends_at(&rt, 9, "\t", 17);
-    ends_at(&rt, 10, "\t\t", 25);
-    ends_at(&rt, 40, "a\t", 49);
-    ends_at(&rt, 1, "\u{1B}\u{202E}", 3);
-    ends_at(&rt, 0, "\t", 8);
+fn counts_from_before_the_first_column(rt: HostRuntime) {
+    let mut counter = ColumnCounter::new(Columns::Screen, 0, "\t");
+    assert!(rt; counter.column(1) == 8);
 }
 
 // The greatest number of 64 bits stands for each column beyond it.

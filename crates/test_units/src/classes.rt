@@ -1,4 +1,4 @@
-//! Classes of bytes, and the runs of their bytes against a plain count, at every length.
+//! Classes of bytes that are made of ranges, and the runs of their bytes against a plain count.
 ghost use Rattle.std.specs.Prelude.{◌≤◌};
 
 use std::process::Abort;
@@ -29,20 +29,6 @@ fn holds_both_ends_of_a_range(rt: HostRuntime) {
     }
     for byte in [b'y', b'z', 0xE2] {
         assert!(rt; !class.has(byte));
-    }
-}
-
-#[test]
-fn counts_the_prefix_in_the_class(rt: HostRuntime) {
-    let url = ByteClass::url();
-    assert!(rt; unit_run(b"", &url) == 0);
-    assert!(rt; unit_run(b"a/b?c:d@e f", &url) == 9);
-    assert!(rt; unit_run(b"~!x", &url) == 3);
-    assert!(rt; unit_run("a\u{E9}".as_bytes(), &url) == 1);
-    let host = ByteClass::opaque_host();
-    assert!(rt; unit_run(b"a.b;c=d_e~f:80", &host) == 11);
-    for mark in [b'/', b':', b'?', b'@', b'[', b'%', b'^', b'|'] {
-        assert!(rt; unit_run(&[b'h', mark, b'h'], &host) == 1);
     }
 }
 
@@ -83,24 +69,6 @@ fn held_bytes(class: &ByteClass) -> [bool; 256] {
         held[byte as usize] = class.has(byte);
     }
     held
-}
-
-// The same at every length up to 97.
-fn counts_plainly_at_every_length(rt: &impl Abort, class: &ByteClass) {
-    let held = held_bytes(class);
-    for length in 0..98usize {
-        counts_plainly(rt, class, &held, length);
-    }
-}
-
-#[test]
-fn counts_units_as_a_plain_loop(rt: HostRuntime) {
-    counts_plainly_at_every_length(&rt, &ByteClass::url());
-}
-
-#[test]
-fn counts_bytes_of_opaque_hosts_as_a_plain_loop(rt: HostRuntime) {
-    counts_plainly_at_every_length(&rt, &ByteClass::opaque_host());
 }
 
 #[test]

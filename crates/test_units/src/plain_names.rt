@@ -199,8 +199,8 @@ fn answer_name(name: &str, profile: Profile) -> &'static str {
     }
 }
 
-/// The answer on each name of the table, without ToASCII, by the profile.
-pub(crate) fn are_answers(rt: &impl Abort, profile: Profile, rows: &[(&str, &str)]) {
+// The answer on each name of the table, without ToASCII, by the profile.
+fn are_answers(rt: &impl Abort, profile: Profile, rows: &[(&str, &str)]) {
     for (name, answer) in rows {
         assert!(rt; answer_name(*name, profile) == *answer, "{name}");
     }
@@ -224,6 +224,83 @@ fn reads_the_hyphens_of_labels(rt: HostRuntime) {
             ("axn--b", "domain"),
             ("xn-a", "domain"),
             ("\u{E9}", "unknown"),
+        ],
+    );
+}
+
+// What is known of names by the standard profile: hyphens in the third and fourth place, and at an edge of a label (UTS
+// #46, section 4.1), the code points of a form, and what ToASCII has to be asked for.
+#[test]
+fn answers_on_names_without_toascii(rt: HostRuntime) {
+    are_answers(
+        &rt,
+        Profile::Standard,
+        &[
+            ("a.-b", "not"),
+            ("a-.b", "not"),
+            ("abc--d", "domain"),
+            ("a_b", "unknown"),
+            ("Ab--c", "unknown"),
+            ("xn--a.ab--c", "unknown"),
+        ],
+    );
+}
+
+// The same by the wider profiles.
+#[test]
+fn answers_on_more_names_without_toascii(rt: HostRuntime) {
+    are_answers(
+        &rt,
+        Profile::Wide,
+        &[
+            ("ab--c", "domain"),
+            ("ab--c.1", "number"),
+            ("a_b", "domain"),
+            ("a_b.1", "number"),
+            ("a..b_", "not"),
+            ("a+b", "unknown"),
+            ("a.xn--bcher-kva", "unknown"),
+        ],
+    );
+    are_answers(
+        &rt,
+        Profile::Parser,
+        &[
+            ("-", "domain"),
+            ("a..b_", "domain"),
+            ("a+b", "domain"),
+            ("\u{E9}", "unknown"),
+        ],
+    );
+}
+
+// By the wide profile without ToASCII, by hand: lower case with `_`, at each place of a label and of the whole, with
+// the root's full stop, and at the end in a number.
+#[test]
+fn answers_on_names_with_low_lines(rt: HostRuntime) {
+    are_answers(
+        &rt,
+        Profile::Wide,
+        &[
+            ("_a.b", "domain"),
+            ("a_.b", "domain"),
+            ("a._", "domain"),
+            ("a_b.example.", "domain"),
+            ("a_b-c.d-e", "domain"),
+            ("a_-.b", "domain"),
+            ("-_", "domain"),
+            ("a_b.1", "number"),
+            ("a_b.1.", "number"),
+            ("a_b.0x", "number"),
+            ("a_b.0x1f", "number"),
+            ("a.1_", "domain"),
+            ("a_b.0x_", "domain"),
+            ("a_..b", "not"),
+            ("._", "not"),
+            ("_..", "not"),
+            ("A_b.c", "unknown"),
+            ("xn--a_b.c", "unknown"),
+            ("a_b.xn--c", "unknown"),
         ],
     );
 }

@@ -129,3 +129,11 @@ held_request number base bytes profile kind by of_kind utf8 =
       },
       of_kind.kind_is,
     )
+
+-- ---- the profile of a base
+
+-- a base has the number of the profile by which it was judged
+pub prepared_profile : (number : ℕ) (bytes : List ℕ) (base : Base) → IsPreparedBase number bytes base
+    → base.profile ≡ number
+prepared_profile number bytes base (inl (unread, is)) = ap (λ (b : Base). b.profile) is
+prepared_profile number bytes base (inr (kind, of_kind, is)) = ap (λ (b : Base). b.profile) is

@@ -1,5 +1,7 @@
 mod AsciiLemmas
 mod BaseLemmas
+mod BatchLemmas
+mod NextLineLemmas
 mod PlaceLemmas
 mod RecordLemmas
 mod SeenLemmas

@@ -1,5 +1,5 @@
 -- The answer on a text: valid with the places of its parts, refused, or not judged.
-use Rattle.std.specs.Prelude.{◌≡◌, ℕ, ◌⊎◌, List, Option}
+use Rattle.std.specs.Prelude.{◌≡◌, ℕ, ◌⊎◌, List, Option, None}
 use Rattle.std.specs.Str.{chars}
 use Rattle.uv_model.specs.declared.profile.Profile.{Profile}
 use Rattle.uv_model.specs.Parts.{Parts}
@@ -37,3 +37,7 @@ IsAnswer number base bytes answer =
     ((answer.parts ≡ no_spans) × IsUnjudged number base bytes answer.found)
     ⊎ ((profile : Profile) × (url : Option Url) × IsRequest number base bytes profile url
     × IsJudged profile url bytes answer)
+
+-- this is what the answer on a text alone has found of it
+abbrev pub IsFound : ℕ → List ℕ → Finding → Type 0
+IsFound number bytes finding = (answer : Answer) × IsAnswer number None bytes answer × (answer.found ≡ finding)

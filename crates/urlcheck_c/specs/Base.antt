@@ -80,7 +80,12 @@ pub record IsBaseOfKind (number : ℕ) (bytes : List ℕ) (kind : BaseKind) : Ty
   pub base_is : IsBase profile (Some bytes) (Some url)
   pub kind_is : IsOfKind url kind
 
--- the kind of what the bytes denote alone, or why they denote nothing
+-- the kind of what the bytes denote alone by the profile, or why they denote nothing
+abbrev pub IsKindDenoted : Profile → List ℕ → Result BaseKind Finding → Type 0
+IsKindDenoted profile bytes (Ok kind) = (url : Url) × IsBase profile (Some bytes) (Some url) × IsOfKind url kind
+IsKindDenoted profile bytes (Err finding) = IsNoBase profile bytes finding
+
+-- the same by the profile with this number
 abbrev pub IsKindRead : ℕ → List ℕ → Result BaseKind Finding → Type 0
 IsKindRead number bytes (Ok kind) = IsBaseOfKind number bytes kind
 IsKindRead number bytes (Err finding) = IsUnread number bytes finding

@@ -9,7 +9,10 @@ use Rattle.uv_model.specs.Violations.Rule.{rule_number}
 use Rattle.urlcheck_c.specs.declared.finding.Finding.{Finding}
 use Rattle.urlcheck_c.specs.declared.finding.CallOutcome.{CallOutcome}
 use Rattle.urlcheck_c.specs.declared.finding.CallOutcome.TheVariants.{Valid, Refused, NoUtf8, BaseRefused, BaseNoUtf8}
-use Rattle.urlcheck_c.specs.declared.finding.CallOutcome.TheVariants.{Memory, NoProfile, NoBase, Mended}
+use Rattle.urlcheck_c.specs.declared.finding.CallOutcome.TheVariants.{Memory, NoProfile, NoBase, Mended, Done}
+use Rattle.urlcheck_c.specs.declared.finding.CallOutcome.TheVariants.{NoFormat, NoUnit, NoRule, NoKind, NoCompletion}
+use Rattle.urlcheck_c.specs.declared.finding.CallOutcome.TheVariants.{NoPlace, NoColumn, NoOffsets, FileNoUtf8}
+use Rattle.urlcheck_c.specs.declared.finding.CallOutcome.TheVariants.{MendedNoUtf8}
 
 -- the number of an outcome
 abbrev pub outcome_number : CallOutcome → ℕ
@@ -22,6 +25,17 @@ outcome_number Memory = 5
 outcome_number NoProfile = 6
 outcome_number NoBase = 7
 outcome_number Mended = 8
+outcome_number Done = 9
+outcome_number NoFormat = 10
+outcome_number NoUnit = 11
+outcome_number NoRule = 12
+outcome_number NoKind = 13
+outcome_number NoCompletion = 14
+outcome_number NoPlace = 15
+outcome_number NoColumn = 16
+outcome_number NoOffsets = 17
+outcome_number FileNoUtf8 = 19
+outcome_number MendedNoUtf8 = 20
 
 -- the profile with a number
 abbrev pub profile_of : ℕ → Option Profile

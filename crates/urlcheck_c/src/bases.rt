@@ -1,13 +1,14 @@
 //! A base that is judged once and held between calls.
 ghost use Rattle.std.specs.Prelude.{◌≡◌, ◌≢◌, ◌==◌, ℕ, List, Some, not};
-ghost use Rattle.urlcheck_c.specs.Base.{IsHeld, IsKindRead, IsPreparedBase, IsPreparedWith, IsUnread, flag_number};
+ghost use Rattle.urlcheck_c.specs.Base.{IsHeld, IsKindDenoted, IsKindRead, IsPreparedBase, IsPreparedWith, IsUnread};
+ghost use Rattle.urlcheck_c.specs.Base.{flag_number};
 ghost use Rattle.urlcheck_c.specs.Base.{held_base, kind_in, scheme_number, scheme_with, unread_base};
 ghost use Rattle.urlcheck_c.specs.Request.{IsUnjudged};
 
 use crate::finding::{CallOutcome, Finding};
-use crate::request::{base_of, profile_of, text_of};
-use std::alloc::Global;
-use uv_grammar::{BaseKind, BaseScheme};
+use crate::request::{profile_of, text_of};
+use std::alloc::{AllocError, Global};
+use uv_grammar::{BaseKind, BaseScheme, Verdict, check_alone};
 use uv_model::Profile;
 
 /// A base, judged alone: what a verdict on a text asks of it. It is made by `urlcheck_prepare` alone.
@@ -45,8 +46,21 @@ fn kind_of(alloc: Global, base: &[u8], profile: u32) -> Result<BaseKind, Finding
     let Some(profile) = profile_of(profile) else {
         return Err(Finding::plain(CallOutcome::NoProfile));
     };
-    let record = base_of(alloc, base, profile)?;
-    Ok(BaseKind::of(&record))
+    kind_denoted(alloc, base, profile)
+}
+
+// The kind of what the bytes of a base denote alone: its parts say it, so no record is made.
+fn kind_denoted(alloc: Global, base: &[u8], profile: Profile) -> Result<BaseKind, Finding>
+    ensures { IsKindDenoted profile base.now result }
+{
+    let base = text_of(base, CallOutcome::BaseNoUtf8)?;
+    match check_alone(alloc, base, profile) {
+        Ok(Verdict::Yes(parts)) => Ok(BaseKind::of_parts(&parts)),
+        Ok(Verdict::No(refusal)) => {
+            Err(Finding::refused(CallOutcome::BaseRefused, base, refusal))
+        }
+        Err(AllocError) => Err(Finding::plain(CallOutcome::Memory)),
+    }
 }
 
 impl Base {
@@ -175,6 +189,26 @@ pub(crate) fn prepared_with<'t>(text: &'t [u8], base: &Base) -> Result<HeldReque
         },
         None => Err(unread(text, base)),
     }
+}
+
+/// What is to be judged of the bytes of a text against the bytes of a base, or why nothing is.
+pub(crate) fn prepared_against<'t>(
+    alloc: Global,
+    text: &'t [u8],
+    base: &[u8],
+    profile: u32,
+) -> Result<HeldRequest<'t>, Finding>
+    ensures { IsPreparedWith profile base.now text.now result }
+{
+    let Some(profile) = profile_of(profile) else {
+        return Err(Finding::plain(CallOutcome::NoProfile));
+    };
+    let text = text_of(text, CallOutcome::NoUtf8)?;
+    let kind = kind_denoted(alloc, base, profile)?;
+    Ok(HeldRequest {
+        text,
+        base: HeldBase { kind, profile },
+    })
 }
 
 /// Why nothing is judged against a base that isn't valid. It is inlined, so that room for what the next function gives

@@ -1,21 +1,21 @@
 //! The check of a text: whether it is valid, and where its parts stand.
-ghost use Rattle.std.specs.Prelude.{◌≡◌, ℕ, IfOk, IsOk, List, None, Option, Some};
+ghost use Rattle.std.specs.Prelude.{◌≡◌, ◌<◌, ℕ, IfOk, IsOk, List, None, Option, Some};
 ghost use Rattle.std.specs.Str.{chars};
 ghost use Rattle.uv_grammar.specs.Bases.{IsOfKind};
 ghost use Rattle.uv_grammar.specs.NoMemory.{TakesNoMemoryAgainst};
 ghost use Rattle.uv_grammar.specs.Verdict.{IsVerdict};
 ghost use Rattle.uv_model.specs.declared.profile.Profile.{Profile};
 ghost use Rattle.uv_model.specs.Records.Url.{Url};
-ghost use Rattle.urlcheck_c.specs.Answer.{IsAnswer, IsJudged};
+ghost use Rattle.urlcheck_c.specs.Answer.{IsAnswer, IsFound, IsJudged};
 ghost use Rattle.urlcheck_c.specs.Base.{IsPreparedBase};
 ghost use Rattle.urlcheck_c.specs.Span.{no_spans};
 
-use crate::bases::{Base, HeldBase, unread};
+use crate::bases::{Base, HeldBase, prepared_against, unread};
 use crate::finding::{CallOutcome, Finding};
-use crate::request::{LoneRequest, Request, prepared, prepared_alone, text_of};
+use crate::request::{LoneRequest, prepared_alone, text_of};
 use crate::spans::{Spans, placed};
 use std::alloc::{AllocError, Global};
-use uv_grammar::{Verdict, check, check_alone, check_of_kind};
+use uv_grammar::{Verdict, check_alone, check_of_kind};
 
 /// What a text is, and where its parts stand.
 #[repr(C)]
@@ -32,10 +32,28 @@ pub struct Answer {
 pub extern "C" fn urlcheck_check(alloc: Global, text: &[u8], profile: u32) -> Answer
     ensures { IsAnswer profile None text.now result }
 {
+    answer_alone(alloc, text, profile)
+}
+
+/// The same, inlined.
+#[inline(always)]
+pub(crate) fn answer_alone(alloc: Global, text: &[u8], profile: u32) -> Answer
+    ensures { IsAnswer profile None text.now result }
+{
     match prepared_alone(text, profile) {
         Ok(request) => judged_alone(alloc, &request),
         Err(found) => unjudged(found),
     }
+}
+
+/// What was found of a text alone, without its parts: its verdict and its rule are small numbers.
+#[inline(always)]
+pub(crate) fn found_alone(alloc: Global, text: &[u8], profile: u32) -> Finding
+    ensures found { IsFound profile text.now result }
+    ensures verdict { result.verdict < 256 }
+    ensures rule { result.rule < 256 }
+{
+    answer_alone(alloc, text, profile).found
 }
 
 /// Whether the bytes are a valid URL string against the bytes of a base, which is judged alone by the same profile.
@@ -48,8 +66,8 @@ pub extern "C" fn urlcheck_check_against(
 ) -> Answer
     ensures { IsAnswer profile (Some base.now) text.now result }
 {
-    match prepared(alloc, text, Some(base), profile) {
-        Ok(request) => judged(alloc, &request),
+    match prepared_against(alloc, text, base, profile) {
+        Ok(request) => judged_with(alloc, request.text, &request.base),
         Err(found) => unjudged(found),
     }
 }
@@ -76,14 +94,6 @@ fn judged_alone(alloc: Global, request: &LoneRequest<'_>) -> Answer
     ensures { IsJudged request.now.profile None request.now.text.now result }
 {
     let verdict = check_alone(alloc, request.text, request.profile);
-    answer_of(request.text, &verdict)
-}
-
-// The answer on a text that is judged.
-fn judged(alloc: Global, request: &Request<'_>) -> Answer
-    ensures { IsJudged request.now.profile request.now.base request.now.text.now result }
-{
-    let verdict = check(alloc, request.text, request.base.as_ref(), request.profile);
     answer_of(request.text, &verdict)
 }
 

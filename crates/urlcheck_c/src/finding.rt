@@ -15,7 +15,7 @@ use uv_text::count_code_points;
 pub struct Finding {
     /// The number of the outcome: 0 valid, 1 refused, 2 no UTF-8, 3 the base is refused alone, 4 the base is no UTF-8,
     /// 5 out of memory, 6 no profile has the number, 7 no base was prepared, 8 the text violates a rule and a
-    /// mended text is given.
+    /// mended text is given. include/urlcheck.h has those of batches and reports, from 9 on; 18 is said there alone.
     pub verdict: u32,
     /// The number of the violated rule, from 1 to 14, where the text or the base is refused, else 0.
     pub rule: u32,
@@ -46,6 +46,28 @@ pub(crate) enum CallOutcome {
     NoBase,
     /// The text violates a rule, and a mended text is given.
     Mended,
+    /// What was asked for is given.
+    Done,
+    /// No format has the number.
+    NoFormat,
+    /// No unit of columns has the number, or the format has no word for it.
+    NoUnit,
+    /// No rule has the number.
+    NoRule,
+    /// No kind of mended text has the number.
+    NoKind,
+    /// No completion has the number.
+    NoCompletion,
+    /// The place is behind the text's end.
+    NoPlace,
+    /// A line or a column isn't from 1 to 4294967295.
+    NoColumn,
+    /// An offset is less than the one before it, or behind the texts' end.
+    NoOffsets,
+    /// The name of the file is no UTF-8.
+    FileNoUtf8,
+    /// The mended text is no UTF-8.
+    MendedNoUtf8,
 }
 
 impl CallOutcome {
@@ -63,6 +85,17 @@ impl CallOutcome {
             CallOutcome::NoProfile => 6,
             CallOutcome::NoBase => 7,
             CallOutcome::Mended => 8,
+            CallOutcome::Done => 9,
+            CallOutcome::NoFormat => 10,
+            CallOutcome::NoUnit => 11,
+            CallOutcome::NoRule => 12,
+            CallOutcome::NoKind => 13,
+            CallOutcome::NoCompletion => 14,
+            CallOutcome::NoPlace => 15,
+            CallOutcome::NoColumn => 16,
+            CallOutcome::NoOffsets => 17,
+            CallOutcome::FileNoUtf8 => 19,
+            CallOutcome::MendedNoUtf8 => 20,
         }
     }
 }

@@ -2,12 +2,17 @@
 //! at another place than there.
 
 use crate::bases::Base;
+use crate::batches::Batch;
 use crate::checks::Answer;
+use crate::columns::Counted;
+use crate::diagnostics::Violation;
 use crate::fault_lists::{Fault, FaultCount};
 use crate::finding::Finding;
+use crate::lines::Line;
 use crate::mended::Mended;
 use crate::records::Resolved;
 use crate::spans::{Span, Spans};
+use crate::written::Written;
 
 const _: () = prove!(size_of::<Finding>() == 24);
 
@@ -26,3 +31,13 @@ const _: () = prove!(size_of::<Mended>() == 40);
 const _: () = prove!(size_of::<Fault>() == 24);
 
 const _: () = prove!(size_of::<FaultCount>() == 32);
+
+const _: () = prove!(size_of::<Batch>() == 32);
+
+const _: () = prove!(size_of::<Written>() == 32);
+
+const _: () = prove!(size_of::<Counted>() == 32);
+
+const _: () = prove!(size_of::<Violation>() == 56);
+
+const _: () = prove!(size_of::<Line>() == 56);

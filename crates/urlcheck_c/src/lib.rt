@@ -5,27 +5,42 @@
 
 mod ascii;
 mod bases;
+mod batches;
 mod buffers;
 mod checks;
+mod columns;
+mod diagnostics;
+mod explanations;
 mod fault_lists;
 mod finding;
 pub mod laws;
 mod layout;
+mod lines;
 mod mended;
+mod messages;
 mod names;
+mod offsets;
 mod places;
 mod records;
+mod report_numbers;
+mod reports;
 mod request;
 mod spans;
 mod validity;
+mod written;
 
 pub use bases::Base;
+pub use batches::Batch;
 pub use checks::Answer;
+pub use columns::Counted;
+pub use diagnostics::Violation;
 pub use fault_lists::{Fault, FaultCount};
 pub use finding::Finding;
+pub use lines::Line;
 pub use mended::Mended;
 pub use records::Resolved;
 pub use spans::{Span, Spans};
+pub use written::Written;
 
 #[cfg(test)]
 mod tests;

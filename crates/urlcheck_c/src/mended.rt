@@ -1,7 +1,9 @@
 //! What to write in place of a text that is refused.
-ghost use Rattle.std.specs.Prelude.{◌≡◌, None, Some, option_copied};
+ghost use Rattle.std.specs.Prelude.{◌≡◌, ℕ, None, Some, option_copied};
+ghost use Rattle.urlcheck_c.specs.Base.{IsPreparedBase};
 ghost use Rattle.urlcheck_c.specs.Mended.{IsMendedAnswer, IsRequestMended, IsSaid, kind_number, unmended};
 
+use crate::bases::{Base, unread};
 use crate::buffers::write_prefix;
 use crate::finding::{CallOutcome, Finding};
 use crate::request::{Request, prepared};
@@ -41,6 +43,24 @@ pub extern "C" fn urlcheck_mend_against(
     ensures { IsMendedAnswer profile (Some base.now) text.now out.old out.new result }
 {
     mended_answer(alloc, text, Some(base), profile, out)
+}
+
+/// The same against a base that `urlcheck_prepare` made of these bytes, by the base's profile.
+#[unsafe(no_mangle)]
+pub extern "C" fn urlcheck_mend_with(
+    alloc: Global,
+    text: &[u8],
+    base: &Base,
+    base_text: &[u8],
+    out: &mut [u8],
+) -> Mended
+    ensures { (number : ℕ) → IsPreparedBase number base_text.now base.now
+        → IsMendedAnswer number (Some base_text.now) text.now out.old out.new result }
+{
+    match base.read() {
+        Some(_) => mended_answer(alloc, text, Some(base_text), base.profile, out),
+        None => Mended::none(unread(text, base)),
+    }
 }
 
 // What is made of bytes, alone or against those of a base.

@@ -52,8 +52,8 @@ fn sentence_of(number: u32) -> &'static str
     }
 }
 
-// The rule with this number.
-fn rule_of(number: u32) -> Option<Rule>
+/// The rule with this number.
+pub(crate) fn rule_of(number: u32) -> Option<Rule>
     ensures { result ≡ rule_with_number number }
 {
     numbered(Rule::in_order().as_slice(), number)

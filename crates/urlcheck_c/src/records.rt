@@ -1,7 +1,9 @@
 //! The text of the record that a valid text denotes.
-ghost use Rattle.std.specs.Prelude.{◌≡◌, None, Some, option_copied};
+ghost use Rattle.std.specs.Prelude.{◌≡◌, ℕ, None, Some, option_copied};
+ghost use Rattle.urlcheck_c.specs.Base.{IsPreparedBase};
 ghost use Rattle.urlcheck_c.specs.Resolved.{IsRecordAnswer, IsRecordWritten, IsResolvedAnswer, no_memory};
 
+use crate::bases::{Base, unread};
 use crate::buffers::write_prefix;
 use crate::finding::{CallOutcome, Finding};
 use crate::request::{Request, prepared};
@@ -45,6 +47,27 @@ pub extern "C" fn urlcheck_resolve_against(
     ensures { IsResolvedAnswer profile (Some base.now) text.now out.old out.new result }
 {
     record_answer(alloc, text, Some(base), profile, out)
+}
+
+/// The same against a base that `urlcheck_prepare` made of these bytes, by the base's profile.
+#[unsafe(no_mangle)]
+pub extern "C" fn urlcheck_resolve_with(
+    alloc: Global,
+    text: &[u8],
+    base: &Base,
+    base_text: &[u8],
+    out: &mut [u8],
+) -> Resolved
+    ensures { (number : ℕ) → IsPreparedBase number base_text.now base.now
+        → IsResolvedAnswer number (Some base_text.now) text.now out.old out.new result }
+{
+    match base.read() {
+        Some(_) => record_answer(alloc, text, Some(base_text), base.profile, out),
+        None => Resolved {
+            found: unread(text, base),
+            length: 0,
+        },
+    }
 }
 
 // The record's text of bytes, alone or against those of a base.

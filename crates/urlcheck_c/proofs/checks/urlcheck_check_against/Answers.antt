@@ -1,4 +1,4 @@
--- The bytes that are judged are the text's, and the base is what its bytes denote.
+-- The bytes that are judged are the text's, and the base is one of the kind of what its bytes denote.
 use Rattle.std.proofs.Common.{ℕ, List, Some, inl, inr, sym, subst}
 use Rattle.urlcheck_c.specs.declared.finding.Finding.{Finding}
 use Rattle.urlcheck_c.specs.Answer.{IsJudged}
@@ -7,12 +7,14 @@ use Rattle.urlcheck_c.proofs.checks.urlcheck_check_against.Goals as goal
 
 pub returns-in-Ok : goal.returns-in-Ok
 returns-in-Ok c =
+    let profile = c.in-Ok.request.base.profile in
+    let asked = c.in-Ok.ensures.1 in
     inr (
-      _,
-      _,
-      c.in-Ok.ensures.1,
-      subst (λ (bytes : List ℕ). IsJudged c.in-Ok.request.profile c.in-Ok.request.base bytes c.judged.result)
-          c.in-Ok.ensures.0 c.judged.ensures,
+      profile,
+      Some asked.0,
+      asked.1,
+      subst (λ (bytes : List ℕ). IsJudged profile (Some asked.0) bytes c.judged_with.result) c.in-Ok.ensures.0
+          (c.judged_with.ensures asked.0 asked.2),
     )
 
 pub returns-in-Err : goal.returns-in-Err

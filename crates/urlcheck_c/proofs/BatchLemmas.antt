@@ -1,0 +1,151 @@
+-- Texts that are judged one by one, and columns that are filled row by row.
+use Rattle.std.proofs.Common.{◌≡◌, ◌≢◌, ◌∙◌, ℕ, suc, ◌+◌, ◌≤◌, ◌<◌, ◌==◌, lit<, List, [], ◌∷◌, ◌++◌, length, take, drop, map}
+use Rattle.std.proofs.Common.{set, refl, sym, ap, subst, arith, inl, inr, if◌then◌else◌, Bool, true, false}
+use Rattle.std.specs.Prelude.{None}
+use Rattle.std.proofs.Math.Seq.{drop-append_seam, take-append_seam}
+use Rattle.std.proofs.lemmas.List.{length-append, length-drop, length-map, map-append, take-append-drop}
+use Rattle.std.proofs.lemmas.Bool.{ne_eqb}
+use Rattle.std.proofs.lemmas.Grind.{take-set_at}
+use Rattle.uv_model.specs.declared.rule.Rule.{Rule}
+use Rattle.uv_model.specs.declared.rule.Rule.TheVariants.{NoScheme, OpaqueBase, TwoSlashes, HostMissing, HostDomain}
+use Rattle.uv_model.specs.declared.rule.Rule.TheVariants.{HostNumber, HostIpv6, HostCodePoint, PortDigit, PortRange}
+use Rattle.uv_model.specs.declared.rule.Rule.TheVariants.{FirstSegmentEmpty, DriveAfterHost, CodePoint, Percent}
+use Rattle.uv_model.specs.Violations.Rule.{rule_number}
+use Rattle.urlcheck_c.specs.declared.checks.Answer.{Answer}
+use Rattle.urlcheck_c.specs.declared.finding.Finding.{Finding}
+use Rattle.urlcheck_c.specs.Answer.{IsAnswer, IsFound}
+use Rattle.urlcheck_c.specs.Batch.{AreJudged, Columns, IsColumn, IsPut, one_if_valid}
+use Rattle.urlcheck_c.specs.Offsets.{row_count, row_text}
+use Rattle.urlcheck_c.proofs.StoreLemmas.{kept_more}
+
+-- ---- small numbers
+
+-- the number of a rule is small
+small_rule : (rule : Rule) → rule_number rule < 256
+small_rule NoScheme = lit< tt
+small_rule OpaqueBase = lit< tt
+small_rule TwoSlashes = lit< tt
+small_rule HostMissing = lit< tt
+small_rule HostDomain = lit< tt
+small_rule HostNumber = lit< tt
+small_rule HostIpv6 = lit< tt
+small_rule HostCodePoint = lit< tt
+small_rule PortDigit = lit< tt
+small_rule PortRange = lit< tt
+small_rule FirstSegmentEmpty = lit< tt
+small_rule DriveAfterHost = lit< tt
+small_rule CodePoint = lit< tt
+small_rule Percent = lit< tt
+
+-- the numbers of what was found of a text alone are small
+abbrev pub IsSmall : Finding → Type 0
+IsSmall finding = (finding.verdict < 256) × (finding.rule < 256)
+
+pub small_numbers : (number : ℕ) (bytes : List ℕ) (answer : Answer) → IsAnswer number None bytes answer
+    → IsSmall answer.found
+small_numbers number bytes answer (inl (bare, inl (lacking, found))) = rw found (lit< tt, lit< tt)
+small_numbers number bytes answer (inl (bare, inr (profile, some, inl text))) = rw text.said (lit< tt, lit< tt)
+small_numbers number bytes answer (inl (bare, inr (profile, some, inr (utf8, given)))) = absurd given
+small_numbers number bytes answer (inr (profile, url, request, inl valid)) = rw valid.found (lit< tt, lit< tt)
+small_numbers number bytes answer (inr (profile, url, request, inr (bare, inl refused))) =
+    rw refused.said (lit< tt, small_rule refused.refusal.rule)
+small_numbers number bytes answer (inr (profile, url, request, inr (bare, inr memory))) =
+    rw memory.0 (lit< tt, lit< tt)
+
+-- ---- columns
+
+-- a value more stands in a column
+pub column_more : {X : Type 0} (rows row : ℕ) (values old now new : List X) (value : X) → length values ≡ row
+    → row < rows → IsColumn rows values old now → IsPut rows row value now new
+    → IsColumn rows (values ++ (value ∷ [])) old new
+column_more rows row values old now new value count below column put = (
+  λ room.
+      let is : now ≡ values ++ drop (length values) old = column.0 room in
+      let long : length now ≡ length old
+      = ap length is ∙ length-append values (drop (length values) old)
+      ∙ rw (length-drop (length values) old) (omega (arith, count, below, room)) in
+      let written : new ≡ set now row value = put.0 (omega (arith, long, room)) in
+      let here : row < length now = omega (arith, long, room, below) in
+      let front : take row now ≡ values
+      = ap (λ n. take n now) (sym count) ∙ ap (take (length values)) is
+      ∙ take-append_seam values (drop (length values) old) in
+      let back : drop row now ≡ drop row old
+      = ap (λ n. drop n now) (sym count) ∙ ap (drop (length values)) is
+      ∙ drop-append_seam values (drop (length values) old) ∙ ap (λ n. drop n old) count in
+      let more : length (values ++ (value ∷ [])) ≡ row + 1
+      = length-append values (value ∷ []) ∙ ap (λ n. n + 1) count in
+      written ∙ sym (take-append-drop (row + 1) (set now row value))
+      ∙ ap (λ t. t ++ drop (row + 1) (set now row value))
+      (take-set_at now row (row + 1) value refl here ∙ ap (λ t. t ++ (value ∷ [])) front)
+      ∙ ap (λ t. (values ++ (value ∷ [])) ++ t) (kept_more old now row value here back)
+      ∙ ap (λ n. (values ++ (value ∷ [])) ++ drop n old) (sym more),
+  λ short.
+      let same : now ≡ old = column.1 short in
+      put.1 (rw same short) ∙ same,
+)
+
+-- the same of what a function gives of elements
+mapped_more : {X : Type 0} (f : Finding → X) (rows row : ℕ) (found : List Finding) (last : Finding)
+    (old now new : List X) → length found ≡ row → row < rows → IsColumn rows (map f found) old now
+    → IsPut rows row (f last) now new → IsColumn rows (map f (found ++ (last ∷ []))) old new
+mapped_more f rows row found last old now new count below column put =
+    subst (λ values. IsColumn rows values old new) (sym (map-append f found (last ∷ [])))
+    (column_more rows row (map f found) old now new (f last) (length-map found f ∙ count) below column put)
+
+-- ---- the texts
+
+-- a text more is judged
+pub judged_more : (number : ℕ) (texts offsets : List ℕ) (row : ℕ) (old now new : Columns) (valid more : ℕ)
+    (last : Finding) → row < row_count offsets → AreJudged number texts offsets row old now valid
+    → IsFound number (row_text texts offsets row) last → more ≡ valid + one_if_valid last
+    → IsPut (row_count offsets) row last.verdict now.verdicts new.verdicts
+    → IsPut (row_count offsets) row last.rule now.rules new.rules
+    → IsPut (row_count offsets) row last.place now.places new.places
+    → AreJudged number texts offsets (row + 1) old new more
+judged_more number texts offsets row old now new valid more last below judged found is verdict rule place =
+    let next : suc row ≡ row + 1 = omega arith in
+    let rows = row_count offsets in
+    subst (λ n. AreJudged number texts offsets n old new more) next
+    (record {
+      found = judged.found ++ (last ∷ []);
+      judged = (judged.found, valid, last, judged.judged, found, refl, is);
+      count = length-append judged.found (last ∷ []) ∙ omega (arith, judged.count);
+      few = omega (arith, judged.few, is, one_at_most last);
+      verdicts = mapped_more (λ f. f.verdict) rows row judged.found last old.verdicts now.verdicts new.verdicts
+          judged.count below judged.verdicts verdict;
+      rules = mapped_more (λ f. f.rule) rows row judged.found last old.rules now.rules new.rules
+          judged.count below judged.rules rule;
+      places = mapped_more (λ f. f.place) rows row judged.found last old.places now.places new.places
+          judged.count below judged.places place;
+    })
+  where
+    bit_at_most : (b : Bool) → (if b then 1 else 0) ≤ 1
+    bit_at_most true = omega arith
+    bit_at_most false = omega arith
+
+    one_at_most : (finding : Finding) → one_if_valid finding ≤ 1
+    one_at_most finding = bit_at_most (finding.verdict == 0)
+
+-- no text is judged, and the columns are as they were
+pub none_judged : (number : ℕ) (texts offsets : List ℕ) (old : Columns)
+    → AreJudged number texts offsets 0 old old 0
+none_judged number texts offsets old = record {
+  found = [];
+  judged = (refl, refl);
+  count = refl;
+  few = omega arith;
+  verdicts = (λ room. refl, λ short. refl);
+  rules = (λ room. refl, λ short. refl);
+  places = (λ room. refl, λ short. refl);
+}
+
+-- ---- how many are valid
+
+-- one more is valid
+pub one_more : (finding : Finding) (valid : ℕ) → finding.verdict ≡ 0 → valid + 1 ≡ valid + one_if_valid finding
+one_more finding valid is = rw is refl
+
+-- no more is
+pub none_more : (finding : Finding) (valid : ℕ) → finding.verdict ≢ 0 → valid ≡ valid + one_if_valid finding
+none_more finding valid other =
+    let none : one_if_valid finding ≡ 0 = rw (ne_eqb finding.verdict 0 other) refl in omega (arith, none)

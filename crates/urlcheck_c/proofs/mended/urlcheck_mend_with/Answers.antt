@@ -1,0 +1,26 @@
+-- The base's profile is the one by which it was prepared.
+use Rattle.std.proofs.Common.{ℕ, Some, ap, inl, refl, subst, sym}
+use Rattle.urlcheck_c.specs.declared.finding.Finding.{Finding}
+use Rattle.urlcheck_c.specs.declared.mended.Mended.{Mended}
+use Rattle.urlcheck_c.specs.Mended.{IsMendedAnswer}
+use Rattle.urlcheck_c.specs.Request.{IsUnjudged}
+use Rattle.urlcheck_c.proofs.BaseLemmas.{prepared_profile}
+use Rattle.urlcheck_c.proofs.mended.urlcheck_mend_with.Goals as goal
+
+pub returns-in-Some : goal.returns-in-Some
+returns-in-Some c = λ number is.
+    subst (λ (n : ℕ). IsMendedAnswer n (Some c.args.base_text.now) c.args.text.now c.args.out.now
+    c.mended_answer.new.out c.mended_answer.result)
+    (prepared_profile number c.args.base_text.now c.args.base.now is) c.mended_answer.ensures
+
+pub returns-in-None : goal.returns-in-None
+returns-in-None c = λ number is.
+    let none = c.none.ensures in
+    inl (
+      ap (λ (m : Mended). m.kind) none,
+      ap (λ (m : Mended). m.length) none,
+      refl,
+      subst (λ (finding : Finding). IsUnjudged number (Some c.args.base_text.now) c.args.text.now finding)
+          (sym (ap (λ (m : Mended). m.found) none))
+          (c.unread.ensures number c.args.base_text.now is (c.in-None.ensures number c.args.base_text.now is)),
+    )

@@ -1,0 +1,89 @@
+-- What stands round the diagnostics of a report, by numbers.
+use Rattle.std.specs.Prelude.{◌≡◌, ℕ, ◌⊎◌, Bool, true, false, List, [], Option, Some, None, IsUtf8}
+use Rattle.uv_report.specs.declared.column.Columns.{Columns}
+use Rattle.uv_report.specs.declared.completion.Completion.{Completion}
+use Rattle.uv_report.specs.declared.format.Format.{Format}
+use Rattle.uv_report.specs.Column.{columns_name}
+use Rattle.uv_report.specs.Format.{format_name, takes_columns}
+use Rattle.uv_report.specs.Format as reported
+use Rattle.uv_report.specs.Report.{begin_text, end_text, file_begin_text, file_end_text}
+use Rattle.urlcheck_c.specs.declared.finding.Finding.{Finding}
+use Rattle.urlcheck_c.specs.declared.finding.CallOutcome.TheVariants.{NoFormat, NoUnit, NoCompletion, FileNoUtf8}
+use Rattle.urlcheck_c.specs.declared.written.Written.{Written}
+use Rattle.urlcheck_c.specs.ReportNumbers.{completion_of, format_of, unit_of}
+use Rattle.urlcheck_c.specs.Request.{IsNoText}
+use Rattle.urlcheck_c.specs.Written.{IsGiven, IsRefusedFor, IsTextGiven, IsUnwritten}
+
+-- No format has the number; or no unit has, or the format has no word for it; else what a report begins with is given.
+abbrev pub IsBeginAnswer : ℕ → ℕ → List ℕ → List ℕ → Written → Type 0
+IsBeginAnswer format unit old new answer =
+    ((format_of format ≡ None) × IsRefusedFor NoFormat old new answer)
+    ⊎ (((unit_of unit ≡ None) × IsRefusedFor NoUnit old new answer)
+    ⊎ ((known : Format) × (columns : Columns) × (format_of format ≡ Some known) × (unit_of unit ≡ Some columns)
+    × (((takes_columns known columns ≡ false) × IsRefusedFor NoUnit old new answer)
+    ⊎ ((takes_columns known columns ≡ true) × IsGiven (begin_text known columns) old new answer))))
+
+-- no format has the number, or the file's name is no UTF-8; else what stands before its diagnostics is given
+abbrev pub IsFileBeginAnswer : ℕ → List ℕ → List ℕ → List ℕ → Written → Type 0
+IsFileBeginAnswer format file old new answer =
+    ((format_of format ≡ None) × IsRefusedFor NoFormat old new answer)
+    ⊎ ((known : Format) × (format_of format ≡ Some known)
+    × (((finding : Finding) × IsNoText FileNoUtf8 file finding × IsUnwritten finding old new answer)
+    ⊎ (IsUtf8 file × IsGiven (file_begin_text known file) old new answer)))
+
+-- no format has the number; else what stands behind the diagnostics of a file is given
+abbrev pub IsFileEndAnswer : ℕ → List ℕ → List ℕ → Written → Type 0
+IsFileEndAnswer format old new answer =
+    ((format_of format ≡ None) × IsRefusedFor NoFormat old new answer)
+    ⊎ ((known : Format) × (format_of format ≡ Some known) × IsGiven (file_end_text known) old new answer)
+
+-- no format or no completion has the number; else what a report ends with is given, for which no memory is asked
+abbrev pub IsEndAnswer : ℕ → ℕ → List ℕ → List ℕ → Written → Type 0
+IsEndAnswer format completion old new answer =
+    ((format_of format ≡ None) × IsRefusedFor NoFormat old new answer)
+    ⊎ (((completion_of completion ≡ None) × IsRefusedFor NoCompletion old new answer)
+    ⊎ ((known : Format) × (ended : Completion) × (format_of format ≡ Some known)
+    × (completion_of completion ≡ Some ended) × IsTextGiven (end_text known ended) old new answer))
+
+-- ---- what is asked of formats and units
+
+-- diagnostics of the format say what to write, where there is a format
+abbrev pub shown_by : Option Format → Bool
+shown_by None = false
+shown_by (Some format) = reported.shows_mended format
+
+-- the same by the number of a format
+abbrev pub shows_mended : ℕ → Bool
+shows_mended number = shown_by (format_of number)
+
+-- the format takes columns in the unit, where there is a unit
+abbrev pub takes_columns_of : Option Columns → Format → Bool
+takes_columns_of None format = false
+takes_columns_of (Some columns) format = takes_columns format columns
+
+-- the same where there is a format
+abbrev pub taken_by : Option Format → Option Columns → Bool
+taken_by None columns = false
+taken_by (Some format) columns = takes_columns_of columns format
+
+-- the same by numbers
+abbrev pub takes_unit : ℕ → ℕ → Bool
+takes_unit format unit = taken_by (format_of format) (unit_of unit)
+
+-- the name of a format, or no text
+abbrev pub format_name_or_none : Option Format → List ℕ
+format_name_or_none None = []
+format_name_or_none (Some format) = format_name format
+
+-- the name of the format with a number, or no text
+abbrev pub name_of_format : ℕ → List ℕ
+name_of_format number = format_name_or_none (format_of number)
+
+-- the name of a unit, or no text
+abbrev pub unit_name_or_none : Option Columns → List ℕ
+unit_name_or_none None = []
+unit_name_or_none (Some columns) = columns_name columns
+
+-- the name of the unit with a number, or no text
+abbrev pub name_of_unit : ℕ → List ℕ
+name_of_unit number = unit_name_or_none (unit_of number)

@@ -1,0 +1,156 @@
+//! Many texts in one call.
+ghost use Rattle.std.specs.Prelude.{◌≡◌, ◌<◌, ◌≤◌, length, set};
+ghost use Rattle.urlcheck_c.specs.Batch.{AreJudged, IsBatchAnswer, IsPut, columns, unjudged_batch};
+ghost use Rattle.urlcheck_c.specs.Offsets.{AreRows, offset_list, row_count};
+
+use crate::checks::found_alone;
+use crate::finding::CallOutcome;
+use crate::offsets::Offsets;
+use crate::request::profile_of;
+use std::alloc::Global;
+
+/// What became of many texts.
+#[repr(C)]
+#[derive(Clone, Copy)]
+pub struct Batch {
+    /// The number of the outcome: 9 where the texts were judged, else why nothing was.
+    pub outcome: u32,
+    /// The first text whose offsets are wrong, where the outcome says that some are, else 0.
+    pub row: usize,
+    /// How many texts are valid.
+    pub valid: usize,
+    /// How many bytes were to be written, where texts were asked for, else 0.
+    pub length: usize,
+}
+
+/// Judges texts that stand one behind the other in a buffer, alone, by the profile with this number. Of each, the
+/// number of its verdict, that of its rule and its place in code points go to the three columns, each of which is left
+/// out where it has no room for all. Where nothing is judged, nothing is written.
+#[unsafe(no_mangle)]
+pub extern "C" fn urlcheck_check_many(
+    alloc: Global,
+    texts: &[u8],
+    offsets: &[u64],
+    profile: u32,
+    verdicts: &mut [u8],
+    rules: &mut [u8],
+    places: &mut [u64],
+) -> Batch
+    ensures { IsBatchAnswer profile texts.now offsets.now (columns verdicts.old rules.old places.old)
+        (columns verdicts.new rules.new places.new) result }
+{
+    checked(
+        alloc,
+        texts,
+        Offsets::Wide(offsets),
+        profile,
+        verdicts,
+        rules,
+        places,
+    )
+}
+
+/// The same where the offsets have 32 bits.
+#[unsafe(no_mangle)]
+pub extern "C" fn urlcheck_check_many_32(
+    alloc: Global,
+    texts: &[u8],
+    offsets: &[u32],
+    profile: u32,
+    verdicts: &mut [u8],
+    rules: &mut [u8],
+    places: &mut [u64],
+) -> Batch
+    ensures { IsBatchAnswer profile texts.now offsets.now (columns verdicts.old rules.old places.old)
+        (columns verdicts.new rules.new places.new) result }
+{
+    checked(
+        alloc,
+        texts,
+        Offsets::Narrow(offsets),
+        profile,
+        verdicts,
+        rules,
+        places,
+    )
+}
+
+// The same by offsets of either width.
+fn checked(
+    alloc: Global,
+    texts: &[u8],
+    offsets: Offsets<'_>,
+    profile: u32,
+    verdicts: &mut [u8],
+    rules: &mut [u8],
+    places: &mut [u64],
+) -> Batch
+    ensures { IsBatchAnswer profile texts.now (offset_list offsets.entry) (columns verdicts.old rules.old places.old)
+        (columns verdicts.new rules.new places.new) result }
+{
+    if profile_of(profile).is_none() {
+        return Batch::unjudged(CallOutcome::NoProfile, 0);
+    }
+    if let Some(row) = offsets.first_wrong(texts.len()) {
+        return Batch::unjudged(CallOutcome::NoOffsets, row);
+    }
+    Batch {
+        outcome: CallOutcome::Done.number(),
+        row: 0,
+        valid: judge_rows(alloc, texts, offsets, profile, verdicts, rules, places),
+        length: 0,
+    }
+}
+
+// Judges each text, and gives how many are valid.
+fn judge_rows(
+    alloc: Global,
+    texts: &[u8],
+    offsets: Offsets<'_>,
+    profile: u32,
+    verdicts: &mut [u8],
+    rules: &mut [u8],
+    places: &mut [u64],
+) -> usize
+    requires { AreRows (length texts.now) (offset_list offsets) (row_count (offset_list offsets)) }
+    ensures { AreJudged profile texts.now (offset_list offsets.entry) (row_count (offset_list offsets.entry))
+        (columns verdicts.old rules.old places.old) (columns verdicts.new rules.new places.new) result }
+{
+    let rows = offsets.rows();
+    let mut valid = 0;
+    for row in 0..rows {
+        let found = found_alone(alloc, offsets.text(texts, row), profile);
+        if found.verdict == 0 {
+            valid += 1;
+        }
+        put(verdicts, rows, row, found.verdict as u8);
+        put(rules, rows, row, found.rule as u8);
+        put(places, rows, row, found.place as u64);
+    }
+    valid
+}
+
+// Puts a value into a column at its row, where the column has room for all rows.
+#[inline(always)]
+fn put<T: Copy>(column: &mut [T], rows: usize, row: usize, value: T)
+    requires { row < rows }
+    ensures { IsPut rows row value column.old column.new }
+{
+    if rows <= column.len() {
+        column[row] = value;
+    }
+}
+
+impl Batch {
+    // Nothing was judged.
+    fn unjudged(outcome: CallOutcome, row: usize) -> Batch
+        ensures { result ≡ unjudged_batch outcome row }
+    {
+        Batch {
+            outcome: outcome.number(),
+            row,
+            valid: 0,
+            length: 0,
+        }
+    }
+}

@@ -1,0 +1,175 @@
+//! What stands round the diagnostics of a report, and the names of formats and of units.
+ghost use Rattle.std.specs.Prelude.{◌≡◌, IfOk, string_bytes};
+ghost use Rattle.uv_report.specs.Report.{begin_text, file_begin_text, file_end_text};
+ghost use Rattle.urlcheck_c.specs.Buffer.{IsWritten};
+ghost use Rattle.urlcheck_c.specs.Report.{IsBeginAnswer, IsEndAnswer, IsFileBeginAnswer, IsFileEndAnswer};
+ghost use Rattle.urlcheck_c.specs.Report.{name_of_format, name_of_unit, shows_mended, takes_unit};
+ghost use Rattle.urlcheck_c.specs.Report.{takes_columns_of};
+ghost use Rattle.urlcheck_c.specs.Finding.{plain_finding};
+ghost use Rattle.urlcheck_c.specs.ReportNumbers as spec;
+
+use crate::buffers::write_prefix;
+use crate::finding::{CallOutcome, Finding};
+use crate::report_numbers::{completion_of, format_of, unit_of};
+use crate::request::text_of;
+use crate::written::{Written, given};
+use std::alloc::{AllocError, Global};
+use uv_report::{Columns, Format, end_of, push_begin, push_file_begin, push_file_end};
+
+/// Writes what a report begins with, in the format with this number and with columns in the unit with this number.
+#[unsafe(no_mangle)]
+pub extern "C" fn urlcheck_report_begin(
+    alloc: Global,
+    format: u32,
+    unit: u32,
+    out: &mut [u8],
+) -> Written
+    ensures { IsBeginAnswer format unit out.old out.new result }
+{
+    let Some(format) = format_of(format) else {
+        return Written::refused(CallOutcome::NoFormat);
+    };
+    let Some(columns) = unit_of(unit) else {
+        return Written::refused(CallOutcome::NoUnit);
+    };
+    if !format.takes_columns(columns) {
+        return Written::refused(CallOutcome::NoUnit);
+    }
+    given(&begin(alloc, format, columns), out)
+}
+
+fn begin(alloc: Global, format: Format, columns: Columns) -> Result<String, AllocError>
+    ensures { IfOk result (λ text. string_bytes text ≡ begin_text format columns) }
+{
+    let mut text = String::new(alloc);
+    push_begin(alloc, &mut text, format, columns)?;
+    Ok(text)
+}
+
+/// Writes what stands before the diagnostics of a file.
+#[unsafe(no_mangle)]
+pub extern "C" fn urlcheck_report_file_begin(
+    alloc: Global,
+    format: u32,
+    file: &[u8],
+    out: &mut [u8],
+) -> Written
+    ensures { IsFileBeginAnswer format file.now out.old out.new result }
+{
+    let Some(format) = format_of(format) else {
+        return Written::refused(CallOutcome::NoFormat);
+    };
+    match text_of(file, CallOutcome::FileNoUtf8) {
+        Ok(file) => given(&file_begin(alloc, format, file), out),
+        Err(found) => Written::none(found),
+    }
+}
+
+fn file_begin(alloc: Global, format: Format, file: &str) -> Result<String, AllocError>
+    ensures { IfOk result (λ text. string_bytes text ≡ file_begin_text format file.now) }
+{
+    let mut text = String::new(alloc);
+    push_file_begin(alloc, &mut text, format, file)?;
+    Ok(text)
+}
+
+/// Writes what stands behind the diagnostics of a file.
+#[unsafe(no_mangle)]
+pub extern "C" fn urlcheck_report_file_end(alloc: Global, format: u32, out: &mut [u8]) -> Written
+    ensures { IsFileEndAnswer format out.old out.new result }
+{
+    match format_of(format) {
+        Some(format) => given(&file_end(alloc, format), out),
+        None => Written::refused(CallOutcome::NoFormat),
+    }
+}
+
+fn file_end(alloc: Global, format: Format) -> Result<String, AllocError>
+    ensures { IfOk result (λ text. string_bytes text ≡ file_end_text format) }
+{
+    let mut text = String::new(alloc);
+    push_file_end(&mut text, format)?;
+    Ok(text)
+}
+
+/// Writes what a report ends with, by the number of how the run over its files has ended. It takes no memory.
+#[unsafe(no_mangle)]
+pub extern "C" fn urlcheck_report_end(format: u32, completion: u32, out: &mut [u8]) -> Written
+    ensures { IsEndAnswer format completion out.old out.new result }
+{
+    let Some(format) = format_of(format) else {
+        return Written::refused(CallOutcome::NoFormat);
+    };
+    let Some(completion) = completion_of(completion) else {
+        return Written::refused(CallOutcome::NoCompletion);
+    };
+    Written {
+        found: Finding::plain(CallOutcome::Done),
+        length: write_prefix(end_of(format, completion).as_bytes(), out),
+    }
+}
+
+/// Whether diagnostics of the format with this number say what to write in place of a text.
+#[unsafe(no_mangle)]
+pub extern "C" fn urlcheck_shows_mended(format: u32) -> bool
+    ensures { result ≡ shows_mended format }
+{
+    match format_of(format) {
+        Some(format) => format.shows_mended(),
+        None => false,
+    }
+}
+
+/// Whether the format with this number takes columns in the unit with this number.
+#[unsafe(no_mangle)]
+pub extern "C" fn urlcheck_takes_unit(format: u32, unit: u32) -> bool
+    ensures { result ≡ takes_unit format unit }
+{
+    match format_of(format) {
+        Some(format) => takes(format, unit),
+        None => false,
+    }
+}
+
+fn takes(format: Format, unit: u32) -> bool
+    ensures { result ≡ takes_columns_of (spec.unit_of unit) format }
+{
+    match unit_of(unit) {
+        Some(columns) => format.takes_columns(columns),
+        None => false,
+    }
+}
+
+/// Writes the name of the format with this number, as `urlcheck_rule_name` writes that of a rule.
+#[unsafe(no_mangle)]
+pub extern "C" fn urlcheck_format_name(format: u32, out: &mut [u8]) -> usize
+    ensures { IsWritten (name_of_format format) out.old out.new result }
+{
+    write_prefix(format_name(format).as_bytes(), out)
+}
+
+fn format_name(format: u32) -> &'static str
+    ensures { result.now ≡ name_of_format format }
+{
+    match format_of(format) {
+        Some(format) => format.name(),
+        None => "",
+    }
+}
+
+/// The same of the unit with this number.
+#[unsafe(no_mangle)]
+pub extern "C" fn urlcheck_unit_name(unit: u32, out: &mut [u8]) -> usize
+    ensures { IsWritten (name_of_unit unit) out.old out.new result }
+{
+    write_prefix(unit_name(unit).as_bytes(), out)
+}
+
+fn unit_name(unit: u32) -> &'static str
+    ensures { result.now ≡ name_of_unit unit }
+{
+    match unit_of(unit) {
+        Some(columns) => columns.name(),
+        None => "",
+    }
+}
