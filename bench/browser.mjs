@@ -18,6 +18,8 @@ const held = urlcheck.base(base)
 const PASSES = Math.max(1, Math.round(1_000 / links.length))
 const WARMING = 100
 
+const lines = new TextEncoder().encode(`${links.join('\n')}\n`)
+
 /** The calls on links, and those on references; in each group all judges say the same of a text. */
 const groups = [
   [links, {
@@ -37,7 +39,8 @@ const BOUNDS = [
   ['check', 'URL.canParse', 4],
   ['isValid', 'check', 0.95],
   ['check with a base that is judged once', 'URL.canParse with a base', 3],
-  ['check with a base that is judged once', 'check with its text', 0.75]
+  ['check with a base that is judged once', 'check with its text', 0.75],
+  ['checkMany, a line', 'check', 1.3]
 ]
 
 /** The nanoseconds that a judge takes for a text. */
@@ -49,6 +52,14 @@ function timed(texts, judge) {
   return taken === 0 ? NaN : cost
 }
 
+/** The nanoseconds that a line takes where all of them are judged by one call. */
+function timedLines() {
+  const start = process.hrtime.bigint()
+  let judged = 0
+  for (let pass = 0; pass < PASSES; pass++) judged += urlcheck.checkMany(lines).judged
+  return Number(process.hrtime.bigint() - start) / judged
+}
+
 const least = {}
 for (let round = -WARMING; round < rounds; round++) {
   for (const [texts, judges] of groups) {
@@ -57,6 +68,8 @@ for (let round = -WARMING; round < rounds; round++) {
       if (round >= 0) least[name] = Math.min(least[name] ?? Infinity, cost)
     }
   }
+  const cost = timedLines()
+  if (round >= 0) least['checkMany, a line'] = Math.min(least['checkMany, a line'] ?? Infinity, cost)
 }
 
 let failed = 0
@@ -69,6 +82,13 @@ for (const [texts, judges] of groups) {
     Object.keys(judges).map(name => `${name} ${least[name].toFixed(0)} ns`).join(', '))
   if (wrong.length !== 0) console.log(`FAILED: ${wrong.length} texts have two verdicts, or are valid and don't parse`)
   failed += wrong.length
+}
+const valid = links.filter(link => urlcheck.isValid(link)).length
+const { judged, refused } = urlcheck.checkMany(lines)
+console.log(`${judged} lines of bytes: ${least['checkMany, a line'].toFixed(0)} ns a line`)
+if (judged !== links.length || judged - refused.length !== valid) {
+  console.log('FAILED: the lines of bytes have other verdicts')
+  failed++
 }
 for (const [name, other, most] of BOUNDS) {
   const times = least[name] / least[other]

@@ -3,7 +3,8 @@
 # first argument; then what callers see, types, out of memory, and the page in a browser; and it sees that spoiled
 # copies are found. What isn't installed is left out, and a line says so. A folder that ./build-page has made may be
 # given second; else one is made. Words of the environment: QUICK leaves out the browser and the spoiled copies, GLUE
-# compiles and tries copies with a spoiled glue too, and PICTURE is a file for the picture of the page.
+# compiles and tries copies with a spoiled glue too, BROWSERS names the browsers for the page (chromium firefox webkit,
+# else the first alone), and PICTURE is a file for the picture of the page.
 . "$(dirname "$(realpath "$0")")/start.sh"
 here=$top/runs/browser
 needs browser node python3 wasm-opt
@@ -11,7 +12,7 @@ needs browser node python3 wasm-opt
     { echo "browser: left out, since node is older than 18"; exit 0; }
 folder=${2:-$room/page}
 if [ $# -lt 2 ]; then
-    URLCHECK=$program KEEP=$room/module.bc "$top/build-page" "$folder" >"$room/built" 2>&1 ||
+    KEEP=$room/module.bc "$top/build-page" "$folder" >"$room/built" 2>&1 ||
         { cat "$room/built"; exit 1; }
 fi
 
@@ -28,6 +29,8 @@ fi
 python3 "$here/answers.py" "$program" "$room/cases.json" "$top"/vectors/*.json
 node "$here/vectors.mjs" "$folder" "$room/cases.json"
 node "$here/calls.mjs" "$folder"
+node "$here/reports.mjs" "$folder" "$room/cases.json" "$program"
+"$top/packaging/write-attributes" --check
 
 # example PAGE FOLDER : the program of a page, as it stands there, prints in the folder what the page says
 example() {
@@ -78,21 +81,40 @@ if [ -n "${QUICK:-}" ]; then
 fi
 module=''
 if [ -n "${GLUE:-}" ] && [ -e "$room/module.bc" ]; then module=$room/module.bc; fi
-bash "$here/plants.sh" "$folder" "$room/cases.json" "$module"
+bash "$here/plants.sh" "$folder" "$room/cases.json" "$program" "$module"
 
-# The page in Chromium, and a copy in which texts are read as markup.
+# The page in each browser that is asked for and installed, and a copy in which texts are read as markup.
 python=''
 for it in python3 /usr/bin/python3; do
     if "$it" -c 'import selenium' 2>/dev/null; then python=$it; fi
 done
-if [ -z "$python" ] || ! command -v chromium >/dev/null || ! [ -x /usr/bin/chromedriver ]; then
-    echo "browser: the page is left out, since chromium, chromium-driver or python3-selenium isn't installed"
+if [ -z "$python" ]; then
+    echo "browser: the page is left out, since python3-selenium isn't installed"
     exit 0
 fi
+
+# has_browser NAME : whether all that drives a browser is installed
+has_browser() {
+    case $1 in
+        chromium) command -v chromium && [ -x /usr/bin/chromedriver ] ;;
+        firefox) command -v firefox-esr ;;
+        webkit) command -v Xvfb && [ -x /usr/bin/WebKitWebDriver ] ;;
+    esac >/dev/null
+}
+declare -A packages=([chromium]='chromium or chromium-driver' [firefox]=firefox-esr [webkit]='webkit2gtk-driver or xvfb')
 export PYTHONDONTWRITEBYTECODE=1
 cp -r "$folder" "$room/limited"
 node "$here/limited.mjs" "$folder/urlcheck.wasm" 4 "$room/limited/urlcheck.wasm"
-"$python" "$here/page.py" "$folder" "$room/limited" "$room/cases.json" "$program" ${PICTURE:+"$PICTURE"}
+for browser in ${BROWSERS:-chromium}; do
+    if ! has_browser $browser; then
+        echo "browser: the page in $browser is left out, since ${packages[$browser]} isn't installed"
+        continue
+    fi
+    picture=()
+    [ $browser != chromium ] || picture=(${PICTURE:+"$PICTURE"})
+    BROWSER=$browser "$python" "$here/page.py" "$folder" "$room/limited" "$room/cases.json" "$program" "${picture[@]}"
+done
+has_browser chromium || exit 0
 
 cp -r "$folder" "$room/spoiled"
 markup='for (const it of children) typeof it === "string" ? (made.innerHTML += it) : it \&\& made.append(it)'

@@ -11,11 +11,33 @@ export const RESOLVED_LENGTH = 6
 export const FAULT_COUNT = 6
 export const MEND_KIND = 6
 export const MENDED_LENGTH = 8
+export const WRITTEN_LENGTH = 6
 export const ANSWER_WORDS = PARTS + 6 * SPAN_WORDS
 // The same of a fault.
 export const FAULT_WORDS = 6
 export const FAULT_PLACE = 2
 export const FAULT_BYTE_PLACE = 4
+// The same of the lines that were judged in one call, and of the row of one that isn't valid.
+export const LINES = 6
+export const EMPTY_LINES = 7
+export const REFUSED_LINES = 8
+export const NEXT_LINE = 9
+export const ROW_WORDS = 7
+export const ROW_LINE = 0
+export const ROW_START = 1
+export const ROW_LENGTH = 2
+export const ROW_VERDICT = 3
+export const ROW_RULE = 4
+export const ROW_PLACE = 5
+export const ROW_BYTE_PLACE = 6
+// The same of what is reported of a violation.
+export const VIOLATION_PROFILE = 0
+export const VIOLATION_RULE = 1
+export const VIOLATION_PLACE = 2
+export const VIOLATION_LINE = 4
+export const VIOLATION_COLUMN = 6
+export const VIOLATION_KIND = 8
+export const VIOLATION_WORDS = 14
 // How many a base has that is held.
 export const HELD_WORDS = 10
 
@@ -24,3 +46,15 @@ export const REFUSED = 1
 export const BASE_REFUSED = 3
 export const MEMORY = 5
 export const MENDED = 8
+export const DONE = 9
+export const NO_PLACE = 15
+export const NO_COLUMN = 16
+// The rules of lines that aren't judged: see `urlcheck_line_rule` there.
+export const LINE_NO_UTF8 = 101
+export const LINE_TOO_LONG = 102
+// What explains a rule: see `urlcheck_explanation` there.
+export const ASKS = 0
+export const SECTION = 1
+export const EXAMPLE_BASE = 2
+export const EXAMPLE = 3
+export const EXAMPLE_MENDED = 4

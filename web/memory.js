@@ -1,5 +1,7 @@
 // The memory of the module: texts go in as UTF-8, and answers come out as words of 32 bits.
-import { ANSWER_WORDS, HELD_WORDS } from './layout.js'
+import {
+  ANSWER_WORDS, DONE, HELD_WORDS, MEMORY, NO_COLUMN, NO_PLACE, VERDICT, VIOLATION_WORDS, WRITTEN_LENGTH
+} from './layout.js'
 
 /**
  * What the module exports.
@@ -11,6 +13,7 @@ import { ANSWER_WORDS, HELD_WORDS } from './layout.js'
  * @property {() => number} held_at
  * @property {() => number} answer_at
  * @property {() => number} out_at
+ * @property {() => number} violation_at
  * @property {(length: number, profile: number) => void} check
  * @property {(length: number, baseLength: number, profile: number) => void} check_against
  * @property {(baseLength: number, profile: number) => void} prepare
@@ -24,8 +27,22 @@ import { ANSWER_WORDS, HELD_WORDS } from './layout.js'
  * @property {(length: number, profile: number) => void} faults
  * @property {(length: number, baseLength: number, profile: number) => void} faults_against
  * @property {(length: number) => void} faults_with
+ * @property {(length: number, from: number, isHeld: number, profile: number) => void} check_lines
+ * @property {(format: number, unit: number) => void} report_begin
+ * @property {(format: number, fileLength: number) => void} report_file_begin
+ * @property {(format: number) => void} report_file_end
+ * @property {(format: number, completion: number) => void} report_end
+ * @property {(format: number, unit: number, isFirst: number, length: number, fileLength: number,
+ *   mendedLength: number) => void} diagnostic
+ * @property {(length: number, profile: number, rule: number, place: number) => void} message
+ * @property {(format: number) => number} shows_mended
+ * @property {(format: number, unit: number) => number} takes_unit
  * @property {(rule: number) => number} rule_name
  * @property {(rule: number) => number} rule_sentence
+ * @property {(format: number) => number} format_name
+ * @property {(unit: number) => number} unit_name
+ * @property {(rule: number, part: number) => number} explain
+ * @property {(rule: number) => number} example_place
  * @property {() => number} version
  */
 
@@ -46,7 +63,7 @@ const decoder = new TextDecoder('utf-8', { ignoreBOM: true })
  * @returns {number}
  * @throws {TypeError} where the text has a lone surrogate
  */
-function utf8Length(text, name) {
+export function utf8Length(text, name) {
   let length = 0
   for (let at = 0; at < text.length; at++) {
     const unit = text.charCodeAt(at)
@@ -65,7 +82,7 @@ function utf8Length(text, name) {
  * @param {unknown} text
  * @param {string} name
  */
-function stopUnlessString(text, name) {
+export function stopUnlessString(text, name) {
   if (typeof text === 'string') return
   // (a copy of what `base` gave, as from another thread, has lost what was judged)
   const isCopy = name === 'base' && typeof text === 'object' && text !== null
@@ -158,6 +175,17 @@ export class Room {
   }
 
   /**
+   * Puts bytes into the room of the text.
+   * @param {Uint8Array} bytes
+   */
+  putBytes(bytes) {
+    this.look()
+    if (bytes.length > this.text.length || this.isLarge) this.layOut(Math.max(SMALL_ROOM, bytes.length), SMALL_ROOM)
+    this.text.set(bytes)
+    this.textLength = bytes.length
+  }
+
+  /**
    * Lays out the rooms anew where the text or the base needs more, or where they are large.
    * @param {string} text
    * @param {string | undefined} base
@@ -221,5 +249,34 @@ export class Room {
    */
   read(start, length) {
     return decoder.decode(new Uint8Array(this.exports.memory.buffer, start, length))
+  }
+
+  /**
+   * A text of the library, whose length a call has given.
+   * @param {number} length
+   * @returns {string}
+   */
+  out(length) {
+    return this.read(this.exports.out_at(), length)
+  }
+
+  /**
+   * The text that a call has written.
+   * @returns {string}
+   * @throws {RangeError} where there is no memory for it
+   */
+  writtenText() {
+    this.look()
+    const verdict = this.word(VERDICT)
+    if (verdict === MEMORY) this.stopForMemory()
+    if (verdict === NO_PLACE) throw new RangeError('the place is behind the end of the text')
+    if (verdict === NO_COLUMN) throw new RangeError('a column is above 4294967295')
+    if (verdict !== DONE) throw new Error(`urlcheck.wasm answers ${verdict}`)
+    return this.out(this.word(WRITTEN_LENGTH))
+  }
+
+  /** What is reported next, in words. */
+  violation() {
+    return new Uint32Array(this.exports.memory.buffer, this.exports.violation_at(), VIOLATION_WORDS)
   }
 }

@@ -63,8 +63,40 @@ export interface Checker {
    */
   explain(rule: RuleName): Explanation
 
+  /**
+   * Judges the lines of bytes by one call of the module for each mebibyte. A line ends with LF, and one CR before that
+   * is no part of it. An empty line is passed over, as `urlcheck lint` does.
+   * @param lines the bytes, in UTF-8; a line that is none is refused
+   * @throws {TypeError} where the lines are no `Uint8Array`, and what else `check` throws of its options
+   * @throws {RangeError} where there is no memory for a line; the next call works
+   */
+  checkMany(lines: Uint8Array, options?: Options): Many
+
+  /**
+   * The sentence on a violation of a text, without its end: what `urlcheck lint` writes behind `error: `.
+   * @param violation such as a fault or a refusal
+   * @param options by whose profile the text was judged
+   * @throws {TypeError} where a text is no string or has a lone surrogate, or no rule or profile has the name
+   * @throws {RangeError} where the place is behind the end of the text, or there is no memory
+   */
+  message(text: string, violation: Violation, options?: Options): string
+
+  /**
+   * A report in pieces, as `urlcheck lint` writes it: `begin`, for each file `fileBegin`, its diagnostics and
+   * `fileEnd`, and then `end`.
+   * @param unit what its columns count; without one code points
+   * @throws {TypeError} where no format or unit has the name, or the format has no word for the unit
+   */
+  report(format: ReportFormat, unit?: ColumnUnit): Report
+
   /** The names of the rules, in the order of their numbers. */
   readonly rules: readonly RuleName[]
+
+  /** The names of the formats of reports, in the order of their numbers. */
+  readonly formats: readonly ReportFormat[]
+
+  /** The names of what columns count, in the order of their numbers. */
+  readonly units: readonly ColumnUnit[]
 
   /** The version of the library. */
   readonly version: string
@@ -122,6 +154,93 @@ export type RuleName =
   | 'drive-after-host'
   | 'code-point'
   | 'percent'
+
+/** The rules of lines that aren't judged: one that is no UTF-8, and one of more bytes than `urlcheck lint` reads. */
+export type LineRule = 'not-utf8' | 'line-too-long'
+
+/** What the lines of bytes are. */
+export interface Many {
+  /** How many lines there are, also the empty ones. */
+  lines: number
+  /** How many of them were judged: those that aren't empty. */
+  judged: number
+  /** The judged ones that aren't valid, in their order. */
+  refused: RefusedLine[]
+}
+
+/** A line that isn't valid. */
+export interface RefusedLine {
+  /** Its number, from 1. */
+  line: number
+  /** Where its text begins, in bytes, so that `lines.subarray(start, end)` is it. */
+  start: number
+  /** Where its text ends, in bytes. */
+  end: number
+  rule: RuleName | 'not-utf8'
+  /** The first wrong place, in code points of the line's text: of what is no UTF-8 where that begins. */
+  place: number
+  /** The same place, in bytes of the line's text. */
+  byte: number
+}
+
+/** A rule that a text violates, or why a line isn't judged, and where. */
+export interface Violation {
+  rule: RuleName | LineRule
+  /** In code points. */
+  place: number
+}
+
+/** The formats of reports, as `urlcheck lint --format` names them. */
+export type ReportFormat = 'gnu' | 'caret' | 'json' | 'github' | 'sarif' | 'checkstyle'
+
+/** What columns count, as `urlcheck lint --columns` names it. */
+export type ColumnUnit = 'code-points' | 'bytes' | 'utf16' | 'screen'
+
+/** How a run over files has ended: whole, with a file that wasn't read to its end, or before the last one's end. */
+export type Completion = 'whole' | 'unread' | 'stopped'
+
+/** A report, piece by piece; each call gives a piece of its text, which may be empty. */
+export interface Report {
+  /** Whether its diagnostics say what to write in place of a text. */
+  readonly showsMended: boolean
+  /** What stands before all else. */
+  begin(): string
+  /**
+   * What stands before the diagnostics of a file.
+   * @param file its name
+   * @throws {TypeError} where the name has a lone surrogate
+   */
+  fileBegin(file: string): string
+  /**
+   * What is reported of a violation.
+   * @throws {TypeError} where a text has a lone surrogate, or no rule, kind or profile has the name
+   * @throws {RangeError} where the place is behind the end of the text, the line or a column isn't from 1 to
+   *   4294967295, or there is no memory
+   */
+  diagnostic(told: Diagnostic): string
+  /** What stands behind the diagnostics of a file. */
+  fileEnd(): string
+  /**
+   * What stands behind all else.
+   * @throws {TypeError} where no completion has the name
+   */
+  end(completion?: Completion): string
+}
+
+/** A violation of a text that stands in a file. */
+export interface Diagnostic extends Violation {
+  /** The name of the file. */
+  file: string
+  /** The line in which the text stands, from 1. */
+  line: number
+  /** The column in which the text begins, from 1; without one 1. */
+  column?: number | undefined
+  text: string
+  /** By which profile the text was judged; without one by the standard one. */
+  profile?: Profile | undefined
+  /** What a program may write in place of the text, or nothing. */
+  mended?: Mended | null | undefined
+}
 
 /** Where a part begins, and the index after its end. */
 export type Range = [start: number, end: number]
@@ -213,7 +332,7 @@ export interface Explanation {
   readonly asks: string
   /** The section of the URL Standard that asks it. */
   readonly section: string
-  /** A text that violates the rule, with the base that it is read against, the place, and the text mended. */
+  /** A text that violates the rule, with the base that it is read against, the place, and a valid text that was meant. */
   readonly example: Example
 }
 
@@ -222,7 +341,7 @@ export interface Example {
   readonly text: string
   readonly base: string | null
   readonly place: number
-  readonly mended: string
+  readonly meant: string
 }
 
 /** The base, judged alone, violates a rule; nothing is said of the text. */

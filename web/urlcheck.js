@@ -10,13 +10,17 @@
  * @module
  */
 import { HeldBase } from './base.js'
-import { explanations } from './explanations.js'
 import {
   BASE_REFUSED, BYTE_PLACE, FAULT_BYTE_PLACE, FAULT_COUNT, FAULT_PLACE, FAULT_WORDS, MEMORY, MENDED, MENDED_LENGTH,
   MEND_KIND, PLACE, REFUSED, RESOLVED_LENGTH, RULE, VERDICT
 } from './layout.js'
+import { checkedLines } from './lines.js'
 import { Room } from './memory.js'
+import { profileNumber, readingOf, stopUnlessOptions } from './options.js'
 import { UnitWalker, ValidText, recordOf } from './parts.js'
+import { Report, wholeNumber } from './reports.js'
+import { LINE_RULES, explanationOf, namesBy } from './rules.js'
+import { moduleOf } from './source.js'
 
 /** @typedef {import('./urlcheck.js').Options} Options */
 /** @typedef {import('./urlcheck.js').BaseOptions} BaseOptions */
@@ -30,12 +34,27 @@ import { UnitWalker, ValidText, recordOf } from './parts.js'
 /** @typedef {import('./urlcheck.js').Explanation} Explanation */
 /** @typedef {import('./urlcheck.js').Source} Source */
 /** @typedef {import('./urlcheck.js').RuleName} RuleName */
+/** @typedef {import('./urlcheck.js').LineRule} LineRule */
+/** @typedef {import('./urlcheck.js').Violation} Violation */
+/** @typedef {import('./urlcheck.js').Many} Many */
+/** @typedef {import('./urlcheck.js').ReportFormat} ReportFormat */
+/** @typedef {import('./urlcheck.js').ColumnUnit} ColumnUnit */
 
 /**
  * How a mended text stands to the refused one, by the numbers of `urlcheck_mend_kind` from 1.
  * @type {MendKind[]}
  */
 const MEND_KINDS = ['same', 'escaped', 'changed']
+
+/**
+ * @param {unknown} kind
+ * @returns {number}
+ */
+function kindNumber(kind) {
+  const at = MEND_KINDS.indexOf(/** @type {MendKind} */ (kind))
+  if (at < 0) throw new TypeError("the kind is none of 'same', 'escaped' and 'changed'")
+  return at + 1
+}
 
 /** The base, judged alone, violates a rule; nothing is said of the text. */
 export class BaseRefused extends Error {
@@ -54,68 +73,21 @@ export class BaseRefused extends Error {
   }
 }
 
-/**
- * @param {unknown} profile
- * @returns {number}
- */
-function profileNumber(profile) {
-  if (profile === undefined || profile === 'standard') return 0
-  if (profile === 'wide') return 1
-  if (profile === 'parser') return 2
-  throw new TypeError("the profile is none of 'standard', 'wide' and 'parser'")
-}
-
-/**
- * Stops where a string, say, or a base stands in the place of the options: what it says would be passed over.
- * @param {unknown} options
- */
-function stopUnlessOptions(options) {
-  if (options == null) return
-  if (typeof options !== 'object') throw new TypeError('the options are no object, such as { base: text, profile: name }')
-  if (options instanceof HeldBase) throw new TypeError('a base stands in the place of the options: write { base }')
-}
-
-/**
- * How a text is judged: the text of its base or none, what is held of a base that was judged before, and the number of
- * the profile.
- * @param {Options | undefined} options
- * @returns {{ base: string | undefined, held: Uint32Array | undefined, profile: number }}
- */
-function readingOf(options) {
-  stopUnlessOptions(options)
-  const base = options?.base ?? undefined
-  const profile = profileNumber(options?.profile)
-  const held = typeof base === 'object' ? HeldBase.wordsOf(base) : undefined
-  if (held === undefined) return { base: /** @type {string | undefined} */ (base), held, profile }
-  const { text, profile: name } = /** @type {Base} */ (base)
-  const number = profileNumber(name)
-  if (options?.profile === undefined || profile === number) return { base: text, held, profile: number }
-  throw new TypeError(`the base is judged by the ${name} profile, and the text by another`)
-}
-
 /** A checker: one instance of the module. Several may stand beside each other. */
 class Checker {
   #room
-  /** @type {RuleName[]} */
-  #names = []
-  /** @type {Map<string, Explanation>} */
+  /** @type {Map<RuleName, Explanation>} */
   #explained = new Map()
 
   /** @param {WebAssembly.Instance} instance */
   constructor(instance) {
     const exports = /** @type {import('./memory.js').Exports} */ (/** @type {unknown} */ (instance.exports))
     this.#room = new Room(exports)
-    /** @type {RuleName[]} */
-    const names = []
-    for (let rule = 1, length; (length = exports.rule_name(rule)) !== 0; rule++) {
-      const name = /** @type {RuleName} */ (this.#room.read(this.#room.answerAt, length))
-      const sentence = this.#room.read(this.#room.answerAt, exports.rule_sentence(rule))
-      names.push(name)
-      this.#explained.set(name, Object.freeze({ rule: name, sentence, ...explanations[name] }))
-    }
-    this.#names = names
     /** The names of the rules, in the order of their numbers. */
-    this.rules = Object.freeze([...names])
+    this.rules = Object.freeze(/** @type {RuleName[]} */ (namesBy(this.#room, exports.rule_name, 1)))
+    /** The names of the formats of reports, and of the units of their columns, in the order of their numbers. */
+    this.formats = Object.freeze(/** @type {ReportFormat[]} */ (namesBy(this.#room, exports.format_name, 0)))
+    this.units = Object.freeze(/** @type {ColumnUnit[]} */ (namesBy(this.#room, exports.unit_name, 0)))
     const version = exports.version()
     /** The version of the library. */
     this.version = `${Math.floor(version / 10000)}.${Math.floor(version / 100) % 100}.${version % 100}`
@@ -237,10 +209,80 @@ class Checker {
    * @throws {TypeError} where no rule has the name
    */
   explain(rule) {
-    const explained = this.#explained.get(rule)
-    if (explained === undefined) throw new TypeError(`no rule has the name ${String(rule)}`)
-    return explained
+    const known = this.#explained.get(rule)
+    if (known !== undefined) return known
+    const explanation = explanationOf(this.#room, rule, this.#numberOf(rule))
+    this.#explained.set(rule, explanation)
+    return explanation
   }
+
+  /**
+   * The sentence on a violation of a text: what stands behind `error: ` in a report for compilers.
+   * @param {string} text
+   * @param {Violation} violation such as a fault, or a refusal
+   * @param {Options} [options] by whose profile it was judged
+   * @returns {string}
+   * @throws {TypeError} where a text is no string or has a lone surrogate, or no rule or profile has the name
+   * @throws {RangeError} where the place is behind the end of the text, or there is no memory for the sentence
+   */
+  message(text, { rule, place }, options) {
+    const room = this.#room
+    const { profile } = readingOf(options)
+    room.put(text, undefined)
+    room.exports.message(room.textLength, profile, this.#numberOfAny(rule), wholeNumber(place, 'place', 0))
+    return room.writtenText()
+  }
+
+  /**
+   * A report, as `urlcheck lint` writes it.
+   * @param {ReportFormat} format
+   * @param {ColumnUnit} [unit] what its columns count
+   * @returns {Report}
+   * @throws {TypeError} where no format or unit has the name, or the format has no word for the unit
+   */
+  report(format, unit = 'code-points') {
+    const [one, other] = [this.formats.indexOf(format), this.units.indexOf(unit)]
+    if (one < 0) throw new TypeError(`no format has the name ${String(format)}`)
+    if (other < 0) throw new TypeError(`no unit has the name ${String(unit)}`)
+    if (!this.#room.exports.takes_unit(one, other)) throw new TypeError(`the format ${format} has no word for ${unit}`)
+    const numbers = { ofRule: this.#numberOfAny, ofProfile: profileNumber, ofKind: kindNumber }
+    return new Report(this.#room, numbers, one, other)
+  }
+
+  /**
+   * Judges the lines of bytes by few calls of the module. A line ends with LF, and one CR before that is no part of it;
+   * an empty one is passed over.
+   * @param {Uint8Array} lines in UTF-8
+   * @param {Options} [options]
+   * @returns {Many}
+   * @throws {TypeError} where the lines are no `Uint8Array`, and what else `check` throws of its options
+   * @throws {RangeError} where there is no memory for a line; the next call works
+   */
+  checkMany(lines, options) {
+    const { base, held, profile } = readingOf(options)
+    if (!(lines instanceof Uint8Array)) throw new TypeError('the lines are no Uint8Array')
+    const isText = base !== undefined && held === undefined
+    const judged = isText ? HeldBase.wordsOf(this.base(base, { profile: options?.profile })) : held
+    return checkedLines(this.#room, this.rules, lines, judged, profile)
+  }
+
+  /**
+   * The number of a rule.
+   * @param {unknown} rule
+   * @returns {number}
+   */
+  #numberOf(rule) {
+    const number = this.rules.indexOf(/** @type {RuleName} */ (rule)) + 1
+    if (number === 0) throw new TypeError(`no rule has the name ${String(rule)}`)
+    return number
+  }
+
+  /**
+   * The number of a rule of texts or of lines.
+   * @param {unknown} rule
+   * @returns {number}
+   */
+  #numberOfAny = rule => LINE_RULES.get(/** @type {LineRule} */ (rule)) ?? this.#numberOf(rule)
 
   /**
    * Whether the text is refused and not valid. Throws where the call has said neither.
@@ -255,7 +297,7 @@ class Checker {
     if (verdict === MEMORY) room.stopForMemory()
     if (verdict !== BASE_REFUSED || base === undefined) throw new Error(`urlcheck.wasm answers ${verdict}`)
     const index = new UnitWalker(base).indexOf(room.word(BYTE_PLACE))
-    const rule = this.#names[room.word(RULE) - 1]
+    const rule = this.rules[room.word(RULE) - 1]
     const why = rule === 'no-scheme' ? 'it has no scheme' : this.explain(rule).sentence
     throw new BaseRefused(rule, room.word(PLACE), index, why)
   }
@@ -268,7 +310,7 @@ class Checker {
     const room = this.#room
     const byte = room.word(BYTE_PLACE)
     const index = room.textLength === text.length ? byte : new UnitWalker(text).indexOf(byte)
-    return { valid: false, rule: this.#names[room.word(RULE) - 1], place: room.word(PLACE), index }
+    return { valid: false, rule: this.rules[room.word(RULE) - 1], place: room.word(PLACE), index }
   }
 
   /**
@@ -294,38 +336,10 @@ class Checker {
     for (let at = 0; at < words.length; at += FAULT_WORDS) {
       const byte = words[at + FAULT_BYTE_PLACE]
       const index = isAscii ? byte : walker.indexOf(byte)
-      found.push({ rule: this.#names[words[at] - 1], place: words[at + FAULT_PLACE], index })
+      found.push({ rule: this.rules[words[at] - 1], place: words[at + FAULT_PLACE], index })
     }
     return found
   }
-}
-
-/**
- * The bytes of a file, or an answer of a server that has them.
- * @param {URL} url
- * @returns {Promise<BufferSource | Response>}
- */
-async function fetched(url) {
-  if (url.protocol === 'file:') {
-    const { readFile } = await import(/* webpackIgnore: true */ 'node:fs/promises')
-    return readFile(url)
-  }
-  const response = await fetch(url)
-  if (!response.ok) throw new Error(`${url} isn't there: ${response.status}`)
-  return response
-}
-
-/**
- * @param {BufferSource | Response} source
- * @returns {Promise<WebAssembly.Module>}
- */
-async function compiled(source) {
-  if (!(typeof Response === 'function' && source instanceof Response)) {
-    return WebAssembly.compile(/** @type {BufferSource} */ (source))
-  }
-  const type = source.headers.get('content-type')
-  if (type === 'application/wasm') return WebAssembly.compileStreaming(source)
-  return WebAssembly.compile(await source.arrayBuffer())
 }
 
 /**
@@ -334,8 +348,5 @@ async function compiled(source) {
  * @returns {Promise<Checker>}
  */
 export async function load(source = './urlcheck.wasm') {
-  if (source instanceof WebAssembly.Module) return new Checker(await WebAssembly.instantiate(source, {}))
-  const isAddress = typeof source === 'string' || source instanceof URL
-  const module = await compiled(isAddress ? await fetched(new URL(source, import.meta.url)) : source)
-  return new Checker(await WebAssembly.instantiate(module, {}))
+  return new Checker(await WebAssembly.instantiate(await moduleOf(source), {}))
 }

@@ -221,8 +221,99 @@ const tests = {
       const options = { base: example.base }
       const refused = urlcheck.check(example.text, options)
       assert.deepEqual([refused.valid, refused.rule, refused.place], [false, rule, example.place])
-      assert.equal(urlcheck.check(example.mended, options).valid, true)
+      assert.equal(urlcheck.check(example.meant, options).valid, true)
     }
+  },
+
+  async 'the lines of bytes'() {
+    const urlcheck = await load()
+    const bytes = text => new TextEncoder().encode(text)
+    const list = 'http://h/\r\nx\n\n\r\nhttp://h/\u00e9 b\nurn:a\r'
+    const row = (line, start, end, rule, place, byte) => ({ line, start, end, rule, place, byte })
+    const spaced = row(5, 16, 29, 'code-point', 10, 11)
+    assert.deepEqual(urlcheck.checkMany(bytes(list)), { lines: 6, judged: 4,
+      refused: [row(2, 11, 12, 'no-scheme', 0, 0), spaced, row(6, 30, 36, 'code-point', 5, 5)] })
+    const base = urlcheck.base('http://k/')
+    for (const it of [base, 'http://k/']) {
+      assert.deepEqual(urlcheck.checkMany(bytes(list), { base: it }), { lines: 6, judged: 4,
+        refused: [spaced, row(6, 30, 36, 'code-point', 5, 5)] })
+      assert.deepEqual(urlcheck.checkMany(bytes('\n\r\nx'), { base: it }), { lines: 3, judged: 1, refused: [] })
+    }
+    assert.deepEqual(urlcheck.checkMany(Uint8Array.of(0x61, 0x3a, 0xc3, 0xa9, 0xff, 10, 10)), { lines: 2, judged: 1,
+      refused: [row(1, 0, 5, 'not-utf8', 3, 4)] })
+    assert.deepEqual(urlcheck.checkMany(bytes('')), { lines: 0, judged: 0, refused: [] })
+    assert.equal(urlcheck.checkMany(bytes('http://a_b/'), { profile: 'wide' }).refused.length, 0)
+    assert.equal(urlcheck.checkMany(bytes('//a_b/'), { base: urlcheck.base('urn://h', { profile: 'wide' }) }).lines, 1)
+    assert.equal(urlcheck.checkMany(bytes(`\n${list}`).subarray(1)).lines, 6)
+    for (const wrong of ['urn:a', undefined, [1], new ArrayBuffer(1), new Uint16Array(1)]) {
+      assert.throws(() => urlcheck.checkMany(wrong), { name: 'TypeError', message: 'the lines are no Uint8Array' })
+    }
+    assert.throws(() => urlcheck.checkMany(bytes('x'), { base: 'x' }), BaseRefused)
+    assert.throws(() => urlcheck.checkMany(bytes('x'), { profile: 'Wide' }), TypeError)
+  },
+
+  async 'many lines, and long ones'() {
+    const { urlcheck, memory } = await withMemory(bytes)
+    // More refused lines than one call has rows for, over more than a mebibyte, and a longer line among them.
+    const lines = Array.from({ length: 30_000 }, (_, at) => (at % 3 === 0 ? `http://b\u00fccher${at}.example/` : `http://h/${at} x`))
+    lines[15_000] = `http://h/${'a'.repeat(3_000_000)}`
+    const list = new TextEncoder().encode(lines.join('\n'))
+    for (const options of [undefined, { base: urlcheck.base('urn:a') }]) {
+      const { lines: count, judged, refused } = urlcheck.checkMany(list, options)
+      assert.deepEqual([count, judged], [lines.length, lines.length])
+      const wanted = lines.flatMap((text, at) => (urlcheck.isValid(text) ? [] : [[at + 1, text]]))
+      const decoder = new TextDecoder()
+      assert.equal(wanted.length, 20_000)
+      assert.deepEqual(refused.map(it => [it.line, decoder.decode(list.subarray(it.start, it.end))]), wanted)
+    }
+    assert.ok(memory.buffer.byteLength < 40_000_000)
+    const { urlcheck: small } = await withMemory(limited(bytes, 4))
+    const idn = new TextEncoder().encode('http://b\u00fccher.example/\n'.repeat(3000))
+    assert.deepEqual(small.checkMany(idn), { lines: 3000, judged: 3000, refused: [] })
+    assert.throws(() => small.checkMany(list), { name: 'RangeError', message: /out of memory/ })
+    assert.deepEqual(small.checkMany(idn), { lines: 3000, judged: 3000, refused: [] })
+  },
+
+  async 'messages and reports'() {
+    const urlcheck = await load()
+    const refused = urlcheck.check('http://h/\u{1f600} ')
+    assert.equal(urlcheck.message('http://h/\u{1f600} ', refused), 'U+0020 SPACE may not stand in a URL')
+    assert.notEqual(urlcheck.message('http://a_b/', { rule: 'host-domain', place: 7 }), urlcheck.explain('host-domain').sentence)
+    assert.equal(urlcheck.message('', { rule: 'line-too-long', place: 0 }), 'this line has more than 65536 bytes')
+    assert.throws(() => urlcheck.message('a', { rule: 'percent', place: 2 }), { name: 'RangeError', message: /behind the end/ })
+    for (const place of [-1, 0.5, NaN, '0', undefined, 2 ** 32]) {
+      assert.throws(() => urlcheck.message('a', { rule: 'percent', place }), { name: 'RangeError', message: /no whole number/ })
+    }
+    for (const rule of ['', 'memory', undefined, 'toString', 1]) {
+      assert.throws(() => urlcheck.message('a', { rule, place: 0 }), { name: 'TypeError', message: /no rule has/ })
+      assert.throws(() => urlcheck.report(rule), { name: 'TypeError', message: /no format has/ })
+      assert.throws(() => urlcheck.report('gnu', rule ?? null), { name: 'TypeError', message: /no unit has/ })
+    }
+    assert.throws(() => urlcheck.report('sarif', 'bytes'), { name: 'TypeError', message: /no word for bytes/ })
+    const types = readFileSync(join(folder, 'urlcheck.d.ts'), 'utf8')
+    const named = [...types.matchAll(/^export type (ReportFormat|ColumnUnit) = (.*)$/gm)].flatMap(it => it[2].split(' | '))
+    assert.deepEqual(named, [...urlcheck.formats, ...urlcheck.units].map(it => `'${it}'`))
+    const report = urlcheck.report('gnu', 'bytes')
+    const told = { file: 'a\u00e9', line: 7, column: 5, text: '\u00e9 ', rule: 'code-point', place: 1 }
+    const line = 'a\u00e9:7:7: error: U+0020 SPACE may not stand in a URL [code-point]\n'
+    assert.equal(report.diagnostic(told), line)
+    for (const [wrong, name] of [[{ line: 0 }, 'RangeError'], [{ line: 2 ** 32 + 1 }, 'RangeError'],
+      [{ column: 2 ** 32 }, 'RangeError'], [{ place: 3 }, 'RangeError'],
+      [{ column: 2 ** 32 - 1 }, 'RangeError'], [{ file: '\ud800' }, 'TypeError'], [{ text: '\ud800' }, 'TypeError'],
+      [{ file: 1 }, 'TypeError'], [{ profile: 'Wide' }, 'TypeError'], [{ rule: 'x' }, 'TypeError'],
+      [{ mended: { text: '\udc00', kind: 'same' } }, 'TypeError'], [{ mended: { text: 'a', kind: 'x' } }, 'TypeError']]) {
+      assert.throws(() => report.diagnostic({ ...told, ...wrong }), { name }, JSON.stringify(wrong))
+    }
+    assert.throws(() => report.fileBegin('\ud800'), TypeError)
+    assert.throws(() => report.end('ended'), TypeError)
+    assert.equal(report.diagnostic(told), line)
+    // A comma stands before each result of SARIF but the first, and a long text is written whole.
+    const sarif = urlcheck.report('sarif')
+    const text = `${'\u00e9'.repeat(5000)} `
+    const pieces = [1, 2].map(() => sarif.diagnostic({ ...told, text, mended: { text: 'a'.repeat(9000), kind: 'changed' } }))
+    assert.deepEqual(pieces.map(it => it.startsWith(',')), [false, true])
+    assert.ok(pieces[0].includes('a'.repeat(9000)))
+    assert.equal(JSON.parse(sarif.begin() + pieces.join('') + sarif.end('stopped')).runs[0].invocations[0].executionSuccessful, false)
   },
 
   async 'memory stays as it is'() {
@@ -288,8 +379,8 @@ const tests = {
       }
       assert.throws(() => urlcheck.base('x'.repeat(1_000_000)), { name: 'RangeError', message: /out of memory/ })
       assert.equal(urlcheck.check('x', { base: held }).path, 'x')
-      // The base has room, but its record hasn't.
-      assert.throws(() => urlcheck.base(text + text), RangeError)
+      // The base has room, and no record is made of it, which would have none.
+      assert.equal(urlcheck.check('x', { base: urlcheck.base(text + text) }).path, 'x')
       assert.equal(urlcheck.check('x', { base: held }).path, 'x')
       // The text has room, but its record hasn't; its faults, of which there are many, haven't either.
       assert.equal(urlcheck.check(text).valid, true)
@@ -342,7 +433,8 @@ const tests = {
   },
 
   async 'no code from texts'() {
-    for (const name of ['urlcheck.js', 'base.js', 'memory.js', 'parts.js', 'layout.js', 'explanations.js']) {
+    for (const name of ['urlcheck.js', 'base.js', 'lines.js', 'memory.js', 'options.js', 'parts.js', 'layout.js', 'reports.js',
+      'rules.js', 'source.js']) {
       const script = readFileSync(join(folder, name), 'utf8')
       assert.doesNotMatch(script, /\beval\b|new Function|innerHTML|document\.write/)
     }

@@ -1,14 +1,20 @@
-"""A server of some folders, a headless Chromium, and the page in it, for the runs of the page."""
+"""A server of some folders, a browser, and the page in it, for the runs of the page."""
 
 import functools
+import glob
 import http.server
+import os
+import subprocess
 import threading
 import time
 import urllib.parse
 
+import gecko
 from selenium import webdriver
 from selenium.webdriver.chrome.options import Options
 from selenium.webdriver.chrome.service import Service
+from selenium.webdriver.firefox.options import Options as FirefoxOptions
+from selenium.webdriver.webkitgtk.options import Options as WebKitOptions
 
 
 class Handler(http.server.SimpleHTTPRequestHandler):
@@ -52,19 +58,63 @@ def served(folders):
     return "http://127.0.0.1:{}/".format(server.server_port)
 
 
-def started():
+def started(name):
+    """A browser of that name, and what ends it."""
+    browser, end = {"chromium": chromium, "firefox": firefox, "webkit": webkit}[name]()
+    browser.set_script_timeout(120)
+    return browser, end
+
+
+def is_chromium(browser):
+    """Whether it is one, whose own protocol gives more than WebDriver."""
+    return hasattr(browser, "execute_cdp_cmd")
+
+
+def firefox():
+    """A headless Firefox."""
+    program, address = gecko.started()
+    return webdriver.Remote(address, options=FirefoxOptions()), program.end
+
+
+def webkit():
+    """WebKitGTK, on a screen of its own that no one sees."""
+    read, write = os.pipe()
+    screen = subprocess.Popen(
+        ["Xvfb", "-displayfd", str(write), "-screen", "0", "1400x1000x24", "-nolisten", "tcp"],
+        pass_fds=[write],
+        stderr=subprocess.DEVNULL,
+    )
+    os.close(write)
+    with os.fdopen(read) as told:
+        os.environ["DISPLAY"] = ":" + told.readline().strip()
+    options = WebKitOptions()
+    options.binary_location = sorted(glob.glob("/usr/lib/*/webkit2gtk-4.*/MiniBrowser"))[-1]
+    options.add_argument("--automation")
+    browser = webdriver.WebKitGTK(executable_path="/usr/bin/WebKitWebDriver", options=options)
+
+    def end():
+        browser.quit()
+        screen.terminate()
+        screen.wait(30)
+
+    return browser, end
+
+
+def chromium():
     """A headless Chromium."""
     options = Options()
     for word in ("--headless=new", "--no-sandbox", "--disable-gpu", "--hide-scrollbars", "--disable-dev-shm-usage"):
         options.add_argument(word)
     options.set_capability("goog:loggingPrefs", {"browser": "ALL"})
     browser = webdriver.Chrome(options=options, service=Service("/usr/bin/chromedriver"))
-    browser.set_script_timeout(120)
-    return browser
+    return browser, browser.quit
 
 
 def shown_as(browser, width, height, scheme="light"):
-    """Shows the page in a window of this size, in light or dark colours."""
+    """Shows the page in a window of this size, in light or dark colours, as far as the browser has it."""
+    if not is_chromium(browser):
+        browser.set_window_rect(0, 0, width, height)
+        return
     size = {"width": width, "height": height, "deviceScaleFactor": 1, "mobile": False}
     browser.execute_cdp_cmd("Emulation.setDeviceMetricsOverride", size)
     colours = {"features": [{"name": "prefers-color-scheme", "value": scheme}]}

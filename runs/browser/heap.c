@@ -88,6 +88,22 @@ static void an_emptied_heap_begins_anew(void) {
     HOLDS(growths == grown);
 }
 
+static void blocks_behind_a_mark_are_given_up(void) {
+    HOLDS(heap_lay_out(10, 10));
+    uint8_t *kept = heap_take(100, 16);
+    uint64_t mark = heap_mark();
+    uint8_t *first = heap_take(3 * PAGE, 16);
+    HOLDS(first >= kept + 100);
+    uint64_t grown = growths;
+    for (int call = 0; call < 1000; call++) {
+        heap_return(mark);
+        HOLDS(heap_take(3 * PAGE, 16) == first);
+        uint8_t *second = heap_take(10, 16);
+        HOLDS(second >= first + 3 * PAGE);
+    }
+    HOLDS(growths <= grown + 1);
+}
+
 static void a_refused_growth_leaves_all(void) {
     HOLDS(heap_lay_out(10, 10));
     uint8_t *text = heap_text(), *base = heap_base();
@@ -122,6 +138,7 @@ int main(void) {
     blocks_are_apart_and_aligned();
     resized_blocks_keep_their_bytes();
     an_emptied_heap_begins_anew();
+    blocks_behind_a_mark_are_given_up();
     a_refused_growth_leaves_all();
     no_address_is_too_high();
     puts("browser: the heap keeps blocks apart, is emptied, and bears a refused growth");

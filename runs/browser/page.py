@@ -1,28 +1,30 @@
-"""The page in a headless Chromium: all vectors, typing, a list of 200,000 lines, an HTML file, hostile texts, want of
+"""The page in a browser: all vectors, typing, a list of 200,000 lines, an HTML file, hostile texts, want of
 memory, the address, what a keyboard and a screen reader find, and three widths in light and dark.
 
     page.py FOLDER LIMITED CASES PROGRAM [PICTURE]
 
 FOLDER is what ./build-page has made, LIMITED the same with a module whose memory hardly grows, CASES what answers.py
 has written. Where PICTURE is given, a picture of the page is written there. Where the environment has ONLY, it is the
-name of the one test to be run.
+name of the one test to be run, and BROWSER is `chromium`, `firefox` or `webkit`, else the first.
 """
 
 import collections
+import importlib
 import json
 import os
-import re
 import subprocess
 import sys
 import tempfile
 import time
+import types
 
-from driver import Page, holds, served, shown_as, started
+from driver import Page, holds, is_chromium, served, shown_as, started
 from selenium.webdriver.common.by import By
 from selenium.webdriver.common.keys import Keys
 
 HERE = os.path.dirname(os.path.abspath(__file__))
-LINES = 200_000
+# Every browser judges by the same worker; one of them is given a long list.
+LINES = 200_000 if os.environ.get("BROWSER", "chromium") == "chromium" else 20_000
 # In milliseconds: how long the page may not answer while a list is judged, and when its first answer comes.
 LONGEST_PAUSE = 500
 FIRST_ANSWER = 300
@@ -36,7 +38,7 @@ def first_answer(page, room):
     for _ in range(5):
         page.open()
         times.append(page.run("return performance.getEntriesByName('urlcheck-first-answer')[0].startTime"))
-    holds(min(times) < FIRST_ANSWER, "the first answer comes after", times)
+    holds(min(times) < FIRST_ANSWER or not is_chromium(page.browser), "the first answer comes after", times)
     return "{:.0f} ms to the first answer".format(min(times))
 
 
@@ -89,7 +91,10 @@ def rules_and_bases(page, room):
         page.open(view="text", text=example["text"], base=example["base"] or "")
         holds(page.verdict()[0] == "Refused", it["rule"])
         shown = page.text("#faults")
-        holds(it["rule"] in shown and it["sentence"] in shown and it["asks"] in shown, it["rule"], shown)
+        told = linted(room, it["rule"], example)
+        message = told.partition(": error: ")[2].rpartition(" [")[0]
+        holds(message and shown.count(message) == 1 and message not in page.verdict()[1], it["rule"], shown, told)
+        holds(it["rule"] in shown and it["asks"] in shown, it["rule"], shown)
         marked = page.run("return document.querySelector('#drawn .wrong .point').textContent")
         wrong = example["text"][example["place"] :][:1]
         holds(marked == {"": "end", " ": "␣"}.get(wrong, wrong), it["rule"], marked)
@@ -119,6 +124,15 @@ def rules_and_bases(page, room):
     holds(page.verdict()[0] == "Valid", page.verdict())
     holds(mended > 2, mended)
     return "{} rules, and what to write instead for {}".format(len(explained), mended)
+
+
+def linted(room, name, example):
+    """What `lint` writes of the example of a rule, as a file of that name."""
+    words = [] if example["base"] is None else ["--base=" + example["base"]]
+    with open(os.path.join(room.path, name), "w", encoding="utf-8") as out:
+        out.write(example["text"])
+    ended = subprocess.run([room.program, "lint", *words, name], cwd=room.path, capture_output=True, check=False)
+    return ended.stdout.decode()
 
 
 def hostile_texts(page, room):
@@ -185,26 +199,6 @@ def kept(page, format):
     )
 
 
-def rows_of(text):
-    """The diagnostics of JSON, an object a line, by what both sides give; of a long text its first code points."""
-    found = map(json.loads, text.splitlines())
-    return [[it["line"], it["column"], it["rule"], it["text"][:1000]] for it in found]
-
-
-def places_of(text):
-    """The lines as compilers write them, without their sentences, which `lint` makes more of."""
-    return re.findall(r"^(.*?:\d+:\d+: error: ).*(\[[a-z0-9-]+\])$", text, re.MULTILINE)
-
-
-def results_of(text):
-    """The results of SARIF."""
-    found = []
-    for result in json.loads(text)["runs"][0]["results"]:
-        region = result["locations"][0]["physicalLocation"]["region"]
-        found.append((result["ruleId"], region["startLine"], region["startColumn"]))
-    return found
-
-
 def write_list(path):
     """A list of mixed links, some of them wrong, and lines that are no texts."""
     script = os.path.join(HERE, "..", "..", "bench", "links.py")
@@ -233,25 +227,26 @@ def long_list(page, room):
     page.wait(page.report_ended, 120)
     pause = max(page.run("return window.pauses"))
     holds(pause < LONGEST_PAUSE, "the page doesn't answer for {:.0f} ms".format(pause))
-    gnu, counts = lint(room, path)
+    formats = page.run("return [...document.querySelectorAll('[data-format]')].map(it => it.dataset.format)")
+    holds({"gnu", "caret", "json", "sarif", "checkstyle"} <= set(formats), formats)
+    for format in formats:
+        wanted, counts = lint(room, path, "--format", format)
+        holds(kept(page, format) == wanted and wanted, "the report differs from that of lint:", format)
     word, rest = page.verdict("#report")
     holds(word == "Refused" and rest.replace(",", "") == counts.replace(",", ""), rest, counts)
-    holds(places_of(kept(page, "gnu")) == places_of(gnu) and places_of(gnu), "the lines aren't those of lint")
-    wanted = rows_of(lint(room, path, "--format", "json")[0])
-    holds(rows_of(kept(page, "json")) == wanted and wanted, "JSON differs")
-    sarif = kept(page, "sarif")
-    holds(results_of(sarif) == results_of(lint(room, path, "--format", "sarif")[0]), "SARIF differs")
+    wanted = [json.loads(line) for line in lint(room, path, "--format", "json")[0].splitlines()]
     chart = page.run(
         "return [...document.querySelectorAll('.chart tr')].map(it =>"
         " [it.querySelector('code').textContent, +it.querySelector('.count').textContent.replace(/,/g, '')])"
     )
-    holds(dict(chart) == collections.Counter(row[2] for row in wanted), chart)
-    first = page.run("return [...document.querySelector('.rows tbody tr').cells].slice(0, 2).map(it => it.textContent)")
-    holds([int(it.replace(",", "")) for it in first] == wanted[0][:2], first)
+    holds(dict(chart) == collections.Counter(it["rule"] for it in wanted), chart)
+    first = page.run("return [...document.querySelector('.rows tbody tr').cells].map(it => it.textContent)")
+    holds([int(it.replace(",", "")) for it in first[:2]] == [wanted[0]["line"], wanted[0]["column"]], first)
+    holds(first[2] == "{message} {rule}".format(**wanted[0]), first)
     before = page.run("return document.querySelectorAll('.rows tbody tr').length")
     page.run("document.querySelector('#report .card > .button').click()")
     page.wait(lambda: page.run("return document.querySelectorAll('.rows tbody tr').length") > before)
-    return "{:,} lines as lint judges them, the longest pause {:.0f} ms".format(LINES, pause)
+    return "{:,} lines in {} formats as lint writes them, the longest pause {:.0f} ms".format(LINES, len(formats), pause)
 
 
 def stopping(page, room):
@@ -273,18 +268,38 @@ def stopping(page, room):
     return rest
 
 
+def document_of_links():
+    """A document with each attribute that holds links on each element of the list, one link each, in its order."""
+    parts, number = [], 0
+    with open(os.path.join(HERE, "..", "..", "packaging", "link-attributes.txt"), encoding="utf-8") as listed:
+        rows = [line.split() for line in listed if line.strip() and not line.startswith("#")]
+    for kind, attribute, *elements in rows:
+        for element in (it.rstrip("!") for it in elements):
+            # (a browser takes these elsewhere, or under another name)
+            element = {"*": "p", **dict.fromkeys(("image", "html", "frame"), "b")}.get(element, element)
+            number += 1
+            value = {"url": " u{} ", "urls": "u{0} v{0}", "candidates": "u{0} 2x, v{0} w{0} 3x,x{0}"}[kind].format(number)
+            parts.append("<{0} {1}='{2}'>{3}".format(element, attribute, value, CLOSED.get(element, "")))
+    return parts
+
+
+CLOSED = {it: "</{}>".format(it) for it in ("script", "iframe", "audio", "video", "object", "button")}
+
+
 def html_file(page, room):
-    """Links as the browser's own parser takes them, against the base that the document names."""
+    """Links as the browser's own parser takes them, against the base that the document names: those that
+    urlcheck-documents takes."""
     with open(os.path.join(room.path, "document.html"), "w", encoding="utf-8") as out:
         out.write(
             "<!doctype html><base href='/docs/'><p><a href='a b'>1</a><a href=' c '>2</a><img src=x%zz.png>"
             "<script>document.write('<a href=\"%\">no</a>')</script><a name=x>no</a><a href=''>4</a>"
             "<form action='http://h:1x/'></form><a href=http://x_y/>6<a href='&#x25;41&amp;'>7"
+            "<img srcset='d 1x, e f.png 2x'><template><a href=g></a></template><q cite=i></q>"
         )
     page.open(view="html", base="https://example.com/")
     page.drop("document.html", "/room/document.html")
     page.wait(page.report_ended)
-    holds(page.verdict("#report")[1] == "7 links, 4 refused", page.verdict("#report"))
+    holds(page.verdict("#report")[1] == "11 links, 5 refused", page.verdict("#report"))
     holds("https://example.com/docs/" in page.text("#report .note"), page.text("#report .note"))
     rows = page.run(
         "return [...document.querySelectorAll('.rows tbody tr')].map(it => [it.cells[0].textContent,"
@@ -292,10 +307,30 @@ def html_file(page, room):
     )
     wanted = [["1", "2", "code-point", "a href"], ["3", "2", "percent", "img src"]]
     wanted += [["5", "11", "port-digit", "form action"], ["6", "8", "host-domain", "a href"]]
-    holds(rows == wanted, rows)
+    holds(rows == [*wanted, ["9", "2", "code-point", "img srcset"]], rows)
+    found = kept(page, "gnu").splitlines()
+    holds(found[0] == "document.html.links:1:2: error: U+0020 SPACE may not stand in a URL [code-point]", found)
     page.run("document.querySelector('input[value=wide]').click()")
-    page.wait(lambda: page.report_ended() and page.verdict("#report")[1] == "7 links, 3 refused")
-    return "7 links"
+    page.wait(lambda: page.report_ended() and page.verdict("#report")[1] == "11 links, 4 refused")
+    return "11 links, and {} of all attributes".format(all_attributes(page, room))
+
+
+def all_attributes(page, room):
+    """The links of each attribute that holds some, as `urlcheck-documents` reads them."""
+    html = "<!doctype html>" + "".join(document_of_links())
+    links = page.browser.execute_async_script(
+        "const done = arguments[1]; import('/app/page/links.js').then(({ linksOf }) => done(linksOf(arguments[0])"
+        ".links.map(it => it.text)), error => done([String(error)]))",
+        html,
+    )
+    # (the readers of documents ask for no library, which the whole package does)
+    package = types.ModuleType("urlcheck")
+    package.__path__ = [os.path.join(HERE, "..", "..", "python", "urlcheck")]
+    sys.modules["urlcheck"] = package
+    reader, source = (importlib.import_module("urlcheck." + it) for it in ("_html_links", "_source"))
+    wanted = [link.text for link in reader.links_of(source.Source(html))[0]]
+    holds(links == wanted and len(wanted) > 30, links, wanted)
+    return len(links)
 
 
 def the_address(page, room):
@@ -338,12 +373,30 @@ def looks(page, room):
     return "contrast of 4.5 and no overflow at 320, 800 and 1280"
 
 
+DARK = (
+    "for (const sheet of document.styleSheets) for (const rule of sheet.cssRules)"
+    " if (rule.media?.mediaText.includes('prefers-color-scheme')) rule.media.mediaText = arguments[0]"
+)
+
+
 def check_look(page, width, scheme):
+    if not is_chromium(page.browser):
+        # (its window may be wider than was asked for, and its colours are those of the style sheet's own rules)
+        width = page.run("return innerWidth")
+        page.run(DARK, "all" if scheme == "dark" else "not all")
     wide = page.run("return document.documentElement.scrollWidth")
     holds(wide <= width, "at {} the page is {} wide".format(width, wide))
     with open(os.path.join(HERE, "contrast.js"), encoding="utf-8") as script:
         poor = page.run(script.read())
     holds(not poor, width, scheme, poor[:5])
+
+
+# The controls that have no label, no text, and no attribute that names them.
+UNNAMED = (
+    "return [...document.querySelectorAll('a, button, input, select, textarea, progress, [role=radiogroup]')].filter(it =>"
+    " it.getClientRects().length && !it.labels?.length && !it.textContent.trim() && !it.getAttribute('aria-label')"
+    " && !it.getAttribute('aria-labelledby')).map(it => it.outerHTML)"
+)
 
 
 def keyboard_and_names(page, room):
@@ -352,6 +405,10 @@ def keyboard_and_names(page, room):
     controls = {"textbox", "combobox", "button", "link", "radio", "progressbar", "radiogroup", "status", "table"}
     for view in ("text", "list", "html"):
         page.open(view=view)
+        if not is_chromium(page.browser):
+            unnamed = page.run(UNNAMED)
+            holds(unnamed == [], "controls without a name:", unnamed, view)
+            continue
         page.browser.execute_cdp_cmd("Accessibility.enable", {})
         for node in page.browser.execute_cdp_cmd("Accessibility.getFullAXTree", {})["nodes"]:
             role = node.get("role", {}).get("value")
@@ -380,6 +437,8 @@ def own_files_alone(page, room):
     page.open(view="text", text="x")
     names = page.run("return performance.getEntriesByType('resource').map(it => it.name)")
     holds(names and all(name.startswith(page.address) for name in names), names)
+    if not is_chromium(page.browser):
+        return "{} files; what the browser logs isn't read".format(len(names))
     wrong = [it["message"] for it in page.browser.get_log("browser") if it["level"] == "SEVERE"]
     holds(not wrong, wrong[:3])
     return "{} files".format(len(names))
@@ -417,7 +476,9 @@ def main():
     with tempfile.TemporaryDirectory() as path:
         os.symlink(cases, os.path.join(path, "cases.json"))
         address = served({"app": folder, "limited": limited, "runs": HERE, "room": path})
-        browser = started()
+        name = os.environ.get("BROWSER", "chromium")
+        browser, end = started(name)
+        print("browser: {}, version {}".format(name, browser.capabilities["browserVersion"]), flush=True)
         try:
             page, room = Page(browser, address + "app/index.html"), Room(path, program)
             page.address = address + "app/"
@@ -433,7 +494,7 @@ def main():
             if len(sys.argv) > 5 and not failed:
                 take_picture(page, sys.argv[5])
         finally:
-            browser.quit()
+            end()
     sys.exit(1 if failed else 0)
 
 

@@ -1,8 +1,8 @@
 #!/usr/bin/env bash
-# plants.sh FOLDER CASES [MODULE]: spoils a copy of what ./build-page has made in each of these ways, and sees that the
+# plants.sh FOLDER CASES PROGRAM [MODULE]: spoils a copy of what ./build-page has made in each of these ways, and sees that the
 # runs find it. MODULE is the LLVM module that ./build-page keeps; with it the glue is spoiled too, and compiled anew.
 set -euo pipefail
-folder=$(realpath "$1") cases=$(realpath "$2") module=${3:-}
+folder=$(realpath "$1") cases=$(realpath "$2") program=$(realpath "$3") module=${4:-}
 here=$(dirname "$(realpath "$0")")
 top=$(dirname "$(dirname "$here")")
 room=$(mktemp -d)
@@ -32,15 +32,21 @@ found() {
     fi
 }
 
+# run WHAT RUN : the run of this name fails on the copy
+run() {
+    case $2 in
+        vectors) found "$1" node "$here/vectors.mjs" "$room/copy" "$cases" ;;
+        calls) found "$1" node "$here/calls.mjs" "$room/copy" ;;
+        reports) found "$1" node "$here/reports.mjs" "$room/copy" "$cases" "$program" ;;
+    esac
+}
+
 # script WHAT RUN FILE SED : with this edit of a script of the package the run fails
 script() {
     rm -rf "$room/copy"
     cp -r "$folder" "$room/copy"
     edited "$1" "$room/copy/$3" "$4" || return 0
-    case $2 in
-        vectors) found "$1" node "$here/vectors.mjs" "$room/copy" "$cases" ;;
-        calls) found "$1" node "$here/calls.mjs" "$room/copy" ;;
-    esac
+    run "$1" "$2"
 }
 
 node "$here/vectors.mjs" "$folder" "$cases" >"$room/said" && node "$here/calls.mjs" "$folder" >>"$room/said" ||
@@ -64,14 +70,14 @@ script 'a base that is held and ignored by check' vectors urlcheck.js \
     's/room.checkWith(room.textLength)/room.check(room.textLength, profile)/'
 script 'a base that is held and ignored by faults' vectors urlcheck.js \
     's/room.exports.faults_with(room.textLength)/room.exports.faults(room.textLength, profile)/'
-script 'a base that is held and ignored by resolve' vectors urlcheck.js \
+script 'a base that is held and ignored by resolve' vectors options.js \
     's/base: text, held, profile: number/base: undefined, held, profile: number/'
 script 'a base that stays held where another is given' vectors memory.js \
     's/if (words === this.heldWords) return/if (this.heldWords) return/'
 script 'a base that is held by half' vectors layout.js 's/^export const HELD_WORDS = 10$/export const HELD_WORDS = 9/'
 script 'a base that is held where the memory was' calls memory.js \
     '/this.held = new Uint32Array(buffer/s/= new/= this.heldWords ? this.held : new/'
-script 'a base that is judged by another profile' calls urlcheck.js 's/=== undefined || profile === number/!== null/'
+script 'a base that is judged by another profile' calls options.js 's/=== undefined || profile === number/!== null/'
 script 'a refused base that is held' calls urlcheck.js '/^    const words = room.prepared/{n;d}'
 script 'no memory taken for a refusal' calls urlcheck.js 's/known === 1 || this.check(text, options).valid/known === 1/'
 script 'a swapped parameter of mend' vectors urlcheck.js "/mend_against(/$swap"
@@ -81,16 +87,30 @@ script 'a mended text of the next kind' vectors urlcheck.js \
     's/MEND_KINDS\[room.word(MEND_KIND) - 1\]/MEND_KINDS[room.word(MEND_KIND)]/'
 script 'a mended text without its first code point' vectors memory.js 's/, { ignoreBOM: true }//'
 script 'a rule with the next number' vectors urlcheck.js \
-    's/this.#names\[room.word(RULE) - 1\]/this.#names[room.word(RULE)]/'
-script 'the wide profile read as the standard one' vectors urlcheck.js "/=== 'wide'/s/return 1/return 0/"
-script "the parser's profile read as the wide one" vectors urlcheck.js "/=== 'parser'/s/return 2/return 1/"
+    's/this.rules\[room.word(RULE) - 1\]/this.rules[room.word(RULE)]/'
+script 'the wide profile read as the standard one' vectors options.js "/=== 'wide'/s/return 1/return 0/"
+script "the parser's profile read as the wide one" vectors options.js "/=== 'parser'/s/return 2/return 1/"
 script 'units counted as bytes' vectors urlcheck.js 's/room.textLength === text.length/true/'
 script 'a lone surrogate let through' calls memory.js 's/ && text.length <= SHORT) utf8Length/ \&\& false) utf8Length/'
 script 'a room that is too small' calls memory.js 's/^const SMALL_ROOM = 3 \* SHORT$/const SMALL_ROOM = SHORT/'
 script 'a memory that is seen as it was' calls memory.js \
     's/if (this.answer.length !== 0) return$/if (this.textRoom > 1) return/'
 script 'large rooms kept after out of memory' calls memory.js 's/^    if (this.textRoom > SMALL_ROOM || .*$//'
-script 'a profile of any name' calls urlcheck.js 's/^  throw new TypeError("the profile.*$/  return 0/'
+script 'a profile of any name' calls options.js 's/^  throw new TypeError("the profile.*$/  return 0/'
+script 'lines against a base that is ignored' calls lines.js 's/held === undefined ? 0 : 1/0/'
+script 'lines numbered from each piece on' calls lines.js 's/line: many.lines + words/line: words/'
+script 'lines that stand where they do in their piece' calls lines.js 's/const from = start + words/const from = words/'
+script 'the lines behind the rows of a call left out' calls lines.js '/^    for (let from = 0/s/from = room.word(NEXT_LINE)/from = end/'
+script 'a piece that ends within a line' calls lines.js 's/return last + 1$/return last + 2/'
+script 'empty lines counted as judged' calls lines.js 's/ - room.word(EMPTY_LINES)//'
+script 'a wrong offset of a place of a line' calls layout.js 's/^export const ROW_PLACE = 5$/export const ROW_PLACE = 6/'
+script 'a place behind the end let through' calls memory.js '/=== NO_PLACE/d'
+script 'a line of a report that is any number' calls reports.js "s/wholeNumber(line, 'line', 1)/line/"
+script 'each diagnostic taken for the first' calls reports.js 's/^    this.#isFirst = false$//'
+script 'a mended text that is left out' reports reports.js "s/mended?.text ?? ''/''/"
+script 'a report by another profile' reports reports.js 's/this.#numbers.ofProfile(profile)/0/'
+script 'a report in another unit' reports reports.js 's/diagnostic(this.#format, this.#unit/diagnostic(this.#format, 0/'
+script 'a mended text of another kind' reports reports.js 's/this.#numbers.ofKind(mended.kind)/3/'
 
 # The heap alone: with this edit of it its test fails.
 heap() {
@@ -106,6 +126,7 @@ if command -v cc >/dev/null; then
     heap 'a heap that is not emptied' '/^void heap_empty(/s/top = last = bottom/last = bottom/'
     heap 'a refused growth taken for one' 's/return end <= memory_end();/return true;/'
     heap 'an address that is too high' 's/start <= LIMIT \&\& size <= LIMIT - start/start + size <= LIMIT/'
+    heap 'blocks that are given up and stay' 's/{ top = last = mark; }/{ last = mark; }/'
     heap 'a block that is not aligned' 's/uint64_t start = aligned(top, alignment);/uint64_t start = top;/'
     heap 'a block that moves without its bytes' 's/at < kept; at++/at < kept \&\& 0; at++/'
 else
@@ -119,10 +140,7 @@ glue() {
     cp -r "$folder" "$room/copy"
     edited "$1" "$room/module/$3" "$4" || return 0
     "$room/module/compile" "$(dirname "$(rt doc)")" "$module" "$top/include" "$room/copy/urlcheck.wasm"
-    case $2 in
-        vectors) found "$1" node "$here/vectors.mjs" "$room/copy" "$cases" ;;
-        calls) found "$1" node "$here/calls.mjs" "$room/copy" ;;
-    esac
+    run "$1" "$2"
 }
 
 if [ -n "$module" ]; then
@@ -133,6 +151,10 @@ if [ -n "$module" ]; then
     glue 'a base that the glue holds and ignores' vectors glue.c \
         '/^    proved_check_with(/s/_with\(.*\)&held/\1held.profile/'
     glue 'a long mended text that is not written' calls glue.c '/answer.mended.length > room/s/> room/> 9 * room/'
+    glue 'rows of lines that a line writes over' calls lines.c 's/uint64_t mark = heap_mark();/uint64_t mark = 0;/'
+    glue 'a line of its own for a CR' calls lines.c "s/lines\[end - 1\] == '.r'/0/"
+    glue 'a long text of a report that is not written' calls reports.c 's/length <= room/length > 0/'
+    glue 'a column of the text for that of its place' reports reports.c 's/first_column, told.place)/first_column, 0)/'
     glue 'a growth that is refused and not seen' calls heap.c 's/return end <= memory_end();/return true;/'
 else
     echo 'browser: the plants of the glue are left out, since no module was given'

@@ -1,7 +1,7 @@
 // A caller in TypeScript, as strictly as the compiler can: it is compiled and not run.
 import { BaseRefused, load } from './urlcheck.js'
-import type { Base, Checker, Explanation, Fault, MendKind, Parts, Profile, Range, Refused } from './urlcheck.js'
-import type { Resolved, RuleName, Valid } from './urlcheck.js'
+import type { Base, Checker, Diagnostic, Explanation, Fault, MendKind, Parts, Profile, Range, Refused } from './urlcheck.js'
+import type { Many, RefusedLine, Report, Resolved, RuleName, Valid } from './urlcheck.js'
 import type * as Wanted from './urlcheck.js'
 import * as written from './written.js'
 
@@ -20,7 +20,7 @@ if (answer.valid) {
 } else {
   const rule: RuleName = answer.rule
   const explained: Explanation = other.explain(rule)
-  console.log(answer.place, answer.index, explained.sentence, explained.example.mended)
+  console.log(answer.place, answer.index, explained.sentence, explained.example.meant)
 }
 
 const profile: Profile = 'wide'
@@ -44,12 +44,25 @@ const below: Valid | Refused = urlcheck.check('x', { base })
 console.log(base.text, base.profile, below.valid, other.faults('x', { base }).length)
 console.log(third.resolve('x', { base, profile: base.profile }).valid)
 
+const many: Many = urlcheck.checkMany(new TextEncoder().encode('urn:a\nx'), { base, profile })
+const lines: RefusedLine[] = many.refused
+console.log(many.lines - many.judged, lines.map(({ line, start, end, byte }) => [line, start, end, byte]))
+
+const report: Report = urlcheck.report('sarif', 'utf16')
+const told: Diagnostic = { file: 'a.txt', line: 1, text: 'x', rule: 'not-utf8', place: 0, mended: null }
+console.log(report.begin() + report.fileBegin('a.txt') + report.diagnostic(told) + report.fileEnd() + report.end())
+console.log(urlcheck.message('x', faults[0]), urlcheck.formats.length, urlcheck.units.length, report.showsMended)
+
 try {
   urlcheck.check('x', { base: ':' })
 } catch (error) {
   if (error instanceof BaseRefused) console.log(error.rule, error.place, error.index)
 }
 
+// @ts-expect-error: a format has one of these names
+urlcheck.report('text')
+// @ts-expect-error: lines are bytes
+urlcheck.checkMany('urn:a')
 // @ts-expect-error: a profile has one of three names
 urlcheck.check('x', { profile: 'Wide' })
 // @ts-expect-error: a text is a string

@@ -4,8 +4,7 @@
  * lays it out, and what else was written at `out_at`. The base that is held stands at `held_at`: `prepare` writes it,
  * and so may the caller, who keeps its bytes for as long as the base is wanted.
  */
-#include "heap.h"
-#include "urlcheck.h"
+#include "glue.h"
 
 /* Where urlcheck.js reads: it knows these numbers. */
 _Static_assert(offsetof(urlcheck_finding, verdict) == 0 && offsetof(urlcheck_finding, rule) == 4, "layout");
@@ -18,17 +17,10 @@ _Static_assert(offsetof(urlcheck_fault, byte_place) == 16 && sizeof(urlcheck_fau
 _Static_assert(sizeof(urlcheck_base) == 40, "layout");
 _Static_assert(offsetof(urlcheck_mended, kind) == 24 && offsetof(urlcheck_mended, length) == 32, "layout");
 
-/*
- * The functions of the header as the kit lays out their calls on x86-64, which are compiled here for another machine:
- * the answer's address comes first, and is given back.
- */
-#define PROVED(name) __asm__("urlcheck_" name)
 uint64_t proved_check(urlcheck_answer *answer, const uint8_t *text, size_t length, uint32_t profile) PROVED("check");
 uint64_t proved_check_against(urlcheck_answer *answer, const uint8_t *text, size_t length, const uint8_t *base,
                               size_t base_length, uint32_t profile) PROVED("check_against");
 uint64_t proved_prepare(urlcheck_base *answer, const uint8_t *base, size_t length, uint32_t profile) PROVED("prepare");
-uint64_t proved_check_with(urlcheck_answer *answer, const uint8_t *text, size_t length, const urlcheck_base *base)
-    PROVED("check_with");
 uint64_t proved_mend(urlcheck_mended *answer, const uint8_t *text, size_t length, uint32_t profile, uint8_t *out,
                      size_t room) PROVED("mend");
 uint64_t proved_mend_against(urlcheck_mended *answer, const uint8_t *text, size_t length, const uint8_t *base,
@@ -46,20 +38,12 @@ uint64_t proved_faults_against(urlcheck_fault_count *answer, const uint8_t *text
 uint64_t proved_faults_with(urlcheck_fault_count *answer, const uint8_t *text, size_t length, const urlcheck_base *base,
                             urlcheck_fault *out, size_t room) PROVED("faults_with");
 
-/* The elements that a first call has room for, where more are rare. */
+/* The faults that a first call has room for, where more are rare, and where blocks begin. */
 enum { FAULTS = 64, ALIGNMENT = 16 };
 
-static union {
-    urlcheck_finding found;
-    urlcheck_answer checked;
-    urlcheck_resolved resolved;
-    urlcheck_mended mended;
-    urlcheck_fault_count counted;
-} answer;
-
-static void *out;
-
-static urlcheck_base held;
+union answer answer;
+void *out;
+urlcheck_base held;
 
 /* Against what a text is judged. */
 typedef enum { NOTHING, BASE_TEXT, BASE_HELD } against;
@@ -114,8 +98,7 @@ uint32_t is_valid_with(uint32_t length) {
     return urlcheck_is_valid_with(heap_text(), length, &held);
 }
 
-/* Empties the heap and takes so many bytes of it for `out`; where there are none, the answer is out of memory. */
-static bool takes_out(uint64_t bytes) {
+bool takes_out(uint64_t bytes) {
     heap_empty();
     out = heap_take(bytes, ALIGNMENT);
     if (out == NULL) answer.found = (urlcheck_finding){.verdict = URLCHECK_MEMORY};
@@ -200,14 +183,5 @@ void faults_against(uint32_t length, uint32_t base_length, uint32_t profile) {
 }
 
 void faults_with(uint32_t length) { all_faults(length, 0, BASE_HELD, 0); }
-
-/* A rule's name and its sentence stand at `answer_at`; their length is given, and is 0 where no rule has the number. */
-uint32_t rule_name(uint32_t rule) {
-    return (uint32_t)urlcheck_rule_name(rule, (uint8_t *)&answer, sizeof answer);
-}
-
-uint32_t rule_sentence(uint32_t rule) {
-    return (uint32_t)urlcheck_rule_sentence(rule, (uint8_t *)&answer, sizeof answer);
-}
 
 uint32_t version(void) { return urlcheck_version(); }

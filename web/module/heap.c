@@ -60,6 +60,10 @@ uint8_t *heap_base(void) { return pointer(base_room); }
 
 void heap_empty(void) { top = last = bottom; }
 
+uint64_t heap_mark(void) { return top; }
+
+void heap_return(uint64_t mark) { top = last = mark; }
+
 void *heap_take(uint64_t size, uint64_t alignment) {
     uint64_t start = aligned(top, alignment);
     uint64_t end = end_of(start, size == 0 ? 1 : size); /* so that no two blocks begin at one place */

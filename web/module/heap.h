@@ -19,6 +19,10 @@ uint8_t *heap_base(void);
 /* Gives up each block. */
 void heap_empty(void);
 
+/* Where the heap is free; and giving up each block that was taken from there on. */
+uint64_t heap_mark(void);
+void heap_return(uint64_t mark);
+
 /* A block of so many bytes at a multiple of `alignment`, a power of two; NULL where the engine gives no more memory. */
 void *heap_take(uint64_t size, uint64_t alignment);
 

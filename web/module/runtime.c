@@ -75,7 +75,7 @@ int memcmp(const void *one, const void *other, size_t count) {
     return 0;
 }
 
-/* Shifts of 128 bits, by 0 to 127. */
+/* Numbers of 128 bits: shifts, by 0 to 127, and products. */
 typedef union {
     unsigned __int128 whole;
     struct {
@@ -107,4 +107,20 @@ unsigned __int128 __ashlti3(unsigned __int128 number, int count) {
         shifted.half.high = given.half.high << count | given.half.low >> (64 - count);
     }
     return shifted.whole;
+}
+
+/* All 128 bits of a product of two words. */
+static wide product(uint64_t one, uint64_t other) {
+    const uint64_t low = 0xffffffff;
+    uint64_t lows = (one & low) * (other & low), highs = (one >> 32) * (other >> 32);
+    uint64_t first = (one >> 32) * (other & low), second = (one & low) * (other >> 32);
+    uint64_t middle = (lows >> 32) + (first & low) + (second & low);
+    return (wide){.half = {(lows & low) | middle << 32, highs + (first >> 32) + (second >> 32) + (middle >> 32)}};
+}
+
+unsigned __int128 __multi3(unsigned __int128 one, unsigned __int128 other) {
+    wide first = {.whole = one}, second = {.whole = other};
+    wide whole = product(first.half.low, second.half.low);
+    whole.half.high += first.half.low * second.half.high + first.half.high * second.half.low;
+    return whole.whole;
 }

@@ -2,6 +2,7 @@
 import { load } from '../urlcheck.js'
 import { byId, element } from './elements.js'
 import { linksOf } from './links.js'
+import { fileOf } from './pieces.js'
 import { ReportView } from './report-view.js'
 import { FIRST_TEXT, addressOf, readState } from './state.js'
 import { showText } from './text-view.js'
@@ -20,7 +21,7 @@ const PROFILES = {
 
 const loading = load()
 const state = readState()
-/** A list or a document that was dropped, chosen or pasted: its name, and its file or text. */
+/** A list or a document that was dropped, chosen or pasted: its name, and its file, or the document's text. */
 const given = { list: null, html: null }
 let urlcheck = null
 let report = null
@@ -66,8 +67,8 @@ function tryText(text, base) {
 function judgeList() {
   const { profile, base } = state
   if (!given.list && state.list.trim() === '') return report.clear()
-  const { name, source } = given.list ?? { name: 'list.txt', source: { kind: 'text', text: state.list } }
-  report.judge(source, { name, base, profile, unit: 'line', note: given.list && [name] })
+  const { name, file } = given.list ?? { name: 'list.txt', file: fileOf(state.list) }
+  report.judge({ kind: 'file', file }, { name, base, profile, unit: 'line', note: given.list && [name] })
 }
 
 /** The base of a document: the one that it names, read against the page's base field. */
@@ -103,8 +104,8 @@ function judge() {
 }
 
 /** Takes a list as a file: it doesn't stand in the field. */
-function takeList(name, source) {
-  given.list = { name, source }
+function takeList(name, file) {
+  given.list = { name, file }
   state.view = 'list'
   state.list = ''
   fillFields()
@@ -117,7 +118,7 @@ async function takeFile(file, view) {
     given.html = { name: file.name, text: await file.text() }
     state.view = 'html'
     judge()
-  } else takeList(file.name, { kind: 'file', file })
+  } else takeList(file.name, file)
 }
 
 /** Reads the address, as after a link or a step back. */
@@ -156,7 +157,7 @@ function listenToFields() {
     const text = event.clipboardData.getData('text/plain')
     if (text.length <= LONGEST_IN_FIELD) return
     event.preventDefault()
-    takeList('the pasted list', { kind: 'text', text })
+    takeList('the pasted list', fileOf(text))
   })
   for (const choice of document.querySelectorAll('input[name=profile]')) {
     choice.addEventListener('change', () => {
@@ -234,7 +235,7 @@ listenToViews()
 listenToFiles()
 try {
   urlcheck = await loading
-  report = new ReportView(byId('report'), rule => urlcheck.explain(rule).sentence)
+  report = new ReportView(byId('report'), urlcheck)
   byId('version').textContent = `Version ${urlcheck.version}.`
   fillExamples()
   judge()

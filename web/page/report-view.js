@@ -6,7 +6,9 @@ import { shownText } from './drawing.js'
 /** So many refused lines are shown at first, and with each further press. */
 const ROWS = 100
 
-const FILES = { gnu: 'urlcheck.txt', json: 'urlcheck.json', sarif: 'urlcheck.sarif' }
+/** How the page calls a format, if not by its own name, and how the name of its file ends, if not with `txt`. */
+const NAMES = { gnu: 'lines', caret: 'lines with carets', json: 'JSON', github: 'GitHub', sarif: 'SARIF' }
+const ENDS = { json: 'json', sarif: 'sarif', checkstyle: 'xml' }
 
 /** Gives a file to the browser, to be kept. */
 function download(blob, name) {
@@ -18,11 +20,11 @@ function download(blob, name) {
 export class ReportView {
   /**
    * @param {HTMLElement} section where the report stands
-   * @param {(rule: string) => string} sentenceOf
+   * @param {import('../urlcheck.js').Checker} urlcheck
    */
-  constructor(section, sentenceOf) {
+  constructor(section, urlcheck) {
     this.section = section
-    this.sentenceOf = sentenceOf
+    this.urlcheck = urlcheck
     this.number = 0
     this.worker = null
   }
@@ -44,6 +46,8 @@ export class ReportView {
   judge(source, { name, base, profile, unit, note }) {
     this.number++
     this.unit = unit
+    this.base = base
+    this.profile = profile
     this.shown = 0
     this.refused = 0
     this.build(note)
@@ -70,8 +74,7 @@ export class ReportView {
     this.more = button('Show more', () => this.askRows(), { class: 'button', hidden: '' })
     this.downloads = element('div', { class: 'downloads', hidden: '' },
       element('span', { class: 'hint' }, 'Download the refused ones as'),
-      ...[['gnu', 'lines'], ['json', 'JSON'], ['sarif', 'SARIF']].map(([format, name]) =>
-        button(name, () => this.ask('download', { format }), { class: 'button', 'data-format': format })))
+      ...this.urlcheck.formats.map(format => this.downloadButton(format)))
     const head = element('tr', { role: 'row' }, ...[this.unit, 'column', 'what is wrong', 'text'].map(name =>
       element('th', { scope: 'col', role: 'columnheader' }, name)))
     this.rows = element('div', { class: 'card', hidden: '' },
@@ -84,13 +87,18 @@ export class ReportView {
     this.section.replaceChildren(this.line, ...notes, this.running, this.chart, this.rows)
   }
 
+  downloadButton(format) {
+    const attributes = { class: 'button', 'data-format': format }
+    return button(NAMES[format] ?? format, () => this.ask('download', { format }), attributes)
+  }
+
   /** Takes a message of the worker; those of an older report are passed over. */
   take(message) {
     if (message.number !== this.number) return
     if (message.kind === 'progress') this.showProgress(message)
     if (message.kind === 'done') this.showEnd(message)
     if (message.kind === 'rows') this.showRows(message)
-    if (message.kind === 'file') download(message.blob, FILES[message.format])
+    if (message.kind === 'file') download(message.blob, `urlcheck.${ENDS[message.format] ?? 'txt'}`)
     if (message.kind === 'failed') this.showFailure(message)
   }
 
@@ -127,8 +135,12 @@ export class ReportView {
 
   showFailure({ message, base }) {
     this.running.remove()
-    if (base) this.say('bad', 'Base refused', `${this.sentenceOf(base.rule)}, at place ${counted(base.place)}`)
-    else this.say('bad', 'Not judged', message)
+    if (!base) {
+      this.say('bad', 'Not judged', message)
+      return
+    }
+    const sentence = this.urlcheck.message(this.base, base, { profile: this.profile })
+    this.say('bad', 'Base refused', `${sentence}, at place ${counted(base.place)}`)
   }
 
   /** The counts by rule, as bars whose length is the count. */

@@ -48,18 +48,18 @@ function browsersUrl(text, base) {
   }
 }
 
-function verdictLine(urlcheck, said) {
+/** The verdict in a line. What is wrong stands below it, by each rule. */
+function verdictLine(said) {
   if (said.kind === 'valid') return ['good', 'Valid', 'a valid URL string']
   if (said.kind === 'unjudged') return ['bad', 'Not judged', said.message]
-  const [first] = said.faults
-  const what = `${urlcheck.explain(first.rule).sentence}, at place ${counted(first.place)}`
-  if (said.kind === 'base') return ['bad', 'Base refused', what]
+  const where = `at place ${counted(said.faults[0].place)}`
+  if (said.kind === 'base') return ['bad', 'Base refused', where]
   const more = said.faults.length - 1
-  return ['bad', 'Refused', more > 0 ? `${what}, and ${plural(more, 'more violation', 'more violations')}` : what]
+  return ['bad', 'Refused', more > 0 ? `${where}, and ${plural(more, 'more violation', 'more violations')}` : where]
 }
 
-function showVerdict(urlcheck, said) {
-  const [kind, word, rest] = verdictLine(urlcheck, said)
+function showVerdict(said) {
+  const [kind, word, rest] = verdictLine(said)
   const line = byId('verdict')
   line.className = `verdict ${kind}`
   line.replaceChildren(
@@ -106,27 +106,31 @@ function showDrawn(text, base, said, onTry) {
   card.replaceChildren(element('h2', {}, title), drawn, ...below.filter(part => part))
 }
 
-/** A rule's example: a text that violates it, and the text mended, which a button tries. */
-function example({ text, base, mended }, onTry) {
+/** A rule's example: a text that violates it, and the valid one that was meant; a button tries each. */
+function example({ text, base, meant }, onTry) {
   const tried = word => button(word, () => onTry(word, base ?? ''), { class: 'mono try', title: 'try this text' })
   return element('p', { class: 'rule-example' },
     element('span', { class: 'hint' }, 'wrong '), tried(text), ' ',
-    element('span', { class: 'hint' }, 'mended '), tried(mended),
+    element('span', { class: 'hint' }, 'meant '), tried(meant),
     base === null ? null : element('span', { class: 'hint' }, ` against ${base}`))
 }
 
-/** So many places of a rule are named. */
+/** So many faults are told, and so many places of those that are told alike. */
+const TOLD_FAULTS = 1000
 const NAMED_PLACES = 12
 
-/** The faults by their rules, in the order of the first one of each, with their numbers in the drawn text. */
-function byRule(faults) {
+/** The faults of which the same is said, in the order of the first of each, with their numbers in the drawn text. */
+function bySentence(urlcheck, text, faults, profile) {
   const found = new Map()
-  faults.forEach(({ rule, place }, at) => {
-    if (!found.has(rule)) found.set(rule, { numbers: [], places: [] })
-    found.get(rule).numbers.push(at + 1)
-    found.get(rule).places.push(place)
+  faults.slice(0, TOLD_FAULTS).forEach((fault, at) => {
+    const { rule, place } = fault
+    const sentence = urlcheck.message(text, fault, { profile })
+    const key = `${rule} ${sentence}`
+    if (!found.has(key)) found.set(key, { rule, sentence, numbers: [], places: [] })
+    found.get(key).numbers.push(at + 1)
+    found.get(key).places.push(place)
   })
-  return found
+  return [...found.values()]
 }
 
 /** The first few of a list, and how many more there are. */
@@ -138,8 +142,8 @@ function numberMark(number) {
   return element('span', { class: 'number', 'aria-hidden': 'true' }, String(number))
 }
 
-function ruleItem(urlcheck, rule, { numbers, places }, onTry) {
-  const { sentence, asks, section, example: shown } = urlcheck.explain(rule)
+function faultItem(urlcheck, { rule, sentence, numbers, places }, onTry) {
+  const { asks, section, example: shown } = urlcheck.explain(rule)
   const { first, more } = firstOf(places)
   const named = `${first.length > 1 ? 'places' : 'place'} ${first.map(counted).join(', ')}`
   return element('li', { class: 'fault card' },
@@ -152,12 +156,15 @@ function ruleItem(urlcheck, rule, { numbers, places }, onTry) {
     example(shown, onTry))
 }
 
-function showFaults(urlcheck, said, onTry) {
+function showFaults(urlcheck, text, profile, said, onTry) {
   const faults = said.faults ?? []
   const parts = []
   if (faults.length) {
     parts.push(element('ol', { class: 'faults', 'aria-label': 'Violations' },
-      ...[...byRule(faults)].map(([rule, found]) => ruleItem(urlcheck, rule, found, onTry))))
+      ...bySentence(urlcheck, text, faults, profile).map(found => faultItem(urlcheck, found, onTry))))
+  }
+  if (faults.length > TOLD_FAULTS) {
+    parts.push(element('p', { class: 'hint' }, `The first ${counted(TOLD_FAULTS)} violations are told.`))
   }
   if (faults.length > DRAWN_FAULTS) {
     parts.push(element('p', { class: 'hint' }, `The first ${DRAWN_FAULTS} violations are marked in the text.`))
@@ -250,8 +257,8 @@ function noteOn(ours, theirs) {
 /** Shows what is said of a text. */
 export function showText(urlcheck, { text, base, profile }, onTry) {
   const said = judged(urlcheck, text, base, profile)
-  showVerdict(urlcheck, said)
+  showVerdict(said)
   showDrawn(text, base, said, onTry)
-  showFaults(urlcheck, said, onTry)
+  showFaults(urlcheck, said.kind === 'base' ? base : text, profile, said, onTry)
   showComparison(text, base, said)
 }

@@ -3,31 +3,24 @@
 // The page sends `judge` with a source, and then `stop`, `rows` and `download` for the job with the same number. The
 // worker sends `progress`, `done` or `failed`, and what was asked for.
 import { BaseRefused, load } from '../urlcheck.js'
-import { Unjudged, linesOfFile, linesOfText } from './lines.js'
-import { gnuPieces, jsonPieces, sarifPieces } from './reports.js'
+import { piecesOf } from './pieces.js'
 
 /** So long, in milliseconds, lines are judged before messages are read, and so often progress is told. */
 const TURN = 20
 const TELLING = 100
+/** So many links are judged at a time, and so many diagnostics are joined to a piece of a file. */
+const LINKS = 1000
+const JOINED = 10_000
 
-/** What is said of lines that aren't judged. */
-const UNJUDGED = {
-  'not-utf8': { sentence: "this line isn't UTF-8", asks: 'A line is a text in UTF-8.' },
-  'line-too-long': { sentence: 'this line has more than 65536 bytes', asks: 'A line has at most 65536 bytes. A longer link may be valid.' },
-  memory: { sentence: 'out of memory for this line', asks: 'A text fits into the memory of the page.' }
-}
+const TYPES = { json: 'application/json', sarif: 'application/json', checkstyle: 'application/xml' }
 
 const loading = load()
+const decoder = new TextDecoder('utf-8', { ignoreBOM: true })
 let job = null
 
 /** Waits until messages have been read. */
 function messagesAreRead() {
   return new Promise(done => setTimeout(done, 0))
-}
-
-/** The place of the first lone surrogate of a text. */
-function lonePlace(text) {
-  return [...text].findIndex(point => /\p{Cs}/u.test(point))
 }
 
 class Job {
@@ -39,68 +32,78 @@ class Job {
     // A base is judged once, before anything else: it throws where it is refused.
     this.options = { base: base === '' ? null : urlcheck.base(base, { profile }), profile }
     this.isStopped = false
+    this.lines = 0
     this.count = 0
     this.rows = []
     this.counts = new Map()
     this.done = 0
   }
 
-  /** Pieces of lines or links: each with how much of the source is read. */
-  pieces() {
-    const { kind, text, file, links } = this.source
-    if (kind === 'file') return linesOfFile(file)
-    if (kind === 'links') return [{ lines: links.map(link => link.text), done: links.length }]
-    return linesOfText(text)
-  }
-
   total() {
-    const { kind, text, file, links } = this.source
-    return kind === 'file' ? file.size : kind === 'links' ? links.length : text.length
+    return this.source.kind === 'links' ? this.source.links.length : this.source.file.size
   }
 
-  /** What is wrong with a line: a rule and a place, or nothing. */
-  judged(line) {
-    if (line instanceof Unjudged) return { rule: line.rule, place: line.place }
-    try {
-      const answer = this.urlcheck.check(line, this.options)
-      return answer.valid ? null : answer
-    } catch (error) {
-      if (error instanceof TypeError) return { rule: 'not-utf8', place: lonePlace(line) }
-      if (error instanceof RangeError) return { rule: 'memory', place: 0 }
-      throw error
+  /** Takes a refused text: its number, by which rule and where, and an index of the wrong code point or -1. */
+  refuse(row) {
+    this.rows.push(row)
+    this.counts.set(row.rule, (this.counts.get(row.rule) ?? 0) + 1)
+  }
+
+  /** Judges the lines of a piece of a list. */
+  takeLines({ bytes, isTooLong }) {
+    if (isTooLong) {
+      this.count++
+      this.refuse({ number: ++this.lines, rule: 'line-too-long', place: 0, index: -1, text: '' })
+      return
+    }
+    const { lines, judged, refused } = this.urlcheck.checkMany(bytes, this.options)
+    for (const { line, start, end, rule, place, byte } of refused) {
+      const text = decoder.decode(bytes.subarray(start, end))
+      const index = decoder.decode(bytes.subarray(start, start + byte)).length
+      this.refuse({ number: this.lines + line, rule, place, index, text })
+    }
+    this.lines += lines
+    this.count += judged
+  }
+
+  /** Judges some links of a document; an empty one isn't passed over. */
+  takeLinks(links) {
+    for (const { text, where } of links) {
+      this.count++
+      const answer = this.urlcheck.check(text, this.options)
+      if (answer.valid) continue
+      this.refuse({ number: this.count, rule: answer.rule, place: answer.place, index: answer.index, text, where })
     }
   }
 
-  /** Judges a line with its number. An empty line of a list is passed over; an empty link isn't. */
-  take(line, number) {
-    if (line === '' && this.source.kind !== 'links') return
-    this.count++
-    const wrong = this.judged(line)
-    if (wrong === null) return
-    const text = typeof line === 'string' ? line : line.text
-    const where = this.source.kind === 'links' ? this.source.links[number - 1].where : undefined
-    this.rows.push({ number, rule: wrong.rule, place: wrong.place, index: wrong.index ?? -1, text, where })
-    this.counts.set(wrong.rule, (this.counts.get(wrong.rule) ?? 0) + 1)
+  /** Judges the source piece by piece, and gives how far it is behind each. */
+  async *judged() {
+    const { kind, file, links } = this.source
+    if (kind === 'links') {
+      for (let at = 0; at < links.length; at += LINKS) {
+        this.takeLinks(links.slice(at, at + LINKS))
+        yield Math.min(links.length, at + LINKS)
+      }
+      return
+    }
+    for await (const piece of piecesOf(file)) {
+      this.takeLines(piece)
+      yield piece.done
+    }
   }
 
   async run() {
-    let number = 0
     let [turn, told] = [performance.now(), performance.now()]
-    for await (const { lines, done } of this.pieces()) {
-      const before = this.done
-      for (let at = 0; at < lines.length; at++) {
-        this.take(lines[at], ++number)
-        if (at % 64 !== 0 || performance.now() - turn < TURN) continue
-        this.done = before + (done - before) * ((at + 1) / lines.length)
-        if (performance.now() - told > TELLING) {
-          this.tell('progress')
-          told = performance.now()
-        }
-        await messagesAreRead()
-        if (this.isStopped) return
-        turn = performance.now()
-      }
+    for await (const done of this.judged()) {
       this.done = done
+      if (performance.now() - turn < TURN) continue
+      if (performance.now() - told > TELLING) {
+        this.tell('progress')
+        told = performance.now()
+      }
+      await messagesAreRead()
+      if (this.isStopped) return
+      turn = performance.now()
     }
     this.done = this.total()
   }
@@ -111,28 +114,45 @@ class Job {
       refused: this.rows.length, counts: [...this.counts], ...more })
   }
 
-  /** What is said of a rule. */
-  told(rule) {
-    return UNJUDGED[rule] ?? this.urlcheck.explain(rule)
+  /** Some of the refused texts, each with the sentence on it. */
+  told(from, count) {
+    return this.rows.slice(from, from + count)
+      .map(row => ({ ...row, sentence: this.urlcheck.message(row.text, row, this.options) }))
+  }
+
+  /** What to write in place of a refused text, or nothing. */
+  mended({ rule, text }) {
+    if (!this.urlcheck.rules.includes(rule)) return null
+    const mended = this.urlcheck.mend(text, this.options)
+    return mended !== null && 'text' in mended ? mended : null
+  }
+
+  /** The report in pieces. The links of a document are the lines of a list of their own. */
+  *pieces(format) {
+    const report = this.urlcheck.report(format)
+    const file = this.source.kind === 'links' ? `${this.name}.links` : this.name
+    const { profile } = this.options
+    yield report.begin()
+    yield report.fileBegin(file)
+    for (const row of this.rows) {
+      const { number: line, rule, place, text } = row
+      const mended = report.showsMended ? this.mended(row) : null
+      yield report.diagnostic({ file, line, text, rule, place, profile, mended })
+    }
+    yield report.fileEnd()
+    yield report.end(this.isStopped ? 'stopped' : 'whole')
   }
 
   /** The report as a file. */
   file(format) {
-    const told = rule => this.told(rule)
-    const names = [...Object.keys(UNJUDGED), ...this.urlcheck.rules]
-    const pieces = {
-      gnu: () => gnuPieces(this.name, this.rows, told),
-      json: () => jsonPieces(this.name, this.rows, told),
-      sarif: () => sarifPieces(this.name, this.rows, told, names, this.urlcheck.version)
-    }[format]()
     const parts = []
     let part = []
-    for (const piece of pieces) {
-      if (part.push(piece) < 10_000) continue
+    for (const piece of this.pieces(format)) {
+      if (part.push(piece) < JOINED) continue
       parts.push(part.join(''))
       part = []
     }
-    return new Blob([...parts, part.join('')], { type: format === 'gnu' ? 'text/plain' : 'application/json' })
+    return new Blob([...parts, part.join('')], { type: TYPES[format] ?? 'text/plain' })
   }
 }
 
@@ -156,9 +176,7 @@ onmessage = ({ data }) => {
   if (!job || data.number !== job.number) return
   if (data.kind === 'stop') job.isStopped = true
   if (data.kind === 'rows') {
-    const rows = job.rows.slice(data.from, data.from + data.count)
-      .map(row => ({ ...row, sentence: job.told(row.rule).sentence }))
-    postMessage({ kind: 'rows', number: job.number, from: data.from, rows })
+    postMessage({ kind: 'rows', number: job.number, from: data.from, rows: job.told(data.from, data.count) })
   }
   if (data.kind === 'download') {
     postMessage({ kind: 'file', number: job.number, format: data.format, blob: job.file(data.format) })
