@@ -21,6 +21,7 @@ foo:? => valid\nscheme foo\nopaque \nquery \n
 urn:\xc3\xa9?x'y#' => valid\nscheme urn\nopaque %C3%A9\nquery x'y\nfragment '\n
 urn:\xf4\x8f\xbf\xbd => valid\nscheme urn\nopaque %F4%8F%BF%BD\n
 urn:%e9 => valid\nscheme urn\nopaque %e9\n
+urn:a/b => valid\nscheme urn\nopaque a/b\n
 ROWS
 
 # Texts of class Special: hosts, ports, paths, queries and fragments.
@@ -44,6 +45,7 @@ http://h/a/%2E%2e/b => valid\nscheme http\nhost domain h\nsegment b\n
 http://h/a/. => valid\nscheme http\nhost domain h\nsegment a\nsegment \n
 https://b\xc3\xbccher.example/ => valid\nscheme https\nhost domain xn--bcher-kva.example\nsegment \n
 http://example.com./ => valid\nscheme http\nhost domain example.com.\nsegment \n
+http://b\xc3\xbccher.example. => valid\nscheme http\nhost domain xn--bcher-kva.example.\nsegment \n
 ROWS
 
 # A label of 63 code points is one of a domain, and one of 64 isn't.
@@ -163,4 +165,4 @@ foo|h|opaque h
 foo||empty
 foo|[1:2::8]|ipv6 [1:2::8]
 ROWS
-all_cases 134
+all_cases 136

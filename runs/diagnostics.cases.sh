@@ -231,4 +231,131 @@ ends_with 1 $? "$(counted 7 4)" 'results of SARIF of three files'
 grep '"ruleIndex":' "$room/out" | cmp -s - "$room/twice" || fail "results of SARIF of three files: $(cat "$room/out")"
 rm -f "$room/wanted" "$room/twice" "$room/right"
 
-all_cases 57
+# on_third FORMAT NAME LINE STDOUT WORD.. : a lint in this format of a file with this name and third line says so
+on_third() {
+    local format=$1 name=$2 stdout=$4
+    printf 'urn:a\nurn:a\n%b\n' "$3" >"$room/$name"
+    shift 4
+    expect 1 "$stdout" '' lint --quiet --format "$format" "$@" -- "$name"
+    rm -f -- "$room/$name"
+}
+
+# What a name or a text is in each format where it has what the format escapes.
+mkdir "$room/docs"
+on_third gnu docs/a.md 'http://h/a b' "docs/a.md:3:11: $space\n"
+rmdir "$room/docs"
+on_third json 'a"b.md' 'x\\\x1b\ty' '{"column":1,"cut":false,"file":"a\\"b.md","line":3,'\
+'"message":"there is no scheme and no base","rule":"no-scheme","text":"x\\\\\\u001b\\ty"}\n'
+on_third github $'C:\\a,b%\r\n.md' 'http://h/%4' '::error file=C%3A\\a%2Cb%25%0D%0A.md,line=3,col=10,title=percent::'\
+'U+0025 PERCENT SIGN has to be followed by two hex digits\n'
+on_third checkstyle $'a&b<">\t\n\r\x01\xef\xbf\xbe' http://h:65536/ \
+    "$document<file name=\"a&amp;b&lt;&quot;&gt;&#9;&#10;&#13;\xef\xbf\xbd\xef\xbf\xbd\">
+<error line=\"3\" column=\"10\" severity=\"error\" message=\"the port that begins here is above 65535\" \
+source=\"urlcheck.port-range\"/>\n</file>\n</checkstyle>\n"
+
+# Why a host is no domain, where more than one thing is wrong with it: a code point comes first, then an empty label.
+of_list 1 "list:1:8: $(in_domain '0021 EXCLAMATION MARK')\nlist:2:8: $(in_domain '005F LOW LINE')\nlist:3:8: $empty
+list:4:8: $outer\nlist:5:8: $outer\nlist:6:8: $inner\nlist:7:8: $none\n" "$(counted 7 7)" \
+    'http://a!..b\nhttp://x_y/!\nhttp://a-..b\nhttp://a.b-:80\nhttp://xm--\nhttp://xm--n?\nhttp://xn--a-\n'
+of_list 1 "list:1:8: $(in_domain '0021 EXCLAMATION MARK')\nlist:2:8: $empty\n" "$(counted 2 2)" \
+    'http://x_y!\nhttp://-a..\n' --wide
+of_list 1 "list:1:8: $(in_domain '0020 SPACE')\nlist:2:8: $none\n" "$(counted 2 2)" 'http://%_ /\nhttp://a..%20\n' \
+    --profile parser
+
+# A link that doesn't begin its line: the column is that of the line, and the caret stands below the link.
+# at_40 FORMAT FILE STDOUT : a lint in this format of a link in the 40th column of a file, with a space behind ten of
+# its code points, says so
+at_40() {
+    printf '%s:3:40:http://h/a b\n' "$2" >"$room/list"
+    expect 1 "$3" '' lint --quiet --located --format "$1" list
+}
+at_40 gnu page.html "page.html:3:50: $space\n"
+at_40 caret 'a b' "a b:3:50: $space\nhttp://h/a b\n          ^\nhelp: write http://h/a%20b\n"
+at_40 json 'a b' '{"column":50,"cut":false,"file":"a b","kind":"same","line":3,"mended":"http://h/a%20b",'\
+'"message":"U+0020 SPACE may not stand in a URL","rule":"code-point","text":"http://h/a b"}\n'
+at_40 github page.html '::error file=page.html,line=3,col=50,title=code-point::U+0020 SPACE may not stand in a URL\n'
+at_40 checkstyle page.html "$document<file name=\"page.html\">
+<error line=\"3\" column=\"50\" severity=\"error\" message=\"U+0020 SPACE may not stand in a URL\" \
+source=\"urlcheck.code-point\"/>\n</file>\n</checkstyle>\n"
+
+# The caret below a place behind wide code points and a tab, a combining mark, what isn't shown as it is, and nothing.
+# points LINE SHOWN CARET WORD.. : what is said last of a line, in the format with carets, ends so
+points() {
+    local line=$1 shown=$2 caret=$3
+    printf '%b\n' "$line" >"$room/list"
+    shift 3
+    (cd "$room" && "$program" lint --quiet --all --format caret "$@" list) 2>"$room/err" |
+        sed '/^help: write /d' | tail -n 2 >"$room/out"
+    count=$((count + 1))
+    printf '%b\n%b\n' "$shown" "$caret" | cmp -s - "$room/out" || fail "a caret below $line: $(cat "$room/out")"
+}
+points '\xe6\x97\xa5\xe6\x9c\xac\ta b' '\xe6\x97\xa5\xe6\x9c\xac\ta b' '    \t ^' --base http://h/
+points 'e\xcc\x81 ' 'e\xcc\x81 ' ' ^' --base http://h/
+points '\x1b[31m\xe2\x80\xae x' '\xef\xbf\xbd[31m\xef\xbf\xbd x' '      ^' --base http://h/
+points 'f:3:1:' '' '^' --located
+
+# What is written in place of a text is shown as a line is: what turns its direction isn't shown as it is, and of a long
+# one there is a window.
+of_list 1 "list:1:11: $space\nurn:aaaaaa \xef\xbf\xbd\n          ^\nhelp: write urn:aaaaaa%20\xef\xbf\xbd\n" \
+    "$(counted 1 1)" 'urn:aaaaaa \xe2\x80\xae\n' --format caret
+tail_of=$(printf 'a%.0s' {1..400})
+of_list 1 "list:1:11: $space\nurn:aaaaaa b${tail_of:0:186}\xe2\x80\xa6\n          ^
+help: write urn:aaaaaa%20b${tail_of:0:184}\xe2\x80\xa6\n" "$(counted 1 1)" "urn:aaaaaa b$tail_of\n" --format caret
+
+# The last column of the longest line in the other formats, and a file with a name of 4,096 bytes.
+link=http://h/$(head -c 65526 /dev/zero | tr '\0' a)
+# object FILE LINE COLUMN : the object of JSON on the last column of the link
+object() {
+    echo "{\"column\":$3,\"cut\":true,\"file\":\"$1\",\"kind\":\"same\",\"line\":$2,\"mended\":\"$link\",\
+\"message\":\"U+0020 SPACE may not stand in a URL\",\"rule\":\"code-point\",\"text\":\"\xe2\x80\xa6$window \"}\n"
+}
+of_list 1 "$(object list 1 65536)" "$(counted 1 1)" "$link \n" --format json
+of_list 1 '::error file=list,line=1,col=65536,title=code-point::U+0020 SPACE may not stand in a URL\n' \
+    "$(counted 1 1)" "$link \n" --format github
+of_list 1 "$document<file name=\"list\">
+<error line=\"1\" column=\"65536\" severity=\"error\" message=\"U+0020 SPACE may not stand in a URL\" \
+source=\"urlcheck.code-point\"/>\n</file>\n</checkstyle>\n" "$(counted 1 1)" "$link \n" --format checkstyle
+name=$(printf 'f%.0s' {1..4096})
+link=${link:0:61434}
+of_list 1 "$name:3:61435: $space\n" "$(counted 1 1)" "$name:3:1:$link \n" --located
+of_list 1 "$name:3:61435: $space\n\xe2\x80\xa6$window \n ${window//a/ }^\nhelp: write \xe2\x80\xa6$window\n" \
+    "$(counted 1 1)" "$name:3:1:$link \n" --located --format caret
+of_list 1 "$(object "$name" 3 61435)" "$(counted 1 1)" "$name:3:1:$link \n" --located --format json
+of_list 1 "::error file=$name,line=3,col=61435,title=code-point::U+0020 SPACE may not stand in a URL\n" \
+    "$(counted 1 1)" "$name:3:1:$link \n" --located --format github
+
+# What columns count before each code point of a text: a letter, a combining mark (U+0301), a wide code point (U+65E5),
+# a wide one of two UTF-16 code units and four bytes (U+1F600), a tab and a letter; and behind the last one.
+letters=('' e '\xcc\x81' '\xe6\x97\xa5' '\xf0\x9f\x98\x80' '\t' a)
+for row in code-points,1,2,3,4,5,6,7 bytes,1,2,4,7,11,12,13 utf16,1,2,3,4,6,7,8 screen,1,2,2,4,6,9,10; do
+    IFS=, read -r unit places <<<"$row"
+    for length in 0 1 2 3 4 5 6; do
+        before=$(printf '%s' "${letters[@]:0:length+1}")
+        printf '%b^' "$before" >"$room/list"
+        count=$((count + 1))
+        column=$(cut -d, -f $((length + 1)) <<<"$places")
+        (cd "$room" && "$program" lint --quiet --all --base http://h/ --columns "$unit" list) 2>"$room/err" |
+            tail -n 1 >"$room/out"
+        echo "list:1:$column: error: U+005E CIRCUMFLEX ACCENT may not stand in a URL [code-point]" |
+            cmp -s - "$room/out" || fail "the column behind $before in $unit: $(cat "$room/out" "$room/err")"
+    done
+done
+# A tab goes on to the columns 9, 17 and so on of the line, wherever the link begins in it; a control and what turns the
+# direction take a column.
+# ends_at COLUMN TEXT END : behind a text that begins in this column of a screen `^` stands in that one
+ends_at() {
+    printf 'a:1:%s:%b^' "$1" "$2" >"$room/list"
+    (cd "$room" && "$program" lint --quiet --all --located --base http://h/ --columns screen list) 2>"$room/err" |
+        tail -n 1 >"$room/out"
+    count=$((count + 1))
+    echo "a:1:$3: error: U+005E CIRCUMFLEX ACCENT may not stand in a URL [code-point]" | cmp -s - "$room/out" ||
+        fail "the column behind $2 from $1 on: $(cat "$room/out" "$room/err")"
+}
+ends_at 1 '\t' 9
+ends_at 8 '\t' 9
+ends_at 9 '\t' 17
+ends_at 10 '\t\t' 25
+ends_at 40 'a\t' 49
+ends_at 1 '\x1b\xe2\x80\xae' 3
+
+all_cases 116

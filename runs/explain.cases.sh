@@ -46,28 +46,43 @@ differs 'a row less' "$room/table"
 awk '/^[|] `code-point`/ { row = $0; next } { print } /^[|] `percent`/ { print row }' "$top/docs/RULES.md" >"$room/table"
 differs 'two rows in another order' "$room/table"
 
-# example NAME BASE TEXT REFUSED MENDED : a check of the texts of an explanation says what the explanation says
+# mended_text BASE.. -- TEXT : the text that mend writes in place of another one, or nothing
+mended_text() { "$program" mend "$@" 2>/dev/null | awk 'NR == 1 { is = $1 == "mended" } NR == 2 && is'; }
+
+# example NAME BASE TEXT REFUSED MEANT MENDED : a check of the texts of an explanation says what the explanation says, and
+# mend writes the mended text, and without one the meant text or none
 example() {
-    local name=$1 text=$3 refused=$4 mended=$5 base=()
+    local name=$1 text=$3 refused=$4 meant=$5 mended=$6 base=()
     if [ -n "$2" ]; then base=(--base "$2"); fi
     expect 1 "$refused\\n" '' check "${base[@]}" -- "$text"
     case $refused in
         "refused "*" $name") ;;
         *) fail "explain $name: its example is $refused" ;;
     esac
-    "$program" check "${base[@]}" -- "$mended" >"$room/out" 2>"$room/err"
-    ends_with 0 $? '' "the mended example of $name"
+    "$program" check "${base[@]}" -- "$meant" >"$room/out" 2>"$room/err"
+    ends_with 0 $? '' "the meant example of $name"
+    count=$((count + 1))
+    case $(mended_text "${base[@]}" -- "$text") in
+        "$mended") ;;
+        "$meant") [ -z "$mended" ] || fail "explain $name: mended is the meant text" ;;
+        *) fail "explain $name: mend writes $(mended_text "${base[@]}" -- "$text")" ;;
+    esac
+    [ "$mended" != "$meant" ] || fail "explain $name: the meant text is told twice"
 }
-base=
+base='' mended=''
 while IFS= read -r entry; do
     case $entry in
-        'rule '*) name=${entry#rule } base= ;;
+        'rule '*) name=${entry#rule } base='' mended='' ;;
         'base '*) base=${entry#base } ;;
         'text '*) text=${entry#text } ;;
         'refused '*) refused=$entry ;;
-        'mended '*) example "$name" "$base" "$text" "$refused" "${entry#mended }" ;;
+        'meant '*) meant=${entry#meant } ;;
+        'mended '*) mended=${entry#mended } ;;
+        '') example "$name" "$base" "$text" "$refused" "$meant" "$mended" ;;
     esac
-done <"$room/explained"
+done < <(cat "$room/explained" && echo)
+count=$((count + 1))
+[ "$(grep -c '^mended ' "$room/explained")" = 4 ] || fail 'explain: it tells another number of mended texts'
 
 # A rule is explained by its name, and without one each is, in the order of the table, and an empty line stands between
 # two.
@@ -77,7 +92,8 @@ asks After //, ftp, http, https, ws and wss have a host, file a host or a path, 
 section 3.4, 4.3
 text https:///a
 refused 8 host-missing
-mended https://example.com/a\n' '' explain host-missing
+meant https://example.com/a
+mended https://a\n' '' explain host-missing
 expect 0 "rule opaque-base
 means there is no scheme, the base has an opaque path, and the text isn't # and a fragment
 asks Against a base whose path is opaque, a text without a scheme is # and a fragment, and nothing else.
@@ -85,7 +101,7 @@ section 4.3 and 4.4, no scheme state
 base urn:isbn:0451450523
 text x
 refused 0 opaque-base
-mended #x\n" '' explain opaque-base
+meant #x\n" '' explain opaque-base
 for name in no-scheme opaque-base two-slashes host-missing host-domain host-number host-ipv6 host-code-point port-digit \
     port-range first-segment-empty drive-after-host code-point percent; do
     [ $name = no-scheme ] || echo
@@ -140,4 +156,4 @@ for words in 'explain' 'explain percent' 'explain percent no-scheme'; do
     "$program" $words >/dev/full 2>"$room/err"
     ends_with 3 $? "${no_space}write\\n" "$words to a full device"
 done
-all_cases 62
+all_cases 77

@@ -44,7 +44,7 @@ done
 
 # The texts of each length, and lists of them.
 python3 "$here/lengths.py" vectors "$room/vectors.json" || fail 'the texts of each length'
-expect 0 'vectors 17607 pass 17607 fail 0\n' '' vectors vectors.json
+expect 0 'vectors 22970 pass 22970 fail 0\n' '' vectors vectors.json
 count=$((count + 1))
 python3 "$here/lengths.py" check "$program" >"$room/out" 2>&1 || fail "the texts of each length: $(cat "$room/out")"
 rm -f "$room/vectors.json"

@@ -2,7 +2,7 @@
 
 count=$((count + 1))
 python3 "$here/hostile.py" "$program" >"$room/out" 2>&1 || fail "hostile texts: $(cat "$room/out")"
-grep -qx 'hostile: 43 lists' "$room/out" || fail "hostile texts: $(cat "$room/out")"
+grep -qx 'hostile: 93 lists' "$room/out" || fail "hostile texts: $(cat "$room/out")"
 
 # A program that answers one of them otherwise is found: another rule of a fault, one fault less of all, a URL for a fault.
 spoiled() {

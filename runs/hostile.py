@@ -2,11 +2,14 @@
 
     hostile.py PROGRAM      has the program judge them
 
-Every prefix of each text of `vectors/standard.json` is judged, and each of these texts with one of its code points replaced by a mark: `lint --all` says all
-that is wrong, of which `lint` says the first fault, `links` the same or a URL, and `vectors` passes each with that. None
-runs out of memory. What is wrong with long lines is worked out by hand from section 4.3 of the URL Standard.
+Every prefix of each text of `vectors/standard.json` is judged, and each of these texts with one of its code points
+replaced by a mark: `lint --all` says all that is wrong, of which `lint` says the first fault, `links` the same or a
+URL, and `vectors` passes each with that. None runs out of memory. A unit is repeated in each part up to the limit of
+lines, and a million times. What is wrong with such a text, and what it denotes, is worked out by hand from the URL
+Standard, sections 4.3 to 4.5.
 """
 
+import collections
 import itertools
 import json
 import os
@@ -21,31 +24,50 @@ LINE_BYTES = 65_536
 # The texts, by their bases.
 VECTORS = os.path.join(os.path.dirname(os.path.abspath(__file__)), "..", "vectors", "standard.json")
 
-# What is wrong with a unit so often repeated in a part: the first fault, and the widest profile by which it is one. `/` at
-# the start of a host or of a reference leaves an empty host, by every profile.
+# A fault of a unit so often repeated in a part: where the first one is, its rule, and the widest profile by which it is
+# one; and where there is one in each repetition, how many code points lie between two of them and how many of them each
+# has. `/` at the start of a host or of a reference leaves an empty host, by every profile.
+Fault = collections.namedtuple("Fault", "place rule widest step each", defaults=(0, 0))
 EMPTY, WIDE, EVERY = "standard", "wide", "parser"
 UNITS = ("/", "a/", "%41", "%", "\u00e9", "[", "@", ".", "xn--", "-")
-# A part: its base, what stands before the unit and behind it, and the faults of the units that have one.
+DIGIT = Fault(9, "port-digit", EVERY, 1, 1)
+# A part: its base, what stands before the unit and behind it, and the faults of the units that have some.
 PARTS = [
     (None, "http://h/", "", {
-        "/": (9, "first-segment-empty", EMPTY), "%": (9, "percent", EVERY), "[": (9, "code-point", EVERY)}),
+        "/": [Fault(9, "first-segment-empty", EMPTY)],
+        "%": [Fault(9, "percent", EVERY, 1, 1)],
+        "[": [Fault(9, "code-point", EVERY, 1, 1)]}),
     (None, "http://", "/", {
-        "/": (7, "host-missing", EVERY), "%41": (7, "host-domain", WIDE), "%": (7, "host-domain", EVERY),
-        "\u00e9": (7, "host-domain", EVERY), "[": (7, "host-ipv6", EVERY), "@": (7, "host-domain", EVERY),
-        ".": (7, "host-domain", WIDE), "xn--": (7, "host-domain", EVERY), "-": (7, "host-domain", WIDE)}),
+        "/": [Fault(7, "host-missing", EVERY), Fault(8, "first-segment-empty", EMPTY)],
+        "[": [Fault(7, "host-ipv6", EVERY)],
+        **{unit: [Fault(7, "host-domain", EVERY)] for unit in ("%", "\u00e9", "@", "xn--")},
+        **{unit: [Fault(7, "host-domain", WIDE)] for unit in ("%41", ".", "-")}}),
     (None, "http://h:", "/", {
-        "/": (10, "first-segment-empty", EMPTY),
-        **{unit: (9, "port-digit", EVERY) for unit in UNITS if unit != "/"}}),
-    (None, "http://h/?", "", {"%": (10, "percent", EVERY), "[": (10, "code-point", EVERY)}),
+        "/": [Fault(10, "first-segment-empty", EMPTY)],
+        "a/": [Fault(9, "port-digit", EVERY)],
+        "%41": [DIGIT._replace(step=3)],
+        "xn--": [DIGIT._replace(each=4)],
+        **{unit: [DIGIT] for unit in ("%", "\u00e9", "[", "@", ".", "-")}}),
+    (None, "http://h/?", "", {
+        "%": [Fault(10, "percent", EVERY, 1, 1)],
+        "[": [Fault(10, "code-point", EVERY, 1, 1)]}),
     ("http://h/a/b?q", "", "", {
-        "/": (2, "host-missing", EVERY), "%": (0, "percent", EVERY), "[": (0, "code-point", EVERY)}),
+        "/": [Fault(2, "host-missing", EVERY), Fault(3, "first-segment-empty", EMPTY)],
+        "%": [Fault(0, "percent", EVERY, 1, 1)],
+        "[": [Fault(0, "code-point", EVERY, 1, 1)]}),
 ]
+MILLION = 1_000_000
 
-# Long texts and what each denotes: the default port behind many zeros is no port, and double dots leave an empty segment.
+# Long texts and what each denotes, or where it is refused: the default port behind many zeros is no port, and double
+# dots leave an empty segment.
 LONG = [
     ("http://h:" + "0" * 1_000 + "80/", "http://h/"),
     ("http://h/" + "../" * 500_000, "http://h/"),
-    ("http://h/" + "a" * 1_000_000, "http://h/" + "a" * 1_000_000),
+    ("http://h/" + "a" * MILLION, "http://h/" + "a" * MILLION),
+    ("http://h/" + "a" * MILLION + "%", (MILLION + 9, "percent")),
+    ("http://h:" + "0" * 1_000 + "65536/", (9, "port-range")),
+    ("foo://h:" + "9" * 1_000, (8, "port-range")),
+    ("http://[" + ":" * 1_000 + "]/", (7, "host-ipv6")),
 ]
 
 
@@ -113,7 +135,7 @@ def differing(program, room, words, listed):
 
 def passes(program, room, vectors):
     with open(os.path.join(room, "vectors"), "w", encoding="utf-8") as out:
-        json.dump(vectors, out)
+        json.dump(vectors, out, ensure_ascii=False)
     return ran(program, ["vectors", "vectors"], room, []) == ["vectors {0} pass {0} fail 0".format(len(vectors))]
 
 
@@ -128,20 +150,63 @@ def judges_variants(program, room, base, texts, profile):
     return True
 
 
+def faults_of(part, unit, count, profile):
+    """All that is wrong with a text of a unit so often repeated in a part: places and rules."""
+    *_, faults = part
+    for fault in faults.get(unit, []):
+        if PROFILES.index(profile) <= PROFILES.index(fault.widest):
+            for number in range(fault.each * count or 1):
+                yield fault.place + fault.step * number, fault.rule
+
+
 def judges_long_lines(program, room, part, profile):
-    """A unit repeated up to the limit of lines has its first fault where it was worked out, or none."""
-    base, before, behind, faults = part
+    """A unit repeated up to the limit of lines has its faults where they were worked out, or none."""
+    base, before, behind, _ = part
     words = ["--profile=" + profile] + ([] if base is None else ["--base=" + base])
-    room_left = LINE_BYTES - len(before) - len(behind)
-    listed = [before + unit * (room_left // len(unit.encode())) + behind for unit in UNITS]
+    counts = [(LINE_BYTES - len(before) - len(behind)) // len(unit.encode()) for unit in UNITS]
+    listed = [before + unit * count + behind for unit, count in zip(UNITS, counts)]
     found = [line.split(" ")[1:] for line in ran(program, ["links", *words], room, listed)[:-1]]
-    for unit, answer in zip(UNITS, found, strict=True):
-        place, rule, widest = faults.get(unit, (0, "", ""))
-        refused = widest and PROFILES.index(profile) <= PROFILES.index(widest)
-        if (answer != ["bad", str(place), rule]) if refused else (answer[0] != "ok"):
+    for text, unit, count, answer in zip(listed, UNITS, counts, found, strict=True):
+        wanted = list(faults_of(part, unit, count, profile))
+        first = answer == ["bad", str(wanted[0][0]), wanted[0][1]] if wanted else answer[0] == "ok"
+        lines = ran(program, ["check", "--all", *words, "--", text], room, [])
+        every = [line for line in lines if line.startswith("refused ")]
+        if not first or every != ["refused {} {}".format(*fault) for fault in wanted]:
             print("FAILED: long lines of", unit, "behind", before, "by", profile, answer[:1], answer[1:][-1][:40])
             return False
     return True
+
+
+def denoted(part, unit, count):
+    """The URL that such a text denotes where it is valid (section 4.5): its host in lower case and decoded, its path
+    and query encoded. A port that is empty is none."""
+    base, before, behind, _ = part
+    if before == "http://":
+        unit = unit.replace("%41", "a")
+    before = "http://h/a/" if base else before.removesuffix(":")
+    return before + unit.replace("\u00e9", "%C3%A9") * count + behind
+
+
+def judges_million(program, room, part, unit):
+    """A unit a million times in a part has its first fault where it was worked out, or denotes that URL."""
+    base, before, behind, _ = part
+    given = {"input": before + unit * MILLION + behind, "base": base}
+    for profile in PROFILES:
+        fault = next(faults_of(part, unit, MILLION, profile), None)
+        said = {"text": denoted(part, unit, MILLION)} if fault is None else {"place": fault[0], "rule": fault[1]}
+        if not passes(program, room, [{**given, "profile": profile, **said}]):
+            print("FAILED: a million of", unit, "behind", before, "by", profile)
+            return False
+    return True
+
+
+def judges_long_texts(program, room):
+    """The long texts that are written out, by each profile."""
+    cases = []
+    for (text, said), profile in itertools.product(LONG, PROFILES):
+        wanted = {"text": said} if isinstance(said, str) else {"place": said[0], "rule": said[1]}
+        cases.append({"input": text, "profile": profile, **wanted})
+    return passes(program, room, cases)
 
 
 def answers(program, room):
@@ -151,7 +216,9 @@ def answers(program, room):
             yield judges_variants(program, room, base, texts, profile)
         for part in PARTS:
             yield judges_long_lines(program, room, part, profile)
-    yield passes(program, room, [{"input": text, "text": url} for text, url in LONG])
+    for part, unit in itertools.product(PARTS, UNITS):
+        yield judges_million(program, room, part, unit)
+    yield judges_long_texts(program, room)
 
 
 def check(program):

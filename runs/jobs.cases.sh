@@ -32,6 +32,17 @@ does 1 "{\"column\":2,\"cut\":false,\"file\":\"-\",\"kind\":\"escaped\",\"line\"
 {\"column\":14,\"cut\":false,\"file\":\"a b\",\"kind\":\"same\",\"line\":1,\"mended\":\"http://x_y//a%20b\",$space,\"text\":\"http://x_y//a b\"}
 " '' 'c d%4\n' lint - --base=http://x_y// --all --wide --format json --quiet 'a b'
 rm -f "$room/a b"
+printf 'q:2:8:\xe6\x97\xa5 e\n' >"$room/a b"
+printf 'r:3:1:%%4\n' >"$room/--all"
+does 1 "{\"column\":12,\"cut\":false,\"file\":\"p\",\"kind\":\"escaped\",\"line\":1,\"mended\":\"http://h_/c%20d%254\",\
+$space,\"text\":\"http://h_/c d%4\"}
+{\"column\":14,\"cut\":false,\"file\":\"p\",\"line\":1,$percent,\"text\":\"http://h_/c d%4\"}
+{\"column\":10,\"cut\":false,\"file\":\"q\",\"kind\":\"same\",\"line\":2,\"mended\":\"\xe6\x97\xa5%20e\",$space,\
+\"text\":\"\xe6\x97\xa5 e\"}
+{\"column\":1,\"cut\":false,\"file\":\"r\",\"kind\":\"escaped\",\"line\":3,\"mended\":\"%254\",$percent,\"text\":\"%4\"}
+" '' 'p:1:1:http://h_/c d%4\n' lint - --base=http://h/ --all --wide --format json --columns=screen --located \
+    --stdin-name=n --quiet 'a b' -- --all
+rm -f "$room/a b" "$room/--all"
 
 # Columns: before the space stand U+00E9, of two bytes, and in the first link U+65E5, which is wide.
 does 1 'page:3:12: error: U+0020 SPACE may not stand in a URL [code-point]\n' 'urlcheck: 1 line, 1 refused\n' \
@@ -54,7 +65,8 @@ does 1 'http://h/a\nhttp://h/a%20b\r\nhttp://h/a%7Cb\nhttp://h:x/' \
 does 1 'http://h/a\nhttp://h/a%20b\r\nhttp://h/a|b\nhttp://h:x/' '' "$list" mend --only same -q
 does 0 a%20b 'urlcheck: 1 line, 1 mended (1 same, 0 escaped, 0 changed), 0 refused\n' 'a b' mend --base http://h/
 does 1 'http://h_/%20a\nb|c\nd%20e\n' '' 'http://h_/ a\nb|c\nd e\n' mend --only same -q --base=http://k_/ --wide
+does 1 'c%20d\nhttp://h/a|b\n' '' 'c d\nhttp://h/a|b\n' mend --only same -q --base=http://a%2Db/ --profile parser
 does 2 '' "urlcheck: no kind is named 'Same'; the nearest is same\nurlcheck: the kinds: same escaped changed\nwords\n" \
     'http://h/ a\n' mend --only Same
 does 2 '' "$(no_base 0 no-scheme 'it has no scheme')" 'a b\n' mend --base x
-all_cases 16
+all_cases 18

@@ -1,8 +1,9 @@
 """Texts of each length, for what is read 32 bytes at a time and what is left of that.
 
     lengths.py vectors FILE      writes the texts as a file of vectors
-    lengths.py check PROGRAM     has the program judge them in lists: `links` what each denotes, and `lint` all that is
-                                 wrong with it
+    lengths.py check PROGRAM     has the program judge them in lists, and more with each byte at each place: `links`
+                                 what each denotes, `lint` all that is wrong with it. So it is with what JSON has of a
+                                 text, and with what `mend` writes in place of one.
 
 What each text denotes, or where and by which rule it is refused, follows from how it is made.
 """
@@ -11,6 +12,7 @@ import collections
 import itertools
 import json
 import os
+import string
 import subprocess
 import sys
 import tempfile
@@ -19,6 +21,24 @@ import tempfile
 NOTHING = ()
 # The lengths around each end of 32 bytes.
 LENGTHS = range(71)
+# Those of texts that have each byte at each place.
+LENGTHS_OF_BYTES = (1, 31, 32, 33, 63, 64, 65, 97)
+# Each of these bytes and U+00E9, but for what ends a line.
+POINTS = [chr(point) for point in range(128) if point not in (10, 13)] + ["\u00e9"]
+# The code points of ASCII that a path, a query or a fragment may have anywhere (URL Standard, section 4.3), and those
+# of a host under a scheme that isn't special (section 3.4).
+URL_POINTS = frozenset(string.ascii_letters + string.digits + "!$&'()*+,-./:;=?@_~")
+HOST_POINTS = URL_POINTS - frozenset("/:?@")
+# A path whose segments have many lengths.
+SEGMENTS = "/abc/defgh//ijklmn/op/qrs/t/uvwxyz/abcdefg/h/ij/klmnop/qrstuvw/x/yz/abcdefghij"
+# What stands behind letters and escapes of a path, and what is wrong with it: how far behind its start, by which rule.
+ENDINGS = {
+    **{end: NOTHING for end in ("", "%4F", "%c3%A9", "%00a")},
+    **{end: (0, "percent") for end in ("%", "%4", "%4g", "%g4", "%zz", "%%41", "%4%41")},
+    "%41%": (3, "percent"),
+    "^%41": (0, "code-point"),
+    "\u00e9%41\u00e9^": (5, "code-point"),
+}
 # A text, its base or None, the URL that it denotes where it is valid, and all that is wrong with it: places and rules.
 Case = collections.namedtuple("Case", "text base url faults")
 
@@ -181,9 +201,93 @@ def schemes():
             yield valid(path, "http://h/a/b?q", "http://h/a/" + path)
 
 
+def parts_alike():
+    """Links of which each part but the scheme has so many letters, each alone and as the base of an empty text."""
+    for length in range(1, 64):
+        link = "http://{0}/{0}?{0}#{0}".format((string.ascii_lowercase * 3)[:length])
+        yield valid(link, None, link)
+        yield valid("", link, link.partition("#")[0])
+
+
+def paths():
+    """A path of many segments cut off at each length: grown by a segment and shortened by one, as text and as base."""
+    for length in range(1, len(SEGMENTS) + 1):
+        path = SEGMENTS[:length]
+        kept = path[: path.rindex("/")]
+        yield valid("http://h" + path, None, "http://h" + path)
+        # (the first segment isn't empty)
+        if path != "/":
+            yield valid("http://h" + path + "/end", None, "http://h" + path + "/end")
+            yield valid("http://h" + path + "/end/..", None, "http://h" + path + "/")
+            yield valid("http://h" + path + "/..", None, "http://h" + kept + "/")
+        for text, url in {"": path, "?q": path + "?q", "end": kept + "/end", ".": kept + "/"}.items():
+            yield valid(text, "http://h" + path, "http://h" + url)
+
+
+def escapes():
+    """Letters and escapes of each number behind an escape, and behind them what is an escape and what is none."""
+    numbers = [(letters, more) for letters in range(98) for more in (0, 1)]
+    numbers += [(letters, more) for letters in range(3) for more in range(2, 34)]
+    for (letters, more), (end, fault) in itertools.product(numbers, ENDINGS.items()):
+        before = "http://h/%2f" + "a" * letters + "%E2" * more
+        if fault:
+            yield refused(before + end, None, (len(before) + fault[0], fault[1]))
+        else:
+            yield valid(before + end, None, before + end)
+
+
+def paths_before_queries():
+    """A path and a query, each of many lengths, before what may not stand in one."""
+    for before, behind in itertools.product(range(66), (0, 1, 5, 30, 31, 32, 33, 65)):
+        units = "http://h/" + "a" * before + "?" + "b" * behind
+        yield refused(units + "^?", None, (len(units), "code-point"))
+
+
+def with_point(before, length, place, point):
+    """So many letters behind a text, but for one code point at a place, and how many letters stand behind it."""
+    return before + "a" * place + point + "a" * (length - place - 1), length - place - 1
+
+
+def points_of_paths(before, encoded):
+    """Each code point at each place of a path or a query, and what of it is written with an escape."""
+    for length, point in itertools.product(LENGTHS_OF_BYTES, POINTS):
+        for place in range(length):
+            text, left = with_point(before, length, place, point)
+            if point in URL_POINTS or point in "#\u00e9" or (point == "%" and left >= 2):
+                yield valid(text, None, text.replace(point, encoded.get(point, point)))
+            else:
+                yield refused(text, None, (len(before) + place, "percent" if point == "%" else "code-point"))
+
+
+def points_of_hosts():
+    """The same of a host under a scheme that isn't special, of which some code points are the end."""
+    before = "foo://z"
+    for length, point in itertools.product(LENGTHS_OF_BYTES, POINTS):
+        for place in range(length):
+            text, left = with_point(before, length, place, point)
+            at = len(before) + place
+            if point == ":" and left:
+                yield refused(text, None, *((at + more, "port-digit") for more in range(1, left + 1)))
+            elif point in HOST_POINTS or point in "/?#\u00e9" or (point == "%" and left >= 2):
+                yield valid(text, None, text.replace("\u00e9", "%C3%A9"))
+            elif point == ":":
+                yield valid(text, None, text[:-1])
+            else:
+                yield refused(text, None, (at, "percent" if point == "%" else "host-code-point"))
+
+
+def points():
+    """What has each code point at each place: too many for a file of vectors."""
+    escape = {"\u00e9": "%C3%A9"}
+    return itertools.chain(
+        points_of_paths("http://h/z", escape), points_of_paths("http://h/?z", {**escape, "'": "%27"}), points_of_hosts()
+    )
+
+
 def cases():
     hosts = (labels, names, hosts_of_references, brackets, bracketed_hosts, addresses)
     made = (*hosts, wrong_places, parts, dots, references, bases, marks, schemes)
+    made += (parts_alike, paths, escapes, paths_before_queries)
     return [case for make in made for case in make()]
 
 
@@ -230,12 +334,57 @@ def is_as_wanted(program, room, base, listed):
     return found == wanted and places == faults
 
 
+def with_letters(before, count, place, other, end):
+    """So many letters between two texts, of which this stands in the place of one."""
+    return before + "".join(other if at == place else "a" for at in range(count)) + end
+
+
+def is_quoted(program, room):
+    """Whether JSON has each text as it writes strings, with what is escaped at each place (RFC 8259, section 7)."""
+    written = {'"': '\\"', "\\": "\\\\", "\x1f": "\\u001f", "\u00e9": "\u00e9"}
+    rows = [(with_letters("", count, count, "", ""),) * 2 for count in range(70)]
+    for count, (point, escape) in itertools.product(range(70), written.items()):
+        for place in range(count):
+            rows.append((with_letters("", count, place, point, ""), with_letters("", count, place, escape, "")))
+    listed = [Case("f:3:1:" + text, None, None, NOTHING) for text, _ in rows]
+    found = answered(program, ["lint", "--quiet", "--located", "--format=json", "list"], room, listed)
+    wrong = [row for row, line in zip(rows, found) if not line.endswith('"text":"{}"}}'.format(row[1]))]
+    if len(found) != len(rows) or wrong:
+        print("FAILED: JSON of", len(found), "of", len(rows), "texts", wrong[:3])
+    return len(found) == len(rows) and not wrong
+
+
+def mended_rows():
+    """Texts with what takes an edit at each place, and what is written in place of them."""
+    before, written = "http://h/{", "http://h/%7B"
+    for count in range(15, 60):
+        edits = [(count, "", ""), (14, "\t", ""), (count // 2, "\ufdd0", "%EF%B7%90")]
+        edits += [(place, *edit) for place in range(count) for edit in ((" ", "%20"), ("\\", "/"))]
+        for place, point, edited in edits:
+            yield with_letters(before, count, place, point, "b"), with_letters(written, count, place, edited, "b")
+
+
+def is_mended(program, room):
+    """Whether each of them is mended so, as a line, and with a line feed in place of a tab as one text."""
+    rows = list(mended_rows())
+    found = answered(program, ["mend", "--quiet"], room, [Case(text, None, None, NOTHING) for text, _ in rows])
+    wrong = [row for row, line in zip(rows, found) if line != row[1]]
+    for text, written in rows:
+        if "\t" in text:
+            lines = answered(program, ["mend", "--", text.replace("\t", "\n")], room, [])
+            wrong += [] if lines == ["mended same", written] else [(text, lines)]
+    if len(found) != len(rows) or wrong:
+        print("FAILED: mended", len(found), "of", len(rows), "texts", wrong[:3])
+    return len(found) == len(rows) and not wrong
+
+
 def check(program):
     lists = {}
-    for case in cases():
+    for case in itertools.chain(cases(), points()):
         lists.setdefault(case.base, []).append(case)
     with tempfile.TemporaryDirectory() as room:
         answers = [is_as_wanted(program, room, base, listed) for base, listed in lists.items()]
+        answers += [is_quoted(program, room), is_mended(program, room)]
     print("lengths: {} lists".format(len(answers)))
     return 0 if answers and all(answers) else 1
 

@@ -133,7 +133,7 @@ completes 'wide' --profile w
 completes '--format' --fo
 completes 'sarif' --check --format s
 completes 'gnu caret json github sarif checkstyle' --format =
-completes 'html markdown xml' --type =
+completes 'html xml markdown rst notebook epub css json-feed' --type =
 completes 'code-points bytes utf16 screen' --check --columns =
 completes 'screen' --columns s
 completes '--type=xml' --type=x

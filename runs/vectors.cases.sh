@@ -1,8 +1,8 @@
 # Runs over files of vectors. The four files of the repository pass.
 vectors=$(dirname "$here")/vectors
 expect 0 'vectors 109 pass 109 fail 0\n' '' vectors "$vectors/standard.json"
-expect 0 'vectors 190 pass 190 fail 0\n' '' vectors "$vectors/parser.json"
-expect 0 'vectors 424 pass 424 fail 0\n' '' vectors "$vectors/urls.json"
+expect 0 'vectors 221 pass 221 fail 0\n' '' vectors "$vectors/parser.json"
+expect 0 'vectors 597 pass 597 fail 0\n' '' vectors "$vectors/urls.json"
 expect 0 'vectors 3781 pass 3781 fail 0\n' '' vectors "$vectors/uts46.json"
 
 # vector_file TEXT : a file in the room that has this text, read with escapes
@@ -20,6 +20,10 @@ vector_file '[]'
 expect 0 'vectors 0 pass 0 fail 0\n' '' vectors vectors.json
 vector_file '[{"input":"urn:a","text":"x"},{"input":"x","place":-1,"rule":"no-scheme"},{"input":"x"}]'
 expect 2 '' "$(no_case 2 "$digits")" vectors vectors.json
+
+vector_file '[{"input":"urn:a","text":"urn:a"},{"input":"x","place":0,"rule":"no-scheme"},
+{"input":"http://x_y/","text":"http://x_y/"},{"input":"#f","base":"http://x_y/","profile":"wide","text":"http://x_y/#f"}]'
+expect 1 'fail 3\nvectors 4 pass 3 fail 1\n' '' vectors vectors.json
 
 # The profile that a case names judges it, and a name that no profile has makes the case malformed.
 vector_file '[{"input":"http://x_y/","profile":"wide","text":"http://x_y/"},{"input":"http://x_y/","place":7,"rule":"host-domain"}]'
@@ -69,6 +73,7 @@ malformed() {
     done
 }
 malformed 1 'it is no object' '[1]' '[[]]'
+malformed 2 'it is no object' '[{"input":"urn:a","text":"x"},1,{}]'
 malformed 1 "$either" '[{"input":"a"}]'
 malformed 2 "$digits" '[{"input":"urn:a","text":"urn:a"},{"input":"x","place":-1,"rule":"no-scheme"}]'
 malformed 2 "$either" '[{"input":"urn:a","text":"x"},{"input":"x"},{"input":"y"}]'
@@ -205,4 +210,4 @@ vector_file '[]'
 (cd "$room" && "$program" vectors vectors.json) >/dev/full 2>"$room/err"
 ends_with 3 $? "${no_space}write\\n" 'vectors, into a full device'
 
-all_cases 112
+all_cases 114
