@@ -1,0 +1,485 @@
+"""Tests of many texts in a call: lists, columns of numpy and pandas, arrays of Arrow, the accessor and Spark's functions.
+Each answer is compared with that of the call over one text. What isn't installed is skipped."""
+
+import ctypes
+import gc
+import os
+import re
+import sys
+import threading
+import time
+import unittest
+
+sys.path.insert(0, os.path.join(os.path.dirname(os.path.abspath(__file__)), "..", "library"))
+
+import urlcheck
+from cases import unpacked
+
+try:
+    import numpy
+except ImportError:
+    numpy = None
+try:
+    import pandas
+except ImportError:
+    pandas = None
+try:
+    import pyarrow
+except ImportError:
+    pyarrow = None
+
+TEXTS = [
+    text
+    for text, base in unpacked(sys.argv[1])
+    if "\ud800" not in text
+] + ["", "http://h/\u00e9 b", "http://h/" + 5000 * "a", "http://h/" + 300_000 * "\u00e9", "http://h/\0"]
+MIXED = [text if number % 7 else None for number, text in enumerate(TEXTS)]
+
+
+def one_by_one(texts, base=None, profile=urlcheck.Profile.STANDARD):
+    """valid, rule and place of each text by the call over one."""
+    found = [None if text is None else urlcheck.check(text, base, profile) for text in texts]
+    return (
+        [None if it is None else bool(it) for it in found],
+        [None if it is None or it else it.rule for it in found],
+        [None if it is None or it else it.place for it in found],
+    )
+
+
+def resolved(texts, base=None, profile=urlcheck.Profile.STANDARD):
+    answers = [None if text is None else urlcheck.resolve(text, base, profile) for text in texts]
+    return [it if isinstance(it, str) else None for it in answers]
+
+
+def mended(texts, base=None, profile=urlcheck.Profile.STANDARD):
+    answers = [(text, None if text is None else urlcheck.mend(text, base, profile)) for text in texts]
+    given = [it.text if isinstance(it, urlcheck.Mended) else text if it is None else None for text, it in answers]
+    return given, [it.kind.value if isinstance(it, urlcheck.Mended) else None for _, it in answers]
+
+
+def listed(column):
+    """A column's values, with None where one is missing."""
+    if hasattr(column, "to_pylist"):
+        return column.to_pylist()
+    values = column.tolist()
+    missing = [value is None or pandas is not None and value is pandas.NA or value != value for value in values]
+    return [None if gone else value for value, gone in zip(values, missing)]
+
+
+class Compared(unittest.TestCase):
+    def assertSequenceEqual(self, first, second, msg=None, seq_type=None):
+        """As that of the library, which would look for minutes for how long lists differ."""
+        if first != second:
+            pairs = [pair for pair in zip(first, second) if pair[0] != pair[1]]
+            self.fail("other answers, of {} and {}: {:.300}".format(len(first), len(second), repr(pairs[:1])))
+
+
+SETTINGS = [
+    (None, urlcheck.Profile.STANDARD),
+    ("http://h/a/b?q", urlcheck.Profile.WIDE),
+    (urlcheck.Base("file:///C:/x", urlcheck.Profile.PARSER), urlcheck.Profile.PARSER),
+]
+
+
+class Lists(Compared):
+    def test_answers(self):
+        for base, profile in SETTINGS:
+            found = urlcheck.check_many(MIXED, base, profile)
+            self.assertEqual(tuple(found), one_by_one(MIXED, base, profile))
+            self.assertEqual(urlcheck.is_valid_many(MIXED, base, profile), found.valid)
+            self.assertEqual(urlcheck.resolve_many(MIXED, base, profile), resolved(MIXED, base, profile))
+            self.assertEqual(tuple(urlcheck.mend_many(MIXED, base, profile)), mended(MIXED, base, profile))
+
+    def test_iterables(self):
+        for texts in (iter(TEXTS), tuple(TEXTS), (text for text in TEXTS), dict.fromkeys(TEXTS)):
+            wanted = one_by_one(list(dict.fromkeys(TEXTS)) if isinstance(texts, dict) else TEXTS)
+            self.assertEqual(tuple(urlcheck.check_many(texts)), wanted)
+        self.assertEqual(tuple(urlcheck.check_many([])), ([], [], []))
+        self.assertEqual((urlcheck.resolve_many(()), tuple(urlcheck.mend_many([]))), ([], ([], [])))
+        self.assertEqual(urlcheck.is_valid_many([None]), [None])
+
+    def test_long_lists(self):
+        """More texts than are joined at a time, with others missing in each piece."""
+        texts = [None if number % 3 == 0 else "http://h/{}{}".format(number, " b" * (number % 2)) for number in range(10_000)]
+        self.assertEqual(tuple(urlcheck.check_many(texts)), one_by_one(texts))
+        self.assertEqual(tuple(urlcheck.mend_many(texts)), mended(texts))
+
+    def test_a_text_of_100_mb(self):
+        text = "http://h/" + 100_000_000 * "a"
+        found = urlcheck.check_many([text, text + " "])
+        self.assertEqual(tuple(found), ([True, False], [None, "code-point"], [None, 100_000_009]))
+        made = urlcheck.resolve_many([text, None])
+        self.assertEqual((len(made[0]), made[1]), (100_000_009, None))
+
+    def test_bad_arguments(self):
+        for call in (urlcheck.check_many, urlcheck.is_valid_many, urlcheck.resolve_many, urlcheck.mend_many):
+            for words, error, said in (
+                (("http://h/",), TypeError, "texts are wanted, not one str"),
+                ((b"a:",), TypeError, "texts are wanted, not one bytes"),
+                ((None,), TypeError, "not iterable"),
+                ((["http://h/", 5],), TypeError, "a text is a str, not int"),
+                ((["\ud800"],), UnicodeEncodeError, "surrogates not allowed"),
+                ((["x"], 5), TypeError, "a base is a str, a urlcheck.Base or None, not int"),
+                ((["x"], None, 3), ValueError, "no profile has the number 3"),
+                ((["x"], None, "wide"), TypeError, "a profile is a urlcheck.Profile, not str"),
+                ((["x"], urlcheck.Base("http://h/"), urlcheck.Profile.WIDE), ValueError, "another profile: STANDARD"),
+                ((["x"], "no base"), urlcheck.BaseRefused, "it has no scheme"),
+                (([], "no base"), urlcheck.BaseRefused, "it has no scheme"),
+            ):
+                with self.subTest(call=call.__name__, words=words), self.assertRaisesRegex(error, said):
+                    call(*words)
+
+    def test_other_threads_run(self):
+        """While a text that takes long is judged, another thread counts."""
+        texts, ticks, is_done = ["http://h/" + 20_000_000 * "a"] * 4, 0, []
+
+        def judge():
+            urlcheck.check_many(texts)
+            is_done.append(True)
+
+        thread = threading.Thread(target=judge)
+        thread.start()
+        while not is_done:
+            ticks += 1
+            time.sleep(0.001)
+        thread.join()
+        self.assertGreater(ticks, 5)
+
+    def test_memory_stays(self):
+        """What a call takes it gives back: of texts, lists, errors."""
+        texts = TEXTS[:500]
+
+        if not os.path.exists("/proc/self/statm") or "asan" in os.environ.get("LD_PRELOAD", ""):
+            self.skipTest("no figure of memory")
+
+        def taken():
+            gc.collect()
+            with open("/proc/self/statm", encoding="ascii") as file:
+                return int(file.read().split()[1]) * os.sysconf("SC_PAGE_SIZE")
+
+        def round_of():
+            for text in texts:
+                for call in (urlcheck.check, urlcheck.is_valid, urlcheck.resolve, urlcheck.mend, urlcheck.faults):
+                    call(text, "http://h/")
+                for words in ((text, 5), (text, None, 9), (text, "no base"), ("\ud800",)):
+                    try:
+                        urlcheck.check(*words)
+                    except (TypeError, ValueError):
+                        pass
+            for call in (urlcheck.check_many, urlcheck.is_valid_many, urlcheck.resolve_many, urlcheck.mend_many):
+                call(texts, urlcheck.Base("http://h/"))
+                try:
+                    call([*texts, 5])
+                except TypeError:
+                    pass
+
+        for _ in range(5):
+            round_of()
+        before = taken()
+        for _ in range(20):
+            round_of()
+        self.assertLess(taken() - before, 2_000_000)
+
+    def test_objects_go(self):
+        """Each answer holds what it is made of once."""
+        text = "http://host.example/path?query#fragment"
+        before = sys.getrefcount(text)
+        answers = [urlcheck.check(text) for _ in range(100)]
+        self.assertLessEqual(sys.getrefcount(text), before + 1)
+        path = answers[0].path
+        self.assertLessEqual(sys.getrefcount(path), 3)
+
+
+class Lines(Compared):
+    def test_lines(self):
+        """Of lines of each end: their count, and each that is refused, with its number and where it stands."""
+        from urlcheck._native import check_lines
+
+        data = b"".join(text.encode().replace(b"\n", b"") + end for text, end in zip(TEXTS, 1000 * [b"\n", b"\r\n", b"\r\r\n"]))
+        data += b"\n\r\n\xff\n" + 70_000 * b"a" + b"\nhttp://h/ b"
+        wanted, start = [], 0
+        for number, line in enumerate(data.split(b"\n")):
+            text = line[:-1] if line.endswith(b"\r") else line
+            try:
+                answer = urlcheck.check(text.decode(), "http://h/")
+                found = None if answer else (answer.place, answer.rule)
+            except UnicodeDecodeError:
+                found = (0, "not-utf8")
+            found = (0, "line-too-long") if len(text) > 65_536 else found
+            wanted += [(number, *found, start, len(text))] if found else []
+            start += len(line) + 1
+        count, refused = check_lines(data, "http://h/", urlcheck.Profile.STANDARD, 65_536)
+        self.assertEqual((count, refused), (data.count(b"\n") + 1, wanted))
+        self.assertEqual(check_lines(b"", None, urlcheck.Profile.STANDARD, 9), (0, []))
+
+
+class Vectors(Compared):
+    """Every case of the vectors, with its own base, in three profiles: lists and Arrow arrays of those with one base."""
+
+    def test_answers(self):
+        by_base = {}
+        for text, base in unpacked(sys.argv[1]):
+            if "\ud800" not in text + (base or ""):
+                by_base.setdefault(base, []).append(text)
+        count = 0
+        for base, texts in by_base.items():
+            for profile in urlcheck.Profile:
+                try:
+                    wanted = one_by_one(texts, base, profile), resolved(texts, base, profile), mended(texts, base, profile)
+                except urlcheck.BaseRefused as refused:
+                    with self.assertRaisesRegex(urlcheck.BaseRefused, re.escape(str(refused))):
+                        urlcheck.check_many(texts, base, profile)
+                    continue
+                array = Handed(texts)
+                found = [urlcheck.check_many(texts, base, profile), urlcheck.resolve_many(texts, base, profile),
+                         urlcheck.mend_many(texts, base, profile)]
+                self.assertEqual((tuple(found[0]), found[1], tuple(found[2])), wanted)
+                found = [urlcheck.check_many(array, base, profile), urlcheck.resolve_many(array, base, profile),
+                         urlcheck.mend_many(array, base, profile)]
+                self.assertEqual((tuple(map(read, found[0])), read(found[1]), tuple(map(read, found[2]))), wanted)
+                count += len(texts)
+        self.assertGreater(count, 100)
+
+
+@unittest.skipUnless(numpy, "no numpy")
+class Arrays(Compared):
+    def test_answers(self):
+        for texts in (TEXTS, MIXED):
+            array = numpy.array(texts, object)
+            for base, profile in SETTINGS:
+                valid, rule, place = one_by_one(texts, base, profile)
+                found = urlcheck.check_many(array, base, profile)
+                self.assertEqual(listed(found.valid), valid)
+                self.assertEqual(listed(found.rule), rule)
+                self.assertEqual(listed(found.place), [-1 if it is None else it for it in place])
+                self.assertEqual(listed(urlcheck.is_valid_many(array, base, profile)), valid)
+                self.assertEqual(listed(urlcheck.resolve_many(array, base, profile)), resolved(texts, base, profile))
+                made = urlcheck.mend_many(array, base, profile)
+                self.assertEqual((listed(made.text), listed(made.kind)), mended(texts, base, profile))
+            self.assertEqual(found.valid.dtype, object if None in texts else bool)
+
+    def test_others(self):
+        self.assertEqual(urlcheck.is_valid_many(numpy.array(["http://h/", "x"])).tolist(), [True, False])
+        self.assertEqual(len(urlcheck.check_many(numpy.array([], object)).place), 0)
+        self.assertEqual(urlcheck.is_valid_many(numpy.array(["http://h/", "x"], object)[::-1]).tolist(), [False, True])
+        with self.assertRaisesRegex(TypeError, "an array of texts is wanted, not of int64"):
+            urlcheck.check_many(numpy.arange(3))
+        with self.assertRaisesRegex(ValueError, "one dimension"):
+            urlcheck.check_many(numpy.array([["a"], ["b"]], object))
+
+
+@unittest.skipUnless(pandas, "no pandas")
+class Series(Compared):
+    dtypes = (object, "string") + (("string[pyarrow]",) if pyarrow else ())
+
+    def test_answers(self):
+        index = ["row{}".format(number) for number in range(len(MIXED))]
+        for dtype in self.dtypes:
+            texts = pandas.Series(MIXED, index=index, name="url", dtype=dtype)
+            for base, profile in SETTINGS:
+                valid, rule, place = one_by_one(MIXED, base, profile)
+                found = urlcheck.check_many(texts, base, profile)
+                for column in found:
+                    self.assertEqual((list(column.index), column.name), (index, "url"))
+                self.assertEqual((listed(found.valid), listed(found.rule), listed(found.place)), (valid, rule, place))
+                self.assertEqual(listed(urlcheck.is_valid_many(texts, base, profile)), valid)
+                self.assertEqual(listed(urlcheck.resolve_many(texts, base, profile)), resolved(MIXED, base, profile))
+                made = urlcheck.mend_many(texts, base, profile)
+                self.assertEqual((listed(made.text), listed(made.kind)), mended(MIXED, base, profile))
+                self.assertEqual(made.text.dtype, texts.dtype)
+
+    def test_the_accessor(self):
+        import urlcheck.pandas
+
+        texts = pandas.Series(MIXED)
+        valid, rule, place = one_by_one(MIXED, "http://h/")
+        self.assertEqual(listed(texts.urlcheck.is_valid("http://h/")), valid)
+        table = texts.urlcheck.check("http://h/")
+        self.assertEqual([listed(table[name]) for name in table], [valid, rule, place])
+        self.assertEqual(list(table.columns), ["valid", "rule", "place"])
+        self.assertEqual(listed(texts.urlcheck.rule("http://h/")), rule)
+        self.assertEqual(listed(texts.urlcheck.place("http://h/")), place)
+        self.assertEqual(listed(texts.urlcheck.resolve()), resolved(MIXED))
+        self.assertEqual(listed(texts.urlcheck.mend()["text"]), mended(MIXED)[0])
+        self.assertEqual(texts[texts.urlcheck.is_valid().fillna(False)].tolist(), [it for it in MIXED if it and urlcheck.is_valid(it)])
+        with self.assertRaisesRegex(AttributeError, "a column of texts is wanted, not of int64"):
+            pandas.Series([1]).urlcheck
+
+    def test_other_missing_values(self):
+        texts = pandas.Series(["http://h/", float("nan"), None, pandas.NA, "x"])
+        self.assertEqual(listed(urlcheck.is_valid_many(texts)), [True, None, None, None, False])
+        with self.assertRaisesRegex(TypeError, "a text is a str, not float"):
+            urlcheck.check_many(pandas.Series(["http://h/", 1.5]))
+
+    def test_sparks_functions(self):
+        import urlcheck.spark as spark
+
+        texts = pandas.Series(MIXED)
+        valid, rule, place = one_by_one(MIXED)
+        self.assertEqual(spark.is_valid(texts).tolist(), valid)
+        self.assertEqual(spark.rule(texts).tolist(), rule)
+        self.assertEqual(listed(spark.place(texts)), place)
+        self.assertEqual(spark.resolve(texts).tolist(), resolved(MIXED))
+        self.assertEqual(spark.mend(texts).tolist(), mended(MIXED)[0])
+
+
+class Handed:
+    """Texts as an array of Arrow that is handed out by the interface: made here, of bytes, with no library."""
+
+    class Schema(ctypes.Structure):
+        pass
+
+    class Array(ctypes.Structure):
+        pass
+
+    Schema._fields_ = [("format", ctypes.c_char_p), ("name", ctypes.c_char_p), ("metadata", ctypes.c_char_p),
+                       ("flags", ctypes.c_int64), ("n_children", ctypes.c_int64), ("children", ctypes.c_void_p),
+                       ("dictionary", ctypes.c_void_p), ("release", ctypes.c_void_p), ("private_data", ctypes.c_void_p)]
+    Array._fields_ = [("length", ctypes.c_int64), ("null_count", ctypes.c_int64), ("offset", ctypes.c_int64),
+                      ("n_buffers", ctypes.c_int64), ("n_children", ctypes.c_int64), ("buffers", ctypes.c_void_p),
+                      ("children", ctypes.c_void_p), ("dictionary", ctypes.c_void_p), ("release", ctypes.c_void_p),
+                      ("private_data", ctypes.c_void_p)]
+
+    RELEASE = ctypes.CFUNCTYPE(None, ctypes.c_void_p)(lambda _: None)
+
+    def __init__(self, texts, layout=b"u", first=0, offsets=None, count=None, dictionary=None):
+        width = 8 if layout in (b"U", b"Z") else 4
+        pieces = [b"" if text is None else text if isinstance(text, bytes) else text.encode() for text in texts]
+        starts = [0]
+        for piece in pieces:
+            starts.append(starts[-1] + len(piece))
+        bits = bytearray((len(texts) + 7) // 8)
+        for number, text in enumerate(texts):
+            bits[number // 8] |= (text is not None) << number % 8
+        self.held = [bytes(bits), b"".join(it.to_bytes(width, sys.byteorder, signed=True) for it in offsets or starts),
+                     b"".join(pieces)]
+        # (memory of its own for each buffer, of its length: a read beyond it is seen under a sanitizer)
+        self.own = [ctypes.create_string_buffer(it, max(len(it), 1)) for it in self.held]
+        self.buffers = (ctypes.c_void_p * 3)(*map(ctypes.addressof, self.own))
+        if None not in texts:
+            self.buffers[0] = None
+        release = ctypes.cast(self.RELEASE, ctypes.c_void_p)
+        self.schema = self.Schema(layout, b"", None, 2, 0, None, dictionary, release, None)
+        self.array = self.Array(len(texts) - first if count is None else count, texts[first:].count(None), first, 3, 0,
+                                ctypes.addressof(self.buffers), None, None, release, None)
+
+    def __arrow_c_array__(self, requested_schema=None):
+        new = ctypes.pythonapi.PyCapsule_New
+        new.restype, new.argtypes = ctypes.py_object, [ctypes.c_void_p, ctypes.c_char_p, ctypes.c_void_p]
+        return (new(ctypes.addressof(self.schema), b"arrow_schema", None),
+                new(ctypes.addressof(self.array), b"arrow_array", None))
+
+
+def read(column):
+    """The values of an array that is handed out, read by its buffers."""
+    get = ctypes.pythonapi.PyCapsule_GetPointer
+    get.restype, get.argtypes = ctypes.c_void_p, [ctypes.py_object, ctypes.c_char_p]
+    capsules = column.__arrow_c_array__()
+    schema = Handed.Schema.from_address(get(capsules[0], b"arrow_schema"))
+    return values(schema, Handed.Array.from_address(get(capsules[1], b"arrow_array")))
+
+
+def values(schema, array):
+    buffers = (ctypes.c_void_p * array.n_buffers).from_address(array.buffers)
+    count = array.length
+
+    def bit(buffer, number):
+        return ctypes.c_uint8.from_address(buffer + number // 8).value >> number % 8 & 1
+
+    present = [not buffers[0] or bool(bit(buffers[0], number)) for number in range(count)]
+    assert array.null_count == present.count(False) and array.offset == 0
+    if schema.format == b"b":
+        found = [bool(bit(buffers[1], number)) for number in range(count)]
+    elif schema.format == b"l":
+        found = list((ctypes.c_int64 * count).from_address(buffers[1])) if count else []
+    elif schema.format == b"c":
+        words = values(Handed.Schema.from_address(schema.dictionary), Handed.Array.from_address(array.dictionary))
+        numbers = (ctypes.c_int8 * count).from_address(buffers[1]) if count else []
+        found = [words[number] if here else None for number, here in zip(numbers, present)]
+    else:
+        assert schema.format == b"U"
+        starts = (ctypes.c_int64 * (count + 1)).from_address(buffers[1])
+        found = [ctypes.string_at(buffers[2] + starts[number], starts[number + 1] - starts[number]).decode()
+                 for number in range(count)]
+    return [value if here else None for value, here in zip(found, present)]
+
+
+class Arrow(Compared):
+    """By the interface alone, with no library of Arrow."""
+
+    def test_answers(self):
+        for texts in (TEXTS, MIXED, [None] * 9, []):
+            for layout, first in ((b"u", 0), (b"U", 0), (b"u", 3), (b"Z", 11), (b"z", 8)):
+                array, here = Handed(texts, layout, min(first, len(texts))), texts[first:]
+                for base, profile in SETTINGS:
+                    found = urlcheck.check_many(array, base, profile)
+                    self.assertEqual(tuple(map(read, found)), one_by_one(here, base, profile))
+                    self.assertEqual([len(it) for it in found], [len(here)] * 3)
+                self.assertEqual(read(urlcheck.is_valid_many(array)), one_by_one(here)[0])
+                self.assertEqual(read(urlcheck.resolve_many(array)), resolved(here))
+                self.assertEqual(tuple(map(read, urlcheck.mend_many(array))), mended(here))
+
+    def test_broken_arrays(self):
+        for call in (urlcheck.check_many, urlcheck.is_valid_many, urlcheck.resolve_many, urlcheck.mend_many):
+            for offsets in ([0, 9, 3, 9], [0, -1, 9, 9], [-5, 0, 9, 9], [9, 0, 0, 0]):
+                with self.subTest(offsets=offsets), self.assertRaisesRegex(ValueError, "the offsets of text [012] descend"):
+                    call(Handed(["http://h/", "", ""], offsets=offsets))
+            with self.assertRaisesRegex(ValueError, "it has no length"):
+                call(Handed(["x"], count=-1))
+            with self.assertRaisesRegex(TypeError, "an array of strings is wanted, not one of the Arrow format l"):
+                call(Handed(["x"], layout=b"l"))
+            released = Handed(["x"])
+            released.array.release = None
+            with self.assertRaisesRegex(ValueError, "it was released before"):
+                call(released)
+            other = Handed(["x"])
+            other.array.n_buffers = 2
+            with self.assertRaisesRegex(ValueError, "other buffers than strings have"):
+                call(other)
+
+    def test_a_text_of_100_mb(self):
+        text = b"http://h/" + 100_000_000 * b"a"
+        found = urlcheck.check_many(Handed([text, text + b" ", None], b"U"))
+        self.assertEqual(tuple(map(read, found)), ([True, False, None], [None, "code-point", None], [None, 100_000_009, None]))
+
+    def test_bytes_that_are_no_utf8(self):
+        array = Handed([b"http://h/\xc3\xbc\xff", b"http://h/"], b"z")
+        self.assertEqual(tuple(map(read, urlcheck.check_many(array))), ([False, True], ["no-utf8", None], [10, None]))
+        self.assertEqual(read(urlcheck.resolve_many(array)), [None, "http://h/"])
+
+    def test_answers_outlive_what_came_in(self):
+        column = urlcheck.check_many(Handed(["http://h/", "x", None])).rule
+        gc.collect()
+        capsules = [column.__arrow_c_array__() for _ in range(3)]
+        del capsules
+        self.assertEqual(read(column), [None, "no-scheme", None])
+
+
+@unittest.skipUnless(pyarrow, "no pyarrow")
+class PyArrow(Compared):
+    def test_answers(self):
+        for kind in (pyarrow.string(), pyarrow.large_string()):
+            whole = pyarrow.array(MIXED, kind)
+            for array in (whole, whole[5:], pyarrow.chunked_array([whole[:100], whole[100:]])):
+                texts = array.to_pylist()
+                for base, profile in SETTINGS:
+                    found = urlcheck.check_many(array, base, profile)
+                    self.assertEqual(tuple(map(listed, found)), one_by_one(texts, base, profile))
+                self.assertEqual(listed(urlcheck.is_valid_many(array)), one_by_one(texts)[0])
+                self.assertEqual(listed(urlcheck.resolve_many(array)), resolved(texts))
+                self.assertEqual(tuple(map(listed, urlcheck.mend_many(array))), mended(texts))
+                found.valid.validate(full=True)
+                found.rule.validate(full=True)
+        self.assertEqual(len(urlcheck.check_many(pyarrow.chunked_array([], pyarrow.string())).valid), 0)
+
+    def test_sparks_batches(self):
+        import urlcheck.spark as spark
+
+        batch = pyarrow.RecordBatch.from_pydict({"n": list(range(len(MIXED))), "url": MIXED})
+        *_, last = spark.findings("url")([batch, batch])
+        self.assertEqual(last.schema.names, ["n", "url", "valid", "rule", "place"])
+        self.assertEqual(tuple(last.column(name).to_pylist() for name in ("valid", "rule", "place")), one_by_one(MIXED))
+
+
+if __name__ == "__main__":
+    unittest.main(argv=[sys.argv[0], *sys.argv[2:]])
