@@ -1,7 +1,7 @@
 #!/usr/bin/env bash
 # Runs the library for C over every file of vectors, from C, C++ and Python, and compares with the program given as the
-# first argument; then four threads, each allocation refused in turn, and a text of 100 MB. What isn't installed is left
-# out, and a line says so.
+# first argument; then four threads, each allocation refused in turn, a million faults, and a text of 100 MB. What isn't
+# installed is left out, and a line says so.
 . "$(dirname "$(realpath "$0")")/start.sh"
 cd "$top/runs/library"
 needs library gcc objcopy python3
@@ -38,10 +38,6 @@ else
     echo "library: the package is read from its folder, since pip isn't installed"
 fi
 python3 answers.py "$room/cases" >"$room/python"
-if python3 -c 'import urlcheck.liburlcheck' 2>"$room/said" || ! grep -q ModuleNotFoundError "$room/said"; then
-    echo "FAILED: Python takes the shared library for a module: $(cat "$room/said")"
-    exit 1
-fi
 cmp "$room/c" "$room/python"
 python3 answers.py "$room/cases" mended | cmp "$room/mended"
 if command -v g++ >/dev/null; then
@@ -52,6 +48,25 @@ if command -v g++ >/dev/null; then
 else
     echo "library: C and Python give the same answers; C++ left out, since g++ isn't installed"
 fi
+
+# The calls for many texts, and reports by the calls of the library, byte for byte those of `lint`.
+python3 lines.py "$top"/vectors/*.json >"$room/lines"
+gcc -std=c99 -D_XOPEN_SOURCE=600 "${strict[@]}" "${sanitized[@]}" -I "$include" batches.c "$archive" -o "$room/batches"
+"$room/batches" "$room/lines"
+gcc -std=c99 "${strict[@]}" "${sanitized[@]}" -I "$include" lint.c "$archive" -o "$room/lint"
+gcc -std=c99 "${strict[@]}" "${sanitized[@]}" -I "$include" calls.c "$archive" -o "$room/calls"
+"$room/calls"
+formats=(gnu caret json github sarif checkstyle) units=(code-points bytes utf16 screen) reports=0
+for format in "${!formats[@]}"; do
+    for unit in "${!units[@]}"; do
+        case ${formats[format]}-${units[unit]} in sarif-bytes | sarif-screen) continue ;; esac
+        "$program" lint --quiet --format "${formats[format]}" --columns "${units[unit]}" "$room/lines" >"$room/wanted" ||
+            [ $? = 1 ]
+        "$room/lint" "$room/lines" "$room/lines" "$format" "$unit" | cmp - "$room/wanted"
+        reports=$((reports + 1))
+    done
+done
+echo "library: $reports reports as \`lint\` writes them, by the calls of the library"
 
 gcc -std=c99 -D_XOPEN_SOURCE=600 "${strict[@]}" -I "$include" threads.c "$archive" -lpthread -o "$room/threads"
 "$room/threads"
@@ -70,6 +85,7 @@ if command -v g++ >/dev/null; then
     "$room/page_cpp" | cmp - "$room/page.cpp.out"
 fi
 python3 "$room/page.py" | cmp - "$room/page.py.out"
+python3 "$room/report.py" | cmp - "$room/report.py.out"
 python3 "$room/start.py" | cmp - <(echo 'example.com /a http://h/x')
 
 # The lines by which that page builds a program for C, in a folder that has the program and the library.
@@ -90,14 +106,14 @@ if command -v pkg-config >/dev/null && command -v cc >/dev/null; then
 else
     echo "library: the lines that build a program are left out, since pkg-config or cc isn't installed"
 fi
-for tests in documents standards words limits errors; do
+for tests in documents sources projects standards words limits errors; do
     python3 $tests.py >"$room/tests" 2>&1 || { cat "$room/tests"; exit 1; }
 done
 # What is said of a link in each format is what `lint` says of it where it stands.
 python3 formats.py "$program" >"$room/tests" 2>&1 || { cat "$room/tests"; exit 1; }
-python3 widths.py "$program"
+python3 reports.py "$program" "$room/lines" standard parser
 echo 'library: links in documents in each format, errors of the package'
-URLCHECK_LIBRARY=$shared bash "$top/runs/uses.sh" "$program" documents
+PACKAGE=$room/installed/python bash "$top/runs/uses.sh" "$program" documents
 
 # The links of this repository's own pages, by a Python that has the reader of Markdown. A spoiled page is found.
 with_markdown=

@@ -16,37 +16,47 @@ A text without a scheme is valid against a base alone: ``check("../x", "http://h
 and may be called from any thread.
 """
 
-import ctypes
 import enum
 from dataclasses import dataclass
-from typing import Any, Callable, Iterable, Iterator, List, Literal, Optional, Tuple, Union
+from typing import Any, Iterable, Iterator, Literal, Optional, Tuple, Union
 
-from . import _library
-from ._library import LIBRARY
+from ._library import native
 
 __all__ = [
     "Base",
     "BaseRefused",
+    "Diagnostic",
+    "Explanation",
+    "FORMATS",
     "Fault",
+    "Findings",
     "MendKind",
     "Mended",
+    "Mendings",
     "Profile",
     "RULES",
     "Refused",
+    "Region",
+    "UNITS",
     "Valid",
     "__version__",
     "check",
     "check_each",
+    "check_many",
+    "column",
+    "explain",
     "faults",
     "is_valid",
+    "is_valid_many",
     "mend",
+    "mend_many",
+    "message",
+    "report",
     "resolve",
+    "resolve_many",
     "sentence",
     "version",
 ]
-
-_VALID, _REFUSED, _NO_UTF8, _BASE_REFUSED, _BASE_NO_UTF8, _MEMORY = range(6)
-_MENDED = 8
 
 
 class Profile(enum.IntEnum):
@@ -150,10 +160,8 @@ class Base:
     def __init__(self, text: str, profile: Profile = Profile.STANDARD) -> None:
         if not isinstance(text, str):
             raise TypeError("a base is a str, not {}".format(type(text).__name__))
-        self._data, _, self.profile = _given(text, None, profile)
+        self._data, self.profile, self._held = native.prepare(text, profile)
         self.text = text
-        self._held = LIBRARY.urlcheck_prepare(self._data, len(self._data), self.profile)
-        _stop_unless_judged(self._held.found)
 
     def __reduce__(self) -> Tuple[Any, Tuple[str, Profile]]:
         return Base, (self.text, self.profile)
@@ -165,35 +173,11 @@ class Base:
 AnyBase = Union[str, Base, None]
 
 
-def check(text: str, base: AnyBase = None, profile: Profile = Profile.STANDARD) -> Union[Valid, Refused]:
-    """Whether the text is a valid URL string, alone or against the base.
-
-    Raises ``BaseRefused`` where the base isn't valid alone, ``UnicodeEncodeError`` where a text holds a surrogate,
-    which is no code point of a text, ``TypeError`` where the text or the base is no ``str``, ``ValueError`` where no
-    profile has the number, and ``MemoryError``.
-    """
-    data, below, number = _given(text, base, profile)
-    if isinstance(below, bytes):
-        answer = LIBRARY.urlcheck_check_against(data, len(data), below, len(below), number)
-    else:
-        answer = _judged("urlcheck_check", data, below, number)
-    _stop_unless_judged(answer.found)
-    if answer.found.verdict == _REFUSED:
-        return Refused(_name(answer.found.rule), answer.found.place)
-    slices = (_slice(text, data, getattr(answer.parts, part)) for part in _library.PARTS)
-    scheme, host, port, path, query, fragment = slices
-    return Valid(scheme, host, port, path or "", query, fragment)
-
-
-def is_valid(text: str, base: AnyBase = None, profile: Profile = Profile.STANDARD) -> bool:
-    """Whether the text is a valid URL string, alone or against the base, without its parts: the fastest call.
-
-    Raises what ``check`` raises.
-    """
-    data, below, number = _given(text, base, profile)
-    is_known = not isinstance(below, bytes) and _judged("urlcheck_is_valid", data, below, number)
-    # The library says no also where there is no memory, which the check tells apart.
-    return bool(is_known) or bool(check(text, base, profile))
+check = native.check
+is_valid = native.is_valid
+resolve = native.resolve
+mend = native.mend
+faults = native.faults
 
 
 def check_each(
@@ -208,57 +192,6 @@ def check_each(
     return _answers(iter(texts), base, profile)
 
 
-def faults(text: str, base: AnyBase = None, profile: Profile = Profile.STANDARD) -> List[Fault]:
-    """All that is wrong with the text, by place and at one place by the rule's number; none where it is valid.
-
-    Raises what ``check`` raises.
-    """
-    room = 16
-    while True:
-        found = (_library.Fault * room)()
-        answer = _called("urlcheck_faults", text, base, profile, found, room)
-        _stop_unless_judged(answer.found)
-        if answer.count <= room:
-            return [Fault(_name(fault.rule), fault.place) for fault in found[: answer.count]]
-        room = answer.count
-
-
-def resolve(text: str, base: AnyBase = None, profile: Profile = Profile.STANDARD) -> Union[str, Refused]:
-    """The text of the URL record that the text denotes, alone or against the base, or its refusal.
-
-    Raises what ``check`` raises.
-    """
-    room = 256
-    while True:
-        out = ctypes.create_string_buffer(room)
-        answer = _called("urlcheck_resolve", text, base, profile, out, room)
-        _stop_unless_judged(answer.found)
-        if answer.found.verdict == _REFUSED:
-            return Refused(_name(answer.found.rule), answer.found.place)
-        if answer.length <= room:
-            return str(out.raw[: answer.length], "ascii")
-        room = answer.length
-
-
-def mend(
-    text: str, base: AnyBase = None, profile: Profile = Profile.STANDARD
-) -> Union[Mended, Refused, None]:
-    """What to write in place of a refused text: a valid one made of it by local edits, which keep all else.
-
-    ``None`` where the text is valid, and its refusal where the edits give no valid text. Raises what ``check`` raises.
-    """
-    room = 256
-    while True:
-        out = ctypes.create_string_buffer(room)
-        answer = _called("urlcheck_mend", text, base, profile, out, room)
-        if answer.found.verdict != _MENDED:
-            _stop_unless_judged(answer.found)
-            return None if answer.found.verdict == _VALID else Refused(_name(answer.found.rule), answer.found.place)
-        if answer.length <= room:
-            return Mended(out.raw[: answer.length].decode(), _MEND_KINDS[answer.kind])
-        room = answer.length
-
-
 def sentence(rule: str) -> str:
     """What is wrong at the place of a refusal by this rule. Raises ``KeyError`` where no rule has the name."""
     return _SENTENCES[rule]
@@ -266,7 +199,7 @@ def sentence(rule: str) -> str:
 
 def version() -> str:
     """The version of the library that is called."""
-    number = LIBRARY.urlcheck_version()
+    number = native.version()
     return "{}.{}.{}".format(number // 10000, number // 100 % 100, number % 100)
 
 
@@ -276,20 +209,6 @@ def _answers(texts: Iterator[str], base: AnyBase, profile: Profile) -> Iterator[
         if isinstance(base, str):
             base = Base(base, profile)
         yield check(text, base, profile)
-
-
-def _given(text: str, base: AnyBase, profile: Profile) -> Tuple[bytes, Union[bytes, Base, None], Profile]:
-    """The bytes of a text and of a base, and the profile, each seen to be one. A base that is held stays as it is."""
-    if not isinstance(text, str):
-        raise TypeError("a text is a str, not {}".format(type(text).__name__))
-    if base is not None and not isinstance(base, (str, Base)):
-        raise TypeError("a base is a str, a urlcheck.Base or None, not {}".format(type(base).__name__))
-    judged_by = profile if type(profile) is Profile else _profile(profile)
-    if isinstance(base, Base):
-        if judged_by not in (Profile.STANDARD, base.profile):
-            raise ValueError("the base is judged by another profile: {}".format(base.profile.name))
-        return text.encode(), base, base.profile
-    return text.encode(), None if base is None else base.encode(), judged_by
 
 
 def _profile(number: object) -> Profile:
@@ -303,63 +222,22 @@ def _profile(number: object) -> Profile:
         raise ValueError("no profile has the number {}: there are {}".format(number, names)) from None
 
 
-def _judged(name: str, data: bytes, held: Optional[Base], number: Profile) -> Any:
-    """The answer of a function that judges a text, alone or against a base that is held."""
-    if held is None:
-        return getattr(LIBRARY, name)(data, len(data), number)
-    return getattr(LIBRARY, name + "_with")(data, len(data), held._held)
+_NO_UTF8 = "no-utf8"
+_NAMES = tuple(native.rule_name(rule) for rule in range(15)) + (_NO_UTF8,)
+_SENTENCES = {name: native.rule_sentence(rule) for rule, name in enumerate(_NAMES[:-1]) if rule}
 
-
-def _called(name: str, text: str, base: AnyBase, profile: Profile, out: Any, room: int) -> Any:
-    """The answer of a function that writes into ``out``, alone or against the base."""
-    data, below, number = _given(text, base, profile)
-    if below is None:
-        return getattr(LIBRARY, name)(data, len(data), number, out, room)
-    if isinstance(below, Base):
-        if name == "urlcheck_faults":
-            return LIBRARY.urlcheck_faults_with(data, len(data), below._held, out, room)
-        below = below._data
-    return getattr(LIBRARY, name + "_against")(data, len(data), below, len(below), number, out, room)
-
-
-def _stop_unless_judged(found: _library.Finding) -> None:
-    """Raises unless the text is valid or refused."""
-    if found.verdict in (_VALID, _REFUSED):
-        return
-    if found.verdict == _BASE_REFUSED:
-        raise BaseRefused(_name(found.rule), found.place)
-    if found.verdict == _MEMORY:
-        raise MemoryError("urlcheck")
-    raise ValueError("no profile has this number")
-
-
-def _slice(text: str, data: bytes, span: _library.Span) -> Optional[str]:
-    """The part as a slice of the caller's text."""
-    if not span.present:
-        return None
-    if len(text) == len(data):
-        return text[span.start : span.start + span.length]
-    return data[span.start : span.start + span.length].decode()
-
-
-def _read(function: Callable[..., int], rule: int) -> str:
-    """A text that a function of the library writes of a rule."""
-    room = function(rule, ctypes.create_string_buffer(1), 0)
-    out = ctypes.create_string_buffer(room + 1)
-    function(rule, out, room)
-    return out.raw[:room].decode("ascii")
-
-
-_MEND_KINDS = dict(enumerate(MendKind, 1))
-_NAMES = [_read(LIBRARY.urlcheck_rule_name, rule) for rule in range(15)]
-_SENTENCES = {_NAMES[rule]: _read(LIBRARY.urlcheck_rule_sentence, rule) for rule in range(1, 15)}
-
-RULES = tuple(_NAMES[1:])
+RULES: Tuple[str, ...] = _NAMES[1:-1]
 """The names of the rules, in the order of their numbers."""
 
+native.use(
+    (Valid, Refused, Mended, Fault, Base, BaseRefused, _profile),
+    tuple(Profile),
+    (None, *MendKind),
+    (None, *(kind.value for kind in MendKind)),
+    _NAMES,
+)
 
 __version__ = version()
 
-
-def _name(rule: int) -> str:
-    return _NAMES[rule]
+from ._many import Findings, Mendings, check_many, is_valid_many, mend_many, resolve_many  # noqa: E402
+from ._report import FORMATS, UNITS, Diagnostic, Explanation, Region, column, explain, message, report  # noqa: E402

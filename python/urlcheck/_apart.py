@@ -3,7 +3,7 @@
 import os
 import pickle
 import signal
-from typing import BinaryIO, Callable, Iterator, NamedTuple, Optional
+from typing import BinaryIO, Callable, Iterator, NamedTuple, Optional, Tuple
 
 from ._streams import reason_of, write_nowhere
 
@@ -22,6 +22,8 @@ class Fault(NamedTuple):
     """The line where its reader stopped, from 1, if it had begun."""
     column: Optional[int] = None
     """The column there, from 1."""
+    inner: str = ""
+    """The document within it that wasn't, if it holds others."""
 
     def behind(self) -> str:
         """What is said behind the document's name."""
@@ -39,6 +41,8 @@ class Taken(NamedTuple):
     lines: bytes
     fault: Optional[Fault] = None
     """Why it wasn't read to its end, if it wasn't."""
+    notes: Tuple[str, ...] = ()
+    """What its reader passed over."""
 
 
 class Part:
@@ -66,9 +70,9 @@ class Part:
         """Whether it has as many bytes as a part is to have."""
         return len(self._lines) >= _ENOUGH
 
-    def taken(self, fault: Optional[Fault] = None) -> Taken:
+    def taken(self, fault: Optional[Fault] = None, notes: Tuple[str, ...] = ()) -> Taken:
         """What it has given."""
-        return Taken(self._documents, self._links, self._refused, self._ignored, bytes(self._lines), fault)
+        return Taken(self._documents, self._links, self._refused, self._ignored, bytes(self._lines), fault, notes)
 
 
 _ENOUGH = 256 * 1024
@@ -83,29 +87,45 @@ def nothing(reason: str) -> Taken:
     return Taken(0, 0, 0, 0, b"", Fault(reason))
 
 
-def apart(parts: Parts) -> Iterator[Taken]:
-    """What a document gives, taken in a process of its own. Where memory is short Python may do anything, also go on
-    without an end: so the process is ended from without, and only the parts that it gave whole are taken."""
-    reader, writer = os.pipe()
-    try:
-        child = os.fork()
-    except OSError as error:
-        os.close(reader)
+class Apart:
+    """A document that is taken in a process of its own, which begins at once. Where memory is short Python may do
+    anything, also go on without an end: so the process is ended from without, and only the parts that it gave whole are
+    taken."""
+
+    def __init__(self, parts: Parts) -> None:
+        self._failed: Optional[Taken] = None
+        reader, writer = os.pipe()
+        try:
+            self._child = os.fork()
+        except OSError as error:
+            os.close(reader)
+            os.close(writer)
+            self._failed = nothing("can't be read: no process: {}".format(reason_of(error)))
+            return
+        if self._child == 0:
+            os.close(reader)
+            _give(parts, writer)
         os.close(writer)
-        yield nothing("can't be read: no process: {}".format(reason_of(error)))
-        return
-    if child == 0:
-        os.close(reader)
-        _give(parts, writer)
-    os.close(writer)
-    is_begun = False
-    with os.fdopen(reader, "rb") as pipe:
-        for part in _whole(pipe):
-            is_begun = True
-            yield part
-    status = os.waitpid(child, 0)[1]
-    if status != 0:
-        yield nothing(_ended_by(status) + (", and isn't reported to its end" if is_begun else " to read"))
+        self._reader = reader
+
+    def taken(self) -> Iterator[Taken]:
+        """What the document gives, part by part."""
+        if self._failed is not None:
+            yield self._failed
+            return
+        is_begun = False
+        with os.fdopen(self._reader, "rb") as pipe:
+            for part in _whole(pipe):
+                is_begun = True
+                yield part
+        status = os.waitpid(self._child, 0)[1]
+        if status != 0:
+            yield nothing(_ended_by(status) + (", and isn't reported to its end" if is_begun else " to read"))
+
+
+def apart(parts: Parts) -> Iterator[Taken]:
+    """What a document gives, taken in a process of its own."""
+    yield from Apart(parts).taken()
 
 
 def _whole(pipe: BinaryIO) -> Iterator[Taken]:

@@ -1,51 +1,42 @@
-"""A link that is refused, as each format reports it: where it stands, what is wrong, and what to write in its place."""
+"""What a report says of the links of documents: what the library says of each, and what no text alone has: a rule of
+its document's format, where it stands within that besides, a name that isn't UTF-8, and a document that isn't read."""
 
-import json
-from typing import Mapping, NamedTuple, Optional
+import html
+import os
+import re
+from typing import Callable, Dict, List, NamedTuple, Tuple
+from urllib.parse import quote
 
-from . import Mended
+from . import explain
+from ._apart import Fault
+from ._report import Diagnostic, begin, end, said
+from ._rules import OF_FORMATS
+from ._streams import named
 
-MOST_SHOWN = 200
-"""How many code points a text may have that is shown whole, where a part of it may stand."""
-
-MOST_CARRIED = 2_000
-"""How many code points a link may have that a report carries whole."""
-
-
-class Region(NamedTuple):
-    """Where a text stands in its document: lines and columns from 1."""
-
-    line: int
-    column: int
-    last_line: int
-    end_column: int
-    """The column behind its last code point, in the last line."""
+Writer = Callable[[bytes], None]
 
 
 class Finding(NamedTuple):
     """What is wrong with a link."""
 
-    name: str
-    """The document's name, with a surrogate for each of its bytes that isn't UTF-8."""
-    line: int
-    """The line of the wrong place, from 1."""
-    column: int
-    """The column of the wrong place, from 1."""
-    rule: str
+    diagnostic: Diagnostic
+    """With a surrogate for each byte of the document's name that isn't UTF-8."""
     message: str
     """What is wrong there, in a sentence without its end."""
-    text: str
-    """The link."""
-    place: int
-    """The wrong place in the link, in code points from 0."""
-    mended: Optional[Mended] = None
-    """What to write in place of the link, where there is such a text and the format says it."""
-    region: Optional[Region] = None
-    """Where the link stands, if that text may be written there as it is."""
+    within: str = ""
+    """Where it stands within the document besides."""
 
-    def as_line(self, name: str) -> str:
-        """The line that compilers write, by this name of the document."""
-        return "{}:{}:{}: error: {} [{}]".format(name, self.line, self.column, self.message, self.rule)
+
+def lines_on(format: str, found: Finding) -> str:
+    """What is said of a link that is refused, behind what was said of another one."""
+    it = found.diagnostic
+    # (in a line no control may stand as it is)
+    name = named(it.file) if format == "gnu" else it.file
+    it = it._replace(file=readable(name))
+    written = _of_format(format, it) if it.rule in OF_FORMATS else said(format, it, False)
+    if found.within:
+        written = _within(written, found.message, found.within)
+    return written if name == it.file else _with_bytes(format, written, name)
 
 
 def readable(name: str) -> str:
@@ -53,34 +44,102 @@ def readable(name: str) -> str:
     return name.encode("utf-8", "surrogateescape").decode("utf-8", "replace")
 
 
-def is_cut(text: str) -> bool:
-    """Whether a report carries only a part of a link."""
-    return len(text) > MOST_CARRIED
+_STAND_INS = (explain("two-slashes"), explain("opaque-base"))
+"""Two rules of which the same is said of each text."""
 
 
-def carried(text: str, place: int) -> str:
-    """What a report carries of a link of which a place is wrong."""
-    return window(text, place) if is_cut(text) else text
+def _of_format(format: str, it: Diagnostic) -> str:
+    """What is said by a rule of the document's format, which the library doesn't have: what it writes of two others, with
+    the rule's own words where these differ. SARIF has no number for it among the rules of its document."""
+    rule, (one, other) = OF_FORMATS[it.rule], _STAND_INS
+    first, second = (said(format, it._replace(rule=each.rule), False) for each in _STAND_INS)
+    words = [(one.rule, other.rule, rule.name), (one.sentence, other.sentence, rule.sentence)]
+    written = _reworded(first, second, [*words, (one.url, other.url, rule.url)])
+    return re.sub(',"ruleIndex":[0-9]+}\n\\Z', "}\n", written) if format == "sarif" else written
 
 
-def window(text: str, place: int) -> str:
-    """What is shown of a text around a place: all of it, or of a long one 198 code points, with ``…`` on each side
-    that is cut."""
-    if len(text) <= MOST_SHOWN:
-        return text
-    start = max(0, place - (MOST_SHOWN // 2 - 1))
-    end = start + MOST_SHOWN - 2
-    return ("…" if start else "") + text[start:end] + ("…" if end < len(text) else "")
+def _reworded(first: str, second: str, words: List[Tuple[str, str, str]]) -> str:
+    """The first of two texts that differ in some words: that of the first, that of the second, and what replaces both."""
+    written = ""
+    while first != second:
+        at = len(os.path.commonprefix([first, second]))
+        # (anything else that differs, as a number, is as long in both)
+        begin, one, other, own = at, first[at : at + 1], second[at : at + 1], first[at : at + 1]
+        for a, b, instead in words:
+            start = at - len(os.path.commonprefix([a, b]))
+            if first.startswith(a, start) and second.startswith(b, start):
+                begin, one, other, own = start, a, b, instead
+        written += first[:begin] + own
+        first, second = first[begin + len(one) :], second[begin + len(other) :]
+    return written + first
 
 
-_ENCODER = json.JSONEncoder(ensure_ascii=False, check_circular=False, sort_keys=True, separators=(",", ":"))
+def _within(written: str, message: str, within: str) -> str:
+    """The same with where the link stands besides, behind the message as the format has it: as it is, or with the escapes
+    of XML or of GitHub."""
+    for form in (message, html.escape(message, quote=False), message.replace("%", "%25")):
+        if form in written:
+            return written.replace(form, "{}, in {}".format(form, within), 1)
+    return written
 
 
-def quoted(text: str) -> str:
-    """A text as JSON."""
-    return _ENCODER.encode(text)
+def _with_bytes(format: str, written: str, name: str) -> str:
+    """The same with the bytes of a name that aren't UTF-8, where a format can have them."""
+    if format == "gnu":
+        return name + written[len(readable(name)) :]
+    if format == "sarif":
+        return written.replace(_path(readable(name)), _path(name))
+    return written
 
 
-def compact(value: Mapping[str, object]) -> str:
-    """An object as JSON, with the members in the order of their names."""
-    return _ENCODER.encode(value)
+def _path(name: str) -> str:
+    """A name as the path of a URI reference, behind the slashes that it begins with."""
+    return quote(name.lstrip("/"), safe="/-._~", errors="surrogateescape")
+
+
+_IN_MESSAGE = {"%": "%25", "\r": "%0D", "\n": "%0A"}
+_IN_PROPERTY = {**_IN_MESSAGE, ":": "%3A", ",": "%2C"}
+
+
+def not_read(format: str, name: str, fault: Fault) -> str:
+    """What is said of a document of that name that isn't read to its end: a workflow command of GitHub, which shows it at
+    the first line of its file or where the reader stopped. No other format says that."""
+    if format != "github":
+        return ""
+    place = "" if fault.line is None else ",line={},col={}".format(fault.line, fault.column)
+    file, reason = _escaped(readable(name), _IN_PROPERTY), _escaped(fault.reason, _IN_MESSAGE)
+    return "::error file={}{},title=not-read::{}\n".format(file, place, reason)
+
+
+def _escaped(text: str, escapes: Dict[str, str]) -> str:
+    """A text with what stands for each code point that may not stand as it is."""
+    return "".join(escapes.get(point, point) for point in text)
+
+
+_ANY = Diagnostic("a", 1, 1, "a", "two-slashes", 0)
+
+
+class Report:
+    """A report that is written document by document."""
+
+    def __init__(self, format: str, unit: str, write: Writer) -> None:
+        self._format = format
+        self._unit = unit
+        self._write = write
+        self._is_first = True
+
+    def begin(self) -> None:
+        """Writes what stands before all."""
+        self._write(begin(self._format, self._unit).encode("utf-8"))
+
+    def add(self, lines: bytes) -> None:
+        """Writes what is said of a document's links, each behind another one; before the first there is none."""
+        if lines and self._is_first:
+            between = len(said(self._format, _ANY, False)) - len(said(self._format, _ANY, True))
+            lines = lines[between:]
+            self._is_first = False
+        self._write(lines)
+
+    def end(self, is_whole: bool) -> None:
+        """Writes what stands behind all, by whether each document was read to its end."""
+        self._write(end(self._format, is_whole).encode("utf-8"))

@@ -1,44 +1,20 @@
-"""The documents of a folder: their kinds, by their names' ends, and what is left out."""
+"""The documents of a folder, and what of it is left out or has no reader."""
 
 import fnmatch
 import os
 import re
-from typing import Iterator, List, NamedTuple, Optional, Tuple
+import subprocess
+from collections import Counter
+from typing import Callable, Iterator, List, NamedTuple, Optional, Tuple
 
+from ._kinds import ENDS, PACKAGES, end_of, kind_of
 from ._streams import reason_of
 
-KINDS = {
-    "html": "html",
-    "htm": "html",
-    "xhtml": "xml",
-    "xht": "xml",
-    "xml": "xml",
-    "rss": "xml",
-    "atom": "xml",
-    "rdf": "xml",
-    "svg": "xml",
-    "md": "markdown",
-    "markdown": "markdown",
-}
-"""The kind of a document by its name's end."""
+_COUNTED = frozenset(("css",))
+"""The kinds of which a folder's documents are counted, and not reported, where their package isn't installed."""
 
-
-LISTS = frozenset(("txt", "csv", "tsv", "json", "links"))
-"""How the name of a list of links ends."""
-
-
-def kind_of(name: str) -> Optional[str]:
-    """The kind of a document of that name, if its end says so."""
-    return KINDS.get(_end_of(name))
-
-
-def is_list(name: str) -> bool:
-    """Whether a name's end says that it may be that of a list of links."""
-    return _end_of(name) in LISTS
-
-
-def _end_of(name: str) -> str:
-    return os.path.basename(name).rpartition(".")[2].lower()
+_MOST_NAMED = 8
+"""How many ends of names the last line tells apart."""
 
 
 class Excluded(NamedTuple):
@@ -60,23 +36,94 @@ class Excluded(NamedTuple):
         return any(self.pattern.match(it) for it in (name, os.path.join(below, name)))
 
 
-def documents_of(names: List[str], excluded: Tuple[Excluded, ...] = ()) -> Iterator[str]:
+class Passed:
+    """What was passed over in folders."""
+
+    def __init__(self) -> None:
+        self.ends: "Counter[str]" = Counter()
+        """The files that no reader takes, by how their names end."""
+        self.folders = 0
+        """The folders that are left out unasked."""
+
+    def said(self) -> str:
+        """What the last line says of it, behind a semicolon."""
+        said = ""
+        if self.ends:
+            ends = sorted(self.ends.items(), key=lambda it: (-it[1], it[0]))
+            named = ["{} {}".format(count, end) for end, count in ends[:_MOST_NAMED]]
+            rest = sum(count for _, count in ends[_MOST_NAMED:])
+            said += "; not read: " + ", ".join(named + ["{} of other kinds".format(rest)] * (rest > 0))
+        if self.folders:
+            said += "; left out: {} folder{}".format(self.folders, "" if self.folders == 1 else "s")
+        return said
+
+    def takes(self, name: str) -> bool:
+        """Whether a file of that name is a document; one that isn't is counted."""
+        kind = kind_of(name)
+        if kind is not None and (kind not in _COUNTED or PACKAGES[kind].is_there()):
+            return True
+        # (a name such as Makefile has no end, nor has one such as .profile)
+        end = "." + end_of(name) if "." in name.lstrip(".") else "without an end"
+        self.ends[end] += 1
+        return False
+
+
+class NoGit(Exception):
+    """Why Git doesn't say which files there are."""
+
+
+def documents_of(
+    names: List[str],
+    excluded_of: Callable[[str], Tuple[Excluded, ...]],
+    passed: Passed,
+    is_by_git: bool = False,
+) -> Iterator[str]:
     """The documents of these names, and those within a folder whose names' ends say a kind, in order, but for what is
-    left out of folders; then a folder of them that can't be read, and one that has no document in it."""
+    left out of folders; then a folder of them that can't be read, and one that has no document in it. Raises ``NoGit``."""
     for name in names:
         if name == "-" or not os.path.isdir(name):
             yield name
             continue
+        excluded = excluded_of(name)
         count = 0
         closed: List[str] = []
-        for folder, folders, files in os.walk(name, onerror=lambda error: closed.append(error.filename)):
-            below = folder[len(name) :].lstrip("/")
-            folders[:] = [it for it in sorted(folders) if not _is_excluded(excluded, below, it, True)]
-            for file in sorted(filter(kind_of, files)):
-                if not _is_excluded(excluded, below, file, False):
-                    count += 1
-                    yield os.path.join(folder, file)
+        for path in _by_git(name, excluded) if is_by_git else _walked(name, excluded, passed, closed):
+            if passed.takes(os.path.basename(path)):
+                count += 1
+                yield path
         yield from closed or [name] * (count == 0)
+
+
+def _walked(name: str, excluded: Tuple[Excluded, ...], passed: Passed, closed: List[str]) -> Iterator[str]:
+    """The files in a folder and those within it, but for hidden folders and those of packages for JavaScript."""
+    for folder, folders, files in os.walk(name, onerror=lambda error: closed.append(error.filename)):
+        below = folder[len(name) :].lstrip("/")
+        kept = [it for it in sorted(folders) if not _is_excluded(excluded, below, it, True)]
+        folders[:] = [it for it in kept if not it.startswith(".") and it != "node_modules"]
+        passed.folders += len(kept) - len(folders)
+        for file in sorted(files):
+            if not _is_excluded(excluded, below, file, False):
+                yield os.path.join(folder, file)
+
+
+def _by_git(name: str, excluded: Tuple[Excluded, ...]) -> Iterator[str]:
+    """The files in a folder and those within it that Git tracks, or doesn't ignore."""
+    command = ["git", "-C", name, "ls-files", "-z", "--cached", "--others", "--exclude-standard"]
+    try:
+        ran = subprocess.run(command, stdin=subprocess.DEVNULL, stdout=subprocess.PIPE, stderr=subprocess.PIPE, check=False)
+    except OSError as error:
+        raise NoGit("git can't be run: {}".format(reason_of(error))) from None
+    if ran.returncode != 0:
+        said = ran.stderr.decode("utf-8", "replace").strip().splitlines()
+        raise NoGit("git doesn't list it: {}".format(said[0] if said else "no reason is given"))
+    for path in sorted(set(ran.stdout.split(b"\0")) - {b""}):
+        parts = os.fsdecode(path).split("/")
+        belows = ["/".join(parts[:at]) for at in range(len(parts))]
+        is_out = any(_is_excluded(excluded, belows[at], it, at < len(parts) - 1) for at, it in enumerate(parts))
+        # (what is tracked may be gone, or be a link to a folder or a repository of its own)
+        file = os.path.join(name, *parts)
+        if not is_out and os.path.isfile(file):
+            yield file
 
 
 def _is_excluded(excluded: Tuple[Excluded, ...], below: str, name: str, is_folder: bool) -> bool:
@@ -90,4 +137,13 @@ def no_document(folder: str, is_all: bool) -> str:
     except OSError as error:
         return "can't be read: {}".format(reason_of(error))
     taken = "no name in this folder" if is_all else "no name in this folder that isn't excluded"
-    return "has no document: {} ends in .{}".format(taken, ", .".join(KINDS))
+    return "has no document: {} ends in .{}".format(taken, ", .".join(ENDS))
+
+
+def configured_folder(name: Optional[str]) -> str:
+    """The folder from which on a document's configuration is sought: that of a file, a folder itself, or the current
+    one."""
+    if name is None or name == "-":
+        return os.getcwd()
+    path = os.path.abspath(name)
+    return path if os.path.isdir(path) else os.path.dirname(path)

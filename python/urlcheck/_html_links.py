@@ -3,31 +3,13 @@
 import re
 from html.entities import html5
 from html.parser import HTMLParser
-from typing import Dict, Iterator, List, Match, Optional, Set, Tuple
+from typing import Dict, FrozenSet, Iterator, List, Match, Optional, Set, Tuple
 
-from ._source import IGNORE, SPACES, Broken, Link, NamedBase, Source, Written, base_of, read, words_of
+from . import _css_links
+from ._attributes import CANDIDATES, LISTS, NON_EMPTY, URLS
+from ._source import IGNORE, SPACES, Asks, Broken, Link, NamedBase, Source, Written, base_of, moved, read, words_of
 
-URLS: Dict[str, Set[str]] = {
-    "action": {"form"},
-    "cite": {"blockquote", "del", "ins", "q"},
-    "data": {"object"},
-    "formaction": {"button", "input"},
-    "itemid": set(),
-    "manifest": {"html"},
-    "poster": {"video"},
-    "src": {"audio", "embed", "frame", "iframe", "image", "img", "input", "script", "source", "track", "video"},
-    "href": set(),
-    "xlink:href": set(),
-}
-"""The attributes whose value is a URL, with the elements that have them; none are named where every element may."""
-
-LISTS: Dict[str, Set[str]] = {"ping": {"a", "area"}, "itemtype": set()}
-"""The attributes whose value is a list of URLs with spaces between them."""
-
-CANDIDATES: Dict[str, Set[str]] = {"srcset": {"img", "source"}, "imagesrcset": {"link"}}
-"""The attributes whose value is a list of image candidates."""
-
-_INTERESTING = {*URLS, *LISTS, *CANDIDATES, "content"}
+_INTERESTING = {*URLS, *LISTS, *CANDIDATES, "content", "style"}
 
 # An attribute of a start tag, as the HTML Standard's tokenizer reads it: a name, and a value in quotes, or in none.
 _ATTRIBUTE = re.compile(
@@ -63,9 +45,9 @@ _QUOTED = re.compile("\"[^\"]*\"|'[^']*'")
 
 def links_of(
     source: Source, start: int = 0, end: Optional[int] = None
-) -> Tuple[List[Link], Set[int], Optional[Broken]]:
-    """The links of the HTML between two places of a source, the lines whose links are to be ignored, and why the
-    reader stopped before the end, if it did."""
+) -> Tuple[List[Link], Set[int], Optional[Broken], Tuple[str, ...]]:
+    """The links of the HTML between two places of a source, the lines whose links are to be ignored, why the reader
+    stopped before the end, if it did, and what was passed over."""
     reader = _Reader(source, start)
     last = len(source.text) if end is None else end
     try:
@@ -74,8 +56,9 @@ def links_of(
         reader.is_closing = True
         reader.close()
     except Broken as stopped:
-        return reader.links, reader.ignored, stopped
-    return reader.links, reader.ignored, None
+        return reader.links, reader.ignored, stopped, tuple(reader.notes)
+    reader.end_style()
+    return reader.links, reader.ignored, None, tuple(reader.notes)
 
 
 class _Reader(HTMLParser):
@@ -93,6 +76,10 @@ class _Reader(HTMLParser):
         self._first_line, column = source.position(start)
         self._first_column = column - 1
         self._base: Optional[NamedBase] = None
+        self.notes: Set[str] = set()
+        # The text of a style sheet that isn't ended, and where it begins.
+        self._style: List[str] = []
+        self._style_at = 0
 
     def _offset(self) -> int:
         """Where what is being read begins in the source."""
@@ -125,10 +112,39 @@ class _Reader(HTMLParser):
             line, _ = self._source.position(self._offset())
             self.ignored.add(line + data.count("\n") + 1)
 
+    def handle_data(self, data: str) -> None:
+        if self.cdata_elem == "style":
+            if not self._style:
+                self._style_at = self._offset()
+            self._style.append(data)
+
+    def handle_endtag(self, tag: str) -> None:
+        if tag == "style":
+            self.end_style()
+
+    def end_style(self) -> None:
+        """Takes the links of a style sheet that has ended."""
+        sheet, self._style = "".join(self._style), []
+        if not _css_links.NEEDED.search(sheet):
+            return
+        try:
+            links, _ = _css_links.links_of(Source(sheet))
+        except ImportError:
+            self.notes.add(_css_links.MISSING)
+            return
+        at = self._style_at
+        self.links += [moved(it, self._source, lambda place: at + place)._replace(base=self._base) for it in links]
+
     def _take(self, tag: str, name: str, value: str, written: Written) -> None:
         """Takes the links of an attribute's value."""
-        if has(URLS, name, tag):
+        if name == "style":
+            links, note = links_of_style(value, written)
+            self.links += [link._replace(base=self._base) for link in links]
+            self.notes |= {note} if note else set()
+        elif has(URLS, name, tag):
             link = written.stripped(value, None if tag == "base" else self._base)
+            if has(NON_EMPTY, name, tag):
+                link = link._replace(asks=Asks.SOME)
             self.links.append(link)
             # The first base with an href counts.
             if tag == "base" and name == "href" and self._base is None:
@@ -171,7 +187,22 @@ class _Reader(HTMLParser):
         return self._whole(super().parse_html_declaration(i))
 
 
-def has(table: Dict[str, Set[str]], name: str, tag: str) -> bool:
+def links_of_style(value: str, written: Written) -> Tuple[List[Link], Optional[str]]:
+    """The links of an attribute ``style``, and what is said where nothing reads them."""
+    if not _css_links.NEEDED.search(value):
+        return [], None
+    try:
+        links = _css_links.links_of_declarations(Source(value))
+    except ImportError:
+        return [], _css_links.MISSING
+    found = []
+    for link in links:
+        placed = written.link(link.text, link.offset)
+        found.append(placed if link.is_verbatim else placed._replace(is_verbatim=False, pieces=()))
+    return found, None
+
+
+def has(table: Dict[str, FrozenSet[str]], name: str, tag: str) -> bool:
     """Whether the table has the attribute of the element."""
     return name in table and (not table[name] or tag in table[name])
 

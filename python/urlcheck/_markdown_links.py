@@ -1,11 +1,15 @@
-"""The links of a Markdown document (CommonMark), by the package ``markdown-it-py``, and those of the HTML within it."""
+"""The links of a Markdown document (CommonMark), by the package ``markdown-it-py``, and those of the HTML within it.
+
+That of GitHub has bare addresses too, which are found as its specification says it (GFM 0.29, section 6.9).
+"""
 
 import re
 from types import SimpleNamespace
 from typing import Any, Callable, Dict, List, Optional, Set, Tuple
 
-from . import _html_links
-from ._source import Link, Source
+from . import _bare_links, _html_links
+from ._front_matter import front_matter_of
+from ._source import Broken, Link, Source
 
 
 class _Destination(str):
@@ -16,29 +20,78 @@ class _Destination(str):
     is_verbatim = False
 
 
-def links_of(source: Source) -> Tuple[List[Link], Set[int]]:
-    """The links of a Markdown document, and the lines whose links are to be ignored.
+class Inlines:
+    """What blocks of Markdown were read as, kept from one reading of a text to the next: most of a text that is edited stays
+    as it is. A block is read by its content and by the references that there are."""
 
-    Raises ``ImportError`` where ``markdown-it-py`` isn't installed.
+    def __init__(self) -> None:
+        self._kept: Dict[str, List[Any]] = {}
+        self._used: Dict[str, List[Any]] = {}
+        self._references: Set[str] = set()
+        self.covered: Dict[str, List[Tuple[int, int]]] = {}
+        """What of a block's content is no text, by where it begins and ends."""
+
+    def begin(self, references: Set[str]) -> None:
+        """Begins a reading; what the last one didn't have is forgotten."""
+        is_same = references == self._references
+        self._kept, self._used = (self._used if is_same else {}), {}
+        self.covered = {it: self.covered[it] for it in self._kept if it in self.covered}
+        self._references = references
+
+    def read(self, content: str, read: Callable[[str], List[Any]]) -> List[Any]:
+        """What a block's content is read as."""
+        found = self._used.get(content) or self._kept.get(content)
+        if found is None:
+            self.covered.pop(content, None)
+            found = read(content)
+        self._used[content] = found
+        return found
+
+
+def links_of(source: Source, is_gfm: bool = False, inlines: Optional[Inlines] = None) -> Tuple[List[Link], Set[int], Optional[Broken], Tuple[str, ...]]:
+    """The links of a Markdown document, the lines whose links are to be ignored, why its reader stopped, which it
+    doesn't, and what was passed over.
+
+    Its front matter is no text. What blocks were read as is kept in ``inlines``, for one choice of ``is_gfm``. Raises
+    ``ImportError`` where ``markdown-it-py`` isn't installed.
     """
-    reader = _Reader(source)
+    front = front_matter_of(source.text)
+    reader = _Reader(source, is_gfm, inlines or Inlines())
     environment: Dict[str, Any] = {}
-    for token in reader.markdown.parse(source.text, environment):
-        reader.take(token)
+    tokens = reader.markdown.parse(_without(source.text, front[0]) if front else source.text, environment)
+    reader.inlines.begin(set(environment.get("references", {})))
+    for token in tokens:
+        reader.take(token, environment)
     reader.take_references(environment)
+    reader.links += front[1] if front else []
     reader.links.sort(key=lambda link: link.offset)
-    return reader.links, reader.ignored
+    return reader.links, reader.ignored, None, tuple(reader.notes)
+
+
+def _without(text: str, end: int) -> str:
+    """A text whose beginning is empty lines, so that all behind it stands where it stood."""
+    return re.sub("[^\r\n]", " ", text[:end]) + text[end:]
 
 
 class _Reader:
     """Collects the links of the tokens."""
 
-    def __init__(self, source: Source) -> None:
+    def __init__(self, source: Source, is_gfm: bool, inlines: Inlines) -> None:
         from markdown_it import MarkdownIt, helpers, rules_inline
 
         self.markdown: Any = MarkdownIt("commonmark")
-        self.markdown.inline.ruler.at("autolink", _placing(rules_inline.autolink))
-        self.markdown.inline.ruler.at("html_inline", _placing(rules_inline.html_inline))
+        # (the inside of a block is read here, once for all blocks that are the same)
+        self.markdown.core.ruler.disable(["inline"])
+        self.inlines = inlines
+        self._is_gfm = is_gfm
+        for name, rule in (
+            ("autolink", _placing(rules_inline.autolink)),
+            ("html_inline", _placing(rules_inline.html_inline)),
+            ("backticks", rules_inline.backtick),
+            ("link", rules_inline.link),
+            ("image", rules_inline.image),
+        ):
+            self.markdown.inline.ruler.at(name, _covering(rule, inlines) if is_gfm else rule)
         self.markdown.helpers = SimpleNamespace(
             parseLinkLabel=helpers.parseLinkLabel,
             parseLinkTitle=helpers.parseLinkTitle,
@@ -51,6 +104,7 @@ class _Reader:
         self._last: Tuple[str, int, Any] = ("", 0, None)
         self.links: List[Link] = []
         self.ignored: Set[int] = set()
+        self.notes: Set[str] = set()
         self._source = source
         # The same as the package reads it, place by place: there a carriage return ends a line too.
         text = re.sub("\r(?!\n)", "\n", source.text).replace("\0", "\ufffd")
@@ -79,15 +133,23 @@ class _Reader:
         self._last = ("", 0, None)
         return placed
 
-    def take(self, token: Any) -> None:
+    def take(self, token: Any, environment: Dict[str, Any]) -> None:
         """Takes the links of a block."""
+
+        def read(content: str) -> List[Any]:
+            children: List[Any] = []
+            self.markdown.inline.parse(content, self.markdown, environment, children)
+            return children
+
         if token.type == "html_block":
             self._take_html(token.map[0], token.content, token.content, 0)
         elif token.type == "inline":
-            self._take_inline(token)
+            self._take_inline(token, self.inlines.read(token.content, read))
 
-    def _take_inline(self, block: Any) -> None:
-        for token in block.children or []:
+    def _take_inline(self, block: Any, children: List[Any]) -> None:
+        if self._is_gfm:
+            self._take_bare(block.map[0], block.content)
+        for token in children:
             if token.type == "html_inline":
                 self._take_html(block.map[0], block.content, token.content, token.meta[_AT])
             elif token.type in ("link_open", "image"):
@@ -96,6 +158,16 @@ class _Reader:
                     self._take_autolink(block, url, token.meta[_AT] + 1)
                 elif url.content == block.content:
                     self._take_destination(block.map[0], url)
+
+    def _take_bare(self, line: int, content: str) -> None:
+        """Takes the addresses that stand in a block's text without more, and what is no link for a space in it."""
+        covered = self.inlines.covered.get(content, [])
+        for link in _bare_links.links_of(content, covered):
+            start = self._offset(line, content, link.offset)
+            if start is not None:
+                is_verbatim = link.is_verbatim and self._source.text.startswith(link.text, start)
+                pieces = link.pieces and tuple((begin, start + place - link.offset) for begin, place in link.pieces)
+                self.links.append(link._replace(offset=start, is_verbatim=is_verbatim, pieces=pieces))
 
     def _take_autolink(self, block: Any, url: str, at: int) -> None:
         """Takes ``<http://a/>``; an e-mail address is no URL as it stands."""
@@ -122,7 +194,8 @@ class _Reader:
     def _take_html(self, line: int, content: str, html: str, at: int) -> None:
         """Takes the links of HTML that stands at a place of a block's content. It is read without what nests the block,
         which may stand within a tag of several lines."""
-        links, ignored, _ = _html_links.links_of(Source(html))
+        links, ignored, _, notes = _html_links.links_of(Source(html))
+        self.notes |= set(notes)
         self.links += [self._moved(link, line, content, at) for link in links]
         start = self._offset(line, content, at) if ignored else None
         if start is not None:
@@ -134,10 +207,10 @@ class _Reader:
         found = [(begin, self._offset(line, content, at + place)) for begin, place in link.pieces or ((0, link.offset),)]
         pieces = tuple((begin, place) for begin, place in found if place is not None)
         if len(pieces) < len(found):
-            return Link(link.text, self._seen.offset(line + 1, 0), False)
+            return link._replace(offset=self._seen.offset(line + 1, 0), is_verbatim=False, base=None, pieces=())
         offset = pieces[0][1]
         is_verbatim = link.is_verbatim and self._source.text.startswith(link.text, offset)
-        return Link(link.text, offset, is_verbatim, None, pieces)
+        return link._replace(offset=offset, is_verbatim=is_verbatim, base=None, pieces=pieces)
 
     def _offset(self, line: int, content: str, at: int) -> Optional[int]:
         """The source's place of a place of a block's content, which lacks what nests the block; none where it isn't
@@ -174,3 +247,16 @@ def _placing(rule: Callable[[Any, bool], bool]) -> Callable[[Any, bool], bool]:
         return is_found
 
     return placing
+
+
+def _covering(rule: Callable[[Any, bool], bool], inlines: Inlines) -> Callable[[Any, bool], bool]:
+    """A rule that notes where what it finds begins and ends, for each content of a block."""
+
+    def covering(state: Any, silent: bool) -> bool:
+        at = state.pos
+        is_found = rule(state, silent)
+        if is_found and not silent:
+            inlines.covered.setdefault(state.src, []).append((at, state.pos))
+        return is_found
+
+    return covering

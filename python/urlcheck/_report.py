@@ -1,146 +1,194 @@
-"""Reports on links that are refused, in each format, as ``urlcheck lint`` writes them."""
+"""Reports on texts that are refused, as ``urlcheck lint`` writes them: what is written is the library's."""
 
-from typing import Callable, Dict, NamedTuple, Optional, Tuple
+import functools
+import json
+from typing import Dict, Iterable, Iterator, List, NamedTuple, Optional, Tuple, Union
 
-from . import _caret, _sarif
-from ._apart import Fault
-from ._columns import Unit
-from ._finding import Finding, carried, compact, is_cut, readable
-
-Writer = Callable[[bytes], None]
+from . import RULES, BaseRefused, Fault, Mended, MendKind, Profile, Refused, _profile, sentence
+from ._library import native
 
 
-class Format(NamedTuple):
-    """How a report is written."""
-
-    finding: Callable[[Finding], str]
-    """What is said of a link that is refused: whole lines."""
-    begin: Callable[[Unit], str] = lambda unit: ""
-    """What the report begins with, by what columns count."""
-    end: Callable[[bool], str] = lambda is_whole: ""
-    """What it ends with, by whether each document was read to its end."""
-    separator: str = ""
-    """What stands between what is said of two links."""
-    has_mended: bool = False
-    """Whether it says what to write in place of a link."""
-    units: Tuple[Unit, ...] = tuple(Unit)
-    """What its columns may count."""
-    unread: Callable[[str, Fault], str] = lambda name, fault: ""
-    """What is said of a document of that name that isn't read to its end: whole lines, without a separator."""
-
-    def said(self, found: Finding) -> str:
-        """What is said of a link, behind the separator."""
-        return self.separator + self.finding(found)
+def _named(name: str, names: Tuple[str, ...], noun: str) -> int:
+    """The number of a name. Raises ``ValueError`` where it is none of these."""
+    if name not in names:
+        raise ValueError("no {} is named '{}': there are {}".format(noun, name, ", ".join(names)))
+    return names.index(name)
 
 
-def named(name: str) -> str:
-    """A document's name as lines show it, in the place of whose controls and turns of direction U+FFFD stands."""
-    return _caret.shown(name)
+def _all_names(number: int = 0) -> Iterator[Tuple[str, str]]:
+    """The names of a format and a unit of each number, until there is neither."""
+    while native.format_name(number) or native.unit_name(number):
+        yield native.format_name(number), native.unit_name(number)
+        number += 1
 
 
-def _gnu(found: Finding) -> str:
-    """The line of a compiler."""
-    return found.as_line(named(found.name)) + "\n"
+FORMATS: Tuple[str, ...] = tuple(format for format, _ in _all_names() if format)
+"""The names of the formats, as ``urlcheck lint --format`` takes them."""
+
+UNITS: Tuple[str, ...] = tuple(unit for _, unit in _all_names() if unit)
+"""The names of what columns count, as ``urlcheck lint --columns`` takes them."""
+
+_NUMBERS: Dict[str, int] = {name: number for number, name in enumerate(RULES, 1)}
+_KINDS: Dict[MendKind, int] = {kind: number for number, kind in enumerate(MendKind, 1)}
+_ASKS, _SECTION, _BASE, _EXAMPLE, _MENDED = range(5)
+_WHOLE, _UNREAD = range(2)
 
 
-def _json(found: Finding) -> str:
-    """An object of JSON, in a line."""
-    members: Dict[str, object] = {
-        "file": readable(found.name),
-        "line": found.line,
-        "column": found.column,
-        "rule": found.rule,
-        "message": found.message,
-        "text": carried(found.text, found.place),
-        "cut": is_cut(found.text),
-    }
-    if found.mended is not None:
-        members["mended"] = found.mended.text
-        members["kind"] = found.mended.kind.value
-    return compact(members) + "\n"
+class Region(NamedTuple):
+    """Where a text stands in its file: lines and columns from 1."""
+
+    line: int
+    column: int
+    last_line: int
+    end_column: int
+    """The column behind its last code point, in the last line."""
 
 
-_IN_MESSAGE = {"%": "%25", "\r": "%0D", "\n": "%0A"}
-_IN_PROPERTY = {**_IN_MESSAGE, ":": "%3A", ",": "%2C"}
+class Diagnostic(NamedTuple):
+    """What is wrong with a text that stands in a file."""
+
+    file: str
+    """The name of the file."""
+    line: int
+    """The line of the wrong place, from 1."""
+    column: int
+    """The column of the wrong place, from 1."""
+    text: str
+    rule: str
+    place: int
+    """The wrong place in the text, in code points from 0."""
+    profile: Profile = Profile.STANDARD
+    """By which the text is judged."""
+    mended: Optional[Mended] = None
+    """What to write in place of the text; a format that doesn't say it leaves it out."""
+    region: Optional[Region] = None
+    """Where the text stands, if that may be written there as it is; without it SARIF has no fix."""
 
 
-def _github(found: Finding) -> str:
-    """A workflow command of GitHub."""
-    return _command(found.name, (found.line, found.column), found.rule, found.message)
+class Explanation(NamedTuple):
+    """What a rule asks, and an example by the standard profile."""
+
+    rule: str
+    sentence: str
+    """What is wrong at the place of a refusal."""
+    asks: str
+    section: str
+    """The section of the URL Standard, and what it calls that."""
+    url: str
+    """Where that stands."""
+    base: Optional[str]
+    """The base that the example is read against, or ``None`` where it is read alone."""
+    example: str
+    """A text that is refused by the rule."""
+    place: int
+    """The place of that refusal, in code points from 0."""
+    mended: str
+    """The same text, mended."""
 
 
-def _github_unread(name: str, fault: Fault) -> str:
-    """The same of a document that isn't read to its end, which GitHub shows at the first line of its file or where the
-    reader stopped."""
-    place = None if fault.line is None or fault.column is None else (fault.line, fault.column)
-    return _command(name, place, "not-read", fault.reason)
+def message(text: str, found: Union[Refused, Fault, BaseRefused], profile: Profile = Profile.STANDARD) -> str:
+    """What is wrong with a text, as its refusal or one of its faults says by this profile: a sentence without its end,
+    which names the code point. Of a ``BaseRefused`` the text is the base.
+
+    Raises ``ValueError`` where the place is behind the text's end, and what ``check`` raises of a text and a profile.
+    """
+    if not isinstance(text, str):
+        raise TypeError("a text is a str, not {}".format(type(text).__name__))
+    return native.message(text, _profile(profile), _NUMBERS[found.rule], found.place)
 
 
-def _command(name: str, place: Optional[Tuple[int, int]], title: str, message: str) -> str:
-    file = _escaped(readable(name), _IN_PROPERTY)
-    at = "" if place is None else ",line={},col={}".format(*place)
-    return "::error file={}{},title={}::{}\n".format(
-        file, at, _escaped(title, _IN_PROPERTY), _escaped(message, _IN_MESSAGE)
-    )
+def explain(rule: str) -> Explanation:
+    """What a rule asks, and an example. Raises ``KeyError`` where no rule has the name."""
+    number = _NUMBERS[rule]
+    asks, section, base, example, mended = (native.explain(number, part) for part in range(5))
+    place = native.example_place(number)
+    return Explanation(rule, sentence(rule), asks, section, _urls()[rule], base or None, example, place, mended)
 
 
-_IN_ATTRIBUTE = {
-    **{chr(number): "\ufffd" for number in (*range(0x20), 0xFFFE, 0xFFFF)},
-    **{"&": "&amp;", "<": "&lt;", ">": "&gt;", '"': "&quot;", "\t": "&#9;", "\n": "&#10;", "\r": "&#13;"},
-}
-"""What stands for a code point between the quotes of an attribute; XML 1.0 has no other controls."""
+def column(text: str, place: int, unit: str = "code-points", start: int = 1) -> int:
+    """The column of a place of a text, which is counted in code points, where the text begins in the column ``start`` of
+    its line. ``unit`` is one of ``UNITS``. Raises ``ValueError`` for another name, where the place is behind the text's
+    end, and where ``start`` isn't from 1 to 4294967295."""
+    return native.column(text, _named(unit, UNITS, "column unit"), start, place)
 
 
-def _checkstyle(found: Finding) -> str:
-    """An element of Checkstyle with the error in it, which is of a file of its own."""
-    error = '<error line="{}" column="{}" severity="error" message="{}" source="urlcheck.{}"/>'.format(
-        found.line, found.column, _escaped(found.message, _IN_ATTRIBUTE), _escaped(found.rule, _IN_ATTRIBUTE)
-    )
-    return '<file name="{}">\n{}\n</file>\n'.format(_escaped(readable(found.name), _IN_ATTRIBUTE), error)
+def report(
+    diagnostics: Iterable[Diagnostic], format: str = "gnu", columns: Optional[str] = None, is_whole: bool = True
+) -> Iterator[str]:
+    """A report on these, as ``urlcheck lint --located`` writes it, text by text: its beginning, what is said of each, and
+    its end.
+
+    ``format`` is one of ``FORMATS``, and ``columns``, one of ``UNITS``, says what the columns count: without it the first
+    of them for which the format has a word, code points as a rule. ``is_whole`` is false where a file couldn't be read to
+    its end. Raises ``ValueError`` for another name, for a unit for which the format has no
+    word, and at the text on a diagnostic whose place, line or column is none.
+    """
+    unit = own_unit(format) if columns is None else columns
+    if not takes_unit(format, unit):
+        raise ValueError("{} doesn't take the column unit {}".format(format, unit))
+    return _reported(diagnostics, format, unit, is_whole)
 
 
-def _escaped(text: str, escapes: Dict[str, str]) -> str:
-    """A text with what stands for each code point that may not stand as it is."""
-    return "".join(escapes.get(point, point) for point in text)
+def _reported(diagnostics: Iterable[Diagnostic], format: str, unit: str, is_whole: bool) -> Iterator[str]:
+    yield begin(format, unit)
+    is_first = True
+    for it in diagnostics:
+        yield said(format, it, is_first)
+        is_first = False
+    yield end(format, is_whole)
 
 
-FORMATS = {
-    "gnu": Format(_gnu),
-    "caret": Format(_caret.result, has_mended=True),
-    "json": Format(_json, has_mended=True),
-    "github": Format(_github, unread=_github_unread),
-    "sarif": Format(
-        _sarif.result, _sarif.begin, _sarif.end, separator=",", has_mended=True, units=tuple(_sarif.COLUMN_KINDS)
-    ),
-    "checkstyle": Format(
-        _checkstyle,
-        lambda unit: '<?xml version="1.0" encoding="UTF-8"?>\n<checkstyle version="4.3">\n',
-        lambda is_whole: "</checkstyle>\n",
-    ),
-}
-"""The formats by their names."""
+def takes_unit(format: str, unit: str) -> bool:
+    """Whether a format has a word for the unit."""
+    return native.takes_unit(_named(format, FORMATS, "format"), _named(unit, UNITS, "column unit"))
 
 
-class Report:
-    """A report that is written document by document."""
+def own_unit(format: str) -> str:
+    """The unit of a format's columns where nothing else is said."""
+    return next(unit for unit in UNITS if takes_unit(format, unit))
 
-    def __init__(self, format: Format, unit: Unit, write: Writer) -> None:
-        self._format = format
-        self._unit = unit
-        self._write = write
-        self._is_first = True
 
-    def begin(self) -> None:
-        """Writes what stands before all."""
-        self._write(self._format.begin(self._unit).encode("utf-8"))
+def shows_mended(format: str) -> bool:
+    """Whether a format says what to write in place of a text."""
+    return native.shows_mended(_named(format, FORMATS, "format"))
 
-    def add(self, lines: bytes) -> None:
-        """Writes what is said of a document's links, each behind the format's separator."""
-        if lines and self._is_first:
-            lines = lines[len(self._format.separator) :]
-            self._is_first = False
-        self._write(lines)
 
-    def end(self, is_whole: bool) -> None:
-        """Writes what stands behind all, by whether each document was read to its end."""
-        self._write(self._format.end(is_whole).encode("utf-8"))
+def begin(format: str, unit: str) -> str:
+    """What a report begins with."""
+    return native.report_begin(_named(format, FORMATS, "format"), _named(unit, UNITS, "column unit"))
+
+
+def end(format: str, is_whole: bool) -> str:
+    """What a report ends with, by whether each file was read to its end."""
+    return native.report_end(_named(format, FORMATS, "format"), _WHOLE if is_whole else _UNREAD)
+
+
+def said(format: str, it: Diagnostic, is_first: bool) -> str:
+    """What is said of a text that is refused: whole lines. Behind another one it begins with what stands between both."""
+    number = _named(format, FORMATS, "format")
+    kind, mended = (0, None) if it.mended is None else (_KINDS[it.mended.kind], it.mended.text)
+    region = (0, 0) if it.region is None else (it.region.column, it.region.end_column)
+    place = it.profile, _NUMBERS[it.rule], it.place, it.line, it.column
+    written = native.diagnostic(number, is_first, it.file, place, it.text, kind, mended, region)
+    if mended is not None and it.region is not None:
+        written = _over_lines(written, it.line, it.region)
+    return native.file_begin(number, it.file) + written + native.file_end(number)
+
+
+def _over_lines(written: str, line: int, region: Region) -> str:
+    """The same with the lines of a fix whose text doesn't stand in the one line of its wrong place."""
+    if region.line == line == region.last_line:
+        return written
+    # (no text of a document of JSON has quotes as they are)
+    columns = '"deletedRegion":{{"endColumn":{},'.format(region.end_column)
+    last = "" if region.last_line == region.line else '"endLine":{},'.format(region.last_line)
+    start = '"startColumn":{},"startLine":'.format(region.column)
+    return written.replace(columns + start + str(line), columns + last + start + str(region.line), 1)
+
+
+@functools.lru_cache(maxsize=1)
+def _urls() -> Dict[str, str]:
+    """Where what the rules ask stands, by their names: as a document of SARIF has it."""
+    document = json.loads(begin("sarif", "code-points") + end("sarif", True))
+    rules: List[Dict[str, str]] = document["runs"][0]["tool"]["driver"]["rules"]
+    return {it["id"]: it["helpUri"] for it in rules}

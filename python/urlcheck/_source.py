@@ -2,6 +2,7 @@
 
 import bisect
 import codecs
+import enum
 import re
 import sys
 from typing import Callable, Iterator, List, Match, NamedTuple, Optional, Pattern, Tuple
@@ -26,6 +27,19 @@ class NamedBase:
         """The base that the document names around it, which its text is relative to."""
 
 
+class Asks(enum.Enum):
+    """What the format of a document asks of a link."""
+
+    REFERENCE = "reference"
+    """A URL string or a reference, which may be empty."""
+    SOME = "some"
+    """One that isn't empty."""
+    ABSOLUTE = "absolute"
+    """A URL string with a scheme."""
+    ANOTHER = "another"
+    """Another destination: as it is written it is text and no link, though an author meant one."""
+
+
 class Link(NamedTuple):
     """A link of a document."""
 
@@ -39,6 +53,10 @@ class Link(NamedTuple):
     """What the document says that it is relative to."""
     pieces: "Pieces" = ()
     """Of a link that isn't verbatim its pieces, if they are known."""
+    asks: Asks = Asks.REFERENCE
+    """What its format asks of it."""
+    within: str = ""
+    """Where it stands within the document besides, as a cell of a notebook and its line."""
 
     def place(self, at: int) -> int:
         """Where a place of the link stands in the source, or its beginning where that isn't known."""
@@ -80,6 +98,29 @@ class Written(NamedTuple):
     def stripped(self, value: str, base: Optional[NamedBase] = None) -> Link:
         """The link of the whole value, without the spaces around it."""
         return self.link(value.strip(SPACES), len(value) - len(value.lstrip(SPACES)), base)
+
+
+MOST_MOVED = 4_000
+"""How many code points a link may have whose pieces are kept where it is moved."""
+
+
+def moved(link: Link, source: "Source", place_of: Callable[[int], int]) -> Link:
+    """A link of a text that was read out of a source, with its places there: ``place_of`` says where a place of the text
+    stands."""
+    offset = place_of(link.offset)
+    if link.is_verbatim and source.text.startswith(link.text, offset):
+        return link._replace(offset=offset, base=link.base, pieces=())
+    begins = [(0, link.offset)] if link.is_verbatim or not link.pieces else list(link.pieces)
+    if not link.is_verbatim and not link.pieces:
+        return link._replace(offset=offset)
+    pieces: List[Tuple[int, int]] = []
+    ends = [begin for begin, _ in begins[1:]] + [min(len(link.text), MOST_MOVED)]
+    for (begin, place), end in zip(begins, ends):
+        for at in range(begin, max(end, begin + 1)):
+            found = place_of(place + at - begin)
+            if not pieces or found != _place(tuple(pieces[-1:]), at):
+                pieces.append((at, found))
+    return link._replace(offset=offset, is_verbatim=False, pieces=tuple(pieces))
 
 
 MOST_REFERENCES = 10_000

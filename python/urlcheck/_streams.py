@@ -18,6 +18,15 @@ REASONS = {
 """Why a file can't be read or written, as ``urlcheck`` says it; any other reason is said in the system's words."""
 
 
+_HIDDEN = re.compile("[\x00-\x08\x0a-\x1f\x7f-\x9f\u061c\u200e\u200f\u2028-\u202e\u2066-\u2069]")
+"""The controls but the tab, and what turns the direction of a text or ends its line."""
+
+
+def named(name: str) -> str:
+    """A document's name as lines show it: U+FFFD stands for a control but the tab, and for what turns its direction."""
+    return _HIDDEN.sub("\ufffd", name)
+
+
 def reason_of(error: OSError) -> str:
     """Why the system couldn't do what was asked of it."""
     return REASONS.get(error.errno or 0) or str(error.strerror or error)

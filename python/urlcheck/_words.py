@@ -2,15 +2,17 @@
 
 import argparse
 import re
+import textwrap
 from typing import List, NamedTuple, Optional, Tuple
 
-from . import Profile, version
-from ._columns import Unit
-from ._folders import KINDS, Excluded
+from . import FORMATS, UNITS, Profile, version
+from ._config import Misconfigured
+from ._folders import Excluded
 from ._judge import SOMEWHERE
-from ._report import FORMATS, Format, named
+from ._kinds import ENDS, KINDS, listed
+from ._report import own_unit, takes_unit
 from ._source import Foreign, decoded
-from ._streams import flush, reason_of, stop, tell, write
+from ._streams import flush, named, reason_of, stop, tell, write
 from ._wrong import Parser, chosen
 
 
@@ -22,9 +24,27 @@ class Settings(NamedTuple):
     profile: Profile = Profile.STANDARD
     ignored: Tuple["re.Pattern[str]", ...] = ()
     excluded: Tuple[Excluded, ...] = ()
-    format: Format = FORMATS["gnu"]
-    unit: Unit = Unit.CODE_POINTS
+    format: str = "gnu"
+    unit: str = "code-points"
     """What columns count."""
+    is_format_left: bool = True
+    """Whether no format is given, so that the project's counts."""
+    is_unit_left: bool = True
+    """Whether no unit of columns is given, so that the format's counts."""
+    is_profile_left: bool = True
+    """Whether no profile is given."""
+    stdin_name: Optional[str] = None
+    """The name of the document on standard input."""
+    gfm: bool = False
+    """Whether Markdown is GitHub's."""
+    is_empty_taken: bool = False
+    """Whether a link may be empty where its format forbids it."""
+    is_by_git: bool = False
+    """Whether a folder's documents are those that Git lists."""
+    is_configured: bool = True
+    """Whether a project's configuration counts."""
+    jobs: int = 1
+    """How many documents are read at once."""
 
 
 class Asked(NamedTuple):
@@ -36,18 +56,21 @@ class Asked(NamedTuple):
     is_quiet: bool
 
 
-_UNITS = [it.value for it in Unit]
 _PROFILES = [it.name.lower() for it in Profile]
-_KINDS = list(dict.fromkeys(KINDS.values()))
+_KINDS = list(KINDS)
+_MOST_JOBS = 256
 
 _ABOUT = """\
-Prints the links of HTML, XML and Markdown as lines FILE:LINE:COLUMN:LINK, which
-'urlcheck lint --located -' reads; with --check, judges how they are written.
-Nothing is fetched."""
+Prints the links of HTML, XML, Markdown, reStructuredText, notebooks, books and
+feeds as lines FILE:LINE:COLUMN:LINK, which 'urlcheck lint --located -' reads;
+with --check, judges how they are written. Nothing is fetched."""
 
 _NOTES = """\
 A folder stands for all documents in it whose names end in
 {}.
+Folders in it that begin with . are left out, and node_modules. The
+configuration is .urlcheck.toml, or [tool.urlcheck] of pyproject.toml, in the
+folder of a document or above it.
 
 A reference is judged against the base that its document names, else against
 --base, else against {}. A link is left out where a comment
@@ -64,7 +87,7 @@ Examples:
   urlcheck-documents --check site
   urlcheck-documents --check --format caret README.md
   gzip -dc sitemap.xml.gz | urlcheck-documents --check --type xml -
-""".format(", ".join("." + it for it in KINDS), SOMEWHERE)
+""".format(textwrap.fill(", ".join("." + it for it in ENDS), 79), SOMEWHERE)
 
 
 def asked(words: List[str]) -> Asked:
@@ -74,7 +97,7 @@ def asked(words: List[str]) -> Asked:
     given = _given(parser, words)
     format = "gnu" if given.format is None else chosen(given.format, list(FORMATS), "format")
     unit = _unit(given.columns, format)
-    profile = chosen(given.profile, _PROFILES, "profile")
+    profile = "standard" if given.profile is None else chosen(given.profile, _PROFILES, "profile")
     kind = None if given.kind is None else chosen(given.kind, _KINDS, "kind")
     if given.format is not None and not given.check:
         parser.error("--format is for --check")
@@ -84,10 +107,40 @@ def asked(words: List[str]) -> Asked:
         Profile[profile.upper()],
         tuple(pattern for name in given.ignore for pattern in _patterns(name)),
         tuple(Excluded.by(it) for it in given.exclude),
-        FORMATS[format],
+        format,
         unit,
+        given.format is None,
+        given.columns is None,
+        given.profile is None,
+        given.stdin_name,
+        given.gfm,
+        given.no_empty,
+        given.git,
+        not given.no_config,
+        _jobs(parser, given.jobs),
     )
+    if given.stdin_name is not None and "-" not in given.files:
+        parser.error("--stdin-name is for standard input, which - is")
     return Asked(given.files, settings, given.check, given.quiet)
+
+
+def with_format(settings: Settings, name: Optional[str], is_judged: bool) -> Settings:
+    """The settings with the format that a project's configuration names, where none is given. Raises ``Misconfigured``."""
+    if name is None or not settings.is_format_left or not is_judged:
+        return settings
+    if name not in FORMATS:
+        raise Misconfigured("no format is named '{}': there are {}".format(name, " ".join(FORMATS)))
+    unit = own_unit(name) if settings.is_unit_left else settings.unit
+    if not takes_unit(name, unit):
+        raise Misconfigured("{} doesn't take the column unit {}".format(name, unit))
+    return settings._replace(format=name, unit=unit)
+
+
+def _jobs(parser: Parser, word: str) -> int:
+    """How many documents are read at once."""
+    if not re.fullmatch("[0-9]{1,3}", word) or not 1 <= int(word) <= _MOST_JOBS:
+        parser.error("--jobs is a number from 1 to {}".format(_MOST_JOBS))
+    return int(word)
 
 
 def _given(parser: Parser, words: List[str]) -> argparse.Namespace:
@@ -102,14 +155,14 @@ def _given(parser: Parser, words: List[str]) -> argparse.Namespace:
     return given
 
 
-def _unit(name: str, format: str) -> Unit:
+def _unit(name: Optional[str], format: str) -> str:
     """What columns count, by its name and that of the format. Raises ``SystemExit`` where the format has no word for
     it."""
-    unit = Unit(chosen(name, _UNITS, "column unit"))
-    units = FORMATS[format].units
-    if unit not in units:
-        tell("{} doesn't take the column unit {}".format(format, unit.value))
-        raise SystemExit(stop("the column units of {}: {}".format(format, " ".join(it.value for it in units))))
+    unit = own_unit(format) if name is None else chosen(name, list(UNITS), "column unit")
+    if not takes_unit(format, unit):
+        tell("{} doesn't take the column unit {}".format(format, unit))
+        units = " ".join(it for it in UNITS if takes_unit(format, it))
+        raise SystemExit(stop("the column units of {}: {}".format(format, units)))
     return unit
 
 
@@ -127,14 +180,14 @@ def _parser() -> Parser:
     add("files", nargs="*", metavar="FILE", help="a document, a folder of documents, or - for standard input")
     add("--check", action="store_true", help="judge the links, and report those that are refused")
     helped = "how --check reports them: {}; without it gnu, as compilers do"
-    add("--format", metavar="FORMAT", help=helped.format(_listed(list(FORMATS))))
+    add("--format", metavar="FORMAT", help=helped.format(listed(list(FORMATS))))
     helped = "what columns count: {}; without it code-points"
-    add("--columns", default="code-points", metavar="UNIT", help=helped.format(_listed(_UNITS)))
+    add("--columns", metavar="UNIT", help=helped.format(listed(list(UNITS))))
     add("--base", metavar="URL", help="what references are relative to where their document names no base")
     helped = "the profile to judge by: {}; without it standard"
-    add("--profile", default="standard", metavar="PROFILE", help=helped.format(_listed(_PROFILES)))
+    add("--profile", metavar="PROFILE", help=helped.format(listed(_PROFILES)))
     helped = "the kind of all documents: {}; without it by their names"
-    add("--type", dest="kind", metavar="KIND", help=helped.format(_listed(_KINDS)))
+    add("--type", dest="kind", metavar="KIND", help=helped.format(listed(_KINDS)))
     add(
         "--ignore",
         action="append",
@@ -150,6 +203,13 @@ def _parser() -> Parser:
         help="a pattern of the shell: what is found in a folder is left out where its name, or its path below that "
         "folder, matches; it may be given more than once",
     )
+    add("--git", action="store_true", help="take of a folder what Git tracks, or doesn't ignore")
+    add("--gfm", action="store_true", help="read Markdown as GitHub does, with addresses that nothing encloses")
+    add("--no-empty", action="store_true", help="leave out what is said of links that are empty")
+    add("--no-config", action="store_true", help="leave out the configuration of the project")
+    helped = "the name of the document on standard input, which says its kind"
+    add("--stdin-name", metavar="NAME", help=helped)
+    add("--jobs", default="1", metavar="N", help="how many documents are read at once; without it 1")
     add("-q", "--quiet", action="store_true", help="leave out the counts on standard error")
     add("-h", "--help", action=_Printed, help="print this help")
     add("-V", "--version", action=_Printed, const="urlcheck-documents " + version() + "\n", help="print the version")
@@ -167,11 +227,6 @@ class _Printed(argparse.Action):
         write((self.const or parser.format_help()).encode())
         flush()
         raise SystemExit(0)
-
-
-def _listed(names: List[str]) -> str:
-    """Names as a sentence has them."""
-    return "{} or {}".format(", ".join(names[:-1]), names[-1])
 
 
 def _patterns(name: str) -> Tuple["re.Pattern[str]", ...]:

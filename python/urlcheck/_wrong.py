@@ -5,8 +5,7 @@ import difflib
 import sys
 from typing import Iterable, List, NoReturn
 
-from ._report import named
-from ._streams import say, stop, tell
+from ._streams import named, say, stop, tell
 
 
 class Parser(argparse.ArgumentParser):

@@ -1,59 +1,72 @@
-"""The links of an XML document, by Python's own ``xml.parsers.expat``: sitemaps, RSS, Atom, XHTML, SVG and XLink."""
+"""The links of an XML document, by Python's own ``xml.parsers.expat``: sitemaps, feeds, outlines, XHTML, SVG, XLink, and the
+formats of ``_xml_names``."""
 
 import re
 from itertools import accumulate
-from typing import Dict, List, Optional, Set, Tuple
+from typing import Dict, List, NamedTuple, Optional, Set, Tuple
 from xml.parsers import expat
 
-from . import _html_links
-from ._source import IGNORE, Broken, Link, NamedBase, Pieces, Source, Written, base_of, read, words_of
-
-Name = Tuple[str, str]
-"""A namespace and a local name."""
-
-ATOM = "http://www.w3.org/2005/Atom"
-XHTML = "http://www.w3.org/1999/xhtml"
-SVG = "http://www.w3.org/2000/svg"
-RDF = "http://www.w3.org/1999/02/22-rdf-syntax-ns#"
-MATHML = "http://www.w3.org/1998/Math/MathML"
-XLINK = "http://www.w3.org/1999/xlink"
-XML = "http://www.w3.org/XML/1998/namespace"
-RSS_1 = "http://purl.org/rss/1.0/"
-ITUNES = "http://www.itunes.com/dtds/podcast-1.0.dtd"
-MEDIA = "http://search.yahoo.com/mrss/"
-VIDEO = "http://www.google.com/schemas/sitemap-video/1.1"
-NOWHERE = " "
-"""Stands for no namespace, where that means nothing: outside RSS."""
+from . import _attributes, _html_links
+from ._source import (
+    IGNORE,
+    SPACES,
+    Asks,
+    Broken,
+    Link,
+    NamedBase,
+    Pieces,
+    Source,
+    Written,
+    base_of,
+    moved,
+    read,
+    words_of,
+)
+from ._xml_names import (
+    APPSTREAM,
+    ATTRIBUTES,
+    CATALOG,
+    HTML_TEXTS,
+    KNOWN,
+    LIKE_LINKS,
+    LIKE_TEXTS,
+    NOWHERE,
+    OF_ANY_ELEMENT,
+    OF_PAGES,
+    POM,
+    QUALIFIED,
+    SVG,
+    TEXTS,
+    TYPED_TEXTS,
+    VOCABULARIES,
+    XHTML,
+    XML,
+    Name,
+)
 
 MOST_DEPTH = 10_000
 """How many elements may stand within one another."""
 
-TEXTS: Set[Name] = {
-    *(("", name) for name in ("link", "guid", "comments", "docs", "url")),
-    *((RSS_1, name) for name in ("link", "url")),
-    *((ATOM, name) for name in ("icon", "logo", "uri")),
-    *((VIDEO, name) for name in ("thumbnail_loc", "content_loc", "player_loc")),
-}
-"""The elements whose text is a URL, by namespace and name (those of no namespace within ``rss``); and ``loc`` in any
-namespace, for sitemaps and their extensions."""
+UNKNOWN = (
+    "none of its names is known; what is read of it is each href, url and src, and each element url and link, whose value "
+    "has a scheme"
+)
+"""What is said of a document of which no name is known."""
 
-ATTRIBUTES: Dict[Name, Set[str]] = {
-    ("", "enclosure"): {"url"},
-    ("", "source"): {"url"},
-    (ITUNES, "image"): {"href"},
-    (MEDIA, "content"): {"url"},
-    (MEDIA, "thumbnail"): {"url"},
-    (ATOM, "link"): {"href"},
-    (ATOM, "content"): {"src"},
-    (ATOM, "generator"): {"uri"},
-}
-"""The attributes of no namespace whose value is a URL, by their element."""
+_SCHEME = re.compile("[A-Za-z][A-Za-z0-9+.-]*:")
 
-QUALIFIED = {(XLINK, "href"), (RDF, "about"), (RDF, "resource")}
-"""The attributes of any element whose value is a URL."""
+_PLACEHOLDER = "${"
+"""What a value of a project's file has that is filled in later."""
 
-OF_PAGES = {XHTML, SVG, MATHML}
-"""The namespaces of the elements that a page may have, whose links are relative to the ``base`` of XHTML."""
+
+class _Taking(NamedTuple):
+    """What the text of an element is taken for."""
+
+    is_html: bool = False
+    is_likely: bool = False
+    """Whether it is taken where no name of the document is known alone."""
+    asks: Asks = Asks.REFERENCE
+
 
 _REFERENCE = re.compile("&[^;]*;|\r\n")
 
@@ -63,9 +76,9 @@ _TARGET = re.compile(r"<\?[^\s?]+")
 _ATTRIBUTE = re.compile(r"\s+(?P<name>[^\s=]+)\s*=\s*(?:\"(?P<double>[^\"]*)\"|'(?P<single>[^']*)')")
 
 
-def links_of(source: Source, data: bytes) -> Tuple[List[Link], Set[int], Optional[Broken]]:
-    """The links of an XML document, the lines whose links are to be ignored, and why the reader stopped before the end,
-    if it did."""
+def links_of(source: Source, data: bytes) -> Tuple[List[Link], Set[int], Optional[Broken], Tuple[str, ...]]:
+    """The links of an XML document, the lines whose links are to be ignored, why the reader stopped before the end, if it
+    did, and what was passed over."""
     reader = _Reader(source, data)
     broken = None
     try:
@@ -74,7 +87,9 @@ def links_of(source: Source, data: bytes) -> Tuple[List[Link], Set[int], Optiona
         broken = reader.failed(expat.ErrorString(error.code))
     except Broken as stopped:
         broken = stopped
-    return reader.links, reader.ignored, broken
+    if reader.is_known or broken is not None:
+        return reader.links, reader.ignored, broken, tuple(reader.notes)
+    return reader.links + reader.likely, reader.ignored, broken, (*reader.notes, UNKNOWN)
 
 
 class _Reader:
@@ -104,8 +119,15 @@ class _Reader:
         self._bases: List[Optional[NamedBase]] = [None]
         self._page_base: Optional[NamedBase] = None
         self._named: Dict[Tuple[str, Optional[NamedBase]], NamedBase] = {}
-        self._is_rss = False
-        # The text of the element that is being read, if it is a URL: its pieces with their places.
+        # What a name without a namespace means, and whether a name was known.
+        self._vocabulary = NOWHERE
+        self.is_known = False
+        # What are likely links, where none is.
+        self.likely: List[Link] = []
+        self.notes: Set[str] = set()
+        # The text of the element that is being read, if it has links: its pieces with their places.
+        self._taking = _Taking()
+        self._began = 0
         self._pieces: Optional[List[Tuple[str, int]]] = None
 
     def failed(self, reason: str) -> Broken:
@@ -156,13 +178,16 @@ class _Reader:
         element = _split(name)
         if len(self._bases) == 1:
             self.parser.ProcessingInstructionHandler = None
-            self._is_rss = element == ("", "rss")
-        if element[0] == "" and not self._is_rss:
-            element = (NOWHERE, element[1])
+            self._vocabulary = VOCABULARIES.get(element[1], NOWHERE) if element[0] in ("", POM) else NOWHERE
+            if self._vocabulary == APPSTREAM and "media_baseurl" in attributes[::2]:
+                self._vocabulary = CATALOG
+        if element[0] == "":
+            element = (self._vocabulary, element[1])
         names = [_split(it) for it in attributes[::2]]
-        self._pieces = [] if element[1] == "loc" or element in TEXTS else None
-        if (element, attributes[1::2]) == (("", "guid"), ["false"]) and names == [("", "isPermaLink")]:
-            self._pieces = None
+        self.is_known = self.is_known or element[0] in KNOWN or element[1] == "loc"
+        taking = _taking(element, dict(zip(names, attributes[1::2])))
+        self._taking, self._pieces = taking or self._taking, [] if taking else None
+        self._began = self._offset() if taking else 0
         base = self._bases[-1]
         if attributes:
             base = self._take_attributes(element, names, attributes[1::2])
@@ -172,7 +197,8 @@ class _Reader:
         """Takes the links of a start tag, and gives what ``xml:base`` names within the element."""
         base = self._bases[-1]
         is_meta = element == (XHTML, "meta")
-        if not is_meta and not any(_is_url(element, it) or it == (XML, "base") for it in names):
+        is_wanted = is_meta or any(_is_url(element, it) or it == (XML, "base") or it in _STYLES for it in names)
+        if not is_wanted and (self.is_known or not any(it[1] in LIKE_LINKS for it in names)):
             return base
         places = self._places(self._offset(), values)
         for name, value, written in zip(names, values, places):
@@ -183,7 +209,14 @@ class _Reader:
                 base = self._named.setdefault(key, NamedBase(*key))
         for name, value, written in zip(names, values, places):
             if _is_url(element, name):
+                self.is_known = True
                 self._take(element, name[1], value, written, base)
+            elif name in _STYLES and element[0] in OF_PAGES:
+                links, note = _html_links.links_of_style(value, written)
+                self.links += [it._replace(base=self._of_element(element, base)) for it in links]
+                self.notes |= {note} if note else set()
+            elif not self.is_known and name[0] == "" and name[1] in LIKE_LINKS and _SCHEME.match(value.lstrip(SPACES)):
+                self.likely.append(written.stripped(value, base))
             elif is_meta and name == ("", "content") and _is_refresh(names, values):
                 self.links += _html_links.refreshes(value, written, self._of_element(element, base))
         return base
@@ -199,12 +232,14 @@ class _Reader:
             self._take_base(written.stripped(value))
             return
         base = self._of_element(element, base)
-        if element[0] == XHTML and _html_links.has(_html_links.LISTS, name, element[1]):
+        if element[0] == XHTML and _html_links.has(_attributes.LISTS, name, element[1]):
             self.links += [written.link(word, at, base) for word, at in words_of(value)]
-        elif element[0] == XHTML and _html_links.has(_html_links.CANDIDATES, name, element[1]):
+        elif element[0] == XHTML and _html_links.has(_attributes.CANDIDATES, name, element[1]):
             self.links += [written.link(word, at, base) for word, at in _html_links.candidates(value)]
         else:
-            self.links.append(written.stripped(value, base))
+            is_some = element[0] == XHTML and _html_links.has(_attributes.NON_EMPTY, name, element[1])
+            asks = Asks.SOME if is_some else Asks.REFERENCE
+            self.links.append(written.stripped(value, base)._replace(asks=asks))
 
     def _take_base(self, link: Link) -> None:
         """Takes what a ``base`` of XHTML says: the first one counts."""
@@ -230,15 +265,61 @@ class _Reader:
 
     def _end(self, _: str) -> None:
         base = self._bases.pop()
-        if not self._pieces:
-            self._pieces = None
+        pieces, self._pieces = self._pieces, None
+        if pieces is None:
             return
-        value = "".join(piece for piece, _ in self._pieces)
-        link = Written(0, False, _places_of(self._pieces)).stripped(value, base)
-        self._pieces = None
-        if link.text:
-            is_verbatim = self._source.text.startswith(link.text, link.offset)
-            self.links.append(Link(link.text, link.offset, True, base) if is_verbatim else link)
+        if not pieces and self._taking.asks is Asks.ABSOLUTE:
+            # (what has no content stands nowhere: then the element's own place is told)
+            end = self._offset()
+            pieces = [("", self._began if self._source.text.startswith("/>", end - 2) else end)]
+        if not pieces:
+            return
+        value = "".join(piece for piece, _ in pieces)
+        written = Written(0, False, _places_of(pieces))
+        if self._taking.is_html:
+            self._take_html(value, written, base)
+            return
+        link = written.stripped(value, base)._replace(asks=self._taking.asks)
+        is_verbatim = self._source.text.startswith(link.text, link.offset)
+        if is_verbatim:
+            link = link._replace(is_verbatim=True, pieces=())
+        if self._taking.is_likely:
+            self.likely += [link] * bool(_SCHEME.match(link.text))
+        elif (link.text or link.asks is Asks.ABSOLUTE) and _PLACEHOLDER not in link.text:
+            self.links.append(link)
+
+    def _take_html(self, value: str, written: Written, base: Optional[NamedBase]) -> None:
+        """Takes the links of HTML that is the text of an element."""
+        if "<" not in value:
+            return
+        links, _, _, notes = _html_links.links_of(Source(value))
+        self.notes |= set(notes)
+        found = [moved(link, self._source, lambda at: written.link("", at).offset) for link in links]
+        self.links += [link._replace(base=link.base or base) for link in found]
+
+
+_ICONS = {(APPSTREAM, "icon"), (CATALOG, "icon")}
+"""The elements whose text is a URL where their ``type`` is ``remote``."""
+
+_STYLES = {("", "style")}
+"""The attributes that have declarations of CSS."""
+
+
+def _taking(element: Name, values: Dict[Name, str]) -> Optional[_Taking]:
+    """What the text of an element with these attributes is taken for, if it has links."""
+    if element in HTML_TEXTS or (element in TYPED_TEXTS and values.get(("", "type")) == "html"):
+        return _Taking(is_html=True)
+    if element == ("", "guid") and values.get(("", "isPermaLink")) == "false":
+        return None
+    if element in _ICONS and values.get(("", "type")) != "remote":
+        return None
+    if element[1] == "loc":
+        return _Taking(asks=Asks.ABSOLUTE)
+    if element in TEXTS:
+        return _Taking(asks=TEXTS[element])
+    if element[0] not in KNOWN and element[1] in LIKE_TEXTS:
+        return _Taking(is_likely=True)
+    return None
 
 
 def _places_of(read_pieces: List[Tuple[str, int]]) -> Pieces:
@@ -274,7 +355,9 @@ def _is_url(element: Name, name: Name) -> bool:
         return True
     if name[0]:
         return False
+    if element[0] in OF_ANY_ELEMENT:
+        return name[1] in OF_ANY_ELEMENT[element[0]]
     if element[0] == XHTML:
-        tables = (_html_links.URLS, _html_links.LISTS, _html_links.CANDIDATES)
+        tables = (_attributes.URLS, _attributes.LISTS, _attributes.CANDIDATES)
         return any(_html_links.has(table, name[1], element[1]) for table in tables)
     return element[0] == SVG and name[1] == "href"

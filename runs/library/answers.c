@@ -163,6 +163,13 @@ static void refuse_stray_bases(void) {
     if (urlcheck_check_with(bytes, 9, NULL).found.verdict != URLCHECK_NO_BASE) fail("a null base");
     if (urlcheck_faults_with(bytes, 9, NULL, NULL, 0).found.verdict != URLCHECK_NO_BASE) fail("a null base");
     if (urlcheck_is_valid_with(bytes, 9, NULL)) fail("a null base");
+    /* A kind of bases may be one that no base has: a special scheme with an opaque path. */
+    const uint8_t reference[] = "//g/x", secure[] = "https://h/";
+    held = urlcheck_prepare(secure, 10, URLCHECK_STANDARD);
+    held.opaque_path = 1;
+    urlcheck_finding found = urlcheck_check_with(reference, 5, &held).found;
+    int is_refused = found.verdict == URLCHECK_REFUSED && found.rule == URLCHECK_OPAQUE_BASE && found.place == 0;
+    if (!is_refused || urlcheck_is_valid_with(reference, 5, &held)) fail("a special base with an opaque path");
 }
 
 static void answer(const text *given, const text *base, uint32_t profile) {

@@ -85,6 +85,69 @@ class Errors(unittest.TestCase):
         self.assertIsNone(urlcheck.mend("../x", urlcheck.Base("http://h/a")))
         self.assertEqual(urlcheck.mend("http://h:x/"), urlcheck.Refused("port-digit", 9))
 
+    def test_what_is_said_of_a_text(self):
+        refused = urlcheck.check("http://h_/\u65e5", None)
+        self.assertEqual(urlcheck.message("http://h_/", refused), "U+005F LOW LINE may not stand in a domain")
+        with self.assertRaises(urlcheck.BaseRefused) as base:
+            urlcheck.Base("http://h/%")
+        said = "U+0025 PERCENT SIGN has to be followed by two hex digits"
+        self.assertEqual(urlcheck.message("http://h/%", base.exception), said)
+        self.assertEqual(urlcheck.message("x^", urlcheck.faults("x^", "a:/")[0], urlcheck.Profile.PARSER)[:6], "U+005E")
+        for words, error, why in (
+            ((b"x", refused), TypeError, "a text is a str, not bytes"),
+            (("http:", refused), ValueError, "the place is behind the end of the text"),
+            (("x", urlcheck.Fault("percent", -1)), ValueError, "the place is behind the end of the text"),
+            (("x", urlcheck.Fault("no-utf8", 0)), KeyError, "no-utf8"),
+            (("x", urlcheck.Fault("percent", 0), 3), ValueError, "no profile has the number 3"),
+            (("x", urlcheck.Fault("percent", 0), "wide"), TypeError, "a profile is a urlcheck.Profile, not str"),
+            (("x\ud800", urlcheck.Fault("percent", 0)), UnicodeEncodeError, "surrogates not allowed"),
+        ):
+            with self.subTest(words), self.assertRaisesRegex(error, why):
+                urlcheck.message(*words)
+
+    def test_columns(self):
+        text = "e\u0301\u65e5\U0001f600\tx"
+        for unit, columns in (("code-points", (1, 2, 3, 4, 5, 6, 7)), ("bytes", (1, 2, 4, 7, 11, 12, 13)),
+                              ("utf16", (1, 2, 3, 4, 6, 7, 8)), ("screen", (1, 2, 2, 4, 6, 9, 10))):
+            self.assertEqual(tuple(urlcheck.column(text, place, unit) for place in range(len(text) + 1)), columns)
+        self.assertEqual(urlcheck.column("x\t", 2, "screen", 8), 17)
+        for words, why in ((("x", 2), "the place is behind the end"), (("x", -1), "the place is behind the end"),
+                           (("x", 0, "utf-16"), "no column unit is named 'utf-16': there are code-points, bytes, "),
+                           (("x", 0, "bytes", 0), "isn't from 1 to 4294967295"),
+                           (("x", 0, "bytes", 1 << 32), "isn't from 1 to 4294967295")):
+            with self.subTest(words), self.assertRaisesRegex(ValueError, why):
+                urlcheck.column(*words)
+
+    def test_reports(self):
+        wrong = urlcheck.Diagnostic("a", 1, 2, "x y", "code-point", 1)
+        self.assertEqual(urlcheck.FORMATS[:6], ("gnu", "caret", "json", "github", "sarif", "checkstyle"))
+        self.assertEqual(urlcheck.UNITS, ("code-points", "bytes", "utf16", "screen"))
+        said = "a:1:2: error: U+0020 SPACE may not stand in a URL [code-point]\n"
+        self.assertEqual(list(urlcheck.report([wrong])), ["", said, ""])
+        for words, why in (
+            (([], "xml"), "no format is named 'xml': there are gnu, "),
+            (([], "gnu", "points"), "no column unit is named 'points': there are code-points, "),
+            (([], "sarif", "bytes"), "sarif doesn't take the column unit bytes"),
+        ):
+            with self.subTest(words), self.assertRaisesRegex(ValueError, why):
+                urlcheck.report(*words)
+        for field, value, error in (("place", 4, ValueError), ("place", -1, ValueError), ("line", 0, ValueError),
+                                    ("column", 1 << 32, ValueError), ("rule", "no-utf8", KeyError),
+                                    ("profile", 9, ValueError), ("text", "\udfff", UnicodeEncodeError),
+                                    ("file", "\udcff", UnicodeEncodeError)):
+            with self.subTest(field), self.assertRaises(error):
+                list(urlcheck.report([wrong._replace(**{field: value})]))
+
+    def test_explanations(self):
+        for rule in urlcheck.RULES:
+            it = urlcheck.explain(rule)
+            self.assertEqual((it.rule, it.sentence), (rule, urlcheck.sentence(rule)))
+            self.assertEqual(urlcheck.check(it.example, it.base), urlcheck.Refused(rule, it.place))
+            self.assertTrue(urlcheck.check(it.mended, it.base))
+            self.assertTrue(it.asks.endswith(".") and it.section and it.url.startswith("https://url.spec.whatwg.org/#"))
+        with self.assertRaises(KeyError):
+            urlcheck.explain("empty")
+
     def test_several_texts(self):
         answers = list(urlcheck.check_each(["../x", "http://h:x/", ""], "http://h/a"))
         self.assertEqual([bool(it) for it in answers], [True, False, True])

@@ -4,7 +4,7 @@
     document says what no located line does, what has to be written is worked out by hand.
 """
 
-import importlib.util
+import itertools
 import json
 import os
 import re
@@ -19,47 +19,22 @@ from room import PROGRAM, Room
 LINT = [os.path.realpath(sys.argv.pop(1)), "lint", "--quiet", "--located"] if len(sys.argv) > 1 else []
 FORMATS = ("gnu", "caret", "json", "github", "sarif", "checkstyle")
 UNITS = ("code-points", "bytes", "utf16", "screen")
+UNITS_OF_FORMATS = ("screen", "code-points", "utf16", "bytes", "utf16", "screen")
 UNITS_OF_SARIF = {"code-points", "utf16"}
 BASE = "https://example.com/"
 
-BEYOND = (0x80, 0x85, 0x9F, 0xA0, 0xAD, 0xE9, 0x301, 0x5D0, 0x61C, 0x1680, 0x17D8, 0x180E, 0x1FFF, 0x2000, 0x200A, 0x200B,
-          0x200D, 0x200E, 0x2010, 0x2027, 0x2028, 0x202E, 0x202F, 0x205F, 0x2060, 0x2066, 0x206F, 0x2070, 0x3000, 0x3042,
-          0x4E2D, 0xAC00, 0xFDD0, 0xFDEF, 0xFEFF, 0xFF21, 0xFFF8, 0xFFF9, 0xFFFB, 0xFFFD, 0xFFFE, 0xFFFF, 0x1F600, 0x1FFFF,
-          0xE0001, 0xE007F, 0xE0100, 0x10FFFD, 0x10FFFF)
-POINTS = [chr(at) for at in (*range(1, 0x80), *BEYOND) if chr(at) not in "\n\r'"]
-PLACES = ("x{}y", "{0}^{0}", "foo://x{}y", "http://x{}y", "http://h:{}8/", "http://x{}y@h/", "http://{}:y@h/")
-HOSTS = [". a..b a.. -a a.b-:8 ab--c -. xn--a- \u00e9..b \u00e9_ -\u00e9".split(), ["a" * 63, "a" * 64]]
-
-RULES = {
-    BASE: ("http:/h", "http:///a", "http://a..b/", "http://256/", "http://[::1/", "foo://a^b", "http://h:x/",
-           "http://h:99999/", "http://h//a", "a^", "%4", "http:\\\\h\\a", "100%\t", "x",
-           "http://2001:db8::1/", "//::1/", "https://fe80::1?:80", "foo://::1", "http://::ffff:1.2.3.4#", "http://h::1/",
-           "http://::01.2.3.4/", "http://::1.2.3.256/", "http://1:2:3:4:5:6:7::", "http://1:2:3:4:5:6:7:8:9/", "http://::1%251/",
-           "file://h:80/", "File://h:", "file://C:/x", "FILE://c|", "file://CC|/", "file:///C|/x", "file:///C|x", "file:///z|?x|",
-           "file://h/C|/x"),
-    "file://h/a": ("/C:/x", "//", "a"),
-    "urn:a": ("x", "", "#x"),
-}
-"""Links that violate each rule but `no-scheme`, which none violates against a base, and some more, by their base."""
+RULES = ("http:/h", "http:///a", "http://a..b/", "http://256/", "http://[::1/", "foo://a^b", "http://h:x/",
+         "http://h:99999/", "http://h//a", "a^", "%4", "http:\\\\h\\a", "100%\t", "x", "http://2001:db8::1/", "//::1/",
+         "file://h:80/", "file://C:/x", "FILE://c|", "file:///C|x", "file://h/C|/x")
+"""Links that violate rules, and some that violate none."""
 
 NAMES = ("two words.html", "b\u00fccher.html", "\u65e5\u672c.html", "a%20b,c;d=e.html", "<&\"'>.html", "C:\\x.html",
          "e\u0301 \U0001f600.html", "~a+b(c)#?.html", "-x.html", "s p/\u00e9/[a].html")
 
 
-def page(links):
-    """A document of HTML with these links, which have no character reference and no line's end."""
-    return "".join("<a href='{}'>\n".format(link) for link in links)
-
-
-def long_links():
-    """Links of lengths at which a part is shown, with the wrong place near to and far from their ends."""
-    for fill in ("a", "\u00e9", "\u4e2d", "e\u0301", "\U0001f600"):
-        for length in (199, 200, 201, 202, 1999, 2000, 2001, 2500):
-            for place in (10, 98, 99, 100, 101, length - 101, length - 100, length - 99, length - 98, length - 1):
-                yield ("http://h/" + fill * length)[:place] + "^" + (fill * length)[: length - place - 1]
-    for count in (60, 70, 190, 199, 200, 2000, 20_000):
-        yield "http://h/" + "^" * count
-    yield "x" * 32_000 + "^" + "\u00e9" * 16_000
+def page(links, before=("",)):
+    """A document of HTML with these links, which have no character reference and no line's end, each behind a text."""
+    return "".join("{}<a href='{}'>\n".format(before[at % len(before)], link) for at, link in enumerate(links))
 
 
 class Reported(Room):
@@ -92,27 +67,15 @@ class Compared(Reported):
                     self.fail(difference(found[1], wanted) or "it ends with {}: {}".format(found[0], found[2]))
         return len(self.run_on("--quiet", "--check", *words, "--", name)[1].splitlines())
 
-    def test_points(self):
-        """Each code point of ASCII and some others, in several places, and hosts, by each profile."""
-        links = [place.format(point) for point in POINTS for place in PLACES]
-        links += ["http://" + host + end for hosts in HOSTS for host in hosts for end in ("", "/_", "?_", "#_")]
-        self.write("points.html", page(links))
-        for profile in ("standard", "wide", "parser"):
-            self.assertGreater(self.same("points.html", profile=profile), 300)
-
-    def test_rules(self):
-        seen = set()
-        for base, links in RULES.items():
-            self.write("rules.html", page(links))
-            self.same("rules.html", base)
-            lines = self.reported("json", "--base", base, "rules.html").splitlines()
-            seen.update(json.loads(line)["rule"] for line in lines)
-        self.assertEqual(seen, set(urlcheck.RULES) - {"no-scheme"})
-
-    def test_long_links(self):
-        links = list(long_links())
-        self.write("long.html", page(links))
-        self.assertEqual(self.same("long.html"), len(links))
+    def test_sample(self):
+        """Links that violate each rule, and long ones: each format with a unit, by a profile."""
+        long_links = ["x" * at + "^" + "\u4e2d" * (2000 - at) for at in (0, 99, 101, 1000, 1999, 2000)]
+        # (what takes several columns of a unit or none)
+        before = ("h\u0301", "\u65e5\u672c", "\U0001f600", "\t", "\u200b", "\u17d8\u0378")
+        self.write("sample.html", page([*RULES, *long_links, "^" * 20_000], before))
+        profiles = itertools.cycle(("standard", "wide", "parser"))
+        for form, unit, profile in zip(FORMATS, UNITS_OF_FORMATS, profiles):
+            self.assertGreater(self.same("sample.html", profile=profile, forms=(form,), unit=unit), 18)
 
     def test_names(self):
         for name in NAMES:
@@ -123,22 +86,6 @@ class Compared(Reported):
         # What turns a text's direction stays in a line of `gnu` that goes to a file.
         self.write("e/\u202ea\u2028.html", page(["a b"]))
         self.assertEqual(self.same("e", forms=FORMATS[1:]), 1)
-
-    def test_columns(self):
-        """Columns in each unit, behind and within what takes several or none of it, on short lines and on a long one."""
-        parts = ("h\u0301", "\u65e5\u672c", "\U0001f600", "\t", "\u200b\u202e", "\u17d8\u0378", "ab \x7f\x01", "\u00ad\ufdd0")
-        links = [place.format(part) for part in parts for place in ("{0}^{0}^", "x{0} y", "http://{0}_/", "\tz{0}^")]
-        links += ["http://h/{}^{}^".format(part * 70, part * 70) for part in parts]
-        rows = "".join("{}<a href='{}'>".format(parts[at % len(parts)], link) for at, link in enumerate(links))
-        self.write("lines.html", rows.replace("<a", "\n<a").replace("'>", "'>\n\t"))
-        self.write("long.html", rows * 20)
-        self.write("lines.xml", "<urlset>{}</urlset>".format("".join(
-            "\u65e5\t<loc> \t{}</loc>\n".format(link.replace("\x01", "").strip()) for link in links)))
-        for unit in UNITS:
-            forms = FORMATS if unit in UNITS_OF_SARIF else [it for it in FORMATS if it != "sarif"]
-            self.assertGreater(self.same("lines.html", forms=forms, unit=unit), len(links) - 8)
-            self.assertGreater(self.same("long.html", forms=forms, unit=unit), (len(links) - 8) * 20)
-            self.assertGreater(self.same("lines.xml", forms=forms, unit=unit), len(links) - 8)
 
     def test_columns_without_a_word(self):
         """SARIF has no word for two units: they are refused as `lint` refuses them."""
@@ -161,25 +108,6 @@ class Compared(Reported):
                 found = self.run_on("--quiet", "--check", "--format", form, "missing.html")
                 self.assertEqual(found[:2], (status, wanted))
                 self.assertEqual((status, b"missing.html" in wanted), (2, form == "github"))
-
-    def test_nothing_refused(self):
-        self.write("a.html", page(["a", "http://h/"]))
-        self.write("b.html", "")
-        for name in (".", "b.html"):
-            self.assertEqual(self.same(name), 0)
-
-    def test_xml(self):
-        self.write("a.xml", "<urlset>\n<url>\u00e9<loc>\n  http://h/ b </loc>\n"
-                   "<loc>http://\u65e5_/</loc></url></urlset>")
-        self.write("b.rss", "<rss><channel><link>http://h/%</link><enclosure url='\u00e9 x'/></channel></rss>")
-        self.write("c.svg", "<svg xmlns='http://www.w3.org/2000/svg'><a href='\U0001f600^'/></svg>")
-        self.assertEqual(self.same("."), 5)
-
-    @unittest.skipUnless(importlib.util.find_spec("markdown_it"), "markdown-it-py isn't installed")
-    def test_markdown(self):
-        self.write("a.md", "# [a](<b c> 't') \u00e9 <http://h/%4>\n\n> - [c](http://[::1) ![d](\u00e9^)\n\n"
-                   "[e]: http://h/^\n")
-        self.assertEqual(self.same("."), 5)
 
 
 def difference(found, wanted):
@@ -221,6 +149,12 @@ class Alone(Reported):
                 "changed": "write a valid URL string, which may be another URL"}
         return {"artifactChanges": [{"artifactLocation": {"uri": uri}, "replacements": [
             {"deletedRegion": deleted, "insertedContent": {"text": text}}]}], "description": {"text": said[kind]}}
+
+    def test_what_is_unseen_before_the_scheme(self):
+        """It is named, as `lint` names it."""
+        self.write("a.xml", "<urlset><loc>\u200bhttp://h/</loc></urlset>")
+        found = json.loads(self.reported("json", "a.xml"))
+        self.assertEqual((found["message"], found["rule"]), ("U+200B stands before the scheme", "no-scheme"))
 
     def test_character_references(self):
         """The place is that in the source, the texts are those that were read, and no fix writes them."""

@@ -1,4 +1,4 @@
-"""Tests of what urlcheck.documents can't read or write, of hostile documents, and of an end without the shared library.
+"""Tests of what urlcheck.documents can't read or write, of hostile documents, and of an end without the extension module.
 The package is on PYTHONPATH."""
 
 import errno
@@ -7,6 +7,7 @@ import importlib.util
 import json
 import os
 import resource
+import shutil
 import subprocess
 import sys
 import time
@@ -93,7 +94,7 @@ class Limits(Texts):
         self.assertEqual(found[1], "::error file=x%0Ay.html,title=not-read::can't be read: there is no such file\n")
         found = self.run_on("-q", "--check", "--format", "github", "-")
         self.assertEqual(found[1], "::error file=-,title=not-read::it has no name that says its kind: give --type html, "
-                         "xml or markdown\n")
+                         "xml, markdown or another kind\n")
         # The other formats have no line for it.
         for form in ("gnu", "caret", "json"):
             self.assertEqual(self.run_on("-q", "--check", "--format", form, "missing.html")[:2], (2, ""))
@@ -120,8 +121,8 @@ class Limits(Texts):
         self.assertEqual(self.run_on("-q", "--ignore", "a.html", "b.html"),
                          (2, "", "urlcheck-documents: a.html:1:1: this isn't UTF-8\n"))
         # What iconv writes is read, whatever it says of itself.
-        latin = "<?xml version='1.0' encoding='ISO-8859-1'?>\n<urlset><loc>\xe9 x</loc></urlset>".encode()
-        self.assertEqual(self.run_on("-q", "--check", "--type", "xml", "-", stdin=latin)[1].split(": error")[0], "-:2:15")
+        latin = "<?xml version='1.0' encoding='ISO-8859-1'?>\n<urlset><loc>http://h/\xe9 x</loc></urlset>".encode()
+        self.assertEqual(self.run_on("-q", "--check", "--type", "xml", "-", stdin=latin)[1].split(": error")[0], "-:2:24")
 
     def test_what_is_no_document(self):
         """What is compressed is named as such, and so is a URL: both look like a document to a new user."""
@@ -176,34 +177,39 @@ class Limits(Texts):
         self.write("a.html:7", "<a href='x y'>")
         self.assertEqual(self.run_on("--type", "html", "a.html:7")[:2], (2, ""))
 
-    def test_no_library(self):
-        """Where no shared library fits: a sentence on standard error and status 2, and of an import an error with it."""
-        self.write("text.so", "no library")
+    def copied(self, module):
+        """A copy of the package, with these bytes as its extension module or with none."""
+        folder = os.path.join(self.room, "copy")
+        shutil.rmtree(folder, ignore_errors=True)
+        own = os.path.dirname(_apart.__file__)
+        shutil.copytree(own, os.path.join(folder, "urlcheck"), ignore=shutil.ignore_patterns("_native*", "__pycache__"))
+        file = os.path.join(folder, "urlcheck", "_native.abi3.so")
+        if module is not None:
+            with open(file, "wb") as out:
+                out.write(module)
+        return folder, file
+
+    def test_no_module(self):
+        """Where no extension module fits: a sentence on standard error and status 2, and of an import an error with it."""
         self.write("urlcheck-documents", "from urlcheck.documents import main\nmain()\n")
         self.write("other.py", "import urlcheck\n")
-        remedy = ("; the wheel of a release has it, './build-library DIR' makes it in a checkout, and "
-                  "URLCHECK_LIBRARY may name its file\n")
-        opened = "can't be loaded: {}: cannot open shared object file: No such file or directory"
-        text = os.path.join(self.room, "text.so")
-        for library, why in (
-            ("/missing/liburlcheck.so.0", opened.format("/missing/liburlcheck.so.0")),
-            (text, "can't be loaded: {}: file too short".format(text)),
-            ("libc.so.6", "libc.so.6 has no function urlcheck_check"),
-        ):
-            given = dict(os.environ, URLCHECK_LIBRARY=library)
-            wanted = "the shared library " + why + remedy
+        remedy = "; the wheel of a release has it, and './build-library DIR' makes it in a checkout\n"
+        for module, why in ((None, "No module named 'urlcheck._native'"), (b"no module", "{}: file too short")):
+            folder, file = self.copied(module)
+            given = dict(os.environ, PYTHONPATH=folder)
+            wanted = "the module urlcheck._native can't be loaded: " + why.format(file) + remedy
             runs = [(["urlcheck-documents"], 2), (["-c", "import urlcheck"], 1), (["-m", "other"], 1)]
             if hasattr(sys, "orig_argv"):
                 runs += [(["-m", "urlcheck.documents", "a.html"], 2), (["-m", "urlcheck.documents"], 2)]
             for words, status in runs:
-                with self.subTest(library=library, words=words):
+                with self.subTest(module=module, words=words):
                     ran = subprocess.run([sys.executable, *words], cwd=self.room, env=given, capture_output=True)
                     self.assertEqual((ran.returncode, ran.stdout), (status, b""))
                     *before, last = ran.stderr.decode().splitlines(True)
                     self.assertEqual(last, ("urlcheck-documents: " if status == 2 else "ImportError: ") + wanted)
                     self.assertEqual(before == [], status == 2, ran.stderr)
             for shut in ("2>&-", "2>/dev/full"):
-                with self.subTest(library=library, shut=shut):
+                with self.subTest(module=module, shut=shut):
                     line = '"{}" urlcheck-documents a.html {}'.format(sys.executable, shut)
                     ran = subprocess.run(["bash", "-c", line], cwd=self.room, env=given, capture_output=True)
                     self.assertEqual((ran.returncode, ran.stdout, ran.stderr), (2, b"", b""))

@@ -1,7 +1,7 @@
 /*
  * Each allocation of a call is refused in turn, by a malloc and a realloc that count: the call then says so, gives back
- * all that it took, and leaves the caller's buffer alone. Last a text of 100 MB. Linked with --wrap of malloc, realloc
- * and free.
+ * all that it took, and leaves the caller's buffer alone. Then come all the faults of units repeated a million times,
+ * and last a text of 100 MB. Linked with --wrap of malloc, realloc and free.
  */
 #include "urlcheck.h"
 
@@ -38,6 +38,9 @@ void __wrap_free(void *block) {
 
 static int failed;
 
+/* Room for the longest of the texts that are asked for. */
+enum { ROOM = 16384 };
+
 static void expect(int holds, const char *what) {
     if (!holds) {
         printf("FAILED: %s\n", what);
@@ -50,6 +53,20 @@ static const char WRONG[] = "http://x_y:z/ ^%";
 static const char ESCAPED[] = "http://B%C3%BCcher.%64e/";
 static const char MENDABLE[] = "//fa\xc3\x9f.de/a b%";
 static const char BASE[] = "http://B\xc3\xbc" "cher.de/d/e";
+
+/* A diagnostic on a text, with a mended one. */
+static uint32_t diagnostic(uint32_t format, uint8_t *out, size_t room) {
+    urlcheck_violation it = {0};
+    it.rule = URLCHECK_CODE_POINT;
+    it.place = 13;
+    it.line = it.column = it.first_column = it.end_column = 1;
+    it.kind = URLCHECK_CHANGED;
+    it.has_region = 1;
+    const uint8_t *wrong = (const uint8_t *)WRONG, *base = (const uint8_t *)BASE;
+    return urlcheck_diagnostic(format, 1, &it, base, sizeof BASE - 1, wrong, sizeof WRONG - 1, base, sizeof BASE - 1,
+                               out, room)
+        .found.verdict;
+}
 
 /* One call of each kind that allocates; the verdict. */
 static uint32_t call(int kind, uint8_t *out, size_t room) {
@@ -67,6 +84,22 @@ static uint32_t call(int kind, uint8_t *out, size_t room) {
     case 5:
         return urlcheck_faults_against(wrong, wrong_length, base, base_length, URLCHECK_WIDE, faults, 8).found.verdict;
     case 6: return urlcheck_check((const uint8_t *)ESCAPED, sizeof ESCAPED - 1, URLCHECK_PARSER).found.verdict;
+    case 7:
+        return urlcheck_message(wrong, wrong_length, URLCHECK_STANDARD, URLCHECK_CODE_POINT, 13, out, room)
+            .found.verdict;
+    case 8: return diagnostic(URLCHECK_CARET, out, room);
+    case 9: return diagnostic(URLCHECK_JSON, out, room);
+    case 10: return diagnostic(URLCHECK_SARIF, out, room);
+    case 11: return urlcheck_report_begin(URLCHECK_SARIF, URLCHECK_UTF16, out, room).found.verdict;
+    case 12: return urlcheck_report_file_begin(URLCHECK_CHECKSTYLE, base, base_length, out, room).found.verdict;
+    case 13: {
+        const uint64_t offsets[] = {0, sizeof TEXT - 1};
+        uint8_t verdict = URLCHECK_DONE;
+        uint32_t outcome =
+            urlcheck_check_many(text, length, offsets, 1, URLCHECK_STANDARD, &verdict, NULL, NULL).outcome;
+        return outcome == URLCHECK_DONE ? verdict : outcome;
+    }
+    case 14: return urlcheck_next_refused(text, length, 0, URLCHECK_STANDARD).found.verdict;
     default:
         return urlcheck_mend_against(mendable, mendable_length, base, base_length, URLCHECK_WIDE, out, room)
             .found.verdict;
@@ -77,13 +110,14 @@ static uint32_t call(int kind, uint8_t *out, size_t room) {
 static uint32_t wanted(int kind) {
     if (kind < 4) return URLCHECK_VALID;
     if (kind < 6) return URLCHECK_REFUSED;
-    return kind == 6 ? URLCHECK_VALID : URLCHECK_MENDED;
+    if (kind == 6 || kind == 13 || kind == 14) return URLCHECK_VALID;
+    return kind < 13 ? URLCHECK_DONE : URLCHECK_MENDED;
 }
 
 static void refuse_each(int kind) {
-    static const uint8_t blank[256];
+    static const uint8_t blank[ROOM];
     for (long nth = 0; nth < 10000; nth++) {
-        uint8_t out[256] = {0};
+        uint8_t out[ROOM] = {0};
         long before = held;
         until = nth;
         uint32_t verdict = call(kind, out, sizeof out);
@@ -100,6 +134,66 @@ static void refuse_each(int kind) {
         expect(memcmp(out, blank, sizeof out) == 0, "the buffer was written to");
     }
     expect(0, "no end of allocations");
+}
+
+/* A unit a million times between two texts: where its first fault is, its rule, how many code points lie between two of
+   them, and how many of them a unit has, by each profile. Worked out by hand from the URL Standard, section 4.3. */
+static const struct repeated {
+    const char *base, *before, *unit, *behind;
+    size_t place;
+    uint32_t rule;
+    size_t step, each;
+} REPEATED[] = {
+    {NULL, "http://h/", "%", "", 9, URLCHECK_PERCENT, 1, 1},
+    {NULL, "http://h/", "[", "", 9, URLCHECK_CODE_POINT, 1, 1},
+    {NULL, "http://h:", "%41", "/", 9, URLCHECK_PORT_DIGIT, 3, 1},
+    {NULL, "http://h:", "%", "/", 9, URLCHECK_PORT_DIGIT, 1, 1},
+    {NULL, "http://h:", "\xc3\xa9", "/", 9, URLCHECK_PORT_DIGIT, 1, 1},
+    {NULL, "http://h:", "[", "/", 9, URLCHECK_PORT_DIGIT, 1, 1},
+    {NULL, "http://h:", "@", "/", 9, URLCHECK_PORT_DIGIT, 1, 1},
+    {NULL, "http://h:", ".", "/", 9, URLCHECK_PORT_DIGIT, 1, 1},
+    {NULL, "http://h:", "xn--", "/", 9, URLCHECK_PORT_DIGIT, 1, 4},
+    {NULL, "http://h:", "-", "/", 9, URLCHECK_PORT_DIGIT, 1, 1},
+    {NULL, "http://h/?", "%", "", 10, URLCHECK_PERCENT, 1, 1},
+    {NULL, "http://h/?", "[", "", 10, URLCHECK_CODE_POINT, 1, 1},
+    {"http://h/a/b?q", "", "%", "", 0, URLCHECK_PERCENT, 1, 1},
+    {"http://h/a/b?q", "", "[", "", 0, URLCHECK_CODE_POINT, 1, 1},
+};
+enum { MILLION = 1000000 };
+
+static void list_faults_of(const struct repeated *row, const uint8_t *text, size_t length, uint32_t profile) {
+    size_t wanted = row->each * MILLION;
+    urlcheck_fault *all = malloc(wanted * sizeof *all);
+    if (!all) exit(1);
+    const uint8_t *base = (const uint8_t *)row->base;
+    urlcheck_fault_count found =
+        base ? urlcheck_faults_against(text, length, base, strlen(row->base), profile, all, wanted)
+             : urlcheck_faults(text, length, profile, all, wanted);
+    expect(found.found.verdict == URLCHECK_REFUSED && found.count == wanted, "another count of a million faults");
+    expect(found.found.place == row->place && found.found.rule == row->rule, "another first one of a million faults");
+    for (size_t at = 0; at < wanted && found.count == wanted; at++) {
+        int is_there = all[at].place == row->place + at * row->step && all[at].rule == row->rule;
+        if (!is_there) found.count = 0;
+    }
+    expect(found.count == wanted, "another one of a million faults");
+    free(all);
+}
+
+static void list_faults(void) {
+    for (size_t at = 0; at < sizeof REPEATED / sizeof *REPEATED; at++) {
+        const struct repeated *row = &REPEATED[at];
+        size_t front = strlen(row->before), size = strlen(row->unit), end = strlen(row->behind);
+        uint8_t *text = malloc(front + size * MILLION + end);
+        if (!text) exit(1);
+        memcpy(text, row->before, front);
+        for (size_t unit = 0; unit < MILLION; unit++) memcpy(text + front + unit * size, row->unit, size);
+        memcpy(text + front + size * MILLION, row->behind, end);
+        for (uint32_t profile = 0; profile < 3; profile++) {
+            list_faults_of(row, text, front + size * MILLION + end, profile);
+        }
+        free(text);
+    }
+    printf("library: all the faults of units repeated %d times\n", MILLION);
 }
 
 static void judge_100_mb(void) {
@@ -126,7 +220,8 @@ static void judge_100_mb(void) {
 }
 
 int main(void) {
-    for (int kind = 0; kind < 8; kind++) refuse_each(kind);
+    for (int kind = 0; kind < 16; kind++) refuse_each(kind);
+    list_faults();
     judge_100_mb();
     return failed;
 }

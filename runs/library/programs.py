@@ -1,7 +1,7 @@
 """Writes the programs of docs/LIBRARY.md and of README.md, and what they print, as files into a folder.
 
-programs.py TOP FOLDER: page.c, page.cpp and page.py with their outputs are those of docs/LIBRARY.md; start.c and start.py
-those of README.md, the first within a function. The program in Rattle is the crate `caller`, byte for byte.
+programs.py TOP FOLDER: page.c, page.cpp, page.py and report.py with their outputs are those of docs/LIBRARY.md; start.c
+and start.py those of README.md, the first within a function. The program in Rattle is the crate `caller`, byte for byte.
 """
 
 import pathlib
@@ -18,10 +18,10 @@ def blocks(text):
     return re.findall(r"^```(\w*)\n(.*?)^```$", text, flags=re.M | re.S)
 
 
-def section(name):
-    """The program and the output of a section of the page."""
+def section(name, number=0):
+    """A program and its output, by their number in a section of the page."""
     found = blocks(page.split("\n## From {}\n".format(name))[1].split("\n## ")[0])
-    return found[0][1], found[1][1]
+    return found[2 * number][1], found[2 * number + 1][1]
 
 
 def flat(code):
@@ -33,10 +33,11 @@ caller = top / "crates" / "caller"
 rattle = (caller / "src" / "main.rt").read_text(encoding="utf-8")
 if section("Rattle") != (rattle, (caller / "stdout").read_text(encoding="utf-8")):
     sys.exit("FAILED: docs/LIBRARY.md: the program in Rattle, or what it prints, isn't the crate caller's")
-for language, ending in (("C", "c"), ("C++", "cpp"), ("Python", "py")):
-    program, printed = section(language)
-    (folder / ("page." + ending)).write_text(program, encoding="utf-8")
-    (folder / ("page." + ending + ".out")).write_text(printed, encoding="utf-8")
+programs = (("C", 0, "page.c"), ("C++", 0, "page.cpp"), ("Python", 0, "page.py"), ("Python", 1, "report.py"))
+for language, number, name in programs:
+    program, printed = section(language, number)
+    (folder / name).write_text(program, encoding="utf-8")
+    (folder / (name + ".out")).write_text(printed, encoding="utf-8")
 
 short = dict(blocks(readme.split("\n## The library\n")[1].split("\n## ")[0]))
 if flat(short["rust"]) not in flat(rattle):

@@ -104,10 +104,10 @@ class Standards(Texts):
             # Of XML in attributes, in which a line's end is read as a space, and in texts.
             ("a.xml", "<x xmlns='{}'><link href='?a&amp;b=1&#65;c d'/></x>".format(ATOM), "1:68"),
             ("b.xml", "<x xmlns='{}'><link href='?a&#38;b\r\nc'/></x>".format(ATOM), "1:60"),
-            ("c.xml", "<x><loc>\n ?a&amp;b=1&#x43;c d </loc></x>", "2:19"),
-            ("d.xml", "<x><loc>?a&amp;b<!-- x -->c<![CDATA[&d ]]>e</loc></x>", "1:39"),
-            ("e.xml", "<x><loc>?a\r\nb&amp;c</loc></x>", "1:11"),
-            ("f.xml", "<x><loc>a&amp;%4</loc></x>", "1:15"),
+            ("c.xml", "<x><loc>\n http://h/?a&amp;b=1&#x43;c d </loc></x>", "2:28"),
+            ("d.xml", "<x><loc>http://h/?a&amp;b<!-- x -->c<![CDATA[&d ]]>e</loc></x>", "1:48"),
+            ("e.xml", "<x><loc>http://h/?a\r\nb&amp;c</loc></x>", "1:20"),
+            ("f.xml", "<x><loc>http://h/a&amp;%4</loc></x>", "1:24"),
         ):
             with self.subTest(text):
                 self.write(name, text)

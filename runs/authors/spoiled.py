@@ -1,0 +1,108 @@
+"""Spoiled copies of the package, each of which a test has to find: spoiled.py [TEXT], of those whose names have TEXT. A module
+of each copy is changed at one place, and the test that is named has to fail then. The package is on PYTHONPATH."""
+
+import importlib.util
+import os
+import shutil
+import subprocess
+import sys
+import tempfile
+from typing import NamedTuple, Tuple
+
+MOST_SECONDS = 60
+"""How many seconds a test may take, of which the longest needs some ten."""
+
+HERE = os.path.dirname(os.path.abspath(__file__))
+
+
+class Spoiled(NamedTuple):
+    """A copy that is spoiled."""
+
+    name: str
+    module: str
+    old: str
+    """What stands there once."""
+    new: str
+    test: Tuple[str, ...]
+    """The file of the test, and which of its tests."""
+    needs: Tuple[str, ...] = ()
+    """The modules of Python without which it isn't tried."""
+
+
+SERVER = ("pylsp_jsonrpc", "markdown_it", "docutils", "tinycss2")
+PLACES = ("server.py", "Served.test_kinds_and_places")
+CHANGES = ("server.py", "Served.test_changes_actions_and_hover")
+SPHINX = ("builds.py", "Sphinx.test_each_link_at_its_place")
+
+COPIES = (
+    Spoiled("a kind is dropped", "_kinds.py", '    "rst": ("rst", "rest"),\n', "", ("expectations.py", "reStructuredText"), ("docutils",)),
+    Spoiled("a vocabulary is dropped", "_xml_names.py", '    "opml": OPML,\n', "", ("expectations.py", "OPML")),
+    Spoiled("a name of one is dropped", "_xml_names.py", '{PROSE: frozenset(("href", "conref"', '{PROSE: frozenset(("conref"',
+            ("expectations.py", "DITA")),
+    Spoiled("files that aren't read are no longer said", "_folders.py", "; not read: ", "; read: ", ("expectations.py", "no reader")),
+    Spoiled("front matter is text", "_front_matter.py", "_BLOCK.match(text)", '_BLOCK.match("")', ("expectations.py", "front matter is no text"), ("markdown_it",)),
+    Spoiled("a destination with a space is passed over", "_bare_links.py", "if not _TITLED.match(found[\"to\"]) and", "if False and",
+            ("expectations.py", "destination"), ("markdown_it",)),
+    Spoiled("a place is one line off", "_editing.py", "return line, offset - start", "return line + 1, offset - start", PLACES, SERVER),
+    Spoiled("UTF-16 is counted in code points", "_editing.py", 'encoding == "utf-32" or text.isascii()', "True",
+            ("server.py", "Served.test_units"), SERVER),
+    Spoiled("a fix is written elsewhere", "language_server.py", '{"range": _span(found.whole), "newText"',
+            '{"range": _span(found.range), "newText"', CHANGES, SERVER),
+    Spoiled("a text as it was before is answered", "language_server.py",
+            "return document.changes != changes or self._documents.get(document.uri) is not document", "return False",
+            ("server.py", "Served.test_large_texts_and_many_changes"), SERVER),
+    Spoiled("a change of a range is put at the line's end", "_editing.py", "self._lines[first][:before] + written",
+            "self._lines[first] + written", ("server.py", "Texts.test_changes"), SERVER),
+    Spoiled("a message of nonsense ends the server", "_rpc.py", "except (ValueError, RecursionError):", "except KeyError:", ("server.py", "Served.test_nonsense"), SERVER),
+    Spoiled("a literal is sought from the first line on", "_literal.py", "start = source.offset(min(max(line, 1), ",
+            "start = source.offset(min(1, ", SPHINX, ("sphinx",)),
+    Spoiled("the same place is told twice", "_literal.py", "used.add(at)", "pass", SPHINX, ("sphinx",)),
+    Spoiled("front matter isn't counted in MkDocs", "mkdocs.py", "text = source if source is not None and is_written else Source(markdown)", "text = Source(markdown)", ("builds.py", "MkDocs.test_each_link_at_its_place"), ("mkdocs",)),
+)
+
+
+def is_found(copy: Spoiled, package: str) -> bool:
+    """Whether the test of a copy fails."""
+    with tempfile.TemporaryDirectory() as room:
+        shutil.copytree(package, os.path.join(room, "urlcheck"))
+        path = os.path.join(room, "urlcheck", copy.module)
+        with open(path, encoding="utf-8") as file:
+            text = file.read()
+        if not copy.old or text.count(copy.old) != 1:
+            sys.exit("FAILED: {}: '{}' doesn't stand once in {}".format(copy.name, copy.old, copy.module))
+        with open(path, "w", encoding="utf-8") as file:
+            file.write(text.replace(copy.old, copy.new))
+        paths = os.pathsep.join((room, os.environ.get("PYTHONPATH", "")))
+        words = [sys.executable, os.path.join(HERE, copy.test[0]), *copy.test[1:]]
+        environment = {**os.environ, "PYTHONPATH": paths}
+        try:
+            ran = subprocess.run(
+                words, env=environment, stdout=subprocess.PIPE, stderr=subprocess.STDOUT, timeout=MOST_SECONDS, check=False
+            )
+        except subprocess.TimeoutExpired:
+            # (a test that waits for what a spoiled copy never says doesn't pass)
+            return True
+    # (one that can't begin finds nothing)
+    return ran.returncode != 0 and b"ImportError" not in ran.stdout and b"SyntaxError" not in ran.stdout
+
+
+def main() -> None:
+    """Tries each copy, and says how many were found."""
+    found = importlib.util.find_spec("urlcheck")
+    assert found is not None and found.origin is not None
+    package = os.path.dirname(found.origin)
+    tried = left = 0
+    for copy in [it for it in COPIES if not sys.argv[1:] or sys.argv[1] in it.name]:
+        if not all(map(importlib.util.find_spec, copy.needs)):
+            left += 1
+            continue
+        if not is_found(copy, package):
+            sys.exit("FAILED: no test finds that {}".format(copy.name))
+        tried += 1
+    if not tried + left:
+        sys.exit("FAILED: no copy has that name")
+    print("authors: each of {} spoiled copies was found, {} aren't tried for want of a package".format(tried, left))
+
+
+if __name__ == "__main__":
+    main()

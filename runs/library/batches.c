@@ -1,0 +1,225 @@
+/*
+ * Judges the lines of a file by the calls for many texts, and compares each row with what a call on that text alone
+ * says: batches FILE [time]. Then hands in what is wrong: each is an outcome of its own, and nothing is written. With
+ * the word `time` it says how long a text takes by each call.
+ */
+#include "urlcheck.h"
+
+#include <stdio.h>
+#include <stdlib.h>
+#include <string.h>
+#include <time.h>
+
+static void fail(const char *what, size_t row) {
+    fprintf(stderr, "batches: %s, row %zu\n", what, row);
+    exit(1);
+}
+
+static void *taken(size_t count, size_t size) {
+    void *room = calloc(count ? count : 1, size);
+    if (!room) fail("memory", 0);
+    return room;
+}
+
+/* The lines of a file in a buffer, each without what ends it, and where they begin. */
+typedef struct {
+    uint8_t *bytes, *texts;
+    size_t length, whole, count;
+    uint64_t *wide;
+    uint32_t *narrow;
+} list;
+
+static list read_list(const char *name) {
+    FILE *file = fopen(name, "rb");
+    if (!file || fseek(file, 0, SEEK_END) != 0) fail("the file can't be opened", 0);
+    list read = {0};
+    read.whole = (size_t)ftell(file);
+    rewind(file);
+    read.bytes = taken(read.whole, 1);
+    if (fread(read.bytes, 1, read.whole, file) != read.whole) fail("the file can't be read", 0);
+    fclose(file);
+    size_t lines = 0;
+    for (size_t at = 0; at < read.whole; at++) lines += read.bytes[at] == '\n';
+    read.texts = taken(read.whole, 1);
+    read.wide = taken(lines + 2, sizeof *read.wide);
+    read.narrow = taken(lines + 2, sizeof *read.narrow);
+    for (size_t at = 0; at < read.whole;) {
+        const uint8_t *end = memchr(read.bytes + at, '\n', read.whole - at);
+        size_t line = end ? (size_t)(end - (read.bytes + at)) : read.whole - at;
+        size_t text = end && line && read.bytes[at + line - 1] == '\r' ? line - 1 : line;
+        memcpy(read.texts + read.length, read.bytes + at, text);
+        read.length += text;
+        read.count++;
+        read.wide[read.count] = read.length;
+        read.narrow[read.count] = (uint32_t)read.length;
+        at += line + 1;
+    }
+    /* (in memory of exactly its length, so that a read beyond it is seen) */
+    uint8_t *exact = taken(read.length, 1);
+    memcpy(exact, read.texts, read.length);
+    free(read.texts);
+    read.texts = exact;
+    return read;
+}
+
+static urlcheck_finding found_at(const list *all, size_t row, uint32_t profile) {
+    return urlcheck_check(all->texts + all->wide[row], all->wide[row + 1] - all->wide[row], profile).found;
+}
+
+/* Each row of each column is what the check of that text alone says. */
+static void compare(const list *all, uint32_t profile, int is_narrow) {
+    uint8_t *verdicts = taken(all->count, 1), *rules = taken(all->count, 1);
+    uint64_t *places = taken(all->count, sizeof *places);
+    urlcheck_batch answer =
+        is_narrow ? urlcheck_check_many_32(all->texts, all->length, all->narrow, all->count, profile, verdicts, rules,
+                                           places)
+                  : urlcheck_check_many(all->texts, all->length, all->wide, all->count, profile, verdicts, rules,
+                                        places);
+    if (answer.outcome != URLCHECK_DONE || answer.row || answer.length) fail("the batch isn't done", 0);
+    size_t valid = 0;
+    for (size_t row = 0; row < all->count; row++) {
+        urlcheck_finding found = found_at(all, row, profile);
+        if (verdicts[row] != found.verdict || rules[row] != found.rule || places[row] != found.place) {
+            fail("a row isn't the check's answer", row);
+        }
+        valid += found.verdict == URLCHECK_VALID;
+    }
+    if (answer.valid != valid) fail("another count of valid texts", valid);
+    urlcheck_batch counted =
+        urlcheck_check_many(all->texts, all->length, all->wide, all->count, profile, NULL, NULL, NULL);
+    if (counted.outcome != URLCHECK_DONE || counted.valid != valid) fail("columns change the count", counted.valid);
+    memset(verdicts, 99, all->count);
+    memset(places, 99, all->count * sizeof *places);
+    urlcheck_check_many(all->texts, all->length, all->wide, all->count, profile, NULL, rules, NULL);
+    for (size_t row = 0; row < all->count; row++) {
+        if (rules[row] != found_at(all, row, profile).rule) fail("a column alone isn't filled", row);
+        if (verdicts[row] != 99) fail("a column that is left out is written", row);
+    }
+    free(verdicts);
+    free(rules);
+    free(places);
+}
+
+/* The refused lines, one after the other, are those that the check refuses. */
+static void walk(const list *all, uint32_t profile) {
+    size_t from = 0, row = 0;
+    for (;;) {
+        urlcheck_line line = urlcheck_next_refused(all->bytes, all->whole, from, profile);
+        for (size_t passed = 0; passed < line.passed; passed++, row++) {
+            if (found_at(all, row, profile).verdict != URLCHECK_VALID) fail("a refused line is passed over", row);
+        }
+        if (line.found.verdict == URLCHECK_VALID) {
+            if (row != all->count || line.start != all->whole || line.next != all->whole || line.length) {
+                fail("a line is left", row);
+            }
+            return;
+        }
+        urlcheck_finding found = found_at(all, row, profile);
+        if (memcmp(&found, &line.found, sizeof found) != 0) fail("a line isn't the check's answer", row);
+        size_t length = all->wide[row + 1] - all->wide[row];
+        if (line.length != length || line.start < from || line.next <= line.start || line.next > all->whole ||
+            (length && memcmp(all->bytes + line.start, all->texts + all->wide[row], length) != 0)) {
+            fail("another text than the line's", row);
+        }
+        from = line.next;
+        row++;
+    }
+}
+
+static void is_untouched(const uint8_t *bytes, size_t count) {
+    for (size_t at = 0; at < count; at++) {
+        if (bytes[at] != 7) fail("bad input is written for", at);
+    }
+}
+
+static void bad_offsets(uint64_t first, uint64_t second, uint64_t third, size_t row) {
+    const uint64_t offsets[] = {first, second, third};
+    const uint32_t narrow[] = {(uint32_t)first, (uint32_t)second, (uint32_t)third};
+    uint8_t columns[3][16];
+    memset(columns, 7, sizeof columns);
+    urlcheck_batch answer = urlcheck_check_many((const uint8_t *)"http://h/", 9, offsets, 2, 0, columns[0],
+                                                columns[1], (uint64_t *)(void *)columns[2]);
+    if (answer.outcome != URLCHECK_NO_OFFSETS || answer.row != row || answer.valid) fail("wrong offsets pass", row);
+    answer = urlcheck_check_many_32((const uint8_t *)"http://h/", 9, narrow, 2, 0, columns[0], columns[1], NULL);
+    if (answer.outcome != URLCHECK_NO_OFFSETS || answer.row != row) fail("wrong narrow offsets pass", row);
+    is_untouched(columns[0], sizeof columns);
+}
+
+static void bad_input(void) {
+    const uint8_t *text = (const uint8_t *)"http://h/";
+    const uint64_t offsets[] = {0, 4, 9};
+    uint8_t column[2] = {7, 7};
+    bad_offsets(0, 4, 10, 1);
+    bad_offsets(0, 10, 9, 0);
+    bad_offsets(4, 3, 9, 0);
+    bad_offsets(0, 9, 8, 1);
+    if (urlcheck_check_many(text, 9, offsets, 2, 3, column, column, NULL).outcome != URLCHECK_NO_PROFILE) {
+        fail("a profile of no number", 0);
+    }
+    if (urlcheck_check_many(NULL, 9, offsets, 2, 0, column, NULL, NULL).outcome != URLCHECK_NULL ||
+        urlcheck_check_many(text, 9, NULL, 2, 0, column, NULL, NULL).outcome != URLCHECK_NULL ||
+        urlcheck_check_many_32(text, 9, NULL, 2, 0, column, NULL, NULL).outcome != URLCHECK_NULL ||
+        urlcheck_next_refused(NULL, 1, 0, 0).found.verdict != URLCHECK_NULL) {
+        fail("a null pointer passes", 0);
+    }
+    is_untouched(column, sizeof column);
+    if (urlcheck_check_many(NULL, 0, NULL, 0, 0, NULL, NULL, NULL).outcome != URLCHECK_DONE ||
+        urlcheck_next_refused(NULL, 0, 0, 0).found.verdict != URLCHECK_VALID) {
+        fail("no texts aren't judged", 0);
+    }
+    urlcheck_line behind = urlcheck_next_refused(text, 9, 10, 0);
+    if (behind.found.verdict != URLCHECK_NO_PLACE || behind.next || behind.passed) fail("a place behind the end", 10);
+    if (urlcheck_next_refused(text, 9, 0, 3).found.verdict != URLCHECK_NO_PROFILE) fail("a profile of no number", 3);
+}
+
+static double seconds(void) {
+    struct timespec now;
+    clock_gettime(CLOCK_PROCESS_CPUTIME_ID, &now);
+    return (double)now.tv_sec + (double)now.tv_nsec / 1e9;
+}
+
+static void say_time(const list *all) {
+    uint8_t *verdicts = taken(all->count, 1), *rules = taken(all->count, 1);
+    uint64_t *places = taken(all->count, sizeof *places);
+    for (int round = 0; round < 5; round++) {
+        double start = seconds();
+        size_t valid = urlcheck_check_many(all->texts, all->length, all->wide, all->count, 0, verdicts, rules, places)
+                           .valid;
+        double many = seconds();
+        size_t each = 0;
+        for (size_t row = 0; row < all->count; row++) each += found_at(all, row, 0).verdict == URLCHECK_VALID;
+        double one = seconds(), lines;
+        size_t refused = 0;
+        for (size_t from = 0;; refused++) {
+            urlcheck_line line = urlcheck_next_refused(all->bytes, all->whole, from, 0);
+            if (line.found.verdict == URLCHECK_VALID) break;
+            from = line.next;
+        }
+        lines = seconds();
+        if (each != valid || valid + refused != all->count) fail("the counts differ", valid);
+        printf("batches: %zu texts, check_many %.3f, check %.3f, next_refused %.3f microseconds a text\n", all->count,
+               (many - start) * 1e6 / (double)all->count, (one - many) * 1e6 / (double)all->count,
+               (lines - one) * 1e6 / (double)all->count);
+    }
+    free(verdicts);
+    free(rules);
+    free(places);
+}
+
+int main(int count, char **words) {
+    if (count < 2) fail("usage: batches FILE [time]", 0);
+    list all = read_list(words[1]);
+    if (count > 2) say_time(&all);
+    for (uint32_t profile = 0; profile < 3; profile++) {
+        compare(&all, profile, 0);
+        compare(&all, profile, 1);
+        walk(&all, profile);
+    }
+    bad_input();
+    printf("batches: %zu texts, each row as the check of the text alone\n", all.count);
+    free(all.bytes);
+    free(all.texts);
+    free(all.wide);
+    free(all.narrow);
+    return 0;
+}

@@ -1,0 +1,259 @@
+/*
+ * The calls of reports, columns, explanations and held bases on texts that are written out: what they give, and what
+ * they answer to a number of nothing, a place behind the end, a column out of range, bytes that are no UTF-8 and null
+ * pointers. Expected texts are those of docs/COMMANDS.md and docs/RULES.md, places and columns are counted by hand.
+ */
+#include "urlcheck.h"
+
+#include <stdio.h>
+#include <string.h>
+
+static int failed;
+
+static void expect(int holds, const char *what) {
+    if (!holds) {
+        printf("FAILED: %s\n", what);
+        failed = 1;
+    }
+}
+
+static const uint8_t *bytes(const char *text) { return (const uint8_t *)text; }
+
+static uint8_t out[4096];
+
+/* The call gave this text, and left what stands behind it. */
+static void gives(urlcheck_written answer, const char *text) {
+    size_t length = strlen(text);
+    expect(answer.found.verdict == URLCHECK_DONE && answer.length == length, text);
+    expect(memcmp(out, text, length) == 0 && out[length] == 7, text);
+    memset(out, 7, sizeof out);
+}
+
+/* The call gave no text for this reason, and wrote nothing. */
+static void refuses(urlcheck_written answer, uint32_t outcome, const char *what) {
+    expect(answer.found.verdict == outcome && answer.length == 0, what);
+    for (size_t i = 0; i < sizeof out; i++) {
+        if (out[i] != 7) {
+            expect(0, what);
+            break;
+        }
+    }
+    memset(out, 7, sizeof out);
+}
+
+static urlcheck_written message(const char *text, uint32_t profile, uint32_t rule, size_t place) {
+    return urlcheck_message(bytes(text), strlen(text), profile, rule, place, out, sizeof out);
+}
+
+static void messages(void) {
+    gives(message("http://h/a b", 0, URLCHECK_CODE_POINT, 10), "U+0020 SPACE may not stand in a URL");
+    gives(message("http://x_y/", 0, URLCHECK_HOST_DOMAIN, 7), "U+005F LOW LINE may not stand in a domain");
+    gives(message("", 0, URLCHECK_LINE_TOO_LONG, 0), "this line has more than 65536 bytes");
+    gives(message("a", 0, URLCHECK_LINE_NO_COLUMN, 0),
+          "this line isn't FILE:LINE:COLUMN:LINK, since COLUMN is missing");
+    refuses(message("a", 3, URLCHECK_PERCENT, 0), URLCHECK_NO_PROFILE, "a message by no profile");
+    refuses(message("a", 0, 0, 0), URLCHECK_NO_RULE, "a message of rule 0");
+    refuses(message("a", 0, 15, 0), URLCHECK_NO_RULE, "a message of rule 15");
+    refuses(message("a", 0, 109, 0), URLCHECK_NO_RULE, "a message of rule 109");
+    refuses(message("a", 0, URLCHECK_PERCENT, 2), URLCHECK_NO_PLACE, "a message at a place behind the end");
+    urlcheck_written foreign = message("\xc3\xa9\xff", 0, URLCHECK_PERCENT, 0);
+    expect(foreign.found.place == 1 && foreign.found.byte_place == 2, "where a message's text is no UTF-8");
+    refuses(foreign, URLCHECK_NO_UTF8, "a message on what is no UTF-8");
+    refuses(urlcheck_message(NULL, 1, 0, 1, 0, out, sizeof out), URLCHECK_NULL, "a message on null");
+    refuses(urlcheck_message(bytes("a"), 1, 0, 1, 0, NULL, 9), URLCHECK_NULL, "a message into null");
+}
+
+static urlcheck_violation space(void) {
+    urlcheck_violation it = {0};
+    it.rule = URLCHECK_CODE_POINT;
+    it.place = 10;
+    it.line = 3;
+    it.column = 15;
+    it.kind = URLCHECK_SAME;
+    it.has_region = 1;
+    it.first_column = 5;
+    it.end_column = 17;
+    return it;
+}
+
+static urlcheck_written diagnostic(uint32_t format, const urlcheck_violation *it, const char *file, const char *text,
+                                   const char *mended) {
+    return urlcheck_diagnostic(format, 1, it, bytes(file), strlen(file), bytes(text), strlen(text), bytes(mended),
+                               strlen(mended), out, sizeof out);
+}
+
+static const char TEXT[] = "http://h/a b", MENDED[] = "http://h/a%20b";
+
+static void diagnostics(void) {
+    urlcheck_violation it = space();
+    gives(diagnostic(URLCHECK_GNU, &it, "a.md", TEXT, MENDED),
+          "a.md:3:15: error: U+0020 SPACE may not stand in a URL [code-point]\n");
+    gives(diagnostic(URLCHECK_JSON, &it, "a.md", TEXT, MENDED),
+          "{\"column\":15,\"cut\":false,\"file\":\"a.md\",\"kind\":\"same\",\"line\":3,\"mended\":\"http://h/a%20b\","
+          "\"message\":\"U+0020 SPACE may not stand in a URL\",\"rule\":\"code-point\",\"text\":\"http://h/a b\"}\n");
+    urlcheck_written sarif = diagnostic(URLCHECK_SARIF, &it, "a.md", TEXT, MENDED);
+    out[sarif.length] = 0;
+    expect(strstr((char *)out, "\"deletedRegion\":{\"endColumn\":17,\"startColumn\":5,\"startLine\":3}") != NULL,
+           "the region of a fix");
+    expect(strstr((char *)out, "{\"fixes\":") == (char *)out, "no comma before the first result");
+    memset(out, 7, sizeof out);
+    it.has_region = 0;
+    sarif = diagnostic(URLCHECK_SARIF, &it, "a.md", TEXT, MENDED);
+    out[sarif.length] = 0;
+    expect(strstr((char *)out, "{\"level\":") == (char *)out, "no fix without a region");
+    memset(out, 7, sizeof out);
+    it.first_column = it.end_column = 0;
+    urlcheck_written json = diagnostic(URLCHECK_JSON, &it, "a.md", TEXT, MENDED);
+    out[json.length] = 0;
+    expect(strstr((char *)out, "\"mended\":\"http://h/a%20b\"") != NULL, "a mended text without a region");
+    memset(out, 7, sizeof out);
+}
+
+static void bad_diagnostics(void) {
+    urlcheck_violation it = space();
+    refuses(diagnostic(6, &it, "a", TEXT, MENDED), URLCHECK_NO_FORMAT, "a diagnostic in no format");
+    refuses(diagnostic(0, &it, "\xff", TEXT, MENDED), URLCHECK_FILE_NO_UTF8, "a file's name that is no UTF-8");
+    refuses(diagnostic(0, &it, "a", "\xff", MENDED), URLCHECK_NO_UTF8, "a diagnostic on what is no UTF-8");
+    refuses(diagnostic(0, &it, "a", TEXT, "\xff"), URLCHECK_MENDED_NO_UTF8, "a mended text that is no UTF-8");
+    const uint64_t wrong[] = {0, 4294967296, UINT64_MAX};
+    for (int i = 0; i < 3; i++) {
+        it = space();
+        it.line = wrong[i];
+        refuses(diagnostic(0, &it, "a", TEXT, MENDED), URLCHECK_NO_COLUMN, "a line out of range");
+        it = space();
+        it.column = wrong[i];
+        refuses(diagnostic(0, &it, "a", TEXT, MENDED), URLCHECK_NO_COLUMN, "a column out of range");
+        it = space();
+        it.first_column = wrong[i];
+        refuses(diagnostic(0, &it, "a", TEXT, MENDED), URLCHECK_NO_COLUMN, "a first column out of range");
+        it = space();
+        it.end_column = wrong[i];
+        refuses(diagnostic(0, &it, "a", TEXT, MENDED), URLCHECK_NO_COLUMN, "an end column out of range");
+    }
+    it = space();
+    it.kind = 4;
+    refuses(diagnostic(0, &it, "a", TEXT, MENDED), URLCHECK_NO_KIND, "a diagnostic of no kind");
+    it = space();
+    it.place = 13;
+    refuses(diagnostic(0, &it, "a", TEXT, MENDED), URLCHECK_NO_PLACE, "a diagnostic behind the end");
+    it = space();
+    it.profile = 9;
+    refuses(diagnostic(0, &it, "a", TEXT, MENDED), URLCHECK_NO_PROFILE, "a diagnostic by no profile");
+    it = space();
+    it.rule = 100;
+    refuses(diagnostic(0, &it, "a", TEXT, MENDED), URLCHECK_NO_RULE, "a diagnostic of no rule");
+    refuses(diagnostic(0, NULL, "a", TEXT, MENDED), URLCHECK_NULL, "no violation");
+    it = space();
+    refuses(urlcheck_diagnostic(0, 1, &it, NULL, 1, NULL, 0, NULL, 0, out, 9), URLCHECK_NULL, "no file");
+    refuses(urlcheck_diagnostic(0, 1, &it, NULL, 0, NULL, 1, NULL, 0, out, 9), URLCHECK_NULL, "no text");
+    refuses(urlcheck_diagnostic(0, 1, &it, NULL, 0, NULL, 0, NULL, 1, out, 9), URLCHECK_NULL, "no mended text");
+}
+
+static void rounds(void) {
+    gives(urlcheck_report_begin(URLCHECK_GNU, URLCHECK_SCREEN, out, sizeof out), "");
+    gives(urlcheck_report_begin(URLCHECK_CHECKSTYLE, URLCHECK_BYTES, out, sizeof out),
+          "<?xml version=\"1.0\" encoding=\"UTF-8\"?>\n<checkstyle version=\"4.3\">\n");
+    gives(urlcheck_report_file_begin(URLCHECK_CHECKSTYLE, bytes("a&b"), 3, out, sizeof out),
+          "<file name=\"a&amp;b\">\n");
+    gives(urlcheck_report_file_end(URLCHECK_CHECKSTYLE, out, sizeof out), "</file>\n");
+    gives(urlcheck_report_end(URLCHECK_CHECKSTYLE, URLCHECK_UNREAD, out, sizeof out), "</checkstyle>\n");
+    gives(urlcheck_report_end(URLCHECK_SARIF, URLCHECK_WHOLE, out, sizeof out),
+          "],\"invocations\":[{\"executionSuccessful\":true}]}]}\n");
+    refuses(urlcheck_report_begin(6, 0, out, sizeof out), URLCHECK_NO_FORMAT, "a beginning in no format");
+    refuses(urlcheck_report_begin(0, 4, out, sizeof out), URLCHECK_NO_UNIT, "a beginning in no unit");
+    refuses(urlcheck_report_begin(URLCHECK_SARIF, URLCHECK_BYTES, out, sizeof out), URLCHECK_NO_UNIT,
+            "SARIF with bytes");
+    refuses(urlcheck_report_begin(URLCHECK_SARIF, URLCHECK_SCREEN, out, sizeof out), URLCHECK_NO_UNIT,
+            "SARIF with the columns of a screen");
+    refuses(urlcheck_report_file_begin(6, NULL, 0, out, sizeof out), URLCHECK_NO_FORMAT, "a file in no format");
+    refuses(urlcheck_report_file_begin(5, bytes("\xff"), 1, out, sizeof out), URLCHECK_FILE_NO_UTF8, "a file's name");
+    refuses(urlcheck_report_file_begin(5, NULL, 1, out, sizeof out), URLCHECK_NULL, "a file's name of null");
+    refuses(urlcheck_report_file_end(7, out, sizeof out), URLCHECK_NO_FORMAT, "a file's end in no format");
+    refuses(urlcheck_report_end(6, 0, out, sizeof out), URLCHECK_NO_FORMAT, "an end in no format");
+    refuses(urlcheck_report_end(4, 3, out, sizeof out), URLCHECK_NO_COMPLETION, "an end by no completion");
+    expect(urlcheck_shows_mended(URLCHECK_CARET) && urlcheck_shows_mended(URLCHECK_SARIF), "who shows mended texts");
+    expect(!urlcheck_shows_mended(URLCHECK_GNU) && !urlcheck_shows_mended(6), "who shows none");
+    expect(urlcheck_takes_unit(URLCHECK_SARIF, URLCHECK_UTF16) && !urlcheck_takes_unit(URLCHECK_SARIF, URLCHECK_BYTES)
+               && !urlcheck_takes_unit(6, 0) && !urlcheck_takes_unit(0, 4),
+           "which units are taken");
+}
+
+/* A text with a combining mark, a wide code point, one beyond U+FFFF and a tab; and the column behind each. */
+static void columns(void) {
+    const char *text = "e\xcc\x81\xe6\x97\xa5\xf0\x9f\x98\x80\ta";
+    const uint64_t wanted[4][7] = {
+        {1, 2, 3, 4, 5, 6, 7}, {1, 2, 4, 7, 11, 12, 13}, {1, 2, 3, 4, 6, 7, 8}, {1, 2, 2, 4, 6, 9, 10}};
+    for (uint32_t unit = 0; unit < 4; unit++) {
+        for (size_t place = 0; place < 7; place++) {
+            urlcheck_counted told = urlcheck_column(bytes(text), strlen(text), unit, 1, place);
+            expect(told.found.verdict == URLCHECK_DONE && told.column == wanted[unit][place], "a column");
+        }
+    }
+    expect(urlcheck_column(bytes("ab"), 2, 0, 4294967295, 2).column == 4294967297, "a column beyond 32 bits");
+    expect(urlcheck_column(bytes("ab"), 2, 0, 0, 0).found.verdict == URLCHECK_NO_COLUMN, "from column 0");
+    expect(urlcheck_column(bytes("ab"), 2, 0, 4294967296, 0).found.verdict == URLCHECK_NO_COLUMN, "from 2^32");
+    expect(urlcheck_column(bytes("ab"), 2, 4, 1, 0).found.verdict == URLCHECK_NO_UNIT, "in no unit");
+    expect(urlcheck_column(bytes("ab"), 2, 0, 1, 3).found.verdict == URLCHECK_NO_PLACE, "behind the end");
+    expect(urlcheck_column(bytes("a\xff"), 2, 0, 1, 0).found.verdict == URLCHECK_NO_UTF8, "of no UTF-8");
+    expect(urlcheck_column(NULL, 2, 0, 1, 0).found.verdict == URLCHECK_NULL, "of null");
+    expect(urlcheck_column(NULL, 0, 0, 5, 0).column == 5, "of nothing");
+}
+
+static void is_text(size_t length, const char *text) {
+    expect(length == strlen(text) && memcmp(out, text, length) == 0 && out[length] == 7, text);
+    memset(out, 7, sizeof out);
+}
+
+static void names(void) {
+    const char *formats[] = {"gnu", "caret", "json", "github", "sarif", "checkstyle", ""};
+    const char *units[] = {"code-points", "bytes", "utf16", "screen", ""};
+    for (uint32_t i = 0; i < 7; i++) is_text(urlcheck_format_name(i, out, sizeof out), formats[i]);
+    for (uint32_t i = 0; i < 5; i++) is_text(urlcheck_unit_name(i, out, sizeof out), units[i]);
+    is_text(urlcheck_explain(URLCHECK_PORT_RANGE, URLCHECK_ASKS, out, sizeof out), "A port is at most 65535.");
+    is_text(urlcheck_explain(URLCHECK_PORT_RANGE, URLCHECK_SECTION, out, sizeof out), "4.3, URL-port string");
+    is_text(urlcheck_explain(URLCHECK_PORT_RANGE, URLCHECK_EXAMPLE_BASE, out, sizeof out), "");
+    is_text(urlcheck_explain(URLCHECK_OPAQUE_BASE, URLCHECK_EXAMPLE_BASE, out, sizeof out), "urn:isbn:0451450523");
+    is_text(urlcheck_explain(URLCHECK_PORT_RANGE, URLCHECK_EXAMPLE, out, sizeof out), "http://h:65536/");
+    is_text(urlcheck_explain(URLCHECK_PORT_RANGE, URLCHECK_EXAMPLE_MENDED, out, sizeof out), "http://h:65535/");
+    is_text(urlcheck_explain(URLCHECK_PORT_RANGE, 5, out, sizeof out), "");
+    is_text(urlcheck_explain(15, URLCHECK_ASKS, out, sizeof out), "");
+    expect(urlcheck_explain(URLCHECK_PORT_RANGE, 0, NULL, 9) == 24, "an explanation into null");
+    expect(urlcheck_format_name(0, NULL, 9) == 3 && urlcheck_unit_name(1, NULL, 9) == 5, "a name into null");
+    expect(urlcheck_example_place(URLCHECK_PORT_RANGE) == 9 && urlcheck_example_place(0) == 0, "an example's place");
+}
+
+static void held_bases(void) {
+    const char *base_text = "http://h/a/b";
+    urlcheck_base base = urlcheck_prepare(bytes(base_text), 12, URLCHECK_WIDE), none = {0};
+    urlcheck_resolved record = urlcheck_resolve_with(bytes("../x"), 4, &base, bytes(base_text), 12, out, sizeof out);
+    expect(record.found.verdict == URLCHECK_VALID, "a record against a held base");
+    is_text(record.length, "http://h/x");
+    urlcheck_mended mended = urlcheck_mend_with(bytes("x y"), 3, &base, bytes(base_text), 12, out, sizeof out);
+    expect(mended.found.verdict == URLCHECK_MENDED && mended.kind == URLCHECK_SAME, "mended against a held base");
+    is_text(mended.length, "x%20y");
+    expect(urlcheck_resolve_with(bytes("x"), 1, &none, NULL, 0, out, 9).found.verdict == URLCHECK_NO_BASE, "no base");
+    expect(urlcheck_resolve_with(bytes("x"), 1, NULL, NULL, 0, out, 9).found.verdict == URLCHECK_NO_BASE, "null base");
+    expect(urlcheck_mend_with(bytes("x"), 1, &none, NULL, 0, out, 9).found.verdict == URLCHECK_NO_BASE, "by none");
+    base = urlcheck_prepare(bytes("a"), 1, URLCHECK_STANDARD);
+    record = urlcheck_resolve_with(bytes("x"), 1, &base, bytes("a"), 1, out, 9);
+    mended = urlcheck_mend_with(bytes("x"), 1, &base, bytes("a"), 1, out, 9);
+    expect(record.found.verdict == URLCHECK_BASE_REFUSED && mended.found.verdict == URLCHECK_BASE_REFUSED,
+           "a base that is refused");
+    expect(urlcheck_resolve_with(NULL, 1, &base, bytes("a"), 1, out, 9).found.verdict == URLCHECK_NULL
+               && urlcheck_mend_with(bytes("x"), 1, &base, NULL, 1, out, 9).found.verdict == URLCHECK_NULL,
+           "bytes of null");
+    expect(out[0] == 7, "nothing is written");
+}
+
+int main(void) {
+    memset(out, 7, sizeof out);
+    messages();
+    diagnostics();
+    bad_diagnostics();
+    rounds();
+    columns();
+    names();
+    held_bases();
+    if (!failed) puts("library: reports, columns, explanations and held bases, and bad input of each");
+    return failed;
+}
