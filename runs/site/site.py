@@ -1,0 +1,149 @@
+"""The site that ./build-site has made.
+
+    site.py links SITE                  each link leads to a file, and to an anchor of it; nothing is loaded from elsewhere
+    site.py browser SITE [PICTURES]     in a headless Chromium: two widths, light and dark, the search, no error
+
+Where a folder PICTURES is given, a picture of each page that is opened is written there. It ends with 1 where something
+is wrong.
+"""
+
+import html.parser
+import pathlib
+import sys
+import time
+import urllib.parse
+
+# What a page loads: the tag, and the attribute that names it. (Other tags have links, which a reader follows.)
+LOADED = {("script", "src"), ("img", "src"), ("iframe", "src"), ("source", "src")}
+STYLES = ("stylesheet", "icon", "preload")
+WIDTHS = (320, 1280)
+PAGES = ("index", "docs/COMMANDS", "docs/SOURCES", "docs/PROFILES")
+
+
+class Links(html.parser.HTMLParser):
+    """The links of a page, what it loads, and its anchors."""
+
+    def __init__(self):
+        super().__init__()
+        self.links, self.loaded, self.anchors = [], [], set()
+
+    def handle_starttag(self, tag, attributes):
+        said = dict(attributes)
+        self.anchors.update(said[name] for name in ("id", "name") if said.get(name))
+        for name in ("href", "src"):
+            if said.get(name) is None:
+                continue
+            is_style = tag == "link" and any(it in STYLES for it in (said.get("rel") or "").split())
+            if (tag, name) in LOADED or is_style:
+                self.loaded.append(said[name])
+            else:
+                self.links.append(said[name])
+
+
+def read(file):
+    page = Links()
+    page.feed(file.read_text(encoding="utf-8"))
+    return page
+
+
+def check_links(site):
+    wrong, count, pages = [], 0, {}
+    for file in sorted(site.rglob("*.html")):
+        # (the page to try has runs of its own)
+        if "try" not in file.relative_to(site).parts:
+            pages[file] = read(file)
+    for file, page in pages.items():
+        for target in page.links + page.loaded:
+            parts = urllib.parse.urlsplit(target)
+            if parts.scheme or parts.netloc:
+                if target in page.loaded:
+                    wrong.append("{}: it loads {}".format(file.relative_to(site), target))
+                continue
+            count += 1
+            # (the page for what isn't there has addresses from the top of the site)
+            top = site if target.startswith("/") else file.parent
+            to = (top / urllib.parse.unquote(parts.path).lstrip("/")).resolve() if parts.path else file
+            to = to / "index.html" if to.is_dir() else to
+            if not to.is_file():
+                wrong.append("{}: a link to {}, which isn't there".format(file.relative_to(site), target))
+            elif parts.fragment and to in pages and urllib.parse.unquote(parts.fragment) not in pages[to].anchors:
+                wrong.append("{}: a link to {}, and no such anchor is there".format(file.relative_to(site), target))
+    if not pages:
+        wrong.append("there is no page")
+    return wrong, "{} pages, {} links".format(len(pages), count)
+
+
+def check_page(browser, name, width, scheme, wrong):
+    where = "{} at {} pixels, {}".format(name, width, scheme)
+    wide, room, colours = browser.execute_script(
+        "return [document.documentElement.scrollWidth, innerWidth, document.body.dataset.mdColorScheme]"
+    )
+    if wide > room:
+        wrong.append("{}: it is {} pixels wide".format(where, wide))
+    if colours != ("slate" if scheme == "dark" else "default"):
+        wrong.append("{}: its colours are {}".format(where, colours))
+    for line in browser.get_log("browser"):
+        wrong.append("{}: {}".format(where, line["message"]))
+
+
+def check_search(browser, address, wrong):
+    browser.get(address + "index.html")
+    browser.execute_script(
+        "const field = document.querySelector('.md-search__input'); field.focus(); field.value = 'first segment';"
+        "field.dispatchEvent(new Event('keyup', { bubbles: true })); field.dispatchEvent(new Event('input', { bubbles: true }))"
+    )
+    found, end = [], time.time() + 20
+    while not found and time.time() < end:
+        time.sleep(0.1)
+        found = browser.execute_script(
+            "return [...document.querySelectorAll('.md-search-result__link')].map(it => it.getAttribute('href'))"
+        )
+    if not any("RULES" in it or "QUESTIONS" in it for it in found):
+        wrong.append("the search for 'first segment' finds {}".format(found))
+
+
+def check_browser(site, pictures):
+    sys.path.insert(0, str(pathlib.Path(__file__).resolve().parent.parent / "browser"))
+    from driver import chromium, served, shown_as
+
+    wrong, count = [], 0
+    browser, end = chromium()
+    try:
+        address = served({"site": str(site)}) + "site/"
+        for width in WIDTHS:
+            for scheme in ("light", "dark"):
+                for name in PAGES:
+                    shown_as(browser, width, 900, scheme)
+                    browser.get(address + name + ".html")
+                    # (the colours that were chosen are kept, also where nobody chose them)
+                    browser.execute_script("localStorage.clear()")
+                    browser.refresh()
+                    time.sleep(0.3)
+                    check_page(browser, name, width, scheme, wrong)
+                    count += 1
+                    if pictures:
+                        picture = "{}-{}-{}.png".format(name.replace("/", "-"), width, scheme)
+                        browser.save_screenshot(str(pictures / picture))
+        check_search(browser, address, wrong)
+    finally:
+        end()
+    return wrong, "{} pages in a browser, and a search".format(count)
+
+
+def main():
+    words = sys.argv[1:]
+    if words[:1] == ["links"] and len(words) == 2:
+        wrong, what = check_links(pathlib.Path(words[1]).resolve())
+    elif words[:1] == ["browser"] and len(words) in (2, 3):
+        pictures = pathlib.Path(words[2]) if len(words) == 3 else None
+        wrong, what = check_browser(pathlib.Path(words[1]).resolve(), pictures)
+    else:
+        sys.exit(__doc__)
+    for line in wrong:
+        print("FAILED: " + line)
+    print("site: {}, {}".format(what, "as they should be" if not wrong else "{} wrong".format(len(wrong))))
+    sys.exit(1 if wrong else 0)
+
+
+if __name__ == "__main__":
+    main()
