@@ -9,10 +9,10 @@ _urlcheck_documents() {
         --profile) words='standard wide parser' ;;
         --format) words='gnu caret json github sarif checkstyle' ;;
         --columns) words='code-points bytes utf16 screen' ;;
-        --type) words='html markdown xml' ;;
+        --type) words='html xml markdown rst notebook epub css json-feed' ;;
         --ignore) takes_files=yes ;;
-        --base | --exclude) ;;
-        *) words='--check --format --columns --base --profile --type --ignore --exclude --quiet -q --help -h --version -V'
+        --base | --exclude | --stdin-name | --jobs) ;;
+        *) words='--check --format --columns --base --profile --type --ignore --exclude --git --gfm --no-empty --no-config --stdin-name --jobs --quiet -q --help -h --version -V'
            takes_files=yes ;;
     esac
     mapfile -t COMPREPLY < <(compgen -P "$option" -W "$words" -- "$word")

@@ -19,6 +19,8 @@ import tempfile
 import time
 from concurrent.futures import FIRST_COMPLETED, ThreadPoolExecutor, wait
 
+from progress import Progress, minutes
+
 PROGRAM = "urlcheck"
 
 # The folders in which crates are built by `rt`: no check looks below an out/.
@@ -169,15 +171,15 @@ def words_of(needs, name):
     return [*words, "--links", f"{name}="]
 
 
-def said_by(command, folder):
-    """Runs a command in a folder. Returns its status and what it said."""
-    with tempfile.TemporaryFile("w+", errors="replace") as said:
+def said_by(command, folder, name, progress):
+    """Runs a command in a folder, by which a crate is built. Returns its status and what it said."""
+    with tempfile.TemporaryFile("w+", errors="replace") as said, progress.of(name, said):
         ran = subprocess.run(command, cwd=folder, stdin=subprocess.DEVNULL, stdout=said, stderr=subprocess.STDOUT)
         said.seek(0)
         return ran.returncode, said.read()
 
 
-def build_statements(needs, name, jobs):
+def build_statements(needs, name, jobs, progress):
     """Proves a crate over the statements of those below it, and builds it. Returns the status, and what was said."""
     folder = f"crates/{name}"
     shutil.rmtree(f"{folder}/out/rlib", ignore_errors=True)
@@ -187,29 +189,29 @@ def build_statements(needs, name, jobs):
         command += ["--toolchain", f"{kit()}/toolchain", "-o", f"out/{name}.o"]
     else:
         command += ["--statements", "-o", f"out/rlib/{name}.rlib"]
-    status, said = said_by([*command, "--jobs", str(jobs)], folder)
+    status, said = said_by([*command, "--jobs", str(jobs)], folder, name, progress)
     if status == -signal.SIGKILL and jobs > 1:
         # (most likely for want of memory)
-        status, said = said_by([*command, "--jobs", "1"], folder)
+        status, said = said_by([*command, "--jobs", "1"], folder, name, progress)
     if status == 0 and name == PROGRAM:
-        status, said = linked(name)
+        status, said = linked(name, progress)
     return status, said
 
 
-def linked(name):
+def linked(name, progress):
     """Links the program. Returns the status, and what was said."""
     command = [f"{kit()}/bin/rattle-link", "--target", "x86_64-unknown-linux-gnu", "--toolchain", f"{kit()}/toolchain"]
     libraries = [f"{kit()}/c/libos_c.a", f"{kit()}/c/liblibc_c.a"]
-    return said_by([*command, "-o", f"out/{name}", f"out/{name}.o", *libraries], f"crates/{name}")
+    return said_by([*command, "-o", f"out/{name}", f"out/{name}.o", *libraries], f"crates/{name}", name, progress)
 
 
-def build_over_kept(needs, name, jobs):
+def build_over_kept(needs, name, jobs, progress):
     """Proves and builds a crate by `rt`, over what earlier checks kept. Returns the status, and what was said."""
     command = ["rt", "lib", "--jobs", str(jobs)]
     if name == PROGRAM:
         # (its check reads all that it links, with all proofs, which more jobs would each do again)
         command = ["rt", "run", "--jobs", "1", "--", "check", "urn:isbn:0451450523"]
-    status, said = said_by(command, apart(needs, name))
+    status, said = said_by(command, apart(needs, name), name, progress)
     if status == 0:
         take(name)
     return status, said
@@ -239,47 +241,51 @@ def lanes():
     return max(1, min(processors, available // MEMORY))
 
 
-def minutes(seconds):
-    return f"{int(seconds) // 60} min {int(seconds) % 60:02} s" if seconds >= 60 else f"{int(seconds)} s"
-
-
-def build(way, needs, name, jobs):
+def build(way, needs, name, jobs, progress):
     """Builds a crate so. Returns whether that went well, how long it took, and what was said."""
     started = time.monotonic()
-    status, said = way(needs, name, jobs)
+    status, said = way(needs, name, jobs, progress)
     return status == 0, time.monotonic() - started, said
 
 
 def build_in_lanes(needs, names, way):
     """Builds the crates, each once those below it are built. Returns a crate that failed and what was said, if one did."""
-    cost, left, running, started = chains(needs, names), list(names), {}, time.monotonic()
-    most = lanes()
+    most, started = lanes(), time.monotonic()
     print(f"urlcheck: crates to prove and build: {len(names)}, {most} side by side", file=sys.stderr, flush=True)
-    with ThreadPoolExecutor(most) as pool:
-        while left or running:
-            waited = {*left, *(it for it, _ in running.values())}
-            ready = sorted((it for it in left if waited.isdisjoint(needs[it])), key=lambda it: -cost[it])
-            idle = most - sum(jobs for _, jobs in running.values())
-            # the crate that most others wait for gets half of the processors, and what the others leave it; each of them
-            # takes one
-            is_longest = not running or bool(ready) and cost[ready[0]] > max(cost[it] for it, _ in running.values())
-            while ready and idle > 0:
-                name = ready.pop(0)
-                jobs = min(idle, max(1, most // 2, idle - len(ready))) if is_longest else 1
-                is_longest = False
-                idle -= jobs
-                left.remove(name)
-                running[pool.submit(build, way, needs, name, jobs)] = name, jobs
-            for task in wait(running, return_when=FIRST_COMPLETED).done:
-                name, _ = running.pop(task)
-                is_well, took, said = task.result()
-                if not is_well:
-                    pool.shutdown(wait=False, cancel_futures=True)
-                    return name, said
-                count = f"{len(names) - len(left) - len(running)} of {len(names)}"
-                so_far = f"{minutes(time.monotonic() - started)} so far"
-                print(f"urlcheck: {count}: {name} in {minutes(took)}, {so_far}", file=sys.stderr, flush=True)
+    progress = Progress({it: lines_of(it) for it in names})
+    with progress.shown(), ThreadPoolExecutor(most) as pool:
+        for name, took, failed in built_in_lanes(needs, names, way, pool, most, progress):
+            if failed is not None:
+                pool.shutdown(wait=False, cancel_futures=True)
+                return name, failed
+            so_far = f"{minutes(time.monotonic() - started)} so far"
+            progress.say(f"urlcheck: {progress.count()}: {name} in {minutes(took)}, {so_far}")
     return None
+
+
+def built_in_lanes(needs, names, way, pool, most, progress):
+    """Builds the crates so. Gives each as its build ends, with how long it took, and what was said if it failed."""
+    cost, left, running = chains(needs, names), list(names), {}
+    while left or running:
+        waited = {*left, *(it for it, _ in running.values())}
+        ready = sorted((it for it in left if waited.isdisjoint(needs[it])), key=lambda it: -cost[it])
+        idle = most - sum(jobs for _, jobs in running.values())
+        # the crate that most others wait for gets half of the processors, and what the others leave it; each of them
+        # takes one
+        is_longest = not running or bool(ready) and cost[ready[0]] > max(cost[it] for it, _ in running.values())
+        while ready and idle > 0:
+            name = ready.pop(0)
+            jobs = min(idle, max(1, most // 2, idle - len(ready))) if is_longest else 1
+            is_longest = False
+            idle -= jobs
+            left.remove(name)
+            running[pool.submit(build, way, needs, name, jobs, progress)] = name, jobs
+        for task in wait(running, return_when=FIRST_COMPLETED).done:
+            name, _ = running.pop(task)
+            is_well, took, said = task.result()
+            if is_well:
+                progress.is_built(name)
+            yield name, took, None if is_well else said
 
 
 def build_all(needs, names, keeps=False):

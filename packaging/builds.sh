@@ -35,3 +35,20 @@ glibc_of() {
 bare() {
     ${STRIP:-strip} --strip-unneeded --remove-section=.comment "$1"
 }
+
+# python_headers : the folder of Python.h, by the word of python3
+python_headers() {
+    local folder
+    folder=$(${PYTHON:-python3} -c 'import sysconfig; print(sysconfig.get_paths()["include"])' 2>/dev/null) || return 1
+    [ -f "$folder/Python.h" ] || return 1
+    echo "$folder"
+}
+
+# build_native HEADERS SOURCES LIBRARY FILE : the extension module for Python, of the sources in a folder, over the library.
+# CFLAGS has more words for the compiler. No path of this machine stands in what is built.
+build_native() {
+    local library=$3 file=$4
+    (cd "$2" && ${CC:-cc} -std=c11 -Wall -Wextra -Werror -O2 ${CFLAGS:-} -fPIC -fvisibility=hidden -ffunction-sections \
+        -shared -I "$1" -I . *.c "$library" -Wl,--exclude-libs,ALL -Wl,--gc-sections -Wl,-z,relro -Wl,-z,now \
+        -Wl,-z,noexecstack -o "$file")
+}

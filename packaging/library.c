@@ -32,7 +32,31 @@
                                                          urlcheck_fault *, size_t);                                    \
     size_t urlcheck_rule_name_##build(uint32_t, uint8_t *, size_t);                                                    \
     size_t urlcheck_rule_sentence_##build(uint32_t, uint8_t *, size_t);                                                \
-    uint32_t urlcheck_version_##build(void)
+    uint32_t urlcheck_version_##build(void);                                                                           \
+    urlcheck_batch urlcheck_check_many_##build(const uint8_t *, size_t, const uint64_t *, size_t, uint32_t, uint8_t *, \
+                                               size_t, uint8_t *, size_t, uint64_t *, size_t);                         \
+    urlcheck_batch urlcheck_check_many_32_##build(const uint8_t *, size_t, const uint32_t *, size_t, uint32_t,         \
+                                                  uint8_t *, size_t, uint8_t *, size_t, uint64_t *, size_t);           \
+    urlcheck_line urlcheck_next_refused_##build(const uint8_t *, size_t, size_t, uint32_t);                            \
+    urlcheck_resolved urlcheck_resolve_with_##build(const uint8_t *, size_t, const urlcheck_base *, const uint8_t *,   \
+                                                    size_t, uint8_t *, size_t);                                        \
+    urlcheck_mended urlcheck_mend_with_##build(const uint8_t *, size_t, const urlcheck_base *, const uint8_t *,        \
+                                               size_t, uint8_t *, size_t);                                             \
+    urlcheck_written urlcheck_report_begin_##build(uint32_t, uint32_t, uint8_t *, size_t);                             \
+    urlcheck_written urlcheck_report_file_begin_##build(uint32_t, const uint8_t *, size_t, uint8_t *, size_t);         \
+    urlcheck_written urlcheck_diagnostic_##build(uint32_t, uint32_t, const urlcheck_violation *, const uint8_t *,      \
+                                                 size_t, const uint8_t *, size_t, const uint8_t *, size_t, uint8_t *,  \
+                                                 size_t);                                                              \
+    urlcheck_written urlcheck_report_file_end_##build(uint32_t, uint8_t *, size_t);                                    \
+    urlcheck_written urlcheck_report_end_##build(uint32_t, uint32_t, uint8_t *, size_t);                               \
+    urlcheck_written urlcheck_message_##build(const uint8_t *, size_t, uint32_t, uint32_t, size_t, uint8_t *, size_t); \
+    urlcheck_counted urlcheck_column_##build(const uint8_t *, size_t, uint32_t, uint64_t, size_t);                     \
+    urlcheck_bool urlcheck_shows_mended_##build(uint32_t);                                                             \
+    urlcheck_bool urlcheck_takes_unit_##build(uint32_t, uint32_t);                                                     \
+    size_t urlcheck_format_name_##build(uint32_t, uint8_t *, size_t);                                                  \
+    size_t urlcheck_unit_name_##build(uint32_t, uint8_t *, size_t);                                                    \
+    size_t urlcheck_explain_##build(uint32_t, uint32_t, uint8_t *, size_t);                                            \
+    size_t urlcheck_example_place_##build(uint32_t)
 
 DECLARE(x86_64);
 DECLARE(x86_64_v2);
@@ -163,3 +187,133 @@ EXPORT size_t urlcheck_rule_sentence(uint32_t rule, uint8_t *out, size_t room) {
 }
 
 EXPORT uint32_t urlcheck_version(void) { return CALL(urlcheck_version); }
+
+/*
+ * The calls from here on answer URLCHECK_NULL where a null pointer stands for bytes, offsets or a struct. A column that
+ * is left out is one of no elements, as the proved functions take it.
+ */
+static int lacks(const void *it, size_t length) { return !it && length; }
+
+static urlcheck_batch null_batch(void) {
+    urlcheck_batch answer = {URLCHECK_NULL, 0, 0, 0};
+    return answer;
+}
+
+static urlcheck_written null_written(void) {
+    urlcheck_written answer = {{URLCHECK_NULL, 0, 0, 0}, 0};
+    return answer;
+}
+
+static uint64_t no_places[1];
+
+/* How many elements a column has of so many. */
+static size_t column_room(const void *column, size_t count) { return column ? count : 0; }
+
+#define CHECK_MANY(name, offset)                                                                                       \
+    EXPORT urlcheck_batch name(const uint8_t *texts, size_t length, const offset *offsets, size_t count,               \
+                               uint32_t profile, uint8_t *verdicts, uint8_t *rules, uint64_t *places) {                \
+        static const offset no_offsets[1];                                                                             \
+        if (lacks(texts, length) || lacks(offsets, count)) return null_batch();                                        \
+        return CALL(name, read_from(texts), length, offsets ? offsets : no_offsets, offsets ? count + 1 : 1, profile,  \
+                    written_to(verdicts), column_room(verdicts, count), written_to(rules), column_room(rules, count),  \
+                    places ? places : no_places, column_room(places, count));                                          \
+    }
+
+CHECK_MANY(urlcheck_check_many, uint64_t)
+CHECK_MANY(urlcheck_check_many_32, uint32_t)
+
+EXPORT urlcheck_line urlcheck_next_refused(const uint8_t *lines, size_t length, size_t from, uint32_t profile) {
+    if (lacks(lines, length)) {
+        urlcheck_line answer = {{URLCHECK_NULL, 0, 0, 0}, 0, 0, 0, 0};
+        return answer;
+    }
+    return CALL(urlcheck_next_refused, read_from(lines), length, from, profile);
+}
+
+EXPORT urlcheck_resolved urlcheck_resolve_with(const uint8_t *text, size_t length, const urlcheck_base *base,
+                                               const uint8_t *base_text, size_t base_length, uint8_t *out,
+                                               size_t room) {
+    if (lacks(text, length) || lacks(base_text, base_length) || lacks(out, room)) {
+        urlcheck_resolved answer = {{URLCHECK_NULL, 0, 0, 0}, 0};
+        return answer;
+    }
+    return CALL(urlcheck_resolve_with, read_from(text), length, held_in(base), read_from(base_text), base_length,
+                written_to(out), room);
+}
+
+EXPORT urlcheck_mended urlcheck_mend_with(const uint8_t *text, size_t length, const urlcheck_base *base,
+                                          const uint8_t *base_text, size_t base_length, uint8_t *out, size_t room) {
+    if (lacks(text, length) || lacks(base_text, base_length) || lacks(out, room)) {
+        urlcheck_mended answer = {{URLCHECK_NULL, 0, 0, 0}, 0, 0};
+        return answer;
+    }
+    return CALL(urlcheck_mend_with, read_from(text), length, held_in(base), read_from(base_text), base_length,
+                written_to(out), room);
+}
+
+EXPORT urlcheck_written urlcheck_report_begin(uint32_t format, uint32_t unit, uint8_t *out, size_t room) {
+    if (lacks(out, room)) return null_written();
+    return CALL(urlcheck_report_begin, format, unit, written_to(out), room);
+}
+
+EXPORT urlcheck_written urlcheck_report_file_begin(uint32_t format, const uint8_t *file, size_t length, uint8_t *out,
+                                                   size_t room) {
+    if (lacks(file, length) || lacks(out, room)) return null_written();
+    return CALL(urlcheck_report_file_begin, format, read_from(file), length, written_to(out), room);
+}
+
+EXPORT urlcheck_written urlcheck_diagnostic(uint32_t format, uint32_t is_first, const urlcheck_violation *violation,
+                                            const uint8_t *file, size_t file_length, const uint8_t *text,
+                                            size_t length, const uint8_t *mended, size_t mended_length, uint8_t *out,
+                                            size_t room) {
+    if (!violation || lacks(file, file_length) || lacks(text, length) || lacks(mended, mended_length) ||
+        lacks(out, room))
+        return null_written();
+    return CALL(urlcheck_diagnostic, format, is_first, violation, read_from(file), file_length, read_from(text), length,
+                read_from(mended), mended_length, written_to(out), room);
+}
+
+EXPORT urlcheck_written urlcheck_report_file_end(uint32_t format, uint8_t *out, size_t room) {
+    if (lacks(out, room)) return null_written();
+    return CALL(urlcheck_report_file_end, format, written_to(out), room);
+}
+
+EXPORT urlcheck_written urlcheck_report_end(uint32_t format, uint32_t completion, uint8_t *out, size_t room) {
+    if (lacks(out, room)) return null_written();
+    return CALL(urlcheck_report_end, format, completion, written_to(out), room);
+}
+
+EXPORT urlcheck_written urlcheck_message(const uint8_t *text, size_t length, uint32_t profile, uint32_t rule,
+                                         size_t place, uint8_t *out, size_t room) {
+    if (lacks(text, length) || lacks(out, room)) return null_written();
+    return CALL(urlcheck_message, read_from(text), length, profile, rule, place, written_to(out), room);
+}
+
+EXPORT urlcheck_counted urlcheck_column(const uint8_t *text, size_t length, uint32_t unit, uint64_t start,
+                                        size_t place) {
+    if (lacks(text, length)) {
+        urlcheck_counted answer = {{URLCHECK_NULL, 0, 0, 0}, 0};
+        return answer;
+    }
+    return CALL(urlcheck_column, read_from(text), length, unit, start, place);
+}
+
+EXPORT urlcheck_bool urlcheck_shows_mended(uint32_t format) { return CALL(urlcheck_shows_mended, format); }
+
+EXPORT urlcheck_bool urlcheck_takes_unit(uint32_t format, uint32_t unit) {
+    return CALL(urlcheck_takes_unit, format, unit);
+}
+
+EXPORT size_t urlcheck_format_name(uint32_t format, uint8_t *out, size_t room) {
+    return CALL(urlcheck_format_name, format, written_to(out), out ? room : 0);
+}
+
+EXPORT size_t urlcheck_unit_name(uint32_t unit, uint8_t *out, size_t room) {
+    return CALL(urlcheck_unit_name, unit, written_to(out), out ? room : 0);
+}
+
+EXPORT size_t urlcheck_explain(uint32_t rule, uint32_t part, uint8_t *out, size_t room) {
+    return CALL(urlcheck_explain, rule, part, written_to(out), out ? room : 0);
+}
+
+EXPORT size_t urlcheck_example_place(uint32_t rule) { return CALL(urlcheck_example_place, rule); }

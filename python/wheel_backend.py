@@ -1,7 +1,7 @@
 """Builds the wheel of the package (PEP 517) by the standard library alone, so that installing it needs no network.
 
 The folder is what ./build-library writes: beside pyproject.toml stand VERSION, PLATFORM (the tag of the systems on
-which the shared library runs), the licences, and the package with the shared library. Where there is a folder `bin` too,
+which the extension module runs), the licences, and the package with that module. Where there is a folder `bin` too,
 the programs in it are installed with the package, as those of a release's wheel. Two builds give the same bytes.
 """
 
@@ -15,7 +15,7 @@ import time
 import zipfile
 
 NAME = "urlcheck"
-LIBRARY = "liburlcheck.so.0"
+MODULE = "_native.abi3.so"
 PROGRAMS = "bin"
 TABLE = "pyproject.toml"
 
@@ -31,6 +31,35 @@ def _text(path):
 def _project(pattern):
     """A text of the project's table."""
     return re.search("^" + pattern, _text(TABLE), re.M).group(1)
+
+
+def _lines(table):
+    """The names and the values of a table of the project, each in a line of its own."""
+    found = re.search(r"^\[project\.{}\]\n((?:.+\n)*)".format(re.escape(table)), _text(TABLE) + "\n", re.M)
+    return [line.split(" = ", 1) for line in found.group(1).splitlines()]
+
+
+def _extras():
+    """What the metadata says of each extra."""
+    lines = []
+    for name, value in _lines("optional-dependencies"):
+        lines.append("Provides-Extra: " + name)
+        for needed in re.findall('"(.*?)"', value):
+            package, _, marker = needed.partition("; ")
+            condition = 'extra == "{}"'.format(name)
+            lines.append("Requires-Dist: {}; {}".format(package, "{} and {}".format(marker, condition) if marker else condition))
+    return lines
+
+
+def _entry_points():
+    """The programs and the plugins, as an installer reads them."""
+    groups = [("console_scripts", "scripts"), ("mkdocs.plugins", 'entry-points."mkdocs.plugins"')]
+    text = ""
+    for group, table in groups:
+        text += "[{}]\n".format(group)
+        text += "".join("{} = {}\n".format(name, value.strip('"')) for name, value in _lines(table))
+        text += "\n"
+    return text.rstrip("\n") + "\n"
 
 
 def _licences():
@@ -52,7 +81,7 @@ def _metadata():
     ]
     lines += ["License-File: " + file for file in _licences()]
     lines += ["Requires-Python: " + _project('requires-python = "(.*)"')]
-    lines += ["Provides-Extra: markdown", 'Requires-Dist: markdown-it-py; extra == "markdown"']
+    lines += _extras()
     return "\n".join(lines) + "\n"
 
 
@@ -67,6 +96,8 @@ def write_about(directory):
     os.makedirs(folder, exist_ok=True)
     with open(os.path.join(folder, "METADATA"), "w", encoding="utf-8") as file:
         file.write(_metadata())
+    with open(os.path.join(folder, "entry_points.txt"), "w", encoding="utf-8") as file:
+        file.write(_entry_points())
     return os.path.basename(folder)
 
 
@@ -96,13 +127,12 @@ def _files(tag):
     files = _held(NAME, NAME + "/")
     if os.path.isdir(PROGRAMS):
         files.update(_held(PROGRAMS, _scripts()))
-    if NAME + "/" + LIBRARY not in files:
-        raise FileNotFoundError(LIBRARY + " is missing: run ./build-library DIR, and install DIR/python")
+    if NAME + "/" + MODULE not in files:
+        raise FileNotFoundError(MODULE + " is missing: run ./build-library DIR, and install DIR/python")
     files[_folder() + "/METADATA"] = _metadata().encode()
     for name in _licences():
         files[_folder() + "/licenses/" + name] = (_text(name) + "\n").encode()
-    script, called = re.search('^scripts = { (.*) = "(.*)" }$', _text(TABLE), re.M).groups()
-    files[_folder() + "/entry_points.txt"] = "[console_scripts]\n{} = {}\n".format(script, called).encode()
+    files[_folder() + "/entry_points.txt"] = _entry_points().encode()
     kind = "Wheel-Version: 1.0\nGenerator: wheel_backend\nRoot-Is-Purelib: false\nTag: {}\n"
     files[_folder() + "/WHEEL"] = kind.format(tag).encode()
     return files
@@ -120,7 +150,7 @@ def _date():
 
 def build_wheel(wheel_directory, config_settings=None, metadata_directory=None):
     """Writes the wheel into the folder, and gives its name."""
-    tag = "py3-none-" + _text("PLATFORM")
+    tag = "cp38-abi3-" + _text("PLATFORM")
     files = _files(tag)
     record = _folder() + "/RECORD"
     lines = ["{},sha256={},{}".format(name, _digest(data), len(data)) for name, data in files.items()]

@@ -25,15 +25,16 @@ root=$room/root
 prefix=/any/prefix
 at=$root$prefix
 export DESTDIR=$root PROGRAM=$program LIBRARY=$library
-quietly ./install $prefix
+# (the extensions for databases stand partly beside the prefix: they are installed for themselves below)
+ENGINES='' quietly ./install $prefix
 
 # ---- what is installed
 
 python=$(cd "$at/lib" && ls -d python*/*-packages)
 {
     sed -e "s|PYTHON|$python|" -e "s|VERSION|$version|" runs/packages/files
-    printf 'share/doc/urlcheck/%s\n' docs/*.md docs/*.svg docs/*.png vectors/*
-    (cd python && printf "lib/$python/%s\n" urlcheck/*.py urlcheck/py.typed)
+    printf 'share/doc/urlcheck/%s\n' docs/*.md docs/rules/*.md docs/*.svg docs/*.png vectors/*
+    (cd python && printf "lib/$python/%s\n" urlcheck/*.py urlcheck/*.pyi urlcheck/py.typed urlcheck/_native.abi3.so)
 } | sort >"$room/wanted"
 (cd "$at" && find . ! -type d -printf '%P\n' | sort) >"$room/found"
 diff "$room/wanted" "$room/found" ||
@@ -41,7 +42,9 @@ diff "$room/wanted" "$room/found" ||
 python3 - "$at/share/doc/urlcheck" <<'PYTHON' || fail "a link of the documents that are installed leads nowhere"
 import pathlib, re, sys
 pages = list(pathlib.Path(sys.argv[1]).rglob("*.md"))
-links = [(page, link) for page in pages for link in re.findall(r"\]\(([^)\s#]+)[^)\s]*\)", page.read_text("utf-8"))]
+# (what stands in a block of code is no link)
+texts = [(page, re.sub(r"^```.*?^```$", "", page.read_text("utf-8"), flags=re.M | re.S)) for page in pages]
+links = [(page, link) for page, text in texts for link in re.findall(r"\]\(([^)\s#]+)[^)\s]*\)", text)]
 lost = [(page.name, link) for page, link in links if ":" not in link and not (page.parent / link).exists()]
 print(*lost, sep="\n", end="\n" if lost else "")
 sys.exit(bool(lost) or not links)
@@ -61,7 +64,7 @@ echo x >"$room/links"
 told=$(python3 -c 'import json, sys; print(json.load(sys.stdin)["runs"][0]["tool"]["driver"]["version"])' \
     <"$room/report")
 [ "$told" = "$version" ] || fail "SARIF says that the version is $told"
-for page in urlcheck.1 urlcheck-documents.1; do
+for page in urlcheck.1 urlcheck-documents.1 urlcheck-language-server.1; do
     grep -qF "urlcheck $version" man/$page || fail "man/$page has another version than VERSION"
 done
 grep -qF "rev: v$version " docs/USES.md || fail "docs/USES.md names another tag than VERSION"
@@ -102,9 +105,9 @@ fi
 
 # ---- the shared library
 
-node=$(sed -n 's/^\(URLCHECK_[0-9.]*\) {$/\1/p' packaging/library.map)
-sed -n "s/^ *\(urlcheck_[a-z_]*\);$/\1@@$node/p" packaging/library.map | sort >"$room/wanted"
-declared=$(grep -o '\burlcheck_[a-z_]*(' include/urlcheck.h | tr -d '(' | sort)
+awk '/^URLCHECK_/ { node = $1 } /^ *urlcheck_[a-z_0-9]*;$/ { print substr($1, 1, length($1) - 1) "@@" node }' \
+    packaging/library.map | sort >"$room/wanted"
+declared=$(grep -o '\burlcheck_[a-z_0-9]*(' include/urlcheck.h | tr -d '(' | sort)
 [ "$declared" = "$(sed 's/@@.*//' "$room/wanted")" ] ||
     fail "packaging/library.map has other names than include/urlcheck.h"
 nm -D --defined-only --with-symbol-versions "$at/lib/liburlcheck.so" | awk '$2 != "A" { print $3 }' | sort \
@@ -141,11 +144,35 @@ if python3 -m pip --version >/dev/null 2>&1; then
     install -D -m 755 "$program" "$room/wheel/bin/urlcheck"
     quietly python3 -m pip install --no-deps --no-index --target "$room/site" "$room/wheel"
     "$room/site/bin/urlcheck" --version | cmp - <(echo "urlcheck $version") || fail "the wheel's program"
+    grep -qx 'urlcheck = urlcheck.mkdocs:Plugin' "$room"/site/*.dist-info/entry_points.txt ||
+        fail "the wheel has no plugin for MkDocs"
+    [ -x "$room/site/bin/urlcheck-language-server" ] || fail "the wheel has no urlcheck-language-server"
     PYTHONPATH=$room/site "$room/site/bin/urlcheck-documents" --version >"$room/said" || fail "the wheel's urlcheck-documents"
     grep -qF "$version" "$room/said" || fail "the wheel's urlcheck-documents says: $(cat "$room/said")"
 else
     echo "packages: the wheel is left out, since pip isn't installed"
 fi
+
+# ---- the extensions for databases, where their headers are
+
+quietly ./install $prefix
+found=()
+if [ -f "$at/lib/mod_urlcheck.so" ]; then
+    found+=(SQLite)
+    [ "$(objdump -p "$at/lib/mod_urlcheck.so" | sed -n 's/^ *NEEDED *\(liburlcheck.*\)/\1/p')" = liburlcheck.so.0 ] ||
+        fail "the extension for SQLite isn't linked with the shared library"
+    if command -v sqlite3 >/dev/null; then
+        LD_LIBRARY_PATH=$at/lib sqlite3 -init /dev/null -batch :memory: '.load mod_urlcheck' \
+            "SELECT url_resolve('HTTP://H/a/../b')" | cmp - <(echo http://h/b) || fail 'the extension for SQLite'
+    fi
+fi
+if [ -n "$(find "$root" -path '*/extension/urlcheck.control')" ]; then
+    found+=(PostgreSQL)
+    for file in "$(pg_config --pkglibdir)/urlcheck.so" "$(pg_config --sharedir)"/extension/urlcheck{.control,--"$version".sql}; do
+        [ -f "$root$file" ] || fail "the extension for PostgreSQL lacks $file"
+    done
+fi
+echo "packages: extensions for ${found[*]:-no database, since none of their headers are installed}"
 
 # ---- removed again
 

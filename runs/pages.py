@@ -23,13 +23,14 @@ HEADLINE = (
     " written grammar."
 )
 # Folders of the repository: a word of code that begins with one of them is the path of something that is there.
-FOLDERS = "bench", "completions", "crates", "docs", "include", "man", "python", "runs", "vectors", "web"
+FOLDERS = "bench", "completions", "crates", "docs", "engines", "include", "man", "python", "runs", "vectors", "web"
 FENCE = re.compile(r"^\s*```(.*)$")
 
 
 def pages_of(top):
     """The pages, each with its path from the top."""
     found = sorted(top.glob("*.md")) + sorted((top / "docs").glob("*.md")) + sorted(top.glob("*/README.md"))
+    found += sorted((top / "docs" / "rules").glob("*.md"))
     return [page.relative_to(top) for page in dict.fromkeys(found)]
 
 

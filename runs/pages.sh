@@ -23,6 +23,14 @@ for picture in profiles:docs/profiles.py speed:bench/plot.sh; do
         { echo "FAILED: docs/${picture%:*}.svg is old; ${picture#*:} draws it anew, on standard output"; failed=1; }
 done
 
+# The page of each rule is what ./make-rules makes of it.
+if command -v node >/dev/null; then
+    "$top/make-rules" "$program" "$room/made" && diff -r "$room/made/docs/rules" "$top/docs/rules" ||
+        { echo 'FAILED: docs/rules is old; ./make-rules makes it anew'; failed=1; }
+else
+    echo "pages: that docs/rules is as ./make-rules makes it is left out, since node isn't installed"
+fi
+
 # spoiled WHAT SAID CHECK FILE SED : in a copy where this edit of a page changed something the check says so
 spoiled() {
     local what=$1 said=$2 check=$3 file=$4
@@ -31,7 +39,7 @@ spoiled() {
     ln -s "$top"/* "$room/copy/" 2>/dev/null || true
     cp --remove-destination "$top"/*.md "$room/copy/"
     cp --remove-destination "$top/NOTICE" "$room/copy/"
-    cp "$top"/docs/* "$room/copy/docs/"
+    cp -r "$top"/docs/* "$room/copy/docs/"
     cp "$top"/vectors/* "$room/copy/vectors/"
     sed -i "$5" "$room/copy/$file"
     if cmp -s "$room/copy/$file" "$top/$file"; then echo "FAILED: $what: $file stayed as it was"; failed=1; fi

@@ -1,12 +1,12 @@
 #!/usr/bin/env bash
 # What ./build-packages hands out: two builds in two folders give the same bytes, lintian says nothing of the packages,
 # installed in a root of their own the program, the manual page and the programs of docs/LIBRARY.md work, also on an old
-# processor, all vectors pass by the program and by the libraries, and removed nothing is left. A release asks for it,
-# and no gate: it needs root's rights, `rt`, `cc`, `dpkg`, `lintian`, `man`, `pip`, `pkg-config`, `python3` and
-# `qemu-x86_64`, and what `./build-packages` needs.
+# processor, all vectors pass by the program and by the libraries, the extensions work in SQLite and in a server of
+# PostgreSQL, and removed nothing is left. A release asks for it, and no gate: it needs root's rights, `rt`, `cc`, `dpkg`,
+# `lintian`, `man`, `pip`, `pkg-config`, `python3`, `qemu-x86_64`, `sqlite3`, PostgreSQL, and what `./build-packages` needs.
 set -euo pipefail
 cd "$(dirname "$(realpath "$0")")/.."
-for tool in cc cmp dpkg dpkg-deb lintian man objcopy pkg-config python3 qemu-x86_64 rt wasm-opt; do
+for tool in cc cmp dpkg dpkg-deb lintian man objcopy pg_config pkg-config python3 qemu-x86_64 rt sqlite3 wasm-opt; do
     command -v $tool >/dev/null || { echo "release: $tool is missing" >&2; exit 70; }
 done
 room=$(mktemp -d)
@@ -76,8 +76,11 @@ on_each "$room/answers" "$room/cases"
 python3 runs/library/cases.py compare "$urlcheck" "$room/new" vectors/*.json
 python3 runs/library/answers.py "$room/cases" | cmp - "$room/new" || fail "Python gives other answers than C"
 
-dpkg --root="$root" --force-script-chrootless --purge urlcheck liburlcheck-dev python3-urlcheck liburlcheck0 \
-    >"$room/said" 2>&1 || { cat "$room/said"; fail "dpkg doesn't remove the packages"; }
+# The extensions as the packages have them: in SQLite's shell, and in a server of its own.
+bash runs/registers/packaged.sh "$root" "$version"
+
+dpkg --root="$root" --force-depends --force-script-chrootless --purge urlcheck liburlcheck-dev python3-urlcheck \
+    postgresql-15-urlcheck sqlite3-urlcheck liburlcheck0 >"$room/said" 2>&1 || { cat "$room/said"; fail "dpkg doesn't remove the packages"; }
 left=$(find "$root" -mindepth 1 -not -path "$root/var*")
 [ -z "$left" ] || fail "what is left once the packages are removed: $left"
 echo "release: installed by dpkg, tried and removed"

@@ -1,7 +1,7 @@
 #!/usr/bin/env bash
-# Runs the recipes of docs/USES.md, as they stand there, over the program given as the first argument: on links that are
+# Runs the recipes of docs/USES.md and docs/REGISTERS.md, as they stand there, over the program given as the first argument: on links that are
 # right, on wrong ones, and on what once made a recipe end well though nothing was judged. A recipe whose tool isn't
-# installed is left out, and a line says so. Those for documents are run where URLCHECK_LIBRARY names the library for C,
+# installed is left out, and a line says so. Those for documents are run where PACKAGE names the folder of the Python package,
 # and with the word `documents` these alone, as runs/library.sh does.
 set -uo pipefail
 [ $# -ge 1 ] && [ -x "$1" ] && [ "${*:2}" = '' -o "${*:2}" = documents ] ||
@@ -27,7 +27,7 @@ recipe() {
         section && $0 == fence { seen++; inside = seen == wanted; next }
         /^```$/ { inside = 0 }
         inside' "$page")
-    [ -n "$found" ] || { echo "FAILED: docs/USES.md has no recipe in $2 under $1" >&2; exit 1; }
+    [ -n "$found" ] || { echo "FAILED: $page has no recipe in $2 under $1" >&2; exit 1; }
     printf '%s\n' "$found"
 }
 
@@ -109,9 +109,9 @@ if [ $# = 1 ]; then
     fi
     cd "$room" || exit 1
 fi
-if [ -n "${URLCHECK_LIBRARY:-}" ]; then
+if [ -n "${PACKAGE:-}" ]; then
     in_folder pages
-    printf '#!/bin/sh\nPYTHONPATH=%s exec python3 -m urlcheck.documents "$@"\n' "$top/python" >../path/urlcheck-documents
+    printf '#!/bin/sh\nPYTHONPATH=%s exec python3 -m urlcheck.documents "$@"\n' "$PACKAGE" >../path/urlcheck-documents
     chmod +x ../path/urlcheck-documents
     recipe 'Links in documents' sh >../check.sh
     recipe 'Links in documents' bash >../formats.sh
@@ -149,7 +149,7 @@ if [ -n "${URLCHECK_LIBRARY:-}" ]; then
     done
     cd "$room" || exit 1
 else
-    echo 'uses: the recipes for documents are left out, since URLCHECK_LIBRARY names no library for C'
+    echo 'uses: the recipes for documents are left out, since PACKAGE names no Python package'
 fi
 if [ $# = 2 ]; then
     [ $failed = 0 ] && echo "uses: $count runs of recipes for documents"
@@ -471,18 +471,9 @@ in_pieces() {
     mv wrong.links all.links
 }
 if has parallel; then
+    page=$top/docs/REGISTERS.md
     recipe 'Many processes' bash | sed 's/--block 10M/--block 100K/' >parallel.sh
     in_pieces 'parallel' bash parallel.sh
-fi
-dask=
-for python in python3 /usr/bin/python3; do
-    [ -n "$dask" ] || ! "$python" -c 'import distributed' 2>/dev/null || dask=$python
-done
-if [ -n "$dask" ]; then
-    recipe 'A cluster' python | sed 's/^PIECE = .*/PIECE = 100_000/' >cluster.py
-    in_pieces 'distributed' env DASK_LOGGING__DISTRIBUTED=critical timeout 300 "$dask" -W ignore cluster.py all.links
-else
-    echo "uses: the recipe for distributed is left out, since it isn't installed"
 fi
 
 [ $failed = 0 ] && echo "uses: $count runs of recipes"
