@@ -69,7 +69,7 @@ if python=$(python_with pylsp_jsonrpc markdown_it docutils tinycss2); then
         for wanted in '^one diagnostic: \(true\|t\|1\)$' "^at line $3" "line: .*$4" '^none left: \(true\|t\|1\)$'; do
             grep -q "$wanted" "$room/said" || { fail "$1 on $2 has no '$wanted'"; return; }
         done
-        if grep -q '^\(hover\|one that is typed\): \(false\|nil\)' "$room/said"; then fail "$1 on $2"; fi
+        if grep -q '^\(hover\|one that is typed\|one server\): \(false\|nil\)' "$room/said"; then fail "$1 on $2"; fi
         # (the recipe of Neovim names no lists, and Emacs has no mode of Markdown without a package)
         case $1-$2 in *.links | Emacs-page.md | ALE-*) return ;; esac
         grep -q '^by the recipe: \(true\|t\)$' "$room/said" || fail "$1 on $2 isn't started by the page's recipe"

@@ -39,4 +39,6 @@ if typed then
   vim.api.nvim_buf_set_lines(buffer, -1, -1, false, { '', typed })
   say('one that is typed: %s', tostring(wait(1)))
 end
+-- (with two servers each mistake would be there twice)
+say('one server: %s', tostring(vim.tbl_count(vim.lsp.get_active_clients()) == 1))
 vim.cmd('qa!')
