@@ -15,7 +15,7 @@ PAGES = {
     "reStructuredText": ("a.rst", "text `a <http://h/a{}^b>`__ and more\n\n"),
     "a list": ("a.links", "http://h/a{} b\n"),
 }
-MOST, MOST_OF = 300, {"reStructuredText": 900}
+MOST, MOST_OF = 500, {"reStructuredText": 1500}
 """How many milliseconds of the processor's time a change takes at most, on a busy machine too, and where that is more."""
 
 
