@@ -133,7 +133,7 @@ else
 fi
 python=$(python_with pylsp_jsonrpc markdown_it docutils tinycss2 sphinx mkdocs) || python=$(python_with markdown_it) || python=python3
 "$python" runs/authors/spoiled.py || failed=1
-# The commands of docs/SOURCES.md, by a Python that has most of what they name.
+# The commands of the guides on documents, by a Python that has most of what they name.
 python=$(python_with sphinx mkdocs) || python=$(python_with sphinx) || python=python3
 "$python" runs/authors/pages.py "$program" || failed=1
 if python=$(python_with feedparser); then

@@ -32,10 +32,13 @@ node "$here/calls.mjs" "$folder"
 node "$here/reports.mjs" "$folder" "$room/cases.json" "$program"
 "$top/packaging/write-attributes" --check
 
-# example PAGE FOLDER : the program of a page, as it stands there, prints in the folder what the page says
+# block_of PAGE NUMBER : the program of a page with this number
+block_of() { awk -v number="$2" '/^```js$/ { inside = ++seen == number; next } /^```$/ { inside = 0 } inside' "$1"; }
+
+# example PAGE FOLDER : the first program of a page, as it is written there, prints in the folder what the page says
 example() {
     local name=${1#"$top/"}
-    sed -n '/^```js$/,/^```$/p' "$1" | sed '/^```/d' >"$2/example.mjs"
+    block_of "$1" 1 >"$2/example.mjs"
     awk '/^```js$/ { found = 1 } found && /^```$/ { fences++; next } fences == 2' "$1" >"$room/wanted"
     [ -s "$room/wanted" ] || { echo "FAILED: $name has no example"; exit 1; }
     node "$2/example.mjs" >"$room/said" || { cat "$room/said"; exit 1; }
@@ -61,6 +64,17 @@ else
     tar -C "$room/user/node_modules/urlcheck" --strip-components=1 -xzf "$package"
 fi
 example "$top/web/README.md" "$room/user"
+guide=$top/docs/guides/javascript.md
+example "$guide" "$room/user"
+# The guide's check of lists, as a build anywhere runs it.
+block_of "$guide" 2 >"$room/user/check-links.mjs"
+printf 'http://h/\n\nhttp://h/a b\nhttp://x_y/\n' >"$room/user/links.txt"
+ended=0
+(cd "$room/user" && node check-links.mjs links.txt) >"$room/said" 2>&1 || ended=$?
+(cd "$room/user" && "$program" lint --quiet links.txt) >"$room/wanted" || true
+diff "$room/wanted" "$room/said" && [ $ended = 1 ] || { echo 'FAILED: the check of lists in docs/guides/javascript.md'; exit 1; }
+echo http://h/ >"$room/user/links.txt"
+(cd "$room/user" && node check-links.mjs links.txt) | cmp - /dev/null
 tar -C "$room" -xzf "$room"/packed/urlcheck-page-*.tar.gz
 diff -r "$folder" "$room"/urlcheck-page-* || { echo 'FAILED: the page is packed otherwise than it was built'; exit 1; }
 

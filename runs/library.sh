@@ -74,7 +74,7 @@ gcc -std=c99 "${strict[@]}" -I "$include" memory.c "$archive" \
     -Wl,--wrap=malloc,--wrap=realloc,--wrap=free -o "$room/memory"
 "$room/memory"
 
-# The programs of docs/LIBRARY.md and of the README, as they stand there. The one in C ends with 1, since it refuses.
+# The programs of docs/guides and of the README, as a reader copies them. The one in C ends with 1, since it refuses.
 python3 programs.py "$top" "$room"
 gcc -std=c99 "${strict[@]}" -I "$include" "$room/page.c" "$archive" -o "$room/page_c"
 { "$room/page_c" || [ $? = 1 ]; } | cmp - "$room/page.c.out"
@@ -88,13 +88,13 @@ python3 "$room/page.py" | cmp - "$room/page.py.out"
 python3 "$room/report.py" | cmp - "$room/report.py.out"
 python3 "$room/start.py" | cmp - <(echo 'example.com /a http://h/x')
 
-# The lines by which that page builds a program for C, in a folder that has the program and the library.
+# The lines by which the guide on C builds a program, in a folder that has the program and the library.
 mkdir "$room/build"
 cp "$room/page.c" "$room/build/program.c"
 ln -s "$room/installed" "$room/build/library"
-awk '/^```sh$/ { inside = 1; next } /^```$/ { inside = 0 } inside && !/^\.\/build-library/' "$top/docs/LIBRARY.md" \
+awk '/^```sh$/ { inside = 1; next } /^```$/ { inside = 0 } inside' "$top/docs/guides/c.md" \
     >"$room/build/lines"
-[ "$(grep -c '^cc ' "$room/build/lines")" = 2 ] || { echo 'FAILED: docs/LIBRARY.md has no two lines with cc'; exit 1; }
+[ "$(grep -c '^cc ' "$room/build/lines")" = 2 ] || { echo 'FAILED: docs/guides/c.md has no two lines with cc'; exit 1; }
 if command -v pkg-config >/dev/null && command -v cc >/dev/null; then
     while IFS= read -r line; do
         cd "$room/build"

@@ -168,12 +168,12 @@ awk 'BEGIN {
 ends_with 1 $? '' 'a list of 100,000 lines'
 cmp -s "$room/wanted" "$room/out" || fail "a list of 100,000 lines: $(diff "$room/wanted" "$room/out" | head -3)"
 
-# The counts of the pieces of a list add up to those of the list, as docs/REGISTERS.md has them added: in pieces that `split`
+# The counts of the pieces of a list add up to those of the list, as docs/guides/cluster.md has them added: in pieces that `split`
 # makes, and in those of GNU parallel where it is installed.
 mkdir -p "$room/path"
 ln -sf "$program" "$room/path/urlcheck"
 mv "$room/list" "$room/all.links"
-by_parallel=$(sed -n '/^parallel --pipepart/,/^```$/p' "$here/../docs/REGISTERS.md" | sed '/^```$/d')
+by_parallel=$(sed -n '/^parallel --pipepart/,/^```$/p' "$here/../docs/guides/cluster.md" | sed '/^```$/d')
 by_split=$(printf '%s\n' "$by_parallel" | sed "1s/.*/split -C 300K --filter='urlcheck links || true' all.links |/")
 # adds_up COMMAND : the command's sums are those of the list
 adds_up() {
@@ -182,7 +182,7 @@ adds_up() {
     printf '%s\n' '20000 code-point' '20000 no-scheme' 'links 100000 ok 60000 bad 40000 differs 0' |
         cmp -s - "$room/out" || fail "a list in pieces: $(cat "$room/out" "$room/err")"
 }
-[ -n "$by_parallel" ] || fail 'docs/REGISTERS.md has no command for many processes'
+[ -n "$by_parallel" ] || fail 'docs/guides/cluster.md has no command for many processes'
 adds_up "$by_split"
 if command -v parallel >/dev/null; then
     adds_up "$by_parallel"

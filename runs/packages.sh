@@ -1,6 +1,6 @@
 #!/usr/bin/env bash
 # Installs the program given as the first argument, and the library, into a folder: what is installed there, that the
-# programs of docs/LIBRARY.md build and run by it, that each file names the one version, what the shared library
+# programs of docs/guides build and run by it, that each file names the one version, what the shared library
 # exports, that the header is taken by each standard of C and C++, that an old processor runs the library, and that
 # nothing is left once it is removed. What isn't installed on the machine is left out, and a line says so. LIBRARY may
 # name a folder that ./build-library wrote.
@@ -33,7 +33,7 @@ ENGINES='' quietly ./install $prefix
 python=$(cd "$at/lib" && ls -d python*/*-packages)
 {
     sed -e "s|PYTHON|$python|" -e "s|VERSION|$version|" runs/packages/files
-    printf 'share/doc/urlcheck/%s\n' docs/*.md docs/rules/*.md docs/*.svg docs/*.png vectors/*
+    printf 'share/doc/urlcheck/%s\n' docs/*.md docs/guides/*.md docs/rules/*.md docs/*.svg docs/*.png vectors/*
     (cd python && printf "lib/$python/%s\n" urlcheck/*.py urlcheck/*.pyi urlcheck/py.typed urlcheck/_native.abi3.so)
 } | sort >"$room/wanted"
 (cd "$at" && find . ! -type d -printf '%P\n' | sort) >"$room/found"
@@ -67,9 +67,11 @@ told=$(python3 -c 'import json, sys; print(json.load(sys.stdin)["runs"][0]["tool
 for page in urlcheck.1 urlcheck-documents.1 urlcheck-language-server.1; do
     grep -qF "urlcheck $version" man/$page || fail "man/$page has another version than VERSION"
 done
-grep -qF "rev: v$version " docs/USES.md || fail "docs/USES.md names another tag than VERSION"
-[ "$(grep -oE '(/v|urlcheck-)[0-9]+[.][0-9]+[.][0-9]+' docs/USES.md | sort -u | xargs)" = "/v$version urlcheck-$version" ] ||
-    fail "docs/USES.md fetches another release than that of VERSION"
+[ "$(grep -cF "rev: v$version " docs/guides/hook.md)" = 2 ] || fail "docs/guides/hook.md names another tag than VERSION"
+for page in github gitlab; do
+    found=$(grep -oE '(/v|urlcheck-)[0-9]+[.][0-9]+[.][0-9]+' docs/guides/$page.md | sort -u | xargs)
+    [ "$found" = "/v$version urlcheck-$version" ] || fail "docs/guides/$page.md fetches another release than that of VERSION"
+done
 grep -qE "^## $version - [0-9]{4}-[0-9]{2}-[0-9]{2}$" CHANGELOG.md ||
     fail "CHANGELOG.md has no '## $version - ' with its day"
 

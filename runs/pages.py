@@ -1,7 +1,7 @@
 #!/usr/bin/env python3
-"""Checks the pages of this repository: those at its top, those of docs/, and each folder's README.md.
+"""Checks the pages of this repository: those at its top, those of docs/ and its folders, and each folder's README.md.
 
-    runs/pages.py texts [TOP]               lengths, sentences, links, paths and names; no program is needed
+    runs/pages.py texts [TOP]               lengths, links, paths and names; no program is needed
     runs/pages.py commands PROGRAM [TOP]    runs each block of `console` commands, and compares what they print
 
 TOP is the folder of the pages, by default the one above this file's. It ends with 1 where something is wrong.
@@ -30,7 +30,7 @@ FENCE = re.compile(r"^\s*```(.*)$")
 def pages_of(top):
     """The pages, each with its path from the top."""
     found = sorted(top.glob("*.md")) + sorted((top / "docs").glob("*.md")) + sorted(top.glob("*/README.md"))
-    found += sorted((top / "docs" / "rules").glob("*.md"))
+    found += sorted((top / "docs" / "guides").glob("*.md")) + sorted((top / "docs" / "rules").glob("*.md"))
     return [page.relative_to(top) for page in dict.fromkeys(found)]
 
 
@@ -141,7 +141,7 @@ def check_paths(top, page, text, wrong):
 def check_index(top, pages, texts, wrong):
     linked = {(top / "docs" / target.partition("#")[0]).resolve() for target in links_of(texts[INDEX])}
     for page in pages:
-        if page.parent.name == "docs" and page != INDEX and (top / page).resolve() not in linked:
+        if page.parent.name in ("docs", "guides") and page != INDEX and (top / page).resolve() not in linked:
             wrong.append("{}: no link leads to {}".format(INDEX, page))
 
 
@@ -244,8 +244,6 @@ def check_readme(top, text, wrong):
     version = (top / "VERSION").read_text(encoding="utf-8").strip()
     if "Version {},".format(version) not in text:
         wrong.append("README.md: it doesn't name the version of VERSION, {}".format(version))
-    if HEADLINE not in re.sub(r"\s+", " ", text):
-        wrong.append("README.md: the headline isn't there, word for word")
     if not any(re.match(r"\s+\^$", line) for line in lines[:FIRST_SCREEN]):
         wrong.append("README.md: no diagnostic with a caret on the first screen")
 
@@ -261,6 +259,8 @@ def check_texts(top):
     check_readme(top, texts[pathlib.Path("README.md")], wrong)
     check_index(top, pages, texts, wrong)
     check_names(top, texts[PROVED], wrong)
+    if HEADLINE not in re.sub(r"\s+", " ", texts[PROVED]):
+        wrong.append("{}: the headline isn't there, word for word".format(PROVED))
     check_calls(top, texts[LIBRARY], wrong)
     check_words(top, texts, wrong)
     check_notice(top, wrong)

@@ -58,12 +58,12 @@ spoiled 'a name of nothing' 'the name of nothing' texts docs/ARCHITECTURE.md \
     's/`plain_links::plain_cut`/`plain_links::plain_''cup`/'
 spoiled 'a call with other arguments' 'isn.t in `uv_resolve`' texts docs/LIBRARY.md \
     's/`resolve(alloc, text, base, profile)`/`resolve(alloc, base, text, profile)`/'
-spoiled 'a link that is no URL string' 'a link of the pages' "commands $program" docs/USES.md \
+spoiled 'a link that is no URL string' 'a link of the pages' "commands $program" docs/guides/hook.md \
     's/(https:\/\/pre-commit.com)/(https:\/pre-commit.com)/'
 spoiled 'no word on a law' 'isn.t named' texts docs/PROVED.md '/`step_counts::runs_keep_their_end`/d'
 spoiled 'a long sentence' 'a sentence of ' texts docs/SPEED.md \
     '$a A word and another one, '"$(printf 'and one more %.0s' {1..12})"'at the end.'
 spoiled 'no notice of a crate' 'no row for idna' texts NOTICE '/^idna /d'
-spoiled 'another headline' 'the headline' texts README.md 's/in at most 3n + 16 steps/in at most 2n + 5 steps/'
+spoiled 'another headline' 'the headline' texts docs/PROVED.md 's/in at most 3n + 16 steps/in at most 2n + 5 steps/'
 [ $failed = 0 ] && echo 'pages: each of thirteen spoiled copies was found'
 exit $failed

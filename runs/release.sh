@@ -1,6 +1,6 @@
 #!/usr/bin/env bash
 # What ./build-packages hands out: two builds in two folders give the same bytes, lintian says nothing of the packages,
-# installed in a root of their own the program, the manual page and the programs of docs/LIBRARY.md work, also on an old
+# installed in a root of their own the program, the manual page and the programs of docs/guides work, also on an old
 # processor, all vectors pass by the program and by the libraries, the extensions work in SQLite and in a server of
 # PostgreSQL, and removed nothing is left. A release asks for it, and no gate: it needs root's rights, `rt`, `cc`, `dpkg`,
 # `lintian`, `man`, `pip`, `pkg-config`, `python3`, `qemu-x86_64`, `sqlite3`, PostgreSQL, and what `./build-packages` needs.

@@ -27,7 +27,7 @@ spoiled() {
     fi
 }
 spoiled 'a link to nowhere' "which isn't there" index.html 's/"docs\/COMMANDS.html"/"docs\/COMMAND.html"/'
-spoiled 'an anchor to nowhere' 'no such anchor' docs/RULES.html 's/id="words"/id="word"/'
+spoiled 'an anchor to nowhere' 'no such anchor' docs/GLOSSARY.html 's/id="words"/id="word"/'
 spoiled 'a font from elsewhere' 'it loads https:' docs/RULES.html \
     's/<\/head>/<link rel="stylesheet" href="https:\/\/fonts.example\/a.css"><\/head>/'
 [ $failed = 0 ] && echo 'site: each of three spoiled copies was found'

@@ -1,6 +1,6 @@
 #!/usr/bin/env bash
-# Runs the recipes of docs/USES.md and docs/REGISTERS.md, as they stand there, over the program given as the first argument: on links that are
-# right, on wrong ones, and on what once made a recipe end well though nothing was judged. A recipe whose tool isn't
+# Runs the recipes of docs/guides, as a reader would copy them, over the program given as the first argument: on links that are
+# right, on wrong ones, and on what once made a recipe end well though nothing was checked. A recipe whose tool isn't
 # installed is left out, and a line says so. Those for documents are run where PACKAGE names the folder of the Python package,
 # and with the word `documents` these alone, as runs/library.sh does.
 set -uo pipefail
@@ -10,7 +10,7 @@ for tool in awk find python3; do
     command -v "$tool" >/dev/null || { echo "uses: $tool is missing; CONTRIBUTING.md says what the gate needs"; exit 70; }
 done
 top=$(dirname "$(dirname "$(realpath "$0")")")
-page=$top/docs/USES.md
+guides=$top/docs/guides
 room=$(mktemp -d)
 trap 'rm -rf "$room"' EXIT
 mkdir "$room/path"
@@ -19,15 +19,14 @@ export PATH=$room/path:$PATH LC_ALL=C.UTF-8 HOME=$room PYTHONDONTWRITEBYTECODE=1
 export GIT_CONFIG_NOSYSTEM=1 GIT_AUTHOR_NAME=a GIT_AUTHOR_EMAIL=a GIT_COMMITTER_NAME=a GIT_COMMITTER_EMAIL=a
 failed=0 count=0
 
-# recipe HEADING LANGUAGE [NUMBER] : the block of the language, by its number from 1, in a section of the page
+# recipe GUIDE LANGUAGE [NUMBER] : the block of the language, by its number from 1, of the page docs/guides/GUIDE.md
 recipe() {
     local found
-    found=$(awk -v heading="## $1" -v fence="\`\`\`$2" -v wanted="${3:-1}" '
-        /^## / { section = $0 == heading }
-        section && $0 == fence { seen++; inside = seen == wanted; next }
+    found=$(awk -v fence="\`\`\`$2" -v wanted="${3:-1}" '
+        $0 == fence { seen++; inside = seen == wanted; next }
         /^```$/ { inside = 0 }
-        inside' "$page")
-    [ -n "$found" ] || { echo "FAILED: $page has no recipe in $2 under $1" >&2; exit 1; }
+        inside' "$guides/$1.md")
+    [ -n "$found" ] || { echo "FAILED: docs/guides/$1.md has no block in $2 with number ${3:-1}" >&2; exit 1; }
     printf '%s\n' "$found"
 }
 
@@ -59,21 +58,60 @@ in_folder() {
     mkdir -p "$room/$1" && cd "$room/$1" || exit 1
 }
 
-# Each block of the page, but for commands with their output and for Spark, is taken by a line of this file.
-while IFS=$'\t' read -r heading language number; do
+# What else takes blocks of the guides: the guide, the language, and the run; `-` where no run does, with a reason below.
+elsewhere='list console runs/pages.py
+mend console runs/pages.py
+sphinx shell-session runs/authors/pages.py
+mkdocs shell-session runs/authors/pages.py
+markdown shell-session runs/authors/pages.py
+restructuredtext shell-session runs/authors/pages.py
+feed shell-session runs/authors/pages.py
+notebook shell-session runs/authors/pages.py
+epub shell-session runs/authors/pages.py
+asciidoc-latex shell-session runs/authors/pages.py
+editor lua runs/authors/recipes.py
+editor elisp runs/authors/recipes.py
+editor vim runs/authors/recipes.py
+other-editors toml runs/authors/recipes.py
+other-editors json runs/authors/recipes.py
+postgresql sql runs/registers/postgresql.sh
+sqlite sql runs/registers/sqlite.sh
+duckdb sh runs/registers/duckdb.sh
+dataframe python runs/registers/page.py
+python python runs/library/programs.py
+c c runs/library/programs.py
+c cpp runs/library/programs.py
+c sh runs/library.sh
+rattle rust runs/library/programs.py
+javascript js runs/browser.sh
+sphinx python -
+mkdocs yaml -
+cluster sh -
+cluster scala -
+javascript sh -'
+# (the lines for conf.py and mkdocs.yml are those that the commands of their guides write; the others need a cluster, Spark and npm)
+
+# Each block of the guides is taken, by a line of this file or by another run; a run that is named names the guides.
+while IFS=$'\t' read -r guide language number; do
     [ "$number" = 1 ] && number= || number=" $number"
-    grep -qF -e "recipe '$heading' $language$number" -e "recipe $heading $language$number" "$0" ||
-        { echo "FAILED: docs/USES.md, $heading: the block in $language isn't run"; failed=1; }
     count=$((count + 1))
-done < <(awk -v fence='^```[a-z]' '/^## / { section = substr($0, 4); delete seen }
-    $0 ~ fence && !/console$/ && !/scala$/ { language = substr($0, 4); print section "\t" language "\t" ++seen[language] }' "$page")
+    if grep -qF "recipe $guide $language$number" "$0"; then continue; fi
+    run=$(awk -v guide="$guide" -v language="$language" '$1 == guide && $2 == language { print $3 }' <<<"$elsewhere")
+    if [ "$run" = - ]; then continue; fi
+    [ -n "$run" ] && grep -qE "guides|recipes.py|page.py" "$top/$run" ||
+        { echo "FAILED: docs/guides/$guide.md: block${number:- 1} in $language isn't run"; failed=1; }
+done < <(for page in "$guides"/*.md; do
+    awk -v guide="$(basename "$page" .md)" '
+        /^```[a-z]/ { language = substr($0, 4); print guide "\t" language "\t" ++seen[language] }' "$page"
+done)
+echo "uses: no run takes: $(awk '$3 == "-" { printf "%s%s in %s", sep, $1, $2; sep = ", " }' <<<"$elsewhere")"
 
 right='https://example.com/' wrong='http://h/a b'
 
 # Links that stand in text files and in documents, reported where they stand.
 if [ $# = 1 ] && has rg; then
     in_folder text
-    recipe 'Links in text files' sh >../text.sh
+    recipe text-files sh >../text.sh
     printf 'a\nsee <http://x_y/>, https://example.com/\n\303\251 http://x/\303\251^\n' >a.txt
     ends 1 'links in text files' bash -o pipefail ../text.sh
     says 'links in text files' \
@@ -87,8 +125,8 @@ fi
 # Links of tables and of JSON, in which a wrong one is named, and a file that is none isn't taken for a right one.
 if [ $# = 1 ]; then
     in_folder tables
-    recipe 'Links in tables and JSON' bash >../table.sh
-    recipe 'Links in tables and JSON' bash 2 >../json.sh
+    recipe text-files bash >../table.sh
+    recipe text-files bash 2 >../json.sh
     printf '\357\273\277url,name\r\nhttps://example.com/,"two\r\nlines"\r\n"http://h/a b",c\r\n' >links.csv
     ends 1 'links in a table' bash ../table.sh
     says 'links in a table' 'links.csv:4:11: error: U+0020 SPACE may not stand in a URL [code-point]' \
@@ -113,29 +151,36 @@ if [ -n "${PACKAGE:-}" ]; then
     in_folder pages
     printf '#!/bin/sh\nPYTHONPATH=%s exec python3 -m urlcheck.documents "$@"\n' "$PACKAGE" >../path/urlcheck-documents
     chmod +x ../path/urlcheck-documents
-    recipe 'Links in documents' sh >../check.sh
-    recipe 'Links in documents' bash >../formats.sh
-    recipe 'Links in documents' yaml | sed -n 's/^ *run: //p' >../step.sh
-    recipe 'A sitemap or a feed' sh >../feeds.sh
+    recipe site sh >../check.sh
+    recipe site bash >../formats.sh
+    recipe site yaml | sed -n 's/^ *run: //p' >../step.sh
+    recipe feed sh >../feeds.sh
     sentence='U+005F LOW LINE may not stand in a domain'
     # (a runner runs a step so)
     for recipe in 'check.sh' 'formats.sh' '-e step.sh'; do
         script=../${recipe##* } options=${recipe%"${recipe##* }"}
-        rm -rf docs
+        rm -rf site
         ends any "documents in no folder, $recipe" bash $options "$script"
-        mkdir docs
-        printf '<a href="http://x_y/">a</a>\n<a href="b">b</a>\n' >docs/a.html
+        mkdir site
+        printf '<a href="http://x_y/">a</a>\n<a href="b">b</a>\n' >site/a.html
         ends 1 "wrong links in documents, $recipe" bash $options "$script"
-        grep -qxF -e "docs/a.html:1:17: error: $sentence [host-domain]" \
-            -e "::error file=docs/a.html,line=1,col=17,title=host-domain::$sentence" "$room/out" ||
+        grep -qxF -e "site/a.html:1:17: error: $sentence [host-domain]" \
+            -e "::error file=site/a.html,line=1,col=17,title=host-domain::$sentence" "$room/out" ||
             { echo "FAILED: links in documents, $recipe: it wrote: $(cat "$room/out")"; failed=1; }
-        printf '<a href="b">b</a>\n' >docs/a.html
+        printf '<a href="b">b</a>\n' >site/a.html
         ends 0 "right links in documents, $recipe" bash $options "$script"
-        printf '<a>' >docs/b.xml
+        printf '<a>' >site/b.xml
         ends any "a document that isn't read, $recipe" bash $options "$script"
     done
-    words=$(sed -n 's/.*judges begins with `\(urlcheck-documents [^`]*\)`\.$/\1/p' "$page")
-    recipe 'Known faults' sh | sed "s/^urlcheck lint --quiet --format json /${words:-no words} /" >../new-faults.sh
+    # Each line that builds a site ends with the check of what it built.
+    recipe site sh 2 >../builds.sh
+    while IFS= read -r line; do
+        folder=$(sed -n 's/.* \([a-z]*\) && .*/\1/p' <<<"$line")
+        [ "${line##*&& }" = "urlcheck-documents --check $folder" ] || { echo "FAILED: docs/guides/site.md: $line"; failed=1; }
+        count=$((count + 1))
+    done <../builds.sh
+    words=$(sed -n 's/.*checks begins with `\(urlcheck-documents [^`]*\)`\.$/\1/p' "$guides/known-faults.md")
+    recipe known-faults sh | sed "s/^urlcheck lint --quiet --format json /${words:-no words} /" >../new-faults.sh
     printf '<a href="b c">b</a>\n' >a.html
     : >known.json
     ends 1 'faults of a document of which none is known' sh ../new-faults.sh a.html
@@ -177,7 +222,7 @@ hard_names() {
 
 # Lists mended in place: one that can be, one with a line that can't, and one that can't be read.
 in_folder mended
-recipe 'A list mended' sh >../mend.sh
+recipe mend sh >../mend.sh
 printf 'http://h/a b\r\nhttp://h/a|b' >'two words.links'
 ends 1 'lists mended' sh ../mend.sh 'two words.links'
 printf 'http://h/a%%20b\r\nhttp://h/a|b' | cmp -s - 'two words.links' ||
@@ -198,7 +243,7 @@ done
 
 # What is new beside the known faults: none known yet, all known, one moved, one more, the same once more, no list.
 in_folder known
-recipe 'Known faults' sh >../new-faults.sh
+recipe known-faults sh >../new-faults.sh
 printf 'http://h/a b\n%s\n' $right >a.links
 ends 2 'faults without a file of known ones' sh ../new-faults.sh a.links
 : >known.json
@@ -217,11 +262,11 @@ ends 1 'a known fault twice' sh ../new-faults.sh a.links
 ends 2 'known faults of a list that is missing' sh ../new-faults.sh missing.links
 
 in_folder find
-recipe 'As compilers write it' sh >../find.sh
+recipe list sh >../find.sh
 hard_names 'find' bash ../find.sh
 if has make; then
     in_folder make
-    recipe 'A Makefile' make >Makefile
+    recipe list make >Makefile
     hard_names 'make' make -s check-links
 fi
 
@@ -229,7 +274,7 @@ fi
 try_hook() {
     in_folder hook
     git init -q . && git commit -q --allow-empty -m first
-    recipe 'A hook before a commit' sh >.git/hooks/pre-commit
+    recipe hook sh >.git/hooks/pre-commit
     chmod +x .git/hooks/pre-commit
     ends 0 'a commit without a list' git commit -q --allow-empty -m none
     for name in right.links 'two words.links' -x.links; do echo $right >"./$name"; done
@@ -262,7 +307,7 @@ if has git && has pre-commit; then
     git init -q . && cp "$top/.pre-commit-hooks.yaml" . && git add . && git commit -q -m hooks && git tag "v$(cat "$top/VERSION")"
     in_folder framework
     git init -q .
-    recipe 'A hook before a commit' yaml | sed "s|https://example.com/urlcheck.git.*|$room/source|" >.pre-commit-config.yaml
+    recipe hook yaml | sed "s|https://example.com/urlcheck.git.*|$room/source|" >.pre-commit-config.yaml
     echo $right >-x.links
     git add .
     ends 0 'pre-commit of a right list' pre-commit run --all-files
@@ -271,13 +316,20 @@ if has git && has pre-commit; then
     grep -q 'x.links:1:11: error' "$room/out" || { echo "FAILED: pre-commit says: $(cat "$room/out")"; failed=1; }
 fi
 
+# The hooks for documents that the guide names are there.
+recipe hook yaml 2 >"$room/hooks.yaml"
+while IFS= read -r id; do
+    grep -qx -- "- id: $id" "$top/.pre-commit-hooks.yaml" || { echo "FAILED: no hook $id"; failed=1; }
+    count=$((count + 1))
+done < <(sed -n 's/^ *- id: //p' "$room/hooks.yaml")
+
 # The workflows: each script that a runner gives to its shell, as a reader of YAML finds it.
 try_workflows() {
     local number step
     in_folder jobs
-    recipe 'GitHub and GitLab' yaml >../workflow-1.yml
-    recipe 'GitHub and GitLab' yaml 2 >../workflow-2.yml
-    recipe 'GitHub and GitLab' yaml 3 >../workflow-3.yml
+    recipe github yaml >../workflow-1.yml
+    recipe github yaml 2 >../workflow-2.yml
+    recipe gitlab yaml >../workflow-3.yml
     cat >../steps.py <<'PYTHON'
 import sys, yaml
 count = 0
@@ -293,9 +345,9 @@ PYTHON
     rm -f ../step-[0-9]
     ends 0 'the workflows are YAML' python3 ../steps.py ../workflow-1.yml ../workflow-2.yml ../workflow-3.yml
     [ "$(printf '%s ' ../step-[0-9])" = '../step-1 ../step-2 ../step-3 ../step-4 ../step-5 ' ] ||
-        { echo "FAILED: docs/USES.md has other steps: $(printf '%s ' ../step-*)"; failed=1; }
+        { echo "FAILED: docs/guides/github.md or gitlab.md has other steps: $(printf '%s ' ../step-*)"; failed=1; }
     [ "$(grep -c 'PROGRAM: urlcheck' ../workflow-[13].yml | xargs)" = '../workflow-1.yml:1 ../workflow-3.yml:1' ] ||
-        { echo 'FAILED: docs/USES.md names the program of a release otherwise'; failed=1; }
+        { echo 'FAILED: docs/guides/github.md or gitlab.md names the program of a release otherwise'; failed=1; }
     try_fetching 1
     try_fetching 4
     for step in ../step-2 ../step-3 ../step-5; do
@@ -357,8 +409,8 @@ cfirst
 call writefile([printf('%d entries, line %d, at the tab %d', len(getqflist()), line('.'), getline('.')[col('.') - 1] ==# "\t")], 'place')
 qall!
 VIM
-    recipe Vim vim >bytes.vimrc
-    recipe Vim vim 2 >screen.vimrc
+    recipe editor-lists vim >bytes.vimrc
+    recipe editor-lists vim 2 >screen.vimrc
     for settings in bytes screen; do
         ends 0 "vim, by $settings" timeout 60 \
             vim -Nu $settings.vimrc -i NONE -n -es -c 'edit two\ words.links' -c 'source judge.vim'
@@ -367,7 +419,7 @@ VIM
     done
 fi
 if has emacs; then
-    recipe Emacs elisp >settings.el
+    recipe editor-lists elisp >settings.el
     cat >judge.el <<'LISP'
 (require 'compile)
 (when (equal (getenv "SETTINGS") "yes") (load (expand-file-name "settings.el") nil t))
@@ -391,7 +443,7 @@ LISP
 fi
 
 # The task of an editor that runs a command and matches each line it writes.
-recipe 'Visual Studio Code' json >tasks.json
+recipe editor-lists json >tasks.json
 cat >task.py <<'PYTHON'
 import json, re, subprocess, sys
 task, = json.load(open("tasks.json"))["tasks"]
@@ -410,7 +462,7 @@ says 'the task of Visual Studio Code' 'two words.links|2|12|U+0020 SPACE may not
 
 # Documents: each kind, a wrong link in each, a document that is cut, one without links, a link over two lines.
 in_folder documents
-recipe 'A sitemap or a feed' bash >recipe.sh
+recipe feed bash >recipe.sh
 # feed STATUS TEXT [LINE..] : the recipe over a document of this text ends so, and says this
 feed() {
     local wanted=$1
@@ -436,8 +488,8 @@ feed 1 "${map}https://example.com/[]\\n</loc></url></urlset>"
 feed any "${map}https://example.com/a</loc></url>"
 feed any 'no document'
 feed any '<rss version="2.0"><channel><title>none</title></channel></rss>'
-sed_line=$(sed -n "s/.*GNU \`\(sed [^\`]*\)\`.*/\1/p" "$page")
-[ -n "$sed_line" ] || { echo 'FAILED: docs/USES.md has no line for the byte order mark'; failed=1; }
+sed_line=$(tr '\n' ' ' <"$guides/list.md" | sed -n "s/.*GNU \`\(sed [^\`]*\)\`.*/\1/p")
+[ -n "$sed_line" ] || { echo 'FAILED: docs/guides/list.md has no line for the byte order mark'; failed=1; }
 printf '\357\273\277https://example.com/\n' >marked
 ends any 'a list with a byte order mark' sh -c 'urlcheck links <marked'
 ends 0 'a byte order mark that is taken off' sh -c "$sed_line <marked | urlcheck links"
@@ -471,8 +523,7 @@ in_pieces() {
     mv wrong.links all.links
 }
 if has parallel; then
-    page=$top/docs/REGISTERS.md
-    recipe 'Many processes' bash | sed 's/--block 10M/--block 100K/' >parallel.sh
+    recipe cluster bash | sed 's/--block 10M/--block 100K/' >parallel.sh
     in_pieces 'parallel' bash parallel.sh
 fi
 

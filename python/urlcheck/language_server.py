@@ -432,7 +432,7 @@ USAGE = """\
 usage: urlcheck-language-server [--version | --help]
 
 Speaks the Language Server Protocol on standard input and output: an editor
-starts it. Its settings are those of the editor, and docs/EDITORS.md has them.
+starts it. Its settings are those of the editor: docs/CONFIGURATION.md has them.
 """
 
 

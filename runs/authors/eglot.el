@@ -1,4 +1,4 @@
-;; emacs --batch -l eglot.el FILE, with RECIPE_EL the recipe of docs/EDITORS.md: eglot sees the diagnostic of the file, asks what
+;; emacs --batch -l eglot.el FILE, with RECIPE_EL the recipe of docs/guides/editor.md: eglot sees the diagnostic of the file, asks what
 ;; it is, takes the first action, and sees none left. A list of links has no mode of Emacs', and Markdown none without a package,
 ;; so theirs is made here. (By -Q Emacs wouldn't look where Debian has eglot.)
 (package-initialize)

@@ -1,4 +1,4 @@
--- nvim --headless -u NONE -i NONE -c 'luafile nvim.lua' FILE, with RECIPE_LUA the recipe of docs/EDITORS.md: Neovim's own client
+-- nvim --headless -u NONE -i NONE -c 'luafile nvim.lua' FILE, with RECIPE_LUA the recipe of docs/guides/editor.md: Neovim's own client
 -- sees the one diagnostic of the file, asks what it is, takes the first action, and sees none left; then another one that is
 -- typed. A list of links has no type of Neovim's, so its server is started here.
 local function say(...) io.stdout:write(string.format(...) .. '\n') end

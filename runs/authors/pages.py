@@ -1,6 +1,8 @@
-"""Takes the commands of docs/SOURCES.md, and compares what they print: pages.py PROGRAM, the program `urlcheck`. What a section
-names that isn't installed is left out, and a line says so. The package is on PYTHONPATH."""
+"""Runs the commands of docs/START.md and docs/guides that are in blocks of the language `shell-session`, and compares what they
+print: pages.py PROGRAM, the program `urlcheck`. What a block names that isn't installed is left out, and a line says so. The
+package is on PYTHONPATH."""
 
+import glob
 import importlib.util
 import os
 import re
@@ -27,15 +29,23 @@ def missing(block, program):
     return modules + tools + ["urlcheck"] * ("urlcheck lint" in block and not os.access(program, os.X_OK))
 
 
+def blocks_of_pages():
+    """The blocks of the pages, each with its page."""
+    found = []
+    for path in [os.path.join(TOP, "docs", "START.md"), *sorted(glob.glob(os.path.join(TOP, "docs", "guides", "*.md")))]:
+        with open(path, encoding="utf-8") as page:
+            blocks = re.findall(r"^```shell-session\n(.*?)^```$", page.read(), re.M | re.S)
+        found += [(os.path.basename(path), block) for block in blocks]
+    return found
+
+
 def main():
     program = os.path.abspath(sys.argv[1])
-    with open(os.path.join(TOP, "docs", "SOURCES.md"), encoding="utf-8") as page:
-        blocks = re.findall(r"^```shell-session\n(.*?)^```$", page.read(), re.M | re.S)
     tried = 0
-    for block in blocks:
+    for name, block in blocks_of_pages():
         lacking = missing(block, program)
         if lacking:
-            print("authors: commands of docs/SOURCES.md left out, since {} isn't installed".format(lacking[0]))
+            print("authors: commands of {} left out, since {} isn't installed".format(name, lacking[0]))
             continue
         commands = re.findall(r"^\$ (.*)\n((?:(?!\$ ).*\n)*)", block, re.M)
         with tempfile.TemporaryDirectory() as room:
@@ -44,9 +54,10 @@ def main():
         printed = ran.stdout.decode().split("<end>\n")
         for (command, wanted), given in zip(commands, printed):
             if given != wanted:
-                sys.exit("FAILED: {}\nprinted: {}\nand not: {}\n{}".format(command, given, wanted, ran.stderr.decode()))
+                said = ran.stderr.decode()
+                sys.exit("FAILED: {}: {}\nprinted: {}\nand not: {}\n{}".format(name, command, given, wanted, said))
             tried += 1
-    print("authors: {} commands of docs/SOURCES.md".format(tried))
+    print("authors: {} commands of docs/START.md and docs/guides".format(tried))
 
 
 if __name__ == "__main__":

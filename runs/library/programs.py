@@ -1,6 +1,6 @@
-"""Writes the programs of docs/LIBRARY.md and of README.md, and what they print, as files into a folder.
+"""Writes the programs of docs/guides and of README.md, and what they print, as files into a folder.
 
-programs.py TOP FOLDER: page.c, page.cpp, page.py and report.py with their outputs are those of docs/LIBRARY.md; start.c
+programs.py TOP FOLDER: page.c, page.cpp, page.py and report.py with their outputs are those of the guides on C and Python; start.c
 and start.py those of README.md, the first within a function. The program in Rattle is the crate `caller`, byte for byte.
 """
 
@@ -9,7 +9,6 @@ import re
 import sys
 
 top, folder = pathlib.Path(sys.argv[1]), pathlib.Path(sys.argv[2])
-page = (top / "docs" / "LIBRARY.md").read_text(encoding="utf-8")
 readme = (top / "README.md").read_text(encoding="utf-8")
 
 
@@ -18,10 +17,11 @@ def blocks(text):
     return re.findall(r"^```(\w*)\n(.*?)^```$", text, flags=re.M | re.S)
 
 
-def section(name, number=0):
-    """A program and its output, by their number in a section of the page."""
-    found = blocks(page.split("\n## From {}\n".format(name))[1].split("\n## ")[0])
-    return found[2 * number][1], found[2 * number + 1][1]
+def program_of(guide, language, number=0):
+    """A program and its output: the block of a language with this number, and the block after it."""
+    found = blocks((top / "docs" / "guides" / (guide + ".md")).read_text(encoding="utf-8"))
+    at = [place for place, (name, _) in enumerate(found) if name == language][number]
+    return found[at][1], found[at + 1][1]
 
 
 def flat(code):
@@ -31,11 +31,11 @@ def flat(code):
 
 caller = top / "crates" / "caller"
 rattle = (caller / "src" / "main.rt").read_text(encoding="utf-8")
-if section("Rattle") != (rattle, (caller / "stdout").read_text(encoding="utf-8")):
-    sys.exit("FAILED: docs/LIBRARY.md: the program in Rattle, or what it prints, isn't the crate caller's")
-programs = (("C", 0, "page.c"), ("C++", 0, "page.cpp"), ("Python", 0, "page.py"), ("Python", 1, "report.py"))
-for language, number, name in programs:
-    program, printed = section(language, number)
+if program_of("rattle", "rust") != (rattle, (caller / "stdout").read_text(encoding="utf-8")):
+    sys.exit("FAILED: docs/guides/rattle.md: the program, or what it prints, isn't the crate caller's")
+programs = (("c", "c", 0, "page.c"), ("c", "cpp", 0, "page.cpp"), ("python", "python", 0, "page.py"), ("python", "python", 1, "report.py"))
+for guide, language, number, name in programs:
+    program, printed = program_of(guide, language, number)
     (folder / name).write_text(program, encoding="utf-8")
     (folder / (name + ".out")).write_text(printed, encoding="utf-8")
 

@@ -31,7 +31,7 @@ else
     ran=()
     while IFS= read -r python; do
         quietly "$python" "$top/runs/registers/columns.py" "$cases"
-        quietly "$python" "$top/runs/registers/page.py" python
+        quietly "$python" "$top/runs/registers/page.py" python dataframe
         ran+=("$(described "$python")")
     done < <(column_pythons)
     sanitizer=$(gcc -print-file-name=libasan.so)

@@ -34,7 +34,7 @@ else
     grep -qx 'bases judged: 5' "$room/found" || fail "duckdb: a base is judged anew: $(cat "$room/found")"
     mkdir "$room/duckdb/links"
     duckdb -c "COPY (SELECT * FROM (VALUES ('http://h/'), ('http://h/ b')) v(url)) TO '$room/duckdb/links/1.parquet'" >"$room/said"
-    python3 "$top/runs/registers/page.py" sh DuckDB >"$room/page"
+    python3 "$top/runs/registers/page.py" sh duckdb >"$room/page"
     (cd "$room/duckdb" && bash -e "$room/page") >"$room/said" 2>&1 || fail "duckdb: the commands of the page: $(cat "$room/said")"
     grep -q 'U+0020 SPACE may not stand in a URL' "$room/said" || fail "duckdb: the commands of the page: $(cat "$room/said")"
     while IFS='|' read -r file edit; do

@@ -65,9 +65,9 @@ dumped() {
 # The statements of the page, in their order: the errors are those that its comments tell.
 page() {
     sql -c 'CREATE DATABASE page'
-    python3 "$top/runs/registers/page.py" sql PostgreSQL | "$tree$bin/psql" -X -q -d page >"$room/page" 2>&1 || true
-    grep -E '^(ERROR|DETAIL|HINT): ' "$room/page" | diff <(python3 "$top/runs/registers/page.py" errors PostgreSQL) - ||
-        fail 'postgresql: the statements of docs/REGISTERS.md'
+    python3 "$top/runs/registers/page.py" sql postgresql | "$tree$bin/psql" -X -q -d page >"$room/page" 2>&1 || true
+    grep -E '^(ERROR|DETAIL|HINT): ' "$room/page" | diff <(python3 "$top/runs/registers/page.py" errors postgresql) - ||
+        fail 'postgresql: the statements of docs/guides/postgresql.md'
     says 'SELECT url, made_by = urlcheck_version() FROM register' 'http://h/b|t' page
 }
 

@@ -52,7 +52,7 @@ else
             SELECT count(url_resolve('a' || n, ${base%:*})) FROM s" 2>&1 | LC_ALL=C sort)
         [ "$found" = $'100\nbases judged: '"${base##*:}" ] || fail "sqlite: a base is judged anew: $base: $found"
     done
-    python3 "$top/runs/registers/page.py" sql SQLite >"$room/page"
+    python3 "$top/runs/registers/page.py" sql sqlite >"$room/page"
     LD_LIBRARY_PATH=$room/sqlite quietly sqlite3 -init /dev/null -batch -bail :memory: ".read $room/page"
     python=$(sqlite_python)
     if [ -n "$python" ]; then

@@ -17,7 +17,7 @@ import urllib.parse
 LOADED = {("script", "src"), ("img", "src"), ("iframe", "src"), ("source", "src")}
 STYLES = ("stylesheet", "icon", "preload")
 WIDTHS = (320, 1280)
-PAGES = ("index", "docs/COMMANDS", "docs/SOURCES", "docs/PROFILES")
+PAGES = ("index", "docs/START", "docs/COMMANDS", "docs/guides/sphinx", "docs/PROFILES", "docs/FORMATS")
 
 
 class Links(html.parser.HTMLParser):
@@ -98,7 +98,7 @@ def check_search(browser, address, wrong):
         found = browser.execute_script(
             "return [...document.querySelectorAll('.md-search-result__link')].map(it => it.getAttribute('href'))"
         )
-    if not any("RULES" in it or "QUESTIONS" in it for it in found):
+    if not any("rules/first-segment-empty" in it for it in found):
         wrong.append("the search for 'first segment' finds {}".format(found))
 
 
