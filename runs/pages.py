@@ -15,7 +15,6 @@ import tempfile
 
 README_LINES = 180
 FIRST_SCREEN = 32
-SENTENCE_WORDS = 40
 HEADLINE = (
     "where the checker says yes to a string, alone or against a base, the Standard's parser started on it runs to its"
     " end without failure or validation error, in at most 3n + 16 steps, and its record has exactly the scheme, host,"
@@ -86,14 +85,6 @@ def sentences_of(unit):
     return re.split(r"(?<=[.!?])[\"')*_]*\s+(?=[\"'(*_]*[A-Z0-9])", plain)
 
 
-def check_sentences(page, text, wrong):
-    for line, unit in units_of(text):
-        for sentence in sentences_of(unit.replace("*" + HEADLINE + "*", "").replace(HEADLINE, "")):
-            words = len(sentence.split())
-            if words > SENTENCE_WORDS:
-                wrong.append("{}:{}: a sentence of {} words: {} ..".format(page, line, words, sentence[:60]))
-
-
 # ---- links, paths and names
 
 
@@ -139,10 +130,13 @@ def check_paths(top, page, text, wrong):
 
 
 def check_index(top, pages, texts, wrong):
+    navigation = (top / "mkdocs.yml").read_text(encoding="utf-8")
     linked = {(top / "docs" / target.partition("#")[0]).resolve() for target in links_of(texts[INDEX])}
     for page in pages:
         if page.parent.name in ("docs", "guides") and page != INDEX and (top / page).resolve() not in linked:
             wrong.append("{}: no link leads to {}".format(INDEX, page))
+        if page.parts[0] == "docs" and not re.search(r": {}$".format(re.escape(str(page))), navigation, flags=re.M):
+            wrong.append("mkdocs.yml: its navigation has no {}".format(page))
 
 
 INDEX = pathlib.Path("docs/README.md")
@@ -253,7 +247,6 @@ def check_texts(top):
     pages = pages_of(top)
     texts = {page: (top / page).read_text(encoding="utf-8") for page in pages}
     for page, text in texts.items():
-        check_sentences(page, text, wrong)
         check_links(top, page, text, wrong)
         check_paths(top, page, text, wrong)
     check_readme(top, texts[pathlib.Path("README.md")], wrong)

@@ -1,7 +1,7 @@
 #!/usr/bin/env bash
 # Checks the pages of this repository over the program given as the first argument: each block of commands prints what
-# stands there, links and names lead somewhere, sentences are short, pictures are those that their scripts draw. Then it
-# spoils a copy of the pages in each of these ways, and sees that the check finds it.
+# the page says, links and names lead somewhere, sentences are short and plain, figures are those that benches stored, pictures
+# are those that their scripts draw. Then it spoils a copy of the pages in each of these ways, and sees that the check finds it.
 set -euo pipefail
 [ $# = 1 ] && [ -x "$1" ] || { echo 'usage: runs/pages.sh PROGRAM'; exit 2; }
 command -v python3 >/dev/null || { echo 'pages: python3 is missing; CONTRIBUTING.md says what the gate needs'; exit 70; }
@@ -14,6 +14,8 @@ failed=0
 
 python3 "$top/runs/pages.py" texts || failed=1
 python3 "$top/runs/pages.py" commands "$program" || failed=1
+python3 "$top/runs/prose.py" || failed=1
+python3 "$top/bench/figures.py" || failed=1
 for picture in profiles:docs/profiles.py speed:bench/plot.sh; do
     case $picture in
         *.py) python3 "$top/${picture#*:}" ;;
@@ -31,39 +33,56 @@ else
     echo "pages: that docs/rules is as ./make-rules makes it is left out, since node isn't installed"
 fi
 
-# spoiled WHAT SAID CHECK FILE SED : in a copy where this edit of a page changed something the check says so
+# spoiled WHAT SAID CHECK FILE SED : in a copy where this edit of a page changed something the check, a script and its words, says so
+count=0
 spoiled() {
     local what=$1 said=$2 check=$3 file=$4
+    count=$((count + 1))
     rm -rf "$room/copy"
     mkdir -p "$room/copy/docs" "$room/copy/vectors"
     ln -s "$top"/* "$room/copy/" 2>/dev/null || true
-    cp --remove-destination "$top"/*.md "$room/copy/"
-    cp --remove-destination "$top/NOTICE" "$room/copy/"
+    cp --remove-destination "$top"/*.md "$top/NOTICE" "$top/mkdocs.yml" "$room/copy/"
+    rm -f "$room/copy/bench"
+    mkdir "$room/copy/bench"
+    cp -r "$top/bench/kinds" "$top/bench/verdicts" "$room/copy/bench/"
+    ln -s "$top"/bench/* "$room/copy/bench/" 2>/dev/null || true
     cp -r "$top"/docs/* "$room/copy/docs/"
     cp "$top"/vectors/* "$room/copy/vectors/"
     sed -i "$5" "$room/copy/$file"
     if cmp -s "$room/copy/$file" "$top/$file"; then echo "FAILED: $what: $file stayed as it was"; failed=1; fi
-    if python3 "$top/runs/pages.py" $check "$room/copy" >"$room/said" || ! grep -q "^FAILED: .*$said" "$room/said"; then
+    if python3 "$top/"$check "$room/copy" >"$room/said" 2>&1 || ! grep -q "^FAILED: .*$said" "$room/said"; then
         echo "FAILED: pages with $what: $(cat "$room/said")"
         failed=1
     fi
 }
-spoiled 'another output' 'urlcheck check ' "commands $program" docs/PROFILES.md 's/^refused 22 percent$/refused 21 percent/'
-spoiled 'a link to nowhere' 'a link to docs/COMMAND.md' texts README.md 's/(docs\/COMMANDS.md)/(docs\/COMMAND.md)/'
-spoiled 'an anchor to nowhere' 'no heading makes' texts docs/COMMANDS.md 's/(#vectors)/(#vector)/'
-spoiled 'a path to nowhere' 'librarian' texts docs/TRUST.md 's/`runs\/library.sh`/`runs\/librarian.sh`/'
-spoiled 'a name of no function' 'no `fault_list`' texts docs/PROVED.md 's/^| `faults` |/| `fault_list` |/'
-spoiled 'a clause that is none' 'no clause `reported`' texts docs/PROVED.md 's/^| `run_links` | `report`/| `run_links` | `reported`/'
-spoiled 'a name of nothing' 'the name of nothing' texts docs/ARCHITECTURE.md \
+spoiled 'another output' 'urlcheck check ' "runs/pages.py commands $program" docs/PROFILES.md 's/^refused 22 percent$/refused 21 percent/'
+spoiled 'a link to nowhere' 'a link to docs/COMMAND.md' 'runs/pages.py texts' README.md 's/(docs\/COMMANDS.md)/(docs\/COMMAND.md)/'
+spoiled 'an anchor to nowhere' 'no heading makes' 'runs/pages.py texts' docs/COMMANDS.md 's/(#vectors)/(#vector)/'
+spoiled 'a path to nowhere' 'librarian' 'runs/pages.py texts' docs/TRUST.md 's/`runs\/library.sh`/`runs\/librarian.sh`/'
+spoiled 'a name of no function' 'no `fault_list`' 'runs/pages.py texts' docs/PROVED.md 's/^| `faults` |/| `fault_list` |/'
+spoiled 'a clause that is none' 'no clause `reported`' 'runs/pages.py texts' docs/PROVED.md 's/^| `run_links` | `report`/| `run_links` | `reported`/'
+spoiled 'a name of nothing' 'the name of nothing' 'runs/pages.py texts' docs/ARCHITECTURE.md \
     's/`plain_links::plain_cut`/`plain_links::plain_''cup`/'
-spoiled 'a call with other arguments' 'isn.t in `uv_resolve`' texts docs/LIBRARY.md \
+spoiled 'a call with other arguments' 'isn.t in `uv_resolve`' 'runs/pages.py texts' docs/LIBRARY.md \
     's/`resolve(alloc, text, base, profile)`/`resolve(alloc, base, text, profile)`/'
-spoiled 'a link that is no URL string' 'a link of the pages' "commands $program" docs/guides/hook.md \
+spoiled 'a link that is no URL string' 'a link of the pages' "runs/pages.py commands $program" docs/guides/hook.md \
     's/(https:\/\/pre-commit.com)/(https:\/pre-commit.com)/'
-spoiled 'no word on a law' 'isn.t named' texts docs/PROVED.md '/`step_counts::runs_keep_their_end`/d'
-spoiled 'a long sentence' 'a sentence of ' texts docs/SPEED.md \
+spoiled 'no word on a law' 'isn.t named' 'runs/pages.py texts' docs/PROVED.md '/`step_counts::runs_keep_their_end`/d'
+spoiled 'a page that the navigation lacks' 'its navigation has no' 'runs/pages.py texts' mkdocs.yml '/guides\/feed.md/d'
+spoiled 'a long sentence' 'a sentence of ' runs/prose.py docs/START.md \
     '$a A word and another one, '"$(printf 'and one more %.0s' {1..12})"'at the end.'
-spoiled 'no notice of a crate' 'no row for idna' texts NOTICE '/^idna /d'
-spoiled 'another headline' 'the headline' texts docs/PROVED.md 's/in at most 3n + 16 steps/in at most 2n + 5 steps/'
-[ $failed = 0 ] && echo 'pages: each of thirteen spoiled copies was found'
+spoiled 'long sentences' 'words a sentence, and at most' runs/prose.py docs/guides/epub.md \
+    '$a '"$(for _ in {1..9}; do printf 'A word %sat the end. ' "$(printf 'and another %.0s' {1..12})"; done)"
+spoiled 'a word that the glossary avoids' "the glossary avoids 'judges'" runs/prose.py docs/QUESTIONS.md 's/checks lists with a link/judges lists with a link/'
+spoiled 'a glossary without its table' 'the table of avoided words is missing' runs/prose.py docs/GLOSSARY.md '/^| `/d'
+spoiled 'no word on who needs a page' "doesn.t say who needs it" runs/prose.py docs/guides/feed.md 's/^For RSS, Atom/RSS, Atom/'
+spoiled 'a long guide' 'a guide has at most' runs/prose.py docs/guides/mend.md "\$a $(printf 'A line.\\\\n%.0s' {1..120})"
+! command -v codespell >/dev/null ||
+    spoiled 'a slip of the pen' 'recieve ==> receive' runs/prose.py docs/INSTALL.md '$a You recieve it.'
+spoiled 'another figure in a table' 'the row should be' bench/figures.py docs/SPEED.md 's/^| plain | 343 |/| plain | 324 |/'
+spoiled 'another figure in a sentence' 'the figures of' bench/figures.py README.md 's/costs 0[.][0-9]* times the/costs 0.01 times the/'
+spoiled 'a stored output that says otherwise' 'the figures of' bench/figures.py bench/verdicts/mixed.txt 's/^check: [0-9]*/check: 999/'
+spoiled 'no notice of a crate' 'no row for idna' 'runs/pages.py texts' NOTICE '/^idna /d'
+spoiled 'another headline' 'the headline' 'runs/pages.py texts' docs/PROVED.md 's/in at most 3n + 16 steps/in at most 2n + 5 steps/'
+[ $failed = 0 ] && echo "pages: each of $count spoiled copies was found"
 exit $failed

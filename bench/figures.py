@@ -1,0 +1,197 @@
+#!/usr/bin/env python3
+"""The figures that the pages have from bench/verdicts.sh: read from the outputs that are stored in bench/verdicts, by bench/kinds.
+
+    bench/figures.py [TOP]            sees that README.md and docs/SPEED.md have them; 1 where one is another
+    bench/figures.py --write [TOP]    writes them there
+
+TOP is the folder of the pages, by default the one above this file's. Figures of other benches aren't stored, and not compared.
+"""
+
+import pathlib
+import re
+import sys
+from typing import Dict, List, Tuple
+
+Costs = Dict[str, Dict[str, float]]
+
+# The rows of docs/SPEED.md on a check, by their first cells: the kind of bench/kinds, and the call.
+CHECKS = {
+    "mixed, as in documents": ("mixed", "check"),
+    "mixed, by `check_alone`": ("mixed_alone", "alone"),
+    "plain": ("plain", "check"),
+    "with a root dot": ("root_dot", "check"),
+    "with a port": ("port", "check"),
+    "full of escapes": ("escapes", "check"),
+    "path beyond ASCII": ("beyond_ascii", "check"),
+    "path of 10,000 bytes": ("long_path", "check"),
+    "host of 100 bytes": ("long_host", "check"),
+    "upper case": ("upper", "check"),
+    "upper case in the host alone": ("upper_host", "check"),
+    "host beyond ASCII": ("name_abroad", "check"),
+    "host with `xn--`": ("ace", "check"),
+    "IPv4 address": ("ipv4", "check"),
+    "IPv6 address": ("ipv6", "check"),
+    "`file:` link": ("file", "check"),
+    "reference, the base kept": ("reference", "check"),
+    "reference with a host, the base kept": ("host_reference", "check"),
+    "refused: code point": ("code_point", "check"),
+    "refused: space": ("space", "check"),
+    "refused: host with `ab--c`": ("hyphens", "check"),
+    "refused: credentials": ("credentials", "check"),
+    "wide profile, host with `_`": ("underscore", "check"),
+    "wide profile, refused: credentials": ("credentials_wide", "check"),
+    "parser's profile, plain": ("plain_parser", "check"),
+    "parser's profile, escaped host": ("escaped_host", "check"),
+    "parser's profile, host with `_`": ("underscore_parser", "check"),
+    "parser's profile, refused: credentials": ("credentials_parser", "check"),
+}
+# The rows on the text of a URL: the end of the kind, after `resolve_` and `record_`.
+TEXTS = {
+    "plain": "plain",
+    "with a port": "port",
+    "full of escapes": "escapes",
+    "path beyond ASCII": "beyond_ascii",
+    "upper case": "upper",
+    "upper case in the host alone": "upper_host",
+    "host beyond ASCII": "name_abroad",
+    "host with `xn--`": "ace",
+    "IPv4 address": "ipv4",
+    "IPv6 address": "ipv6",
+    "`file:` link": "file",
+    "reference, the base kept": "reference",
+}
+CHECK_HEAD = "| Texts | `check` | Ada | ratio | `is_valid` | ratio |"
+TEXT_HEAD = "| Texts | Ada | resolve | ratio | record | ratio |"
+# The sentences with figures: the page, and the words with the names of figures in braces.
+SENTENCES = (
+    ("README.md", "costs {mixed} times the instructions of Ada's `can_parse`"),
+    ("README.md", "On each of {kinds} kinds of texts it costs at most {most} times as many."),
+    ("docs/SPEED.md", "and all {kinds} kinds reach it"),
+)
+
+
+def stored(top: pathlib.Path) -> Costs:
+    """What each call took of each kind, and Ada, in instructions a text."""
+    costs: Costs = {}
+    for line in (top / "bench" / "kinds").read_text(encoding="utf-8").splitlines():
+        if line and not line.startswith("#"):
+            kind = line.split()[0]
+            file = top / "bench" / "verdicts" / (kind + ".txt")
+            if not file.exists():
+                sys.exit("FAILED: bench/verdicts/{}.txt is missing: bench/plot.sh --measure makes it".format(kind))
+            text = file.read_text(encoding="utf-8")
+            costs[kind] = {call: float(cost) for call, cost in re.findall(r"^(\w+): ([\d.]+) instructions", text, re.M)}
+    return costs
+
+
+def whole(cost: float) -> str:
+    """A number of instructions as the pages have it."""
+    return "{:,.0f}".format(cost)
+
+
+def ratio(costs: Costs, kind: str, call: str) -> str:
+    """How many times what Ada takes a call takes."""
+    return "{:.2f}".format(costs[kind][call] / costs[kind]["ada"])
+
+
+def check_cells(costs: Costs, kind: str, call: str) -> List[str]:
+    """The cells of a row on a check, after the first."""
+    cells = [whole(costs[kind][call]), whole(costs[kind]["ada"]), ratio(costs, kind, call)]
+    if "is_valid" not in costs[kind]:
+        return cells + ["", ""]
+    return cells + [whole(costs[kind]["is_valid"]), ratio(costs, kind, "is_valid")]
+
+
+def text_cells(costs: Costs, end: str) -> List[str]:
+    """The cells of a row on the text of a URL, after the first."""
+    resolve, record = "resolve_" + end, "record_" + end
+    cells = [whole(costs[resolve]["ada"]), whole(costs[resolve]["resolve"]), ratio(costs, resolve, "resolve")]
+    return cells + [whole(costs[record]["record"]), ratio(costs, record, "record")]
+
+
+def row(cells: List[str]) -> str:
+    """A row of a table; an empty cell is one space."""
+    return "|" + "|".join(" {} ".format(cell) if cell else " " for cell in cells) + "|"
+
+
+def tables(costs: Costs) -> Dict[str, Dict[str, str]]:
+    """The tables of docs/SPEED.md by their heads: each row by its first cell."""
+    checks = {name: row([name, *check_cells(costs, *of)]) for name, of in CHECKS.items()}
+    texts = {name: row([name, *text_cells(costs, end)]) for name, end in TEXTS.items()}
+    return {CHECK_HEAD: checks, TEXT_HEAD: texts}
+
+
+def named(costs: Costs) -> Dict[str, str]:
+    """The figures of the sentences."""
+    checks = [kind for kind, cost in costs.items() if "check" in cost]
+    most = max(costs[kind]["check"] / costs[kind]["ada"] for kind in checks)
+    return {"mixed": ratio(costs, "mixed", "check"), "kinds": str(len(checks)), "most": "{:.2f}".format(most)}
+
+
+def with_tables(text: str, wanted: Dict[str, Dict[str, str]]) -> Tuple[str, int, List[str]]:
+    """A page with its tables as they should be, how many rows it has of them, and what is wrong."""
+    lines, wrong, count, rows = text.split("\n"), [], 0, {}
+    missing = {(head, name) for head, names in wanted.items() for name in names}
+    head = ""
+    for at, line in enumerate(lines):
+        if line in wanted:
+            head, rows = line, wanted[line]
+        elif not line.startswith("|"):
+            rows = {}
+        elif rows and not line.startswith("|--"):
+            name = line.strip("|").split("|")[0].strip()
+            if name not in rows:
+                wrong.append("docs/SPEED.md:{}: no kind has the name of this row: {}".format(at + 1, name))
+                continue
+            missing.discard((head, name))
+            count += 1
+            if line != rows[name]:
+                wrong.append("docs/SPEED.md:{}: the row should be: {}".format(at + 1, rows[name]))
+                lines[at] = rows[name]
+    wrong += ["docs/SPEED.md: no row: {}".format(name) for _, name in sorted(missing)]
+    return "\n".join(lines), count, wrong
+
+
+def with_sentence(page: str, text: str, sentence: str, figures: Dict[str, str]) -> Tuple[str, List[str]]:
+    """A page with the figures of a sentence as they should be, and what is wrong."""
+    parts = re.split(r"(\{\w+\})", sentence)
+    pattern = "".join(r"([\d.,]*\d)" if it.startswith("{") else r"\s+".join(map(re.escape, it.split(" "))) for it in parts)
+    wanted = [figures[it[1:-1]] for it in parts if it.startswith("{")]
+    found = re.search(pattern, text)
+    if not found:
+        return text, ["{}: no sentence: {}".format(page, sentence)]
+    if list(found.groups()) == wanted:
+        return text, []
+    for number in range(len(wanted), 0, -1):
+        text = text[: found.start(number)] + wanted[number - 1] + text[found.end(number) :]
+    return text, ["{}: the figures of '{}' should be {}".format(page, sentence, ", ".join(wanted))]
+
+
+def main() -> int:
+    """Compares the pages with the stored outputs, or writes the figures into them."""
+    words = sys.argv[1:]
+    writes = words[:1] == ["--write"]
+    rest = words[1:] if writes else words
+    if len(rest) > 1 or (rest and rest[0].startswith("-")):
+        sys.exit(__doc__)
+    top = pathlib.Path(rest[0]) if rest else pathlib.Path(__file__).resolve().parent.parent
+    costs = stored(top)
+    figures = named(costs)
+    pages = {page: (top / page).read_text(encoding="utf-8") for page in ("README.md", "docs/SPEED.md")}
+    wrong: List[str] = []
+    for page, sentence in SENTENCES:
+        pages[page], said = with_sentence(page, pages[page], sentence, figures)
+        wrong += said
+    pages["docs/SPEED.md"], count, said = with_tables(pages["docs/SPEED.md"], tables(costs))
+    wrong += said
+    if writes:
+        for page, text in pages.items():
+            (top / page).write_text(text, encoding="utf-8")
+    for line in wrong:
+        print(("written: " if writes else "FAILED: ") + line)
+    print("figures: {} rows and {} sentences, {}".format(count, len(SENTENCES), "as stored" if not wrong else "{} not".format(len(wrong))))
+    return int(bool(wrong) and not writes)
+
+
+if __name__ == "__main__":
+    sys.exit(main())

@@ -1,0 +1,168 @@
+#!/usr/bin/env python3
+"""How the pages read: the length of sentences, words that docs/GLOSSARY.md avoids, first lines, lengths, and spelling.
+
+    runs/prose.py [TOP]            sees that each page keeps to the limits below; 1 where one doesn't
+    runs/prose.py --table [TOP]    writes a row for each page: its words, its sentences, and what they are allowed
+
+TOP is the folder of the pages, by default the one above this file's. Spelling is looked at by codespell where it is installed.
+"""
+
+import pathlib
+import re
+import shutil
+import subprocess
+import sys
+
+import pages
+
+MEAN_WORDS = 20
+MOST_WORDS = 30
+GUIDE_LINES = 120
+GLOSSARY = pathlib.Path("docs/GLOSSARY.md")
+# How the first line of a page begins, by its section in docs/README.md.
+FIRST_LINES = {"Start": "For ", "Guides": "For ", "Reference": "Reference for ", "What lies below": "For "}
+# What pages are allowed beyond this, and why: how many longer sentences, and how many avoided words.
+EXPLAINED = "it has the sentences of `explain`"
+HISTORY = "what a version said isn't rewritten"
+BELOW = "its long sentences are still to be cut"
+ALLOWED = {
+    "docs/rules/*.md": (0, 3, EXPLAINED),
+    "docs/RULES.md": (0, 3, EXPLAINED),
+    "CHANGELOG.md": (30, 99, HISTORY),
+    "docs/ARCHITECTURE.md": (20, 0, BELOW),
+    "docs/DECISIONS.md": (26, 0, BELOW),
+    "docs/DEFINITIONS.md": (7, 2, BELOW),
+    "docs/PROVED.md": (21, 3, BELOW),
+    "docs/SPEED.md": (9, 0, BELOW),
+    "docs/TRUST.md": (10, 0, BELOW),
+}
+# Words that codespell takes for slips: a name, and the inputs of examples.
+SPELLED = ("crate", "ans", "nd", "fo", "te", "als", "ist", "oder")
+
+
+def avoided(top):
+    """The words that the glossary avoids, as a pattern; "stand for" is fine."""
+    text = (top / GLOSSARY).read_text(encoding="utf-8").partition("## Words that the pages avoid")[2]
+    words = [word for line in text.splitlines() if line.startswith("| `") for word in re.findall(r"`([^`]+)`", line.split("|")[1])]
+    if len(words) < 10:
+        sys.exit("FAILED: {}: the table of avoided words is missing".format(GLOSSARY))
+    # ("of these pages" is fine too)
+    whole = [re.escape(word) + (r"(?=[.,;:|)])" if word == "of these" else "") for word in words]
+    return re.compile(r"\b({})(?!\w| for\b)".format("|".join(whole)), re.I)
+
+
+def sentences_of(text):
+    """The sentences of a page with at least three words: the line, the sentence, the number of its words."""
+    found = []
+    for line, unit in pages.units_of(text):
+        for sentence in pages.sentences_of(unit.replace("*" + pages.HEADLINE + "*", "").replace(pages.HEADLINE, "")):
+            # (a list of words of code counts as one word, and what a `;` parts is read apart)
+            short = re.sub(r"Code(,? (and |or )?Code)+", "Code", sentence)
+            for part in short.split(";"):
+                words = len(part.split())
+                if words > 2:
+                    found.append((line, part.strip(), words))
+    return found
+
+
+def avoided_in(text, pattern):
+    """The avoided words of a page, each with its line; what is code, a link's target or a heading's anchor isn't looked at."""
+    found = []
+    for number, line in enumerate(pages.prose_of(text), start=1):
+        plain = re.sub(r"\]\([^)]*\)", "]", re.sub(r"``.*?``|`[^`]*`", "", line))
+        found += [(number, word) for word in pattern.findall(plain)]
+    return found
+
+
+def allowed_of(page):
+    """How many longer sentences and avoided words a page may have, and why."""
+    for name, allowance in ALLOWED.items():
+        if page.match(name):
+            return allowance
+    return 0, 0, ""
+
+
+def kinds_of(top):
+    """The pages of docs/ by their kind: the section of docs/README.md that has their link."""
+    parts = re.split(r"^## (.*)\n", (top / pages.INDEX).read_text(encoding="utf-8"), flags=re.M)
+    return {
+        (top / "docs" / target.partition("#")[0]).resolve(): kind
+        for kind, section in zip(parts[1::2], parts[2::2])
+        for target in pages.links_of(section)
+    }
+
+
+def first_line(text):
+    """The first line of a page after its heading."""
+    lines = [line for line in text.split("\n") if line and not line.startswith(("#", "!"))]
+    return lines[0] if lines else ""
+
+
+def check_form(top, page, text, kind, wrong):
+    """A guide's length, and that the first line says who needs the page."""
+    lines = text.count("\n")
+    if page.parent.name == "guides" and lines > GUIDE_LINES:
+        wrong.append("{}: {} lines, and a guide has at most {}".format(page, lines, GUIDE_LINES))
+    if page.parent.name in ("docs", "guides") and not first_line(text).startswith(FIRST_LINES.get(kind, "For ")):
+        wrong.append("{}: its first line doesn't say who needs it: {}".format(page, first_line(text)[:60]))
+
+
+def check_page(page, text, pattern, wrong):
+    """The sentences and words of a page, beside what it is allowed."""
+    long_ones, words_allowed, _ = allowed_of(page)
+    sentences = sentences_of(text)
+    mean = sum(words for _, _, words in sentences) / max(1, len(sentences))
+    if mean > MEAN_WORDS:
+        wrong.append("{}: {:.1f} words a sentence, and at most {} are wanted".format(page, mean, MEAN_WORDS))
+    longer = [it for it in sentences if it[2] > MOST_WORDS]
+    if len(longer) > long_ones:
+        for line, sentence, words in longer:
+            wrong.append("{}:{}: a sentence of {} words: {} ..".format(page, line, words, sentence[:60]))
+    found = avoided_in(text, pattern)
+    if len(found) > words_allowed:
+        wrong += ["{}:{}: the glossary avoids '{}'".format(page, line, word) for line, word in found]
+    return mean, max((words for _, _, words in sentences), default=0), len(longer), len(found)
+
+
+def check_spelling(top, found, wrong):
+    """What codespell takes for a slip, outside of code."""
+    if not shutil.which("codespell"):
+        print("prose: spelling is left out, since codespell isn't installed")
+        return
+    for page in found:
+        text = "\n".join(re.sub(r"``.*?``|`[^`]*`", "", line) for line in pages.prose_of((top / page).read_text(encoding="utf-8")))
+        ran = subprocess.run(
+            ["codespell", "-L", ",".join(SPELLED), "-"], input=text, capture_output=True, text=True, check=False
+        )
+        wrong += ["{}: {}".format(page, line.strip()) for line in ran.stdout.splitlines() if "==>" in line]
+
+
+def main():
+    words = sys.argv[1:]
+    table = words[:1] == ["--table"]
+    rest = words[1:] if table else words
+    if len(rest) > 1 or (rest and rest[0].startswith("-")):
+        sys.exit(__doc__)
+    top = pathlib.Path(rest[0]).resolve() if rest else pathlib.Path(__file__).resolve().parent.parent
+    pattern, wrong, kinds, found = avoided(top), [], kinds_of(top), pages.pages_of(top)
+    means, most, longer, avoided_words = [], 0, 0, 0
+    for page in found:
+        text = (top / page).read_text(encoding="utf-8")
+        mean, longest, over, words_found = check_page(page, text, pattern, wrong)
+        check_form(top, page, text, kinds.get((top / page).resolve()), wrong)
+        means.append(mean)
+        most, longer, avoided_words = max(most, longest), longer + over, avoided_words + words_found
+        if table:
+            row = "{:34} {:5} words, {:4.1f} a sentence, at most {:2}; {:2} above {}, {:2} avoided words  {}"
+            print(row.format(str(page), len(text.split()), mean, longest, over, MOST_WORDS, words_found, allowed_of(page)[2]))
+    check_spelling(top, found, wrong)
+    for line in wrong:
+        print("FAILED: " + line)
+    print("prose: {} pages, {:.1f} to {:.1f} words a sentence".format(len(found), min(means), max(means)))
+    allowed = "prose: allowed are {} sentences of more than {} words, and {} avoided words, in {}"
+    print(allowed.format(longer, MOST_WORDS, avoided_words, ", ".join(ALLOWED)))
+    return int(bool(wrong))
+
+
+if __name__ == "__main__":
+    sys.exit(main())
