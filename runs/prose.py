@@ -12,6 +12,7 @@ import re
 import shutil
 import subprocess
 import sys
+import tempfile
 
 import pages
 
@@ -127,12 +128,15 @@ def check_spelling(top, found, wrong):
     if not shutil.which("codespell"):
         print("prose: spelling is left out, since codespell isn't installed")
         return
-    for page in found:
-        text = "\n".join(re.sub(r"``.*?``|`[^`]*`", "", line) for line in pages.prose_of((top / page).read_text(encoding="utf-8")))
-        ran = subprocess.run(
-            ["codespell", "-L", ",".join(SPELLED), "-"], input=text, capture_output=True, text=True, check=False
-        )
-        wrong += ["{}: {}".format(page, line.strip()) for line in ran.stdout.splitlines() if "==>" in line]
+    with tempfile.TemporaryDirectory() as folder:
+        for page in found:
+            lines = [re.sub(r"``.*?``|`[^`]*`", "", line) for line in pages.prose_of((top / page).read_text(encoding="utf-8"))]
+            copy = pathlib.Path(folder) / page
+            copy.parent.mkdir(parents=True, exist_ok=True)
+            copy.write_text("\n".join(lines), encoding="utf-8")
+        words = ["codespell", "-L", ",".join(SPELLED), folder]
+        said = subprocess.run(words, capture_output=True, text=True, check=False).stdout
+    wrong += [line.replace(folder + "/", "") for line in said.splitlines() if "==>" in line]
 
 
 def main():
