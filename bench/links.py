@@ -1,6 +1,7 @@
 """Writes so many made links of a kind, one a line, from a seed, and on standard error how many of them are valid:
 python3 bench/links.py COUNT SEED [KIND]. The kinds are those of MAKERS below; with none the list is mixed, by SHARES.
-Against which base and by which profile a kind is judged stands in bench/kinds."""
+Each of own_base is two lines, a base and a reference. Against which base and by which profile a kind is judged stands
+in bench/kinds."""
 import ipaddress
 import random
 import sys
@@ -156,6 +157,11 @@ def reference():
     return text + (query() if draw.random() < 0.25 else "")
 
 
+def own_base():
+    """A page's address, and a reference on that page."""
+    return link(name, lambda: "/" + word() + path()) + "\n" + reference()
+
+
 MAKERS = {
     "plain": lambda: link(name),
     "root_dot": lambda: link(lambda: name() + "."),
@@ -172,6 +178,7 @@ MAKERS = {
     "ipv6": lambda: link(lambda: "[" + ipv6() + "]"),
     "file": file_link,
     "reference": reference,
+    "own_base": own_base,
     "host_reference": lambda: "//" + name() + rest(),
     "underscore": lambda: link(lambda: draw.choice(WORDS) + "_" + name()),
     "escaped_host": lambda: link(escaped_name),

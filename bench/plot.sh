@@ -4,7 +4,7 @@
 # stored in bench/verdicts/KIND.txt, as the script printed them.
 #   bench/plot.sh                     draws from the stored outputs, on standard output
 #   bench/plot.sh --measure [FOLDER]  makes the outputs anew first, by Ada in FOLDER, else beside what Ada took when it
-#                                     was measured (bench/verdicts/ada.stored); it takes a quarter of an hour
+#                                     was measured (bench/verdicts/ada.stored); it takes some minutes
 # It fails where an output is missing, lacks a figure, or says that something failed.
 set -euo pipefail
 top=$(dirname "$(dirname "$(realpath "$0")")")
@@ -19,7 +19,7 @@ if [ "${1:-}" = --measure ]; then
 fi
 [ $# = 0 ] || { echo 'usage: bench/plot.sh [--measure [FOLDER]]' >&2; exit 2; }
 
-grep -v '^#' "$top/bench/kinds" | while read -r kind _ call _ _ _ _ name; do
+grep -v '^#' "$top/bench/kinds" | while read -r kind _ call _ _ _ _ _ name; do
     [ -s "$stored/$kind.txt" ] || { echo "bench/plot.sh: bench/verdicts/$kind.txt is missing" >&2; exit 1; }
     ! grep '^FAILED' "$stored/$kind.txt" >&2 || { echo "bench/plot.sh: bench/verdicts/$kind.txt failed" >&2; exit 1; }
     awk -v name="$name" -v call="$call:" '

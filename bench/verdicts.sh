@@ -1,24 +1,28 @@
 #!/usr/bin/env bash
 # What this checker takes for texts of a kind, beside Ada and, where it is at hand, Rust's crate `url`. bench/kinds has
-# the kinds: what is made, the call, the profile, the base and the bound. `check`, `check_alone` (alone) and `is_valid`
-# stand beside Ada's can_parse, `resolve_serialized` (resolve) and `resolve` with its record's text (record) beside Ada's
-# parse with its href; both sides keep the base. It prints the instructions a text by callgrind, or the least processor time of so many
-# rounds with a run of each in turn, reading taken off, and the ratios to Ada.
+# the kinds: what is made, the call, the profile, the base, the aim and the bound. `check`, `check_alone` (alone),
+# `is_valid` and a call from C (from_c) stand beside Ada's can_parse, `resolve_serialized` (resolve) and `resolve` with
+# its record's text (record) beside Ada's parse with its href. Both sides keep the base, or read each text's own. It
+# prints the instructions a text by callgrind, or the least processor time of so many rounds with a run of each in turn,
+# reading taken off, and the ratios to Ada.
 # It fails where a figure is missing or below the floor, and where an answer isn't the wanted one: so many texts are
 # valid, Ada parses each, and writes each URL as this checker does. By instructions it also fails where a call passes
-# the kind's bound, where a verdict alone on plain links takes more than 0.75 of a check, and where plain links cost
-# more by the parser's profile than by the standard one.
+# the kind's bound by more than the slack, and where plain links cost more by the parser's profile than by the standard
+# one.
 # Usage: bench/verdicts.sh [--ada FOLDER] [--kind KIND|all] [--by instructions|time] [--rounds ROUNDS] [--count COUNT]
-#        [--seed SEED] [--links FILE] [--store FOLDER]
+#        [--seed SEED] [--links FILE] [--store FOLDER] [--jobs JOBS]
 # A folder of Ada's sources is built; a program that was built from one is taken as it is. Without Ada, texts of seed 1
-# are compared with what it took for them when it was measured, which bench/verdicts/ada.stored has. With `all` the
-# output of each kind is stored in the folder of --store too, and, where Ada was measured, its figures.
+# are compared with what it took for them when it was measured, which bench/verdicts/ada.stored has. LIBRARY may name a
+# folder that ./build-library wrote, for the calls from C. With `all` the output of each kind is stored in the folder of
+# --store too, and, where Ada was measured, its figures; so many kinds are measured side by side.
 set -euo pipefail
 top=$(dirname "$(dirname "$(realpath "$0")")")
-ada='' links='' seed=1 count='' kind=mixed rounds=5 by=instructions store=''
+# What a call may cost beyond its bound: another compiler or the next change of the sources moves a figure a little.
+slack=1.05
+ada='' links='' seed=1 count='' kind=mixed rounds=5 by=instructions store='' jobs=1 cache=''
 . "$top/bench/words.sh"
 . "$top/bench/peers/build.sh"
-words ada links seed count kind rounds by store -- "$@"
+words ada links seed count kind rounds by store jobs cache -- "$@"
 room=$(mktemp -d)
 trap 'rm -rf "$room"' EXIT
 driver=$top/crates/bench_check/out/bench_check
@@ -42,16 +46,32 @@ if [ -d "$ada" ]; then
 fi
 [ -z "$ada" ] || [ -x "$ada" ] || { echo "no folder of Ada: $ada"; exit 2; }
 
+# library : the folder of the library for C, which is built where none is given
+library() {
+    if [ -z "${LIBRARY:-}" ]; then
+        "$top/build-library" "$room/library" >&2
+        LIBRARY=$room/library
+    fi
+    echo "$LIBRARY"
+}
+
 # Every kind, by a run of this script for each.
 if [ "$kind" = all ]; then
     store=${store:-$room}
-    while read -r each _; do
-        bash "$0" "$@" ${ada:+--ada "$ada"} --kind "$each" </dev/null >"$store/$each.txt" || failed=1
-        cat "$store/$each.txt"
-    done < <(grep -v '^#' "$top/bench/kinds")
+    LIBRARY=$(library)
+    export LIBRARY
+    cache=$room/counted
+    mkdir "$cache"
+    mapfile -t kinds < <(awk '!/^#/ { print $1 }' "$top/bench/kinds")
+    # shellcheck disable=SC2016 # (the variables are those of the shell that is started)
+    printf '%s\n' "${kinds[@]}" | xargs -P "$jobs" -I KIND bash -c \
+        'out=$1/KIND.txt; shift; bash "$0" "$@" --kind KIND </dev/null >"$out"' \
+        "$0" "$store" "$@" ${ada:+--ada "$ada"} --cache "$cache" || failed=1
+    for each in "${kinds[@]}"; do cat "$store/$each.txt"; done
     if [ -n "$ada" ] && [ "$by $seed $count" = 'instructions 1 ' ]; then
         {
-            echo '# Instructions a text, Ada 2.9.2 by g++ 12 -O3 -march=x86-64-v2: the texts of bench/kinds, seed 1'
+            echo "# Instructions a text, Ada $("$ada" version) by g++ $(g++ -dumpversion) -O3 -march=x86-64-v2:" \
+                'the texts of bench/kinds, seed 1'
             (cd "$store" && awk '$1 == "kind:" { kind = $2 } $1 == "ada:" { print kind, $2 }' ./*.txt)
         } >"$room/ada.stored"
         cp "$room/ada.stored" "$store/ada.stored"
@@ -60,13 +80,14 @@ if [ "$kind" = all ]; then
 fi
 
 # The texts, and what is asked of them.
-call=check profile=standard base=- known='' wanted='' bound='' name='the lines of a file'
+call=check profile=standard base=- known='' wanted='' aim='' bound='' name='the lines of a file'
 if [ -n "$links" ]; then
     kind=list
 else
     row=$(awk -v kind="$kind" '$1 == kind' "$top/bench/kinds")
     [ -n "$row" ] || { echo "no such kind: $kind"; exit 2; }
-    read -r _ made call profile base known bound name <<<"$row"
+    read -r _ made call profile base known aim bound name <<<"$row"
+    [ "$bound" != - ] || bound=$aim
     # Time wants more texts than instructions do.
     if [ $by = time ]; then : "${count:=$((10 * known))}"; else : "${count:=$known}"; fi
     links=$room/links
@@ -74,6 +95,8 @@ else
     wanted=$(cat "$room/valid")
 fi
 lines=$(grep -c . "$links" || true)
+# (a base that is a text's own stands in the line before it)
+[ "$base" != own ] || lines=$((lines / 2))
 [ "$lines" -gt 0 ] || { echo 'no texts'; exit 2; }
 against=("$profile")
 [ "$base" = - ] || against+=("$base")
@@ -82,6 +105,13 @@ against=("$profile")
 declare -A program mode
 names=("$call")
 program[$call]=$driver mode[$call]=$call
+case $call in
+    is_valid) mode[$call]=valid ;;
+    from_c)
+        build_c "$(library)" "$room/c" || exit 2
+        program[$call]=$room/c mode[$call]=check
+        ;;
+esac
 if [ "$call" = check ]; then
     names+=(is_valid)
     program[is_valid]=$driver mode[is_valid]=valid
@@ -94,8 +124,8 @@ adas=''
 if [ -n "$ada" ]; then
     names+=(ada)
     case $call in
-        check | alone) mode[ada]=check ;;
-        *) mode[ada]=resolve ;;
+        resolve | record) mode[ada]=resolve ;;
+        *) mode[ada]=check ;;
     esac
     program[ada]=$ada
 elif [ "$by $seed $links $count" = "instructions 1 $room/links $known" ]; then
@@ -115,6 +145,21 @@ words_of() {
     if [ "$1" = standard ]; then echo standard; else printf '%s\n' "${against[@]}"; fi
 }
 
+# counted PROGRAM WORD.. : the instructions of a run over the texts; what it says is left in said. With `all` a run that was
+# counted for another kind isn't repeated.
+counted() {
+    local run
+    run=$cache/$(printf '%s\n' "$@" | cat - "$links" | sha256sum | cut -d' ' -f1)
+    if [ -n "$cache" ] && [ -s "$run.cost" ]; then
+        cp "$run.said" "$room/said"
+        cat "$run.cost"
+        return
+    fi
+    valgrind --tool=callgrind --callgrind-out-file=/dev/null "$@" <"$links" 2>&1 >"$room/said" |
+        sed -n 's/.*Collected : //p' | tee "$room/cost"
+    [ -z "$cache" ] || { cp "$room/said" "$run.said" && cp "$room/cost" "$room/new.cost" && mv "$room/new.cost" "$run.cost"; }
+}
+
 # spent NAME MODE : what one run costs
 spent() {
     local TIMEFORMAT=%U+%S words
@@ -123,20 +168,29 @@ spent() {
         { time "${program[$1]}" "$2" $passes "${words[@]}" <"$links" >"$room/said"; } 2>&1 |
             awk -F+ '{ printf "%.0f\n", ($1 + $2) * 1e9 }'
     else
-        valgrind --tool=callgrind --callgrind-out-file=/dev/null "${program[$1]}" "$2" $passes "${words[@]}" \
-            <"$links" 2>&1 >"$room/said" | sed -n 's/.*Collected : //p'
+        counted "${program[$1]}" "$2" $passes "${words[@]}"
     fi
 }
 
-declare -A whole reading said cost
+# lesser FIGURE FIGURE : the lesser of two, of which the second may be empty
+lesser() { if [ -z "$2" ] || (($1 < $2)); then echo "$1"; else echo "$2"; fi; }
+
+# What two calls of a program read alike is read once a round.
+declare -A whole reading reader said cost
 for ((round = 0; round < rounds; round++)); do
+    declare -A read=()
     for each in "${names[@]}"; do
-        read=$(spent "$each" read)
+        key="${program[$each]} $(words_of "$each")"
+        reader[$each]=$key
+        [ -n "${read[$key]:-}" ] || read[$key]=$(spent "$each" read)
         spent=$(spent "$each" "${mode[$each]}")
         said[$each]=$(sed 's/.*, \(.*\) valid/\1/' "$room/said")
-        [ -n "$spent" ] && [ -n "$read" ] || { echo "FAILED: $each gave no figure"; exit 1; }
-        if [ -z "${whole[$each]:-}" ] || ((spent < whole[$each])); then whole[$each]=$spent; fi
-        if [ -z "${reading[$each]:-}" ] || ((read < reading[$each])); then reading[$each]=$read; fi
+        if [ -z "$spent" ] || [ -z "${read[$key]}" ]; then
+            echo "FAILED: $each gave no figure"
+            exit 1
+        fi
+        whole[$each]=$(lesser "$spent" "${whole[$each]:-}")
+        reading[$key]=$(lesser "${read[$key]}" "${reading[$key]:-}")
     done
 done
 
@@ -161,18 +215,18 @@ answers "$call" verdicts
 valid=$(grep -c 1 "$room/$call.verdicts" || true)
 [ -z "$wanted" ] || [ "$valid" = "$wanted" ] || fail "$valid texts are valid, and not $wanted"
 for each in "${names[@]}"; do
-    cost[$each]=$(awk -v w="${whole[$each]}" -v r="${reading[$each]}" -v n=$((lines * passes)) \
+    cost[$each]=$(awk -v w="${whole[$each]}" -v r="${reading[${reader[$each]}]}" -v n=$((lines * passes)) \
         'BEGIN { printf "%.1f", (w - r) / n }')
     awk -v c="${cost[$each]}" -v f=$floor 'BEGIN { exit c < f }' ||
         fail "$each: ${cost[$each]} $unit a text are too few"
     line="$each: ${cost[$each]} $unit a text, ${said[$each]} of $lines"
     case $each in
         ada | url)
-            answers $each verdicts
+            answers "$each" verdicts
             silent=$(differing 0 1) loud=$(differing 1 0)
             line+=" parse, of which $silent aren't valid; $loud are valid that don't parse"
-            [ $each = url ] || [ "$loud" = 0 ] || fail "$loud texts are valid that don't parse by Ada"
-            [ $each = url ] || [ -z "$wanted" ] || [ "${said[ada]}" = "$lines" ] || fail "some texts don't parse by Ada"
+            [ "$each" = url ] || [ "$loud" = 0 ] || fail "$loud texts are valid that don't parse by Ada"
+            [ "$each" = url ] || [ -z "$wanted" ] || [ "${said[ada]}" = "$lines" ] || fail "some texts don't parse by Ada"
             ;;
         *)
             [ "${said[$each]}" = "$valid" ] || fail "$each: ${said[$each]} texts are valid, and not $valid"
@@ -193,7 +247,7 @@ fi
 # ratio A B [DIGITS] : of two figures
 ratio() { awk -v a="$1" -v b="$2" -v d="${3:-2}" 'BEGIN { printf "%.*f", d, a / b }'; }
 
-# holds NAME A B MOST : the ratio of two figures, as it is and not as it is rounded, that may not pass this by instructions
+# holds NAME A B MOST : the ratio of two figures, as it is and not as it is rounded, may not pass this by instructions
 holds() {
     [ $by = time ] || awk -v a="$2" -v b="$3" -v m="$4" 'BEGIN { exit a > m * b }' ||
         fail "$1: $(ratio "$2" "$3" 4), and at most $4 is wanted"
@@ -204,15 +258,16 @@ if [ -n "$adas" ]; then
 else
     adas=${cost[ada]:-}
 fi
-for each in "${names[@]}"; do
-    if [ -z "$adas" ] || [ $each = ada ] || [ $each = standard ]; then continue; fi
-    echo "$each to Ada: $(ratio "${cost[$each]}" "$adas")"
-    if [ -n "$bound" ] && [ $each != url ]; then holds "$each to Ada" "${cost[$each]}" "$adas" "$bound"; fi
-done
-if [ "$call" = check ]; then
-    echo "is_valid to check: $(ratio "${cost[is_valid]}" "${cost[check]}")"
-    if [ "$kind" = plain ]; then holds 'is_valid to check' "${cost[is_valid]}" "${cost[check]}" 0.75; fi
+if [ -n "$bound" ]; then
+    bound=$(awk -v b="$bound" -v s=$slack 'BEGIN { printf "%.4f", b * s }')
+    echo "aim: $aim, and at most $bound is held"
 fi
+for each in "${names[@]}"; do
+    if [ -z "$adas" ] || [ "$each" = ada ] || [ "$each" = standard ]; then continue; fi
+    echo "$each to Ada: $(ratio "${cost[$each]}" "$adas")"
+    if [ -n "$bound" ] && [ "$each" != url ]; then holds "$each to Ada" "${cost[$each]}" "$adas" "$bound"; fi
+done
+if [ "$call" = check ]; then echo "is_valid to check: $(ratio "${cost[is_valid]}" "${cost[check]}")"; fi
 if [ "$kind" = plain_parser ]; then
     echo "by the parser's profile to the standard one: $(ratio "${cost[check]}" "${cost[standard]}")"
     # (the words behind the mode are read too, which is a part of an instruction for each text)

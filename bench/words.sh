@@ -1,3 +1,4 @@
+# shellcheck shell=bash
 # Sourced by the benches.
 # words NAME.. -- WORD.. : gives each variable NAME the value that stands behind its word `--NAME`
 words() {

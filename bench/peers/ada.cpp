@@ -1,6 +1,7 @@
 // Ada over the lines of standard input, as crates/bench_check does it: MODE ROUNDS PROFILE BASE, the profile unread.
 // `check` asks can_parse. With a base, which is parsed once, it asks for the parse on which can_parse stands: that one
-// takes the text of a base and parses it in each call. `resolve` parses and takes the href.
+// takes the text of a base and parses it in each call. So it is asked where the base is `own`: then each text stands
+// behind a line with its base. `resolve` parses and takes the href. `version` says which Ada it is.
 #include "ada.h"
 #include <cstdio>
 #include <cstdlib>
@@ -31,6 +32,23 @@ static bool parses(std::string_view text, const Url *base) {
   return ada::parser::parse_url_impl<Url, false>(text, base).is_valid;
 }
 
+// How many of the texts parse, each against the line before it.
+static size_t count_own(const std::vector<std::string_view> &texts) {
+  size_t valid = 0;
+  for (size_t at = 1; at < texts.size(); at += 2) valid += ada::can_parse(texts[at], &texts[at - 1]);
+  return valid;
+}
+
+// A verdict for each text, all in one line.
+static void put_verdicts(const std::vector<std::string_view> &texts, const Url *base, bool own) {
+  std::string verdicts;
+  for (size_t at = own; at < texts.size(); at += 1 + own) {
+    bool valid = own ? ada::can_parse(texts[at], &texts[at - 1]) : parses(texts[at], base);
+    verdicts += valid ? '1' : '0';
+  }
+  std::puts(verdicts.c_str());
+}
+
 // The length of the text's href, or nothing where it doesn't parse.
 static std::optional<size_t> href_length(std::string_view text, const Url *base) {
   auto url = ada::parse<Url>(text, base);
@@ -47,19 +65,19 @@ static void put_href(std::string_view text, const Url *base) {
 int main(int argc, char **argv) {
   std::string mode = argc > 1 ? argv[1] : "check";
   int rounds = argc > 2 ? std::atoi(argv[2]) : 1;
+  if (mode == "version") return std::puts(ADA_VERSION) < 0;
   std::string bytes((std::istreambuf_iterator<char>(std::cin)), {});
   auto texts = texts_in(bytes);
   std::optional<Url> kept;
-  if (argc > 4) {
+  bool own = argc > 4 && std::string_view(argv[4]) == "own";
+  if (argc > 4 && !own) {
     auto url = ada::parse<Url>(argv[4]);
     if (!url) return 2;
     kept = *url;
   }
   const Url *base = kept ? &*kept : nullptr;
   if (mode == "verdicts") {
-    std::string verdicts;
-    for (auto text : texts) verdicts += parses(text, base) ? '1' : '0';
-    std::puts(verdicts.c_str());
+    put_verdicts(texts, base, own);
     return 0;
   }
   if (mode == "texts") {
@@ -69,7 +87,11 @@ int main(int argc, char **argv) {
   size_t valid = 0;
   for (int round = 0; round < rounds && mode == "check"; round++) {
     valid = 0;
-    for (auto text : texts) valid += parses(text, base);
+    if (own) {
+      valid = count_own(texts);
+    } else {
+      for (auto text : texts) valid += parses(text, base);
+    }
   }
   for (int round = 0; round < rounds && mode == "resolve"; round++) {
     valid = 0;

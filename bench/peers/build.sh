@@ -1,11 +1,17 @@
-# Sourced by bench/verdicts.sh and bench/links.sh: how the drivers of their peers are built. `$top` is the top of this
-# repository, and `$registry` a folder with sources of crates.
+# shellcheck shell=bash
+# Sourced by bench/verdicts.sh and bench/links.sh: how the drivers of their peers and that of the library for C are
+# built. `$top` is the top of this repository, and `$registry` a folder with sources of crates.
 registry=/usr/share/cargo/registry
 
 # build_ada FOLDER PROGRAM : Ada's driver, over the sources of a release
 build_ada() {
     command -v g++ >/dev/null || { echo 'Ada is built by g++'; return 1; }
-    g++ -std=c++20 -O3 -march=x86-64-v2 -I"$1/include" -I"$1/src" -o "$2" "$top/bench/peers/ada.cpp" "$1/src/ada.cpp"
+    g++ -std=c++20 -O3 -march=x86-64-v2 -I"$1/include" -I"$1/src" -o "$2" "${top:?}/bench/peers/ada.cpp" "$1/src/ada.cpp"
+}
+
+# build_c LIBRARY PROGRAM : the driver of the library for C, over what ./build-library wrote
+build_c() {
+    gcc -std=c99 -O2 -Wall -Wextra -Werror -I "$1/include" "$top/bench/peers/library.c" "$1/lib/liburlcheck.a" -o "$2"
 }
 
 # has_url : whether the crate `url` of Debian is at hand

@@ -1,5 +1,7 @@
-/* Judges the lines of standard input by the library for C, as often as is asked: as the driver bench_check does, which
-   finds the lines before it judges the first. Its words are the number of rounds and a base, which is prepared once. */
+/* Judges the lines of standard input by the library for C, as crates/bench_check does it: MODE ROUNDS PROFILE BASE, by
+   the standard profile alone. Both find the lines before they judge the first. `read` does no more, `check` judges each
+   line, and `verdicts` writes `1` or `0` for each. A base is prepared once. Where it is `own`, each text stands behind a
+   line with its base, which comes as text in each call. */
 #include "urlcheck.h"
 
 #include <stdio.h>
@@ -9,6 +11,14 @@
 struct line {
     const uint8_t *text;
     size_t length;
+};
+
+enum against { ALONE, KEPT, OWN };
+
+/* What the lines are judged against. */
+struct setting {
+    enum against against;
+    urlcheck_base base;
 };
 
 /* Finds the lines that aren't empty, and says how many there are. */
@@ -41,18 +51,63 @@ static size_t count_with(const struct line *lines, size_t count, const urlcheck_
     return valid;
 }
 
+/* Each second line against the one before it. */
+static size_t count_own(const struct line *lines, size_t count) {
+    size_t valid = 0;
+    for (size_t at = 1; at < count; at += 2) {
+        const struct line *text = lines + at, *base = text - 1;
+        urlcheck_answer answer =
+            urlcheck_check_against(text->text, text->length, base->text, base->length, URLCHECK_STANDARD);
+        valid += answer.found.verdict == URLCHECK_VALID;
+    }
+    return valid;
+}
+
+/* How many of the texts in so many lines are valid. */
+static size_t count_valid(const struct line *lines, size_t count, const struct setting *setting) {
+    switch (setting->against) {
+    case KEPT: return count_with(lines, count, &setting->base);
+    case OWN: return count_own(lines, count);
+    default: return count_alone(lines, count);
+    }
+}
+
+/* A verdict for each text, all in one line. */
+static void put_verdicts(const struct line *lines, size_t count, const struct setting *setting) {
+    size_t step = setting->against == OWN ? 2 : 1;
+    for (size_t at = 0; at + step <= count; at += step) {
+        putchar(count_valid(lines + at, step, setting) ? '1' : '0');
+    }
+    putchar('\n');
+}
+
+/* The setting that a base's text makes; an empty one is none. */
+static struct setting setting_of(const char *base) {
+    struct setting setting = {.against = *base ? KEPT : ALONE};
+    if (strcmp(base, "own") == 0) {
+        setting.against = OWN;
+    } else if (*base) {
+        setting.base = urlcheck_prepare((const uint8_t *)base, strlen(base), URLCHECK_STANDARD);
+    }
+    return setting;
+}
+
 int main(int count, char **words) {
-    size_t rounds = count > 1 ? strtoul(words[1], NULL, 10) : 1, room = 1u << 26, valid = 0;
-    const char *base_text = count > 2 ? words[2] : "";
+    const char *mode = count > 1 ? words[1] : "check", *profile = count > 3 ? words[3] : "standard";
+    size_t rounds = count > 2 ? strtoul(words[2], NULL, 10) : 1, room = 1u << 26, valid = 0;
+    struct setting setting = setting_of(count > 4 ? words[4] : "");
     char *text = malloc(room);
     struct line *lines = malloc(room / 2 * sizeof *lines);
-    if (!text || !lines) return 1;
+    if (!text || !lines || strcmp(profile, "standard") != 0) return 2;
     size_t found = cut(text, fread(text, 1, room, stdin), lines);
-    urlcheck_base base = urlcheck_prepare((const uint8_t *)base_text, strlen(base_text), URLCHECK_STANDARD);
-    for (size_t round = 0; round < rounds; round++) {
-        valid = count > 2 ? count_with(lines, found, &base) : count_alone(lines, found);
+    if (strcmp(mode, "verdicts") == 0) {
+        put_verdicts(lines, found, &setting);
+    } else {
+        for (size_t round = 0; round < rounds && strcmp(mode, "check") == 0; round++) {
+            valid = count_valid(lines, found, &setting);
+        }
+        printf("%zu lines, %zu valid\n", found, valid);
     }
-    printf("%zu lines, %zu valid\n", found, valid);
     free(lines);
     free(text);
     return 0;
