@@ -1,5 +1,7 @@
 #!/usr/bin/env bash
-# Runs the program given as the first argument on the cases of this folder: its status, output and standard error.
+# Runs the program given as the first argument on the cases of this folder: its status, output and standard error. Words of
+# the environment, for the program on another system (runs/platforms.sh): CASES has the names of the files of cases that are
+# run, else all are, and LACKS what the system lacks that some runs need (`has`, below).
 set -uo pipefail
 for tool in awk cmp mkfifo prlimit python3 setpriv; do
     command -v "$tool" >/dev/null || { echo "runs: $tool is missing; CONTRIBUTING.md says what the gate needs"; exit 70; }
@@ -37,6 +39,18 @@ ends_with() {
     if ! printf '%b' "$stderr" | cmp -s - "$room/err"; then fail "$what: on standard error: $(cat "$room/err")"; fi
 }
 
+# has WHAT RUNS : whether the system has what the next RUNS runs need. Else they are left out, and counted by what they need.
+declare -A left_out=()
+has() {
+    case " ${LACKS:-} " in
+        *" $1 "*) ;;
+        *) return 0 ;;
+    esac
+    count=$((count + $2))
+    left_out[$1]=$((${left_out[$1]:-0} + $2))
+    return 1
+}
+
 # no_base PLACE RULE SENTENCE : what is said on standard error of a base that this rule refuses
 no_base() { printf '%s' "urlcheck: the base is refused at place $1: $3\\nbase refused $1 $2\\n"; }
 
@@ -57,6 +71,8 @@ files=0
 total=0
 for cases in "$here"/*.cases.sh; do
     [ -e "$cases" ] || continue
+    name=$(basename "$cases" .cases.sh)
+    case " ${CASES:-$name} " in *" $name "*) ;; *) continue ;; esac
     files=$((files + 1))
     count=0
     complete=no
@@ -65,6 +81,10 @@ for cases in "$here"/*.cases.sh; do
     total=$((total + count))
 done
 [ $files != 0 ] || fail "$here: no file of cases"
+for what in "${!left_out[@]}"; do
+    total=$((total - left_out[$what]))
+    echo "runs: left out ${left_out[$what]} that need $what"
+done
 echo "runs: $total runs of $(basename "$program")"
 finished=yes
 exit $failed

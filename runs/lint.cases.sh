@@ -301,8 +301,10 @@ of_input 1 '-:1:10: error: U+0020 SPACE may not stand in a URL [code-point]\n' '
 of_input 0 '' 'urlcheck: 0 lines, 0 refused\n' '\xef\xbb\xbf\n' -
 of_input 1 '-:2:1: error: U+FEFF stands before the scheme [no-scheme]\n' 'urlcheck: 2 lines, 1 refused\n' \
     'urn:a\n\xef\xbb\xbfurn:a\n' -
-"$program" lint - <&- >"$room/out" 2>"$room/err"
-ends_with 2 $? "${no_input}urlcheck: 0 lines, 0 refused\\n" 'lint of a standard input that is closed'
+if has closed_streams 1; then
+    "$program" lint - <&- >"$room/out" 2>"$room/err"
+    ends_with 2 $? "${no_input}urlcheck: 0 lines, 0 refused\\n" 'lint of a standard input that is closed'
+fi
 "$program" lint - <"$room" >"$room/out" 2>"$room/err"
 ends_with 2 $? "${from_folder}urlcheck: 0 lines, 0 refused\\n" 'lint of a standard input that is a folder'
 (cd "$room" && "$program" lint --quiet - other.txt - missing <"$room") >"$room/out" 2>"$room/err"
@@ -557,10 +559,12 @@ rm -f "$room"/located* "$room"/alone.*
 # Memory is flat: a million lines, of which each hundredth is wrong, in an address space of 10 MB.
 awk 'BEGIN { for (n = 1; n <= 1000000; n++) print (n % 100 ? "https://example.com/" n "/a?b" : "http://h/a b") }' \
     >"$room/million"
-prlimit --as=10000000 "$program" lint "$room/million" >"$room/out" 2>"$room/err"
-ends_with 1 $? 'urlcheck: 1000000 lines, 10000 refused\n' 'lint of a million lines'
-[ "$(wc -l <"$room/out")" = 10000 ] || fail "lint of a million lines: $(wc -l <"$room/out") diagnostics"
-grep -qxF "$room/million:1000000:11: error: U+0020 SPACE may not stand in a URL [code-point]" "$room/out" ||
-    fail "lint of a million lines: it ends with $(tail -n 1 "$room/out")"
+if has prlimit 1; then
+    prlimit --as=10000000 "$program" lint "$room/million" >"$room/out" 2>"$room/err"
+    ends_with 1 $? 'urlcheck: 1000000 lines, 10000 refused\n' 'lint of a million lines'
+    [ "$(wc -l <"$room/out")" = 10000 ] || fail "lint of a million lines: $(wc -l <"$room/out") diagnostics"
+    grep -qxF "$room/million:1000000:11: error: U+0020 SPACE may not stand in a URL [code-point]" "$room/out" ||
+        fail "lint of a million lines: it ends with $(tail -n 1 "$room/out")"
+fi
 rm -f "$room/million" "$room"/hostile.* "$room"/none.*
 all_cases 228

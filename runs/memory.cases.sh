@@ -1,6 +1,11 @@
 # Little memory: each command in an address space that grows from where the program doesn't start to where its run
 # succeeds, and a long list of random bytes in a small one.
 
+if ! has prlimit 46; then
+    all_cases 46
+    return
+fi
+
 # A step is refused with the status 3, the word `memory` and whole lines, or nothing, on standard output.
 refused_at() {
     [ "$(cat "$room/err")" = memory ] || fail "$1: on standard error: $(head -c 80 "$room/err")"

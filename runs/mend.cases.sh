@@ -166,9 +166,11 @@ ends_with 1 $? 'urlcheck: 3 lines, 2 mended (2 same, 0 escaped, 0 changed), 1 re
 cmp -s "$room/wanted" "$room/out" || fail 'mend of long lines: it wrote other bytes'
 { printf 'http://h/ \n'; head -c 16777216 /dev/zero | tr '\0' ' '; printf '\nurn:a \n'; } >"$room/list"
 { printf 'http://h/\n'; head -c 16777216 /dev/zero | tr '\0' ' '; printf '\nurn:a\n'; } >"$room/wanted"
-prlimit --as=$((16 * 1024 * 1024)) "$program" mend <"$room/list" >"$room/out" 2>"$room/err"
-ends_with 1 $? 'urlcheck: 3 lines, 2 mended (2 same, 0 escaped, 0 changed), 1 refused\n' 'mend of a line of 16 MiB'
-cmp -s "$room/wanted" "$room/out" || fail 'mend of a line of 16 MiB: it wrote other bytes'
+if has prlimit 1; then
+    prlimit --as=$((16 * 1024 * 1024)) "$program" mend <"$room/list" >"$room/out" 2>"$room/err"
+    ends_with 1 $? 'urlcheck: 3 lines, 2 mended (2 same, 0 escaped, 0 changed), 1 refused\n' 'mend of a line of 16 MiB'
+    cmp -s "$room/wanted" "$room/out" || fail 'mend of a line of 16 MiB: it wrote other bytes'
+fi
 
 # A list of 100,000 lines in little memory, made a second time here as it is mended, and that list, which stays.
 awk 'BEGIN {
@@ -189,10 +191,12 @@ awk 'BEGIN {
         else print "http://h/" n
     }
 }' >"$room/wanted"
-prlimit --as=$((16 * 1024 * 1024)) "$program" mend <"$room/list" >"$room/out" 2>"$room/err"
-ends_with 0 $? 'urlcheck: 100000 lines, 75000 mended (50000 same, 25000 escaped, 0 changed), 0 refused\n' \
-    'mend of 100,000 lines'
-cmp -s "$room/wanted" "$room/out" || fail 'mend of 100,000 lines: it wrote other bytes'
+if has prlimit 1; then
+    prlimit --as=$((16 * 1024 * 1024)) "$program" mend <"$room/list" >"$room/out" 2>"$room/err"
+    ends_with 0 $? 'urlcheck: 100000 lines, 75000 mended (50000 same, 25000 escaped, 0 changed), 0 refused\n' \
+        'mend of 100,000 lines'
+    cmp -s "$room/wanted" "$room/out" || fail 'mend of 100,000 lines: it wrote other bytes'
+fi
 "$program" mend --quiet <"$room/wanted" 2>"$room/err" | cmp -s - "$room/wanted" ||
     fail 'mend of mended lines: it wrote other bytes'
 
@@ -222,7 +226,9 @@ ends_with 3 "$(cat "$room/status")" '' 'mend of a list to a closed pipe'
 "$program" mend --quiet <"$room" >"$room/out" 2>"$room/err"
 ends_with 3 $? "${from_folder}read\\n" 'mend of a folder'
 [ ! -s "$room/out" ] || fail "mend of a folder: it wrote $(head -c 40 "$room/out")"
-"$program" mend --quiet <&- >"$room/out" 2>"$room/err"
-ends_with 3 $? "${no_input}read\\n" 'mend with standard input closed'
+if has closed_streams 1; then
+    "$program" mend --quiet <&- >"$room/out" 2>"$room/err"
+    ends_with 3 $? "${no_input}read\\n" 'mend with standard input closed'
+fi
 
 all_cases 132

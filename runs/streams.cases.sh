@@ -4,8 +4,10 @@ printf 'urn:a\nurn:b\n' >"$room/list"
 for words in 'check urn:a' 'check x' 'links'; do
     "$program" $words <"$room/list" >/dev/full 2>"$room/err"
     ends_with 3 $? "${no_space}write\\n" "$words to a full device"
-    "$program" $words <"$room/list" >&- 2>"$room/err"
-    ends_with 3 $? "${no_output}write\\n" "$words with standard output closed"
+    if has closed_streams 1; then
+        "$program" $words <"$room/list" >&- 2>"$room/err"
+        ends_with 3 $? "${no_output}write\\n" "$words with standard output closed"
+    fi
     # A pipe without a reader, of which nothing is said, with the signal SIGPIPE at its default, and ignored.
     (sleep 0.2; "$program" $words <"$room/list" 2>"$room/err"; echo $? >"$room/status") | true
     ends_with 3 "$(cat "$room/status")" '' "$words to a closed pipe"
@@ -29,8 +31,10 @@ ends_with 3 "$(cat "$room/status")" '' 'links to a pipe closed behind one line'
 [ "$(cat "$room/out")" = '1 ok urn:isbn:1' ] || fail "a pipe closed behind one line: it wrote $(cat "$room/out")"
 
 # Inputs: closed, open for writing alone, a folder; and a list that ends within a line, a code point and a scheme.
-"$program" links <&- >"$room/out" 2>"$room/err"
-ends_with 3 $? "${no_input}read\\n" 'links with standard input closed'
+if has closed_streams 1; then
+    "$program" links <&- >"$room/out" 2>"$room/err"
+    ends_with 3 $? "${no_input}read\\n" 'links with standard input closed'
+fi
 "$program" links 0>"$room/written" >"$room/out" 2>"$room/err"
 ends_with 3 $? "${no_input}read\\n" 'links on an input for writing'
 "$program" links <"$room" >"$room/out" 2>"$room/err"
