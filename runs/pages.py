@@ -22,7 +22,7 @@ HEADLINE = (
     " written grammar."
 )
 # Folders of the repository: a word of code that begins with one of them is the path of something that is there.
-FOLDERS = "bench", "completions", "crates", "docs", "engines", "include", "man", "python", "runs", "vectors", "web"
+FOLDERS = "bench", "completions", "crates", "docs", "engines", "include", "man", "platform", "python", "runs", "vectors", "web"
 FENCE = re.compile(r"^\s*```(.*)$")
 
 

@@ -1,0 +1,23 @@
+/* See arguments.h. */
+#include "arguments.h"
+
+#include "platform.h"
+
+static uint64_t kept_count;
+static char **kept_words;
+
+void keep_arguments(int count, char **words) {
+    kept_count = (uint64_t)count;
+    kept_words = words;
+}
+
+int64_t platform_arg(uint64_t number, uint8_t *buffer, uint64_t room) {
+    if (number >= kept_count) return -1;
+    const char *word = kept_words[number];
+    uint64_t length = 0;
+    for (; word[length] != 0; length++) {
+        if (length == room) return -2;
+        buffer[length] = (uint8_t)word[length];
+    }
+    return (int64_t)length;
+}

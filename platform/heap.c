@@ -1,0 +1,26 @@
+/* The allocator of platform.h over that of C. */
+#include <stdlib.h>
+
+#include "platform.h"
+
+/* Where the block of a refused call stands. */
+static char nothing;
+
+static attempt attempt_of(void *block) {
+    return (attempt){block != NULL, (uint64_t)(uintptr_t)(block != NULL ? block : (void *)&nothing)};
+}
+
+/* (malloc and realloc may answer NULL of no bytes, and that isn't a refusal. Their blocks are aligned to 16.) */
+static size_t at_least_one(uint64_t size) { return size != 0 ? (size_t)size : 1; }
+
+void platform_alloc(attempt *answer, uint64_t size, uint64_t alignment) {
+    (void)alignment;
+    *answer = attempt_of(malloc(at_least_one(size)));
+}
+
+void platform_realloc(attempt *answer, void *block, uint64_t kept, uint64_t size, uint64_t alignment) {
+    (void)kept, (void)alignment;
+    *answer = attempt_of(realloc(block, at_least_one(size)));
+}
+
+void platform_dealloc(void *block) { free(block); }

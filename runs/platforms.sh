@@ -1,0 +1,139 @@
+#!/usr/bin/env bash
+# Runs the program of another system, and compares it with the program given as the first argument:
+#
+#     runs/platforms.sh PROGRAM TARGET
+#
+# TARGET is aarch64, Linux on ARM, under qemu. What runs: the cases of runs/, the checksums of all that commands say of 20,000
+# hostile texts and of the vectors, and little memory. What the system lacks is counted and named, and what isn't installed here
+# is left out, with a line.
+#
+# Words of the environment: BUILT is a folder that platform/build wrote, to be taken as it is; CASES has the names of the files
+# of cases that are run, else all are; and QUICK leaves out little memory.
+. "$(dirname "$(realpath "$0")")/start.sh"
+target=${2:?which system}
+here=$top/runs/platforms
+part="platforms: $target"
+limit=1800 # seconds for a file of cases
+
+lacks=prlimit # an emulator doesn't start in so little memory
+[ "$target" = aarch64 ] || { echo 'usage: runs/platforms.sh PROGRAM TARGET' >&2; exit 2; }
+emulator=qemu-$target
+needs "$part" "$emulator" "$target-linux-gnu-gcc"
+chmod 755 "$room"
+
+# ---- what is built
+
+# built_into FOLDER : the program of this system
+built_into() {
+    "$top/platform/build" "$target" "$1" >"$room/said" 2>&1 || { cat "$room/said"; echo "FAILED: $part isn't built"; exit 1; }
+}
+
+# named_program FOLDER TO : the program of a folder as a file TO/urlcheck, which runs here
+named_program() {
+    mkdir -p "$2"
+    { echo '#!/bin/sh'; echo "exec $emulator -0 urlcheck '$1/urlcheck-static' \"\$@\""; } >"$2/urlcheck"
+    chmod 755 "$2/urlcheck"
+}
+
+built=${BUILT:-$room/built}
+[ -n "${BUILT:-}" ] || built_into "$built"
+built=$(realpath "$built")
+named_program "$built" "$room/program"
+other=$room/program/urlcheck
+
+# ---- the cases, as many files side by side as there are processors
+
+# cases_of FILE : the cases of one file
+cases_of() {
+    CASES=$1 LACKS=$lacks timeout $limit bash "$top/runs/all.sh" "$other" >"$room/cases.$1" 2>&1
+}
+
+ran=0 failed=0 names=() left=()
+for file in "$top"/runs/*.cases.sh; do
+    name=$(basename "$file" .cases.sh)
+    case " ${CASES:-$name} " in *" $name "*) names+=("$name") ;; *) left+=("$name") ;; esac
+done
+for name in "${names[@]}"; do
+    while [ "$(jobs -pr | wc -l)" -ge "$(nproc)" ]; do sleep 0.2; done
+    (cases_of "$name" || echo "FAILED: the cases of $name on $target" >>"$room/cases.$name") &
+done
+wait
+for name in "${names[@]}"; do
+    if grep '^FAILED' "$room/cases.$name"; then failed=1; fi
+    ran=$((ran + $(sed -n 's/^runs: \([0-9]*\) runs of .*/\1/p' "$room/cases.$name")))
+done
+lacking=$(cat "$room"/cases.* | sed -n 's/^runs: left out \([0-9]*\) that need \(.*\)/\2 \1/p' |
+    awk '{ sum[$1] += $2 } END { for (it in sum) printf "; left out %d that need %s", sum[it], it }')
+echo "$part: $ran runs of ${#names[@]} files of cases$lacking"
+[ ${#left[@]} = 0 ] || echo "$part: the cases left out here: ${left[*]}"
+[ $failed = 0 ] || exit 1
+
+# ---- the same bytes as the program given
+
+python3 "$here/texts.py" 20000 "$top"/vectors/*.json >"$room/texts"
+
+# sums PROGRAM : a line for each command: its words, its status, and the checksum of what it wrote
+sums() {
+    local words file status
+    while read -r words; do
+        status=0
+        "$1" $words <"$room/texts" >"$room/out.$2" 2>"$room/err.$2" || status=$?
+        echo "$words: status $status $(cat "$room/out.$2" "$room/err.$2" | sha256sum)"
+    done <<'END_OF_WORDS'
+lint --all --format json -
+lint --wide --format caret -
+lint --profile parser --format sarif -
+links
+mend
+END_OF_WORDS
+    for file in "$top"/vectors/*.json; do
+        status=0
+        (cd "$top/vectors" && "$1" vectors "$(basename "$file")") >"$room/out.$2" 2>&1 || status=$?
+        echo "vectors $(basename "$file"): status $status $(sha256sum <"$room/out.$2")"
+    done
+}
+sums "$program" native >"$room/wanted" &
+sums "$other" other >"$room/found"
+wait
+diff "$room/wanted" "$room/found" || { echo "FAILED: $part writes other bytes"; exit 1; }
+echo "$part: one checksum for each of $(wc -l <"$room/found") commands, over 20,000 texts and the vectors"
+
+if [ -n "${QUICK:-}" ]; then
+    echo "$part: little memory is left out, since QUICK is set"
+    exit 0
+fi
+
+# ---- little memory: the allocator of the shim refuses, by a word of the environment
+
+cp -r "$top/platform" "$room/shims"
+mv "$room/shims/heap.c" "$room/shims/heap_of_c.c"
+cp "$here/budget.c" "$room/shims/heap.c"
+SHIMS=$room/shims built_into "$room/little"
+named_program "$room/little" "$room/little.program"
+
+# walks WORD.. : a run on $room/list in more and more memory: each step is refused with the status 3, the word `memory`, and a part
+# of the output that has whole lines, until one succeeds with all of it
+walks() {
+    local step status=3 refused=0
+    "$program" "$@" <"$room/list" >"$room/whole" 2>"$room/wanted" || true
+    for ((step = 0; step < 100000 && status == 3; step += step / 4 + 1)); do
+        status=0
+        BUDGET=$((step * 4096)) "$room/little.program/urlcheck" "$@" <"$room/list" >"$room/out" 2>"$room/err" || status=$?
+        [ $status = 3 ] || break
+        refused=$((refused + 1))
+        [ "$(tail -n 1 "$room/err")" = memory ] || { echo "FAILED: $part: $1 in little memory: $(cat "$room/err")"; exit 1; }
+        [ ! -s "$room/out" ] || [ "$(tail -c 1 "$room/out" | wc -l)" = 1 ] || { echo "FAILED: $part: $1 wrote half a line"; exit 1; }
+        cmp -s <(head -c "$(stat -c %s "$room/out")" "$room/whole") "$room/out" ||
+            { echo "FAILED: $part: $1 wrote other bytes in little memory"; exit 1; }
+    done
+    cmp -s "$room/whole" "$room/out" && cmp -s "$room/wanted" "$room/err" ||
+        { echo "FAILED: $part: $1 with enough memory: $(head -c 300 "$room/err")"; exit 1; }
+    [ $refused -gt 1 ] || { echo "FAILED: $part: $1 was refused $refused times"; exit 1; }
+}
+awk 'BEGIN { for (n = 0; n < 60000; n++) printf "a"; printf "\n" }' >"$room/name"
+{ printf 'http://h/ '; cat "$room/name"; } >"$room/list"
+walks lint -
+walks mend
+walks links
+walks check "http://h/$(cat "$room/name")"
+echo "$part: four commands in little memory: refused, and whole"
