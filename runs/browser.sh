@@ -1,10 +1,11 @@
 #!/usr/bin/env bash
 # Runs the checker for JavaScript, and the page, over every file of vectors, and compares with the program given as the
-# first argument; then what callers see, types, out of memory, and the page in a browser; and it sees that spoiled
-# copies are found. What isn't installed is left out, and a line says so. A folder that ./build-page has made may be
-# given second; else one is made. Words of the environment: QUICK leaves out the browser and the spoiled copies, GLUE
-# compiles and tries copies with a spoiled glue too, BROWSERS names the browsers for the page (chromium firefox webkit,
-# else the first alone), and PICTURE is a file for the picture of the page.
+# first argument; then what callers see, types, out of memory, and the page in each browser that is installed; and it
+# sees that spoiled copies are found. What isn't installed is left out, and a line says so. A folder that ./build-page
+# has made may be given second; else one is made. Words of the environment: QUICK leaves out the browsers and the spoiled
+# copies, GLUE compiles and tries copies with a spoiled glue too, BROWSERS names those for the page (chromium, firefox and
+# webkit, else the first alone), ALL tries all in each of them (else all tests in Chromium, a sample in the others, and
+# some of the spoiled copies), and PICTURE is a file for the picture of the page.
 . "$(dirname "$(realpath "$0")")/start.sh"
 here=$top/runs/browser
 needs browser node python3 wasm-opt
@@ -90,14 +91,14 @@ else
 fi
 
 if [ -n "${QUICK:-}" ]; then
-    echo 'browser: the browser and the spoiled copies are left out, since QUICK is set'
+    echo 'browser: the browsers and the spoiled copies are left out, since QUICK is set'
     exit 0
 fi
 module=''
 if [ -n "${GLUE:-}" ] && [ -e "$room/module.bc" ]; then module=$room/module.bc; fi
 bash "$here/plants.sh" "$folder" "$room/cases.json" "$program" "$module"
 
-# The page in each browser that is asked for and installed, and a copy in which texts are read as markup.
+# The page in each browser that is asked for and installed, and spoiled copies of it.
 python=''
 for it in python3 /usr/bin/python3; do
     if "$it" -c 'import selenium' 2>/dev/null; then python=$it; fi
@@ -106,40 +107,14 @@ if [ -z "$python" ]; then
     echo "browser: the page is left out, since python3-selenium isn't installed"
     exit 0
 fi
-
-# has_browser NAME : whether all that drives a browser is installed
-has_browser() {
-    case $1 in
-        chromium) command -v chromium && [ -x /usr/bin/chromedriver ] ;;
-        firefox) command -v firefox-esr ;;
-        webkit) command -v Xvfb && [ -x /usr/bin/WebKitWebDriver ] ;;
-    esac >/dev/null
-}
-declare -A packages=([chromium]='chromium or chromium-driver' [firefox]=firefox-esr [webkit]='webkit2gtk-driver or xvfb')
 export PYTHONDONTWRITEBYTECODE=1
+if command -v mypy >/dev/null; then
+    (cd "$here" && mypy --strict --cache-dir "$room/mypy" --python-executable "$(command -v "$python")" ./*.py) \
+        >"$room/said" 2>&1 || { cat "$room/said"; echo 'FAILED: the types of the tests of the page'; exit 1; }
+else
+    echo "browser: the types of the tests are left out, since mypy isn't installed"
+fi
 cp -r "$folder" "$room/limited"
 node "$here/limited.mjs" "$folder/urlcheck.wasm" 4 "$room/limited/urlcheck.wasm"
-for browser in ${BROWSERS:-chromium}; do
-    if ! has_browser $browser; then
-        echo "browser: the page in $browser is left out, since ${packages[$browser]} isn't installed"
-        continue
-    fi
-    picture=()
-    [ $browser != chromium ] || picture=(${PICTURE:+"$PICTURE"})
-    BROWSER=$browser "$python" "$here/page.py" "$folder" "$room/limited" "$room/cases.json" "$program" "${picture[@]}"
-done
-has_browser chromium || exit 0
-
-cp -r "$folder" "$room/spoiled"
-markup='for (const it of children) typeof it === "string" ? (made.innerHTML += it) : it \&\& made.append(it)'
-sed -i "s/made\.append(.*/$markup/" "$room/spoiled/page/elements.js"
-if cmp -s "$folder/page/elements.js" "$room/spoiled/page/elements.js"; then
-    echo 'FAILED: the plant changes nothing'
-    exit 1
-fi
-if ONLY=hostile_texts "$python" "$here/page.py" "$room/spoiled" "$room/limited" "$room/cases.json" "$program" \
-    >"$room/said" 2>&1 || ! grep -q 'FAILED: hostile texts: markup was' "$room/said"; then
-    echo "FAILED: texts that are read as markup aren't found: $(cat "$room/said")"
-    exit 1
-fi
-echo 'browser: texts that are read as markup are found'
+BROWSERS=${BROWSERS:-chromium} "$python" "$here/each_browser.py" "$folder" "$room/limited" "$room/cases.json" "$program"
+[ -z "${PICTURE:-}" ] || "$python" "$here/picture.py" "$folder" "$PICTURE"

@@ -6,14 +6,17 @@ A case has its text, its base or null, what the vectors want and by which profil
 `check`, `check --all` and `mend` print, with the status and the last line on standard error.
 """
 
+from __future__ import annotations
+
 import concurrent.futures
+import importlib
 import json
 import os
 import subprocess
 import sys
 
 sys.path.insert(0, os.path.join(os.path.dirname(os.path.abspath(__file__)), "..", "library"))
-from cases import PROFILES, cases_of  # noqa: E402
+library = importlib.import_module("cases")
 
 # Beside those of the library: controls, what turns the direction of a text, markup, and a long text.
 MORE = [
@@ -29,7 +32,7 @@ MORE = [
 ]
 
 
-def run(program, command, text, base, profile):
+def run(program: str, command: list[str], text: str, base: str | None, profile: str) -> dict[str, object]:
     words = [program, *command, "--profile", profile]
     words += ([] if base is None else ["--base=" + base]) + ["--", text]
     ended = subprocess.run(words, capture_output=True, timeout=60)
@@ -37,19 +40,19 @@ def run(program, command, text, base, profile):
     return {"status": ended.returncode, "out": ended.stdout.decode(), "error": last}
 
 
-def said(program, text, base):
+def said(program: str, text: str, base: str | None) -> dict[str, object]:
     """What the program says of a text in each profile: the first refusal, all of them, and what to write instead."""
-    answers = {}
-    for profile in PROFILES:
+    answers: dict[str, object] = {}
+    for profile in library.PROFILES:
         first = run(program, ["check"], text, base, profile)
         every = run(program, ["check", "--all"], text, base, profile) if first["status"] == 1 else first
         answers[profile] = {"first": first, "all": every, "mend": run(program, ["mend"], text, base, profile)}
     return answers
 
 
-def main():
+def main() -> None:
     program, path, vectors = sys.argv[1], sys.argv[2], sys.argv[3:]
-    cases = cases_of(vectors) + [(text, base, None) for text, base in MORE]
+    cases = library.cases_of(vectors) + [(text, base, None) for text, base in MORE]
     # A word of a command line has no NUL.
     cases = [case for case in cases if "\0" not in case[0] + (case[1] or "")]
     with concurrent.futures.ThreadPoolExecutor() as pool:

@@ -107,8 +107,7 @@ def check_browser(site, pictures):
     from driver import chromium, served, shown_as
 
     wrong, count = [], 0
-    browser, end = chromium()
-    try:
+    with chromium() as browser:
         address = served({"site": str(site)}) + "site/"
         for width in WIDTHS:
             for scheme in ("light", "dark"):
@@ -125,8 +124,6 @@ def check_browser(site, pictures):
                         picture = "{}-{}-{}.png".format(name.replace("/", "-"), width, scheme)
                         browser.save_screenshot(str(pictures / picture))
         check_search(browser, address, wrong)
-    finally:
-        end()
     return wrong, "{} pages in a browser, and a search".format(count)
 
 
