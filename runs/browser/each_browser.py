@@ -5,8 +5,8 @@ found.
 
 FOLDER is what ./build-page has made, LIMITED the same with a module whose memory hardly grows, and CASES what
 answers.py has written. Words of the environment: BROWSERS names those that are asked for, else all three are; ONLY is
-the name of the one test to be run; and with ALL everything is tried in each, else all tests in Chromium, a sample in the
-others, and some of the spoiled copies.
+the name of the one test to be run; and with ALL everything is tried in each, else all tests in Chromium, a sample in
+the others, and some of the spoiled copies.
 """
 
 from __future__ import annotations
