@@ -67,7 +67,7 @@ ALL = (
     ),
     Spoiled(
         "want of memory that is called something else", "little_memory", "out of memory",
-        "page/text-view.js", "message: 'out of memory: the text is too large'", "message: error.message",
+        "page/text-view.js", "message: 'out of memory: the text is too large'", "message: 'the text is too large'",
     ),
     Spoiled(
         "a report with other lines", "long_list", "differs from that of lint",
