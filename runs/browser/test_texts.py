@@ -59,7 +59,8 @@ class Texts(PageCase):
             self.type(typed[end - 1], typed[:end])
             self.judged_as_program(typed[:end])
         text = "https://user.example:8080/a/../b?q#f"
-        self.type(Keys.CONTROL + "a" + Keys.NULL + text, text)
+        self.page.find("#text").send_keys(Keys.CONTROL, "a")
+        self.type(text, text)
         names = self.page.run(
             "return [...document.querySelectorAll('#drawn .part')].map(it => [it.title, it.textContent])"
         )
