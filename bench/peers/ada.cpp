@@ -40,10 +40,10 @@ static size_t count_own(const std::vector<std::string_view> &texts) {
 }
 
 // A verdict for each text, all in one line.
-static void put_verdicts(const std::vector<std::string_view> &texts, const Url *base, bool own) {
+static void put_verdicts(const std::vector<std::string_view> &texts, const Url *base, bool own_base) {
   std::string verdicts;
-  for (size_t at = own; at < texts.size(); at += 1 + own) {
-    bool valid = own ? ada::can_parse(texts[at], &texts[at - 1]) : parses(texts[at], base);
+  for (size_t at = own_base; at < texts.size(); at += 1 + own_base) {
+    bool valid = own_base ? ada::can_parse(texts[at], &texts[at - 1]) : parses(texts[at], base);
     verdicts += valid ? '1' : '0';
   }
   std::puts(verdicts.c_str());
@@ -69,15 +69,15 @@ int main(int argc, char **argv) {
   std::string bytes((std::istreambuf_iterator<char>(std::cin)), {});
   auto texts = texts_in(bytes);
   std::optional<Url> kept;
-  bool own = argc > 4 && std::string_view(argv[4]) == "own";
-  if (argc > 4 && !own) {
+  bool own_base = argc > 4 && std::string_view(argv[4]) == "own";
+  if (argc > 4 && !own_base) {
     auto url = ada::parse<Url>(argv[4]);
     if (!url) return 2;
     kept = *url;
   }
   const Url *base = kept ? &*kept : nullptr;
   if (mode == "verdicts") {
-    put_verdicts(texts, base, own);
+    put_verdicts(texts, base, own_base);
     return 0;
   }
   if (mode == "texts") {
@@ -87,7 +87,7 @@ int main(int argc, char **argv) {
   size_t valid = 0;
   for (int round = 0; round < rounds && mode == "check"; round++) {
     valid = 0;
-    if (own) {
+    if (own_base) {
       valid = count_own(texts);
     } else {
       for (auto text : texts) valid += parses(text, base);
