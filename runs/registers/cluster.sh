@@ -8,7 +8,7 @@ done
 if [ -z "$dask_python" ] || [ ! -d "$library/python" ]; then
     echo "registers: the cluster is left out, since python3-distributed isn't installed"
 else
-    quietly timeout 300 "$dask_python" "$top/runs/registers/cluster.py" "$program"
+    quietly timeout 1200 "$dask_python" "$top/runs/registers/cluster.py" "$program"
     echo "registers: a cluster of Dask $("$dask_python" -c 'import distributed; print(distributed.__version__)'):" \
         "$(sed -n 's/^Ran \([0-9]* tests\).*/\1/p' "$room/said"), a worker killed, parts that fail"
 fi
