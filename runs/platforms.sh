@@ -3,35 +3,43 @@
 #
 #     runs/platforms.sh PROGRAM TARGET
 #
-# TARGET is aarch64, Linux on ARM, under qemu. What runs: the cases of runs/, the checksums of all that commands say of 20,000
-# hostile texts and of the vectors, and little memory. What the system lacks is counted and named, and what isn't installed here
-# is left out, with a line.
+# TARGET is aarch64, Linux on ARM, under qemu; or node, the program for Node. What runs: the cases of runs/, the checksums of all
+# that commands say of 20,000 hostile texts and of the vectors, and little memory. For node it is also the types of its host,
+# the cases of runs/platforms/host, and spoiled copies of the host, which have to fail. What the system lacks is counted and
+# named, and what isn't installed here is left out, with a line.
 #
 # Words of the environment: BUILT is a folder that platform/build wrote, to be taken as it is; CASES has the names of the files
-# of cases that are run, else all are; and QUICK leaves out little memory.
+# of cases that are run, else all are; and QUICK leaves out little memory and the spoiled copies.
 . "$(dirname "$(realpath "$0")")/start.sh"
 target=${2:?which system}
 here=$top/runs/platforms
 part="platforms: $target"
 limit=1800 # seconds for a file of cases
 
-lacks=prlimit # an emulator doesn't start in so little memory
-[ "$target" = aarch64 ] || { echo 'usage: runs/platforms.sh PROGRAM TARGET' >&2; exit 2; }
-emulator=qemu-$target
-needs "$part" "$emulator" "$target-linux-gnu-gcc"
+# What runs a program of the target, and what it lacks that some runs need. Neither an emulator nor Node starts in so little
+# memory, and Node opens /dev/null in the place of a closed stream.
+case $target in
+    aarch64)
+        build=aarch64 runner='qemu-aarch64 -0 urlcheck' binary=urlcheck-static lacks=prlimit
+        tools=(qemu-aarch64 aarch64-linux-gnu-gcc)
+        ;;
+    node) build=wasi runner=node binary=program.mjs lacks='prlimit closed_streams' tools=(node wasm-opt) ;;
+    *) echo 'usage: runs/platforms.sh PROGRAM TARGET' >&2; exit 2 ;;
+esac
+needs "$part" "${tools[@]}"
 chmod 755 "$room"
 
 # ---- what is built
 
 # built_into FOLDER : the program of this system
 built_into() {
-    "$top/platform/build" "$target" "$1" >"$room/said" 2>&1 || { cat "$room/said"; echo "FAILED: $part isn't built"; exit 1; }
+    "$top/platform/build" "$build" "$1" >"$room/said" 2>&1 || { cat "$room/said"; echo "FAILED: $part isn't built"; exit 1; }
 }
 
 # named_program FOLDER TO : the program of a folder as a file TO/urlcheck, which runs here
 named_program() {
     mkdir -p "$2"
-    { echo '#!/bin/sh'; echo "exec $emulator -0 urlcheck '$1/urlcheck-static' \"\$@\""; } >"$2/urlcheck"
+    { echo '#!/bin/sh'; echo "exec $runner '$1/$binary' \"\$@\""; } >"$2/urlcheck"
     chmod 755 "$2/urlcheck"
 }
 
@@ -40,6 +48,20 @@ built=${BUILT:-$room/built}
 built=$(realpath "$built")
 named_program "$built" "$room/program"
 other=$room/program/urlcheck
+
+if [ "$target" = node ] && command -v tsc >/dev/null; then
+    mkdir "$room/types"
+    cp "$top/platform/program.mjs" "$here/node.d.ts" "$room/types/"
+    tsc --strict --noEmit --target es2022 --module es2022 --moduleResolution node --lib es2022,dom --allowJs --checkJs \
+        "$room/types/program.mjs" "$room/types/node.d.ts"
+    echo "$part: the types of program.mjs"
+fi
+
+if [ "$target" = node ]; then
+    CASES=host bash "$top/runs/all.sh" "$program" "$here/host" >"$room/said" || { cat "$room/said"; exit 1; }
+    CASES=host bash "$top/runs/all.sh" "$other" "$here/host" >"$room/said" || { cat "$room/said"; exit 1; }
+    echo "$part: the cases of a host"
+fi
 
 # ---- the cases, as many files side by side as there are processors
 
@@ -99,17 +121,59 @@ diff "$room/wanted" "$room/found" || { echo "FAILED: $part writes other bytes"; 
 echo "$part: one checksum for each of $(wc -l <"$room/found") commands, over 20,000 texts and the vectors"
 
 if [ -n "${QUICK:-}" ]; then
-    echo "$part: little memory is left out, since QUICK is set"
+    echo "$part: little memory and spoiled copies are left out, since QUICK is set"
     exit 0
 fi
 
-# ---- little memory: the allocator of the shim refuses, by a word of the environment
+# ---- spoiled copies of the host of node
 
-cp -r "$top/platform" "$room/shims"
-mv "$room/shims/heap.c" "$room/shims/heap_of_c.c"
-cp "$here/budget.c" "$room/shims/heap.c"
-SHIMS=$room/shims built_into "$room/little"
+count=0
+# spoiled WHAT RUN SED : with this edit of program.mjs this run of the cases of a host fails, and the program still starts
+spoiled() {
+    rm -rf "$room/spoiled"
+    cp -r "$built" "$room/spoiled"
+    sed -i "$3" "$room/spoiled/program.mjs"
+    ! cmp -s "$room/spoiled/program.mjs" "$built/program.mjs" || { echo "FAILED: $part: $1: the edit changes nothing"; exit 1; }
+    named_program "$room/spoiled" "$room/spoiled.program"
+    "$room/spoiled.program/urlcheck" --version | cmp - <("$program" --version)
+    if CASES=host timeout $limit bash "$top/runs/all.sh" "$room/spoiled.program/urlcheck" "$here/host" >"$room/said" 2>&1 ||
+        ! LC_ALL=C grep -aq "^FAILED: $2" "$room/said"; then
+        cat "$room/said"
+        echo "FAILED: $part: $1 isn't found"
+        exit 1
+    fi
+    count=$((count + 1))
+}
+if [ "$target" = node ]; then
+    spoiled 'bytes that are judged as U+FFFD' 'check http://h/.*: status 0, and not 2' \
+        's/if (own !== null) return own/return texts.map(text => Buffer.from(text))/'
+    spoiled 'a read of a byte less' 'lint ' 's/return \(readSync(.*)\)$/return Math.max(0, \1 - 1)/'
+    spoiled 'a missing file that is another error' 'lint missing: on standard error' 's/ENOENT: 44/ENOENT: IO/'
+    spoiled 'a broken pipe that is an error of the device' 'check to a closed pipe: ' 's/EPIPE: 64/EPIPE: IO/'
+    echo "$part: $count spoiled copies of the host are found"
+fi
+
+# ---- little memory: the allocator of the shim refuses, by a word of the environment, or the engine, by a limit in the module
+
+if [ "$target" = node ]; then
+    cp -r "$built" "$room/little"
+else
+    cp -r "$top/platform" "$room/shims"
+    mv "$room/shims/heap.c" "$room/shims/heap_of_c.c"
+    cp "$here/budget.c" "$room/shims/heap.c"
+    SHIMS=$room/shims built_into "$room/little"
+fi
 named_program "$room/little" "$room/little.program"
+
+# in_memory STEP WORD.. : a run with so many steps of memory
+in_memory() {
+    if [ "$target" = node ]; then
+        node "$top/runs/browser/limited.mjs" "$built/program.wasm" "$1" "$room/little/program.wasm"
+        "$room/little.program/urlcheck" "${@:2}"
+    else
+        BUDGET=$(($1 * 4096)) "$room/little.program/urlcheck" "${@:2}"
+    fi
+}
 
 # walks WORD.. : a run on $room/list in more and more memory: each step is refused with the status 3, the word `memory`, and a part
 # of the output that has whole lines, until one succeeds with all of it
@@ -118,7 +182,7 @@ walks() {
     "$program" "$@" <"$room/list" >"$room/whole" 2>"$room/wanted" || true
     for ((step = 0; step < 100000 && status == 3; step += step / 4 + 1)); do
         status=0
-        BUDGET=$((step * 4096)) "$room/little.program/urlcheck" "$@" <"$room/list" >"$room/out" 2>"$room/err" || status=$?
+        in_memory $step "$@" <"$room/list" >"$room/out" 2>"$room/err" || status=$?
         [ $status = 3 ] || break
         refused=$((refused + 1))
         [ "$(tail -n 1 "$room/err")" = memory ] || { echo "FAILED: $part: $1 in little memory: $(cat "$room/err")"; exit 1; }
