@@ -88,13 +88,14 @@ def check_page(browser, name, width, scheme, wrong):
 
 def check_search(browser, address, wrong):
     browser.get(address + "index.html")
-    browser.execute_script(
-        "const field = document.querySelector('.md-search__input'); field.focus(); field.value = 'first segment';"
-        "field.dispatchEvent(new Event('keyup', { bubbles: true })); field.dispatchEvent(new Event('input', { bubbles: true }))"
-    )
-    found, end = [], time.time() + 20
+    found, end = [], time.time() + 120
     while not found and time.time() < end:
-        time.sleep(0.1)
+        # (what is typed before the search is ready may be lost)
+        browser.execute_script(
+            "const field = document.querySelector('.md-search__input'); field.focus(); field.value = 'first segment';"
+            "field.dispatchEvent(new Event('keyup', { bubbles: true })); field.dispatchEvent(new Event('input', { bubbles: true }))"
+        )
+        time.sleep(1)
         found = browser.execute_script(
             "return [...document.querySelectorAll('.md-search-result__link')].map(it => it.getAttribute('href'))"
         )
