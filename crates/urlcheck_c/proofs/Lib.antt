@@ -4,8 +4,6 @@ mod BatchLemmas
 mod NextLineLemmas
 mod PlaceLemmas
 mod RecordLemmas
-mod RecordPlaceLemmas
-mod ResolvedBatchLemmas
 mod SeenLemmas
 mod SpanLemmas
 mod StoreLemmas

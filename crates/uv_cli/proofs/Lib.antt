@@ -2,7 +2,6 @@ mod ArgumentLemmas
 mod CheckLemmas
 mod LintLemmas
 mod ListLemmas
-mod LookLemmas
 mod MendLemmas
 mod NameLemmas
 mod OptionLemmas

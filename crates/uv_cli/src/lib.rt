@@ -3,7 +3,6 @@
 
 mod arguments;
 mod check;
-mod contents;
 mod ends;
 mod explain;
 mod file_names;
@@ -14,10 +13,8 @@ mod jobs;
 mod links;
 mod lint;
 mod linted;
-mod look;
 mod mend;
 mod messages;
-mod names;
 mod options;
 pub mod program;
 mod reasons;

@@ -2,7 +2,6 @@
 #![tactic(auto)]
 
 mod commands;
-mod entries;
 mod inputs;
 mod profile;
 mod words;
