@@ -108,8 +108,8 @@ def check_browser(site, pictures):
     from driver import chromium, served, shown_as
 
     wrong, count = [], 0
+    address = served({"site": str(site)}) + "site/"
     with chromium() as browser:
-        address = served({"site": str(site)}) + "site/"
         for width in WIDTHS:
             for scheme in ("light", "dark"):
                 for name in PAGES:
@@ -124,6 +124,8 @@ def check_browser(site, pictures):
                     if pictures:
                         picture = "{}-{}-{}.png".format(name.replace("/", "-"), width, scheme)
                         browser.save_screenshot(str(pictures / picture))
+    # (a browser that has left pages while they were loaded may not load what the search needs)
+    with chromium() as browser:
         check_search(browser, address, wrong)
     return wrong, "{} pages in a browser, and a search".format(count)
 
