@@ -10,6 +10,7 @@ pub fn refused<'a>(file: &'a str, rule: Rule, place: usize, text: &'a str) -> Di
     ensures file { result.file.now ≡ file.now }
     ensures line { result.line ≡ 3 }
     ensures column { result.column ≡ min (place + 1) u64.MAX }
+    ensures end { result.end ≡ min (place + 2) u64.MAX }
     ensures profile { result.profile ≡ Profile.Standard }
     ensures violation { result.violation
         ≡ LineViolation.Refused (record { place = place; rule = rule }) }
@@ -20,6 +21,7 @@ pub fn refused<'a>(file: &'a str, rule: Rule, place: usize, text: &'a str) -> Di
         file,
         line: 3,
         column: (place as u64).saturating_add(1),
+        end: (place as u64).saturating_add(2),
         profile: Profile::Standard,
         violation: LineViolation::Refused(Refusal { place, rule }),
         text,

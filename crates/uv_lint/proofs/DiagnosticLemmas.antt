@@ -1,5 +1,5 @@
 -- The text of a diagnostic is that of its texts, wherever those stand.
-use Rattle.std.proofs.Common.{◌≡◌, ℕ, Bool, false, List, [], ◌∷◌, ◌++◌, Option, Some, None, refl, sym, ap, ◌∙◌}
+use Rattle.std.proofs.Common.{◌≡◌, ℕ, Bool, true, false, if◌then◌else◌, List, [], ◌∷◌, ◌++◌, Option, Some, None, refl, sym, ap, ◌∙◌}
 use Rattle.std.proofs.Common.{◌+◌, ◌<◌, append_assoc, append-nil, get_or, inl, inr, length, take}
 use Rattle.std.specs.Borrow.{Bor}
 use Rattle.std.proofs.lemmas.List.{take_more}
@@ -9,15 +9,21 @@ use Rattle.uv_report.specs.declared.diagnostic.Diagnostic.{Diagnostic}
 use Rattle.uv_report.specs.declared.line_violation.LineViolation.{LineViolation}
 use Rattle.uv_report.specs.declared.format.Format.{Format}
 use Rattle.uv_report.specs.declared.format.Format.TheVariants.{Gnu, Caret, Json, Github, Sarif, Checkstyle}
+use Rattle.uv_report.specs.declared.format.Format.TheVariants.{Junit, Gitlab, Rdjson}
 use Rattle.uv_report.specs.declared.mended.Mended.{Mended}
 use Rattle.uv_report.specs.Caret.{caret_text}
 use Rattle.uv_report.specs.Checkstyle.{checkstyle_text, error_place}
+use Rattle.uv_report.specs.Fingerprint.{place_key}
 use Rattle.uv_report.specs.Github.{github_text, command_place}
+use Rattle.uv_report.specs.Gitlab.{gitlab_text, issue_text}
 use Rattle.uv_report.specs.Gnu.{gnu_text, gnu_position}
 use Rattle.uv_report.specs.Json.{json_text}
-use Rattle.uv_report.specs.Sarif.{sarif_text}
+use Rattle.uv_report.specs.Intention.{is_offered}
+use Rattle.uv_report.specs.Junit.{case_begin, junit_text}
+use Rattle.uv_report.specs.Rdjson.{object_text, rdjson_line, rdjson_text}
+use Rattle.uv_report.specs.Sarif.{sarif_text, sarif_with}
 use Rattle.uv_report.specs.Column.{column_at}
-use Rattle.uv_report.specs.LineViolation.{violation_place}
+use Rattle.uv_report.specs.LineViolation.{violation_end, violation_place}
 use Rattle.uv_report.specs.Report.{diagnostic_text}
 use Rattle.uv_lint.specs.declared.setting.LineForm.{LineForm}
 use Rattle.uv_lint.specs.Report.{AreFirstDiagnostics, ReportedText, diagnostic_on, diagnostics_text, framed_text}
@@ -26,33 +32,64 @@ use Rattle.uv_lint.specs.Reporting.{IsNoneOr}
 use Rattle.uv_lint.specs.ReportedView.{lent_if_mended}
 
 -- a diagnostic on a text behind a reference, with its file's name behind another
-abbrev pub diagnostic_in : Bor (List ℕ) → Bor (List ℕ) → ℕ → ℕ → Profile → LineViolation → Option Mended → Diagnostic
-diagnostic_in file text line column profile violation mended = record {
+abbrev pub diagnostic_in : Bor (List ℕ) → Bor (List ℕ) → ℕ → ℕ → ℕ → Profile → LineViolation → Option Mended
+    → Diagnostic
+diagnostic_in file text line column end profile violation mended = record {
   file = file;
   line = line;
   column = column;
+  end = end;
   profile = profile;
   violation = violation;
   text = text;
   mended = mended;
 }
 
+-- a result of SARIF is the same so, whether the mended text is offered or not
+sarif_lent : (offered is_first : Bool) (file text : Bor (List ℕ)) (line column end : ℕ) (profile : Profile)
+    (violation : LineViolation) (mended : Mended)
+    → sarif_with is_first (diagnostic_in file text line column end profile violation (Some mended))
+    (if offered then Some mended else None)
+    ≡ sarif_with is_first
+    (diagnostic_in (lent file.now) (lent text.now) line column end profile violation (lent_if_mended (Some mended)))
+    (if offered then lent_if_mended (Some mended) else None)
+sarif_lent true is_first file text line column end profile violation mended = refl
+sarif_lent false is_first file text line column end profile violation mended = refl
+
+-- so is a diagnostic of reviewdog
+rdjson_lent : (offered is_first : Bool) (file text : Bor (List ℕ)) (line column end : ℕ) (profile : Profile)
+    (violation : LineViolation) (mended : Mended)
+    → rdjson_line is_first (diagnostic_in file text line column end profile violation (Some mended))
+    (if offered then Some mended else None)
+    ≡ rdjson_line is_first
+    (diagnostic_in (lent file.now) (lent text.now) line column end profile violation (lent_if_mended (Some mended)))
+    (if offered then lent_if_mended (Some mended) else None)
+rdjson_lent true is_first file text line column end profile violation mended = refl
+rdjson_lent false is_first file text line column end profile violation mended = refl
+
 -- a diagnostic's text is the same with its texts behind other references
-pub diagnostic_text-lent : (format : Format) (is_first : Bool) (file text : Bor (List ℕ)) (line column : ℕ)
+pub diagnostic_text-lent : (format : Format) (is_first : Bool) (file text : Bor (List ℕ)) (line column end : ℕ)
     (profile : Profile) (violation : LineViolation) (mended : Option Mended)
-    → diagnostic_text format is_first (diagnostic_in file text line column profile violation mended)
+    → diagnostic_text format is_first (diagnostic_in file text line column end profile violation mended)
     ≡ diagnostic_text format is_first
-    (diagnostic_in (lent file.now) (lent text.now) line column profile violation (lent_if_mended mended))
+    (diagnostic_in (lent file.now) (lent text.now) line column end profile violation (lent_if_mended mended))
 unfolding gnu_text gnu_position caret_text json_text github_text command_place sarif_text checkstyle_text error_place
-diagnostic_text-lent Gnu is_first file text line column profile violation mended = refl
-diagnostic_text-lent Caret is_first file text line column profile violation None = refl
-diagnostic_text-lent Caret is_first file text line column profile violation (Some mended) = refl
-diagnostic_text-lent Json is_first file text line column profile violation None = refl
-diagnostic_text-lent Json is_first file text line column profile violation (Some mended) = refl
-diagnostic_text-lent Github is_first file text line column profile violation mended = refl
-diagnostic_text-lent Sarif is_first file text line column profile violation None = refl
-diagnostic_text-lent Sarif is_first file text line column profile violation (Some mended) = refl
-diagnostic_text-lent Checkstyle is_first file text line column profile violation mended = refl
+    junit_text case_begin gitlab_text issue_text place_key rdjson_text object_text
+diagnostic_text-lent Gnu is_first file text line column end profile violation mended = refl
+diagnostic_text-lent Caret is_first file text line column end profile violation None = refl
+diagnostic_text-lent Caret is_first file text line column end profile violation (Some mended) = refl
+diagnostic_text-lent Json is_first file text line column end profile violation None = refl
+diagnostic_text-lent Json is_first file text line column end profile violation (Some mended) = refl
+diagnostic_text-lent Github is_first file text line column end profile violation mended = refl
+diagnostic_text-lent Sarif is_first file text line column end profile violation None = refl
+diagnostic_text-lent Sarif is_first file text line column end profile violation (Some mended) =
+    sarif_lent (is_offered text.now mended.text.now) is_first file text line column end profile violation mended
+diagnostic_text-lent Checkstyle is_first file text line column end profile violation mended = refl
+diagnostic_text-lent Junit is_first file text line column end profile violation mended = refl
+diagnostic_text-lent Gitlab is_first file text line column end profile violation mended = refl
+diagnostic_text-lent Rdjson is_first file text line column end profile violation None = refl
+diagnostic_text-lent Rdjson is_first file text line column end profile violation (Some mended) =
+    rdjson_lent (is_offered text.now mended.text.now) is_first file text line column end profile violation mended
 
 -- a text behind two references
 abbrev pub reported_of : Bor (List ℕ) → Bor (List ℕ) → ℕ → ℕ → ReportedText
@@ -60,22 +97,24 @@ reported_of file text line start = record { file = file.now; line = line; start 
 
 -- the diagnostics so far, and one more, whose column is that of the violation's place
 pub push_one : (form : LineForm) (format : Format) (columns : Columns) (profile : Profile) (file text : Bor (List ℕ))
-    (line start column : ℕ) (is_first : Bool) (mended : Option Mended) (violation : LineViolation)
+    (line start column end : ℕ) (is_first : Bool) (mended : Option Mended) (violation : LineViolation)
     (rest : List LineViolation) (old new : List ℕ)
     → column ≡ column_at columns start text.now (violation_place violation)
+    → end ≡ column_at columns start text.now (violation_end violation)
     → new ≡ old ++ framed_text form format file.now (diagnostic_text format is_first
-    (diagnostic_in file text line column profile violation mended))
+    (diagnostic_in file text line column end profile violation mended))
     → new ++ diagnostics_text form format columns profile (reported_of file text line start) false None rest
     ≡ old ++ diagnostics_text form format columns profile (reported_of file text line start) is_first
     (lent_if_mended mended) (violation ∷ rest)
-push_one form format columns profile file text line start column is_first mended violation rest old new here pushed =
+push_one form format columns profile file text line start column end is_first mended violation rest old new here behind
+    pushed =
     let reported = reported_of file text line start in
     let one = framed_text form format file.now
     (diagnostic_text format is_first (diagnostic_on columns profile reported (lent_if_mended mended) violation)) in
     let more = diagnostics_text form format columns profile reported false None rest in
     ap (λ t. t ++ more) (pushed ∙ ap (λ t. old ++ framed_text form format file.now t)
-    (rw here (diagnostic_text-lent format is_first file text line (column_at columns start text.now
-    (violation_place violation)) profile violation mended)))
+    (rw (here, behind) (diagnostic_text-lent format is_first file text line (column_at columns start text.now
+    (violation_place violation)) (column_at columns start text.now (violation_end violation)) profile violation mended)))
     ∙ append_assoc old one more
 
 -- ---- the diagnostics so far, and what follows them
@@ -106,21 +145,22 @@ said_first form format columns profile reported is_first mended before said now_
 
 -- one more
 said_more : (form : LineForm) (format : Format) (columns : Columns) (profile : Profile) (file text : Bor (List ℕ))
-    (line start column : ℕ) (is_first now_first : Bool) (mended : Option Mended) (told : Option Mended)
+    (line start column end : ℕ) (is_first now_first : Bool) (mended : Option Mended) (told : Option Mended)
     (before : List LineViolation) (violation : LineViolation) (said : List ℕ)
     → column ≡ column_at columns start text.now (violation_place violation)
+    → end ≡ column_at columns start text.now (violation_end violation)
     → IsSaidBefore form format columns profile (reported_of file text line start) is_first mended before said now_first
     (lent_if_mended told)
     → IsSaidBefore form format columns profile (reported_of file text line start) is_first mended
     (before ++ violation ∷ []) (said ++ framed_text form format file.now (diagnostic_text format now_first
-    (diagnostic_in file text line column profile violation told))) false
+    (diagnostic_in file text line column end profile violation told))) false
     None
-said_more form format columns profile file text line start column is_first now_first mended told before violation said
-    here is =
+said_more form format columns profile file text line start column end is_first now_first mended told before violation
+    said here behind is =
     λ rest.
-    push_one form format columns profile file text line start column now_first told violation rest said
+    push_one form format columns profile file text line start column end now_first told violation rest said
     (said ++ framed_text form format file.now (diagnostic_text format now_first
-    (diagnostic_in file text line column profile violation told))) here
+    (diagnostic_in file text line column end profile violation told))) here behind
     refl
     ∙ is (violation ∷ rest)
     ∙ ap (λ vs. diagnostics_text form format columns profile (reported_of file text line start) is_first mended vs)
@@ -128,20 +168,21 @@ said_more form format columns profile file text line start column is_first now_f
 
 -- the same of the next violation of a list
 pub said_next : (form : LineForm) (format : Format) (columns : Columns) (profile : Profile) (file text : Bor (List ℕ))
-    (line start column : ℕ) (is_first now_first : Bool) (mended : Option Mended) (told : Option Mended)
+    (line start column end : ℕ) (is_first now_first : Bool) (mended : Option Mended) (told : Option Mended)
     (violations : List LineViolation) (i : ℕ) (none : LineViolation) (said : List ℕ)
     → i < length violations
     → column ≡ column_at columns start text.now (violation_place (get_or violations i none))
+    → end ≡ column_at columns start text.now (violation_end (get_or violations i none))
     → IsSaidBefore form format columns profile (reported_of file text line start) is_first mended (take i violations)
     said now_first (lent_if_mended told)
     → IsSaidBefore form format columns profile (reported_of file text line start) is_first mended
     (take (i + 1) violations) (said ++ framed_text form format file.now (diagnostic_text format now_first
-    (diagnostic_in file text line column profile (get_or violations i none) told))) false None
-said_next form format columns profile file text line start column is_first now_first mended told violations i none said
-    within here is =
+    (diagnostic_in file text line column end profile (get_or violations i none) told))) false None
+said_next form format columns profile file text line start column end is_first now_first mended told violations i none
+    said within here behind is =
     rw (take_more violations i none within)
-    (said_more form format columns profile file text line start column is_first now_first mended told
-    (take i violations) (get_or violations i none) said here is)
+    (said_more form format columns profile file text line start column end is_first now_first mended told
+    (take i violations) (get_or violations i none) said here behind is)
 
 -- of one that may be said too the first diagnostics are those before it, or with it
 pub first_with : (form : LineForm) (format : Format) (columns : Columns) (profile : Profile) (reported : ReportedText)

@@ -12,7 +12,7 @@ use Rattle.uv_report.specs.declared.line_violation.LineViolation.{LineViolation}
 use Rattle.uv_report.specs.declared.format.Format.{Format}
 use Rattle.uv_report.specs.declared.mended.Mended.{Mended}
 use Rattle.uv_report.specs.Column.{column_at, width}
-use Rattle.uv_report.specs.LineViolation.{violation_place}
+use Rattle.uv_report.specs.LineViolation.{violation_end, violation_place}
 use Rattle.uv_report.specs.Report.{diagnostic_text, file_begin_text, file_end_text}
 use Rattle.uv_lines.specs.Lines.{short_line}
 use Rattle.uv_lint.specs.declared.counts.LintCounts.{LintCounts}
@@ -64,12 +64,14 @@ mended_at columns start text mended =
 abbrev pub mended_on : Columns → ReportedText → Option MendedText → Option Mended
 mended_on columns reported mended = option_map (mended_at columns reported.start reported.text) mended
 
--- a diagnostic on a text that is judged by a profile: its column is that of the violation's place
+-- a diagnostic on a text that is judged by a profile: its columns are those of the place of the violation, and of the
+-- one at which what is wrong ends
 abbrev pub diagnostic_on : Columns → Profile → ReportedText → Option Mended → LineViolation → Diagnostic
 diagnostic_on columns profile reported mended violation = record {
   file = lent reported.file;
   line = reported.line;
   column = column_at columns reported.start reported.text (violation_place violation);
+  end = column_at columns reported.start reported.text (violation_end violation);
   profile = profile;
   violation = violation;
   text = lent reported.text;

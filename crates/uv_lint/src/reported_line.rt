@@ -110,7 +110,8 @@ impl<'l> ReportedLine<'l> {
         let mut told = mended_in_place(mended, setting.columns, self.start, self.text);
         for violation in violations {
             let column = counter.column(violation.place());
-            let found = self.diagnostic_in(column, setting.profile, *violation, told);
+            let end = counter.column_ahead(violation.end());
+            let found = self.diagnostic_in(column, end, setting.profile, *violation, told);
             if let Err(fault) = say_framed(
                 alloc, reported, setting, &found, is_first, text, writer,
             ) {
@@ -122,10 +123,11 @@ impl<'l> ReportedLine<'l> {
         Ok(())
     }
 
-    // A diagnostic on the text, which is judged by a profile, in this column.
+    // A diagnostic on the text, which is judged by a profile, from this column up to another.
     fn diagnostic_in(
         &self,
         column: u64,
+        end: u64,
         profile: Profile,
         violation: LineViolation,
         mended: Option<Mended<'l>>,
@@ -134,6 +136,7 @@ impl<'l> ReportedLine<'l> {
           file = self.now.file;
           line = self.now.line;
           column = column;
+          end = end;
           profile = profile;
           violation = violation;
           text = self.now.text;
@@ -144,6 +147,7 @@ impl<'l> ReportedLine<'l> {
             file: self.file,
             line: self.line,
             column,
+            end,
             profile,
             violation,
             text: self.text,

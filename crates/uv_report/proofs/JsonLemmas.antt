@@ -11,7 +11,7 @@ use Rattle.serde_json.specs.Written.{compact_text}
 use Rattle.uv_model.specs.MendKindName.{kind_name}
 use Rattle.uv_report.specs.declared.diagnostic.Diagnostic.{Diagnostic}
 use Rattle.uv_report.specs.declared.mended.Mended.{Mended}
-use Rattle.uv_report.specs.Json.{cut_member, json_members, line_member, mended_member}
+use Rattle.uv_report.specs.Json.{cut_member, json_members, line_member, mended_member, offered_member, told_members}
 use Rattle.uv_report.specs.LineViolation.{violation_name, violation_place}
 use Rattle.uv_report.specs.Message.{message}
 use Rattle.uv_report.specs.Quoted.{is_plain, quoted}
@@ -59,8 +59,8 @@ members : (d : Diagnostic) (mended : Option Mended)
     ++ ((codes ",\"cut\":" ++ compact_text (boolean (is_cut d.text.now)))
     ++ ((codes ",\"file\":" ++ quoted d.file.now) ++ (kind_member mended ++ ((codes ",\"line\":" ++ decimal d.line)
     ++ (mended_member mended ++ ((codes ",\"message\":" ++ quoted (message d.profile d.text.now d.violation))
-    ++ ((codes ",\"rule\":" ++ quoted (violation_name d.violation))
-    ++ ((codes ",\"text\":" ++ quoted (carried d.text.now (violation_place d.violation))) ++ codes "}"))))))))
+    ++ (offered_member d.text.now mended ++ ((codes ",\"rule\":" ++ quoted (violation_name d.violation))
+    ++ ((codes ",\"text\":" ++ quoted (carried d.text.now (violation_place d.violation))) ++ codes "}")))))))))
     ≡ compact_text (object (json_members d mended))
 unfolding serde_json_on_literals
 members d None = refl
@@ -76,25 +76,35 @@ line_grouped None value rest = refl
 line_grouped (Some mended) value rest =
     grouped (codes ",\"kind\":" ++ quoted (kind_name mended.kind)) (codes ",\"line\":") value rest
 
+-- what is told of a line before the members that follow it
+told_grouped : (mended message offered rest : List ℕ)
+    → (mended ++ (message ++ offered)) ++ rest ≡ mended ++ (message ++ (offered ++ rest))
+told_grouped mended message offered rest = simp append_assoc
+
 -- the pieces of a diagnostic's object
-pub object_pieces : (d : Diagnostic) (mended : Option Mended)
+pub object_pieces : (d : Diagnostic)
     → (codes "{\"column\":" ++ decimal d.column)
-    ++ ((cut_member (is_cut d.text.now) ++ quoted d.file.now) ++ ((line_member mended ++ decimal d.line)
-    ++ (mended_member mended ++ ((codes ",\"message\":" ++ quoted (message d.profile d.text.now d.violation))
-    ++ ((rule_member d.violation ++ quoted (carried d.text.now (violation_place d.violation))) ++ codes "}")))))
-    ≡ compact_text (object (json_members d mended))
-object_pieces d mended =
+    ++ ((cut_member (is_cut d.text.now) ++ quoted d.file.now) ++ ((line_member d.mended ++ decimal d.line)
+    ++ (told_members d
+    ++ ((rule_member d.violation ++ quoted (carried d.text.now (violation_place d.violation))) ++ codes "}"))))
+    ≡ compact_text (object (json_members d d.mended))
+unfolding told_members
+object_pieces d =
+    let mended = d.mended in
     let column : List ℕ = codes "{\"column\":" ++ decimal d.column in
     let cut : List ℕ = codes ",\"cut\":" ++ compact_text (boolean (is_cut d.text.now)) in
     let file = quoted d.file.now in
     let line = decimal d.line in
     let told : List ℕ = codes ",\"message\":" ++ quoted (message d.profile d.text.now d.violation) in
+    let offered = offered_member d.text.now mended in
     let rule : List ℕ = codes ",\"rule\":" ++ quoted (violation_name d.violation) in
     let link = quoted (carried d.text.now (violation_place d.violation)) in
     ap (λ t. column ++ t)
     (grouped cut (codes ",\"file\":") file _
     ∙ ap (λ t. cut ++ ((codes ",\"file\":" ++ file) ++ t))
     (line_grouped mended line _
-    ∙ ap (λ t. kind_member mended ++ ((codes ",\"line\":" ++ line) ++ (mended_member mended ++ (told ++ t))))
-    (grouped rule (codes ",\"text\":") link (codes "}"))))
+    ∙ ap (λ t. kind_member mended ++ ((codes ",\"line\":" ++ line) ++ t))
+    (told_grouped (mended_member mended) told offered _
+    ∙ ap (λ t. mended_member mended ++ (told ++ (offered ++ t)))
+    (grouped rule (codes ",\"text\":") link (codes "}")))))
     ∙ members d mended

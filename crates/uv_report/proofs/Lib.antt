@@ -1,6 +1,7 @@
 pub mod PieceLemmas
 mod ColumnLemmas
 pub mod FirstLemmas
+mod IntentionLemmas
 mod Ipv6Lemmas
 mod JsonLemmas
 mod NameLemmas

@@ -7,12 +7,15 @@ use Rattle.std.specs.Str.{chars}
 use Rattle.idna.specs.Validity.{has_ace_prefix}
 use Rattle.percent_encoding.specs.Percent.{percent_encode_byte}
 use Rattle.unicode_width.specs.Width.{char_width}
+use Rattle.uv_model.specs.Scheme.{default_port, scheme_class}
 use Rattle.uv_report.specs.CodePoint.{ascii_names, capital_names, control_names, digit_names, last_names, mark_names}
 use Rattle.uv_report.specs.CodePoint.{point_name, point_text, sign_names, small_names}
-use Rattle.uv_report.specs.Domain.{domain_sentence}
+use Rattle.uv_report.specs.Domain.{domain_sentence, foreign_note}
+use Rattle.uv_report.specs.Intention.{intention, meant_note, shown_intention}
 use Rattle.uv_report.specs.Ipv6.{is_ipv6}
-use Rattle.uv_report.specs.Message.{refusal_message}
-use Rattle.uv_report.specs.Rows.{ColumnRows, DomainRows, MessageRows, PointRows, UriRows, WindowRows}
+use Rattle.uv_report.specs.Message.{refusal_sentence}
+use Rattle.uv_report.specs.Rows.{ColumnRows, DomainRows, IntentionRows, MessageRows, PointRows, UriRows, WindowRows}
+use Rattle.uv_report.specs.Start.{missing_note}
 use Rattle.uv_report.specs.Uri.{uri_part, uri_path}
 use Rattle.uv_report.specs.Window.{cut_out, window, window_place, window_points}
 
@@ -52,7 +55,7 @@ column_rows = record {
 
 -- messages
 pub message_rows : MessageRows
-unfolding refusal_message point_text point_name ascii_names control_names sign_names digit_names capital_names
+unfolding refusal_sentence missing_note meant_note shown_intention scheme_class default_port point_text point_name ascii_names control_names sign_names digit_names capital_names
     mark_names small_names last_names digits padded_integral char_count encode_utf8 chars
     is_ipv6 read_ipv6 read_segments read_segment read_number read_ipv4 read_octet
 message_rows = record {
@@ -61,6 +64,13 @@ message_rows = record {
   space = refl;
   byte_order_mark = refl;
   no_break_space = refl;
+  quotation = refl;
+  bracket = refl;
+  no_scheme = refl;
+  colon = refl;
+  slashes = refl;
+  domain = refl;
+  dots = refl;
   relative = refl;
   user = refl;
   password = refl;
@@ -69,12 +79,44 @@ message_rows = record {
   two_colons = refl;
   drive = refl;
   bar = refl;
+  template = refl;
+  windows = refl;
+  twice = refl;
+  joined = refl;
+  zone = refl;
+  open_bracket = refl;
   located = refl;
+}
+
+-- what texts show of their author's intention
+pub intention_rows : IntentionRows
+unfolding intention shown_intention scheme_class default_port chars
+intention_rows = record {
+  braces = refl;
+  block = refl;
+  variable = refl;
+  tag = refl;
+  printf = refl;
+  single = refl;
+  percent = refl;
+  drive = refl;
+  server = refl;
+  two_letters = refl;
+  twice = refl;
+  no_slashes = refl;
+  no_colon = refl;
+  file = refl;
+  own_host = refl;
+  own_port = refl;
+  other = refl;
+  joined = refl;
+  dotted = refl;
+  space = refl;
 }
 
 -- messages on hosts
 pub domain_rows : DomainRows
-unfolding refusal_message domain_sentence has_ace_prefix point_text point_name ascii_names control_names sign_names
+unfolding refusal_sentence missing_note meant_note shown_intention scheme_class default_port domain_sentence foreign_note has_ace_prefix point_text point_name ascii_names control_names sign_names
     digit_names capital_names mark_names small_names last_names digits padded_integral char_count encode_utf8 chars
     is_ipv6 read_ipv6 read_segments read_segment read_number read_ipv4 read_octet
 domain_rows = record {

@@ -6,12 +6,14 @@ use Rattle.serde_json.specs.Data.{Data, boolean}
 use Rattle.serde_json.specs.Written.{compact_text}
 use Rattle.uv_report.specs.declared.diagnostic.Diagnostic.{Diagnostic}
 use Rattle.uv_report.specs.declared.mended.Mended.{Mended}
+use Rattle.uv_report.specs.Fingerprint.{text_fingerprint}
 use Rattle.uv_report.specs.LineViolation.{violation_index, violation_name, violation_place}
 use Rattle.uv_report.specs.Message as reported
 use Rattle.uv_report.specs.Quoted.{quoted}
 use Rattle.uv_report.specs.RuleTexts.{result_end}
 use Rattle.uv_report.specs.Sarif.{artifact_value, change_value, deleted_region_value, fix_sentence, fix_value}
-use Rattle.uv_report.specs.Sarif.{link_value, location_value, message, physical_value, region_value}
+use Rattle.uv_report.specs.Sarif.{fingerprints_value, link_value, location_value, message, physical_value}
+use Rattle.uv_report.specs.Sarif.{region_pieces, region_value}
 use Rattle.uv_report.specs.Sarif.{fix_begin, location_begin, replacement_value, result_begin, result_with, single}
 use Rattle.uv_report.specs.Uri.{uri_path}
 use Rattle.uv_report.specs.Window.{carried, is_cut}
@@ -58,17 +60,20 @@ artifact_text file rest = ap (λ t. codes "{\"uri\":" ++ t) (behind_one (quoted 
 -- ---- where a diagnostic is
 
 region_text : (d : Diagnostic) (rest : List ℕ) → compact_text (region_value d) ++ rest
-    ≡ codes "{\"startColumn\":" ++ (decimal d.column ++ (codes ",\"startLine\":" ++ (decimal d.line
-    ++ (codes "}" ++ rest))))
+    ≡ codes "{\"endColumn\":" ++ (decimal d.end ++ (codes ",\"startColumn\":" ++ (decimal d.column
+    ++ (codes ",\"startLine\":" ++ (decimal d.line ++ (codes "}" ++ rest))))))
 unfolding serde_json_on_literals
 region_text d rest =
-    ap (λ t. codes "{\"startColumn\":" ++ t)
-    (behind_two (decimal d.column) (codes ",\"startLine\":") (decimal d.line) (codes "}") rest)
+    ap (λ t. codes "{\"endColumn\":" ++ t)
+    (behind_two (decimal d.end) (codes ",\"startColumn\":") (decimal d.column)
+    (codes ",\"startLine\":" ++ (decimal d.line ++ codes "}")) rest
+    ∙ ap (λ t. decimal d.end ++ (codes ",\"startColumn\":" ++ (decimal d.column ++ (codes ",\"startLine\":" ++ t))))
+    (behind_one (decimal d.line) (codes "}") rest))
 
 physical_text : (d : Diagnostic) (rest : List ℕ) → compact_text (physical_value d) ++ rest
     ≡ codes "{\"artifactLocation\":{\"uri\":" ++ (quoted (uri_path d.file.now)
-    ++ (codes "},\"region\":{\"startColumn\":" ++ (decimal d.column ++ (codes ",\"startLine\":" ++ (decimal d.line
-    ++ (codes "}}" ++ rest))))))
+    ++ (codes "},\"region\":{\"endColumn\":" ++ (decimal d.end ++ (codes ",\"startColumn\":" ++ (decimal d.column
+    ++ (codes ",\"startLine\":" ++ (decimal d.line ++ (codes "}}" ++ rest))))))))
 unfolding serde_json_on_literals
 physical_text d rest =
     let artifact = compact_text (artifact_value d.file.now) in
@@ -81,13 +86,22 @@ physical_text d rest =
 
 location_text : (d : Diagnostic) (rest : List ℕ) → compact_text (single (location_value d)) ++ rest
     ≡ codes "[{\"physicalLocation\":{\"artifactLocation\":{\"uri\":" ++ (quoted (uri_path d.file.now)
-    ++ (codes "},\"region\":{\"startColumn\":" ++ (decimal d.column ++ (codes ",\"startLine\":" ++ (decimal d.line
-    ++ (codes "}}}]" ++ rest))))))
+    ++ (codes "},\"region\":{\"endColumn\":" ++ (decimal d.end ++ (codes ",\"startColumn\":" ++ (decimal d.column
+    ++ (codes ",\"startLine\":" ++ (decimal d.line ++ (codes "}}}]" ++ rest))))))))
 unfolding serde_json_on_literals
 location_text d rest =
     array_text (location_value d) rest
     ∙ ap (λ t. codes "[{\"physicalLocation\":" ++ t)
     (behind_one (compact_text (physical_value d)) (codes "}") (codes "]" ++ rest) ∙ physical_text d (codes "}]" ++ rest))
+
+-- the fingerprint
+fingerprints_text : (d : Diagnostic) (rest : List ℕ)
+    → compact_text (fingerprints_value d.violation d.text.now) ++ rest
+    ≡ codes "{\"urlcheckText/v1\":" ++ (quoted (text_fingerprint d.violation d.text.now) ++ (codes "}" ++ rest))
+unfolding serde_json_on_literals
+fingerprints_text d rest =
+    ap (λ t. codes "{\"urlcheckText/v1\":" ++ t)
+    (behind_one (quoted (text_fingerprint d.violation d.text.now)) (codes "}") rest)
 
 -- the link
 link_text : (d : Diagnostic) (rest : List ℕ) → compact_text (link_value d) ++ rest
@@ -203,9 +217,10 @@ abbrev rest_of : Diagnostic → List ℕ
 rest_of d =
     codes "\"level\":\"error\",\"locations\":" ++ (compact_text (single (location_value d))
     ++ (codes ",\"message\":" ++ (compact_text (message (reported.message d.profile d.text.now d.violation))
+    ++ (codes ",\"partialFingerprints\":" ++ (compact_text (fingerprints_value d.violation d.text.now)
     ++ (codes ",\"properties\":" ++ (compact_text (link_value d)
     ++ ((codes ",\"ruleId\":" ++ quoted (violation_name d.violation))
-    ++ ((codes ",\"ruleIndex\":" ++ decimal (violation_index d.violation)) ++ codes "}")))))))
+    ++ ((codes ",\"ruleIndex\":" ++ decimal (violation_index d.violation)) ++ codes "}")))))))))
 
 whole_result : (d : Diagnostic) (mended : Option Mended)
     → result_begin d mended ++ rest_of d ≡ compact_text (result_with d mended)
@@ -220,13 +235,15 @@ whole_result d (Some mended) =
 abbrev rest_pieces : Diagnostic → List ℕ
 rest_pieces d =
     codes "\"level\":\"error\",\"locations\":[{\"physicalLocation\":{\"artifactLocation\":{\"uri\":"
-    ++ (quoted (uri_path d.file.now) ++ ((codes "},\"region\":{\"startColumn\":" ++ decimal d.column)
-    ++ ((codes ",\"startLine\":" ++ decimal d.line)
+    ++ (quoted (uri_path d.file.now) ++ ((codes "},\"region\":{\"endColumn\":" ++ decimal d.end)
+    ++ ((codes ",\"startColumn\":" ++ decimal d.column) ++ ((codes ",\"startLine\":" ++ decimal d.line)
     ++ ((codes "}}}],\"message\":{\"text\":" ++ quoted (reported.message d.profile d.text.now d.violation))
+    ++ ((codes "},\"partialFingerprints\":{\"urlcheckText/v1\":"
+    ++ quoted (text_fingerprint d.violation d.text.now))
     ++ ((codes "},\"properties\":{\"cut\":" ++ (compact_text (boolean (is_cut d.text.now))
     ++ (codes ",\"text\":" ++ quoted (carried d.text.now (violation_place d.violation)))))
     ++ ((codes "},\"ruleId\":" ++ quoted (violation_name d.violation))
-    ++ ((codes ",\"ruleIndex\":" ++ decimal (violation_index d.violation)) ++ codes "}")))))))
+    ++ ((codes ",\"ruleIndex\":" ++ decimal (violation_index d.violation)) ++ codes "}")))))))))
 
 rest_is : (d : Diagnostic) → rest_pieces d ≡ rest_of d
 unfolding serde_json_on_literals
@@ -237,16 +254,22 @@ rest_is d =
     let rule : List ℕ = (codes ",\"ruleId\":" ++ quoted (violation_name d.violation))
     ++ ((codes ",\"ruleIndex\":" ++ decimal (violation_index d.violation)) ++ codes "}") in
     let linked : List ℕ = codes ",\"properties\":" ++ (compact_text (link_value d) ++ rule) in
+    let marked : List ℕ =
+    codes ",\"partialFingerprints\":" ++ (compact_text (fingerprints_value d.violation d.text.now) ++ linked) in
     let place : List ℕ → List ℕ = λ t.
     codes "\"level\":\"error\",\"locations\":[{\"physicalLocation\":{\"artifactLocation\":{\"uri\":"
-    ++ (quoted (uri_path d.file.now) ++ (codes "},\"region\":{\"startColumn\":" ++ (decimal d.column
-    ++ (codes ",\"startLine\":" ++ (decimal d.line ++ t))))) in
+    ++ (quoted (uri_path d.file.now) ++ (codes "},\"region\":{\"endColumn\":" ++ (decimal d.end
+    ++ (codes ",\"startColumn\":" ++ (decimal d.column ++ (codes ",\"startLine\":" ++ (decimal d.line ++ t))))))) in
     let told : List ℕ → List ℕ = λ t. place (codes "}}}],\"message\":{\"text\":" ++ (quoted said ++ t)) in
+    let known : List ℕ → List ℕ = λ t.
+    told (codes "},\"partialFingerprints\":{\"urlcheckText/v1\":"
+    ++ (quoted (text_fingerprint d.violation d.text.now) ++ t)) in
     sym (ap (λ t. codes "\"level\":\"error\",\"locations\":" ++ t)
-    (location_text d (codes ",\"message\":" ++ (compact_text (message said) ++ linked)))
-    ∙ ap (λ t. place (codes "}}}],\"message\":" ++ t)) (message_text said linked)
-    ∙ ap (λ t. told (codes "},\"properties\":" ++ t)) (link_text d rule)
-    ∙ ap (λ t. told (codes "},\"properties\":{\"cut\":" ++ t))
+    (location_text d (codes ",\"message\":" ++ (compact_text (message said) ++ marked)))
+    ∙ ap (λ t. place (codes "}}}],\"message\":" ++ t)) (message_text said marked)
+    ∙ ap (λ t. told (codes "},\"partialFingerprints\":" ++ t)) (fingerprints_text d linked)
+    ∙ ap (λ t. known (codes "},\"properties\":" ++ t)) (link_text d rule)
+    ∙ ap (λ t. known (codes "},\"properties\":{\"cut\":" ++ t))
     (sym (append_assoc cut (codes ",\"text\":" ++ link) (codes "}" ++ rule)
     ∙ ap (λ t. cut ++ t) (append_assoc (codes ",\"text\":") link (codes "}" ++ rule)))))
 
@@ -255,11 +278,17 @@ cut_grouped : (begin cut name link : List ℕ)
     → ((begin ++ cut) ++ name) ++ link ≡ begin ++ (cut ++ (name ++ link))
 cut_grouped begin cut name link = simp append_assoc
 
+-- the three numbers of a region
+region_grouped : (end column line rest : List ℕ)
+    → (end ++ (column ++ line)) ++ rest ≡ end ++ (column ++ (line ++ rest))
+region_grouped end column line rest = simp append_assoc
+
 pub result_pieces : (d : Diagnostic) (mended : Option Mended) (before : List ℕ)
     → (before ++ (result_begin d mended ++ location_begin))
-    ++ (uri_path d.file.now ++ ((codes "\"},\"region\":{\"startColumn\":" ++ decimal d.column)
-    ++ ((codes ",\"startLine\":" ++ decimal d.line)
+    ++ (uri_path d.file.now ++ (region_pieces d
     ++ ((codes "}}}],\"message\":{\"text\":" ++ quoted (reported.message d.profile d.text.now d.violation))
+    ++ ((codes "},\"partialFingerprints\":{\"urlcheckText/v1\":"
+    ++ quoted (text_fingerprint d.violation d.text.now))
     ++ ((((codes "},\"properties\":{\"cut\":" ++ compact_text (boolean (is_cut d.text.now))) ++ codes ",\"text\":")
     ++ quoted (carried d.text.now (violation_place d.violation))) ++ result_end d.violation)))))
     ≡ before ++ compact_text (result_with d mended)
@@ -267,17 +296,21 @@ result_pieces d mended before =
     let begin : List ℕ =
     codes "\"level\":\"error\",\"locations\":[{\"physicalLocation\":{\"artifactLocation\":{\"uri\":" in
     let uri = quoted (uri_path d.file.now) in
-    let column : List ℕ = codes "},\"region\":{\"startColumn\":" ++ decimal d.column in
+    let end : List ℕ = codes "},\"region\":{\"endColumn\":" ++ decimal d.end in
+    let column : List ℕ = codes ",\"startColumn\":" ++ decimal d.column in
     let line : List ℕ = codes ",\"startLine\":" ++ decimal d.line in
     let told : List ℕ =
     codes "}}}],\"message\":{\"text\":" ++ quoted (reported.message d.profile d.text.now d.violation) in
+    let known : List ℕ =
+    codes "},\"partialFingerprints\":{\"urlcheckText/v1\":" ++ quoted (text_fingerprint d.violation d.text.now) in
     let link = quoted (carried d.text.now (violation_place d.violation)) in
     append_assoc before (result_begin d mended ++ location_begin) _
     ∙ ap (λ t. before ++ t)
     (append_assoc (result_begin d mended) location_begin _
     ∙ ap (λ t. result_begin d mended ++ (begin ++ t)) (uri_open d.file.now _)
+    ∙ ap (λ t. result_begin d mended ++ (begin ++ (uri ++ t))) (region_grouped end column line _)
     ∙ ap (λ t. result_begin d mended
-    ++ (begin ++ (uri ++ (column ++ (line ++ (told ++ (t ++ result_end d.violation)))))))
+    ++ (begin ++ (uri ++ (end ++ (column ++ (line ++ (told ++ (known ++ (t ++ result_end d.violation)))))))))
     (cut_grouped (codes "},\"properties\":{\"cut\":") (compact_text (boolean (is_cut d.text.now))) (codes ",\"text\":")
     link)
     ∙ ap (λ t. result_begin d mended ++ t) (rest_is d) ∙ whole_result d mended)

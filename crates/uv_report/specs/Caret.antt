@@ -1,9 +1,11 @@
 -- A diagnostic with the line that it is about, a caret below the place, and what to write in place of the line. Of a
 -- line that isn't judged and of which no text is carried, as of one that is too long, the diagnostic stands alone.
-use Rattle.std.specs.Prelude.{ℕ, Bool, true, not, ◌==◌, List, [], ◌++◌, codes, if◌then◌else◌, length, replicate}
+use Rattle.std.specs.Prelude.{ℕ, Bool, true, false, not, ◌==◌, List, [], ◌++◌, codes, if◌then◌else◌, length, replicate}
 use Rattle.std.specs.Prelude.{take, Option, Some, None}
 use Rattle.std.specs.List.{flat_map}
 use Rattle.std.specs.Str.{chars}
+use Rattle.uv_model.specs.declared.mend_kind.MendKind.{MendKind}
+use Rattle.uv_model.specs.declared.mend_kind.MendKind.TheVariants.{Same, Escaped, Changed}
 use Rattle.uv_report.specs.declared.diagnostic.Diagnostic.{Diagnostic}
 use Rattle.uv_report.specs.declared.escapes.Escapes.TheVariants.{Shown}
 use Rattle.uv_report.specs.declared.line_violation.LineViolation.{LineViolation}
@@ -11,6 +13,7 @@ use Rattle.uv_report.specs.declared.line_violation.LineViolation.TheVariants.{Re
 use Rattle.uv_report.specs.declared.mended.Mended.{Mended}
 use Rattle.uv_report.specs.Column.{shown_width}
 use Rattle.uv_report.specs.Escapes.{escaped}
+use Rattle.uv_report.specs.Intention.{is_offered}
 use Rattle.uv_report.specs.LineViolation.{violation_place}
 use Rattle.uv_report.specs.Gnu.{gnu_text}
 use Rattle.uv_report.specs.Window.{window, window_place}
@@ -41,17 +44,29 @@ abbrev pub shown_lines : LineViolation → List ℕ → List ℕ
 shown_lines violation line =
     if shows_line violation line then window_lines line (violation_place violation) else []
 
--- `help: write TEXT`, of a mended text what is shown of it around a place
-unfoldable pub help_line : ℕ → List ℕ → List ℕ
-help_line place mended = codes "help: write " ++ (escaped Shown (window mended place) ++ codes "\n")
+-- how a mended text is named that isn't offered, by how it stands to the refused one
+abbrev pub named_as : MendKind → List ℕ
+named_as Same = codes "note: the same URL, written validly, is "
+named_as Escaped = codes "note: the same text, percent-encoded, is "
+named_as Changed = codes "note: a valid URL string that is near it is "
 
--- this line, where there is a mended text
-abbrev pub help_text : ℕ → Option Mended → List ℕ
-help_text place None = []
-help_text place (Some mended) = help_line place mended.text.now
+-- what stands before a mended text, which is offered or isn't
+abbrev pub help_words : Bool → MendKind → List ℕ
+help_words true kind = codes "help: write "
+help_words false kind = named_as kind
+
+-- these words, and what is shown of a mended text around a place
+unfoldable pub help_line : List ℕ → ℕ → List ℕ → List ℕ
+help_line words place mended = words ++ (escaped Shown (window mended place) ++ codes "\n")
+
+-- the line of what to write in place of a line, where there is such a text
+abbrev pub help_text : List ℕ → ℕ → Option Mended → List ℕ
+help_text line place None = []
+help_text line place (Some mended) =
+    help_line (help_words (is_offered line mended.text.now) mended.kind) place mended.text.now
 
 -- the line of the format `gnu`, these two, and that one
 unfoldable pub caret_text : Diagnostic → List ℕ
 caret_text diagnostic =
     gnu_text diagnostic ++ (shown_lines diagnostic.violation diagnostic.text.now
-    ++ help_text (violation_place diagnostic.violation) diagnostic.mended)
+    ++ help_text diagnostic.text.now (violation_place diagnostic.violation) diagnostic.mended)

@@ -1,6 +1,6 @@
 -- Why a host is no valid domain by a profile, as far as its text shows it (URL Standard, sections 3.3 and 3.4; UTS #46,
 -- section 4.1). What its ASCII code points and labels show is said; what ToASCII makes of the others isn't.
-use Rattle.std.specs.Prelude.{ℕ, Bool, not, ◌&&◌, ◌||◌, ◌==◌, nat_lt, List, [], ◌∷◌, ◌++◌, codes, drop}
+use Rattle.std.specs.Prelude.{ℕ, Bool, true, not, ◌&&◌, ◌||◌, ◌==◌, nat_lt, List, [], ◌∷◌, ◌++◌, codes, drop}
 use Rattle.std.specs.Prelude.{encode_utf8_all, find, if◌then◌else◌, length, Option, Some, None}
 use Rattle.std.specs.List.{before_first, list_any}
 use Rattle.std.specs.Str.{chars}
@@ -68,25 +68,44 @@ label_fault profile host = find (λ fault. list_any (has_label_fault fault) (hos
 
 -- ---- what is said
 
--- of a label
+-- of a label, and which other profile takes it
 abbrev pub label_sentence : LabelFault → List ℕ
-label_sentence Empty = codes "a label of this domain is empty"
-label_sentence Long = codes "a label of this domain has more than 63 code points"
-label_sentence OuterHyphen = codes "a label of this domain begins or ends with -"
-label_sentence InnerHyphens = codes "a label of this domain has -- in its third and fourth place"
+label_sentence Empty = codes "a label of this domain is empty; --profile parser takes it"
+label_sentence Long = codes "a label of this domain has more than 63 code points; --profile parser takes it"
+label_sentence OuterHyphen = codes "a label of this domain begins or ends with -; --profile wide takes it"
+label_sentence InnerHyphens =
+    codes "a label of this domain has -- in its third and fourth place; --profile wide takes it"
 
 -- of a host whose code points show nothing: the rule's sentence, where its labels show nothing either
 abbrev pub labels_sentence : Option LabelFault → List ℕ
 labels_sentence (Some fault) = label_sentence fault
 labels_sentence None = rule_sentence HostDomain
 
--- behind that, of the one that begins a port elsewhere
-abbrev pub port_note : ℕ → List ℕ
-port_note c = if c == colon then codes ": a file URL has no port" else []
+-- that a profile takes it
+abbrev pub taken_note : Bool → Profile → List ℕ
+taken_note true Wide = codes "; --profile wide takes it"
+taken_note true Parser = codes "; --profile parser takes it"
+taken_note _ profile = []
 
--- of a host with this first foreign code point, or of none
+-- which profile takes a code point that is foreign by this one: the next wider one that does
+abbrev pub profile_note : Profile → ℕ → List ℕ
+profile_note Standard c =
+    if is_foreign Wide c then taken_note (not (is_foreign Parser c)) Parser else taken_note true Wide
+profile_note Wide c = taken_note (not (is_foreign Parser c)) Parser
+profile_note Parser c = []
+
+-- behind that it may not stand in a domain, of a code point that is foreign by this profile: of the one that begins a
+-- port elsewhere, and else which profile takes it
+unfoldable pub foreign_note : Profile → ℕ → List ℕ
+foreign_note profile c = if c == colon then codes ": a file URL has no port" else profile_note profile c
+
+-- of a host with this first foreign code point
+abbrev pub foreign_sentence : Profile → ℕ → List ℕ
+foreign_sentence profile c = point_text c ++ (codes " may not stand in a domain" ++ foreign_note profile c)
+
+-- of one with this one, or with none
 abbrev pub host_sentence : Profile → List ℕ → Option ℕ → List ℕ
-host_sentence profile host (Some c) = point_text c ++ (codes " may not stand in a domain" ++ port_note c)
+host_sentence profile host (Some c) = foreign_sentence profile c
 host_sentence profile host None = labels_sentence (label_fault profile host)
 
 -- of a host that is no valid domain

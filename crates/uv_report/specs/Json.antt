@@ -5,6 +5,7 @@ use Rattle.serde_json.specs.Written.{compact_text}
 use Rattle.uv_model.specs.MendKindName.{kind_name}
 use Rattle.uv_report.specs.declared.diagnostic.Diagnostic.{Diagnostic}
 use Rattle.uv_report.specs.declared.mended.Mended.{Mended}
+use Rattle.uv_report.specs.Intention.{is_offered}
 use Rattle.uv_report.specs.LineViolation.{violation_name, violation_place}
 use Rattle.uv_report.specs.Message.{message}
 use Rattle.uv_report.specs.Quoted.{quoted}
@@ -22,11 +23,13 @@ plain_members diagnostic =
     (member (codes "text") (string (carried diagnostic.text.now (violation_place diagnostic.violation)))
     no_members))))))
 
--- these, and in their order how a mended text stands to the refused one, and the mended text, which is whole
+-- these, and in their order how a mended text stands to the refused one, the mended text, which is whole, and whether it
+-- is offered
 abbrev pub mended_members : Diagnostic → Mended → Members
 mended_members diagnostic mended =
     put (codes "kind") (string (kind_name mended.kind))
-    (put (codes "mended") (string mended.text.now) (plain_members diagnostic))
+    (put (codes "mended") (string mended.text.now)
+    (put (codes "offered") (boolean (is_offered diagnostic.text.now mended.text.now)) (plain_members diagnostic)))
 
 -- the members by whether there is a mended text
 abbrev pub json_members : Diagnostic → Option Mended → Members
@@ -51,6 +54,19 @@ line_member (Some mended) = (codes ",\"kind\":" ++ quoted (kind_name mended.kind
 abbrev pub mended_member : Option Mended → List ℕ
 mended_member None = []
 mended_member (Some mended) = codes ",\"mended\":" ++ quoted mended.text.now
+
+-- the member of whether it is offered in place of a text, behind its comma, where there is one
+abbrev pub offered_member : List ℕ → Option Mended → List ℕ
+offered_member text None = []
+offered_member text (Some mended) =
+    codes ",\"offered\":" ++ compact_text (boolean (is_offered text mended.text.now))
+
+-- the members of a mended text, of what is reported and of whether the mended text is offered
+unfoldable pub told_members : Diagnostic → List ℕ
+told_members diagnostic =
+    mended_member diagnostic.mended
+    ++ ((codes ",\"message\":" ++ quoted (message diagnostic.profile diagnostic.text.now diagnostic.violation))
+    ++ offered_member diagnostic.text.now diagnostic.mended)
 
 -- its text without spaces, and a line feed
 unfoldable pub json_text : Diagnostic → List ℕ

@@ -2,6 +2,7 @@
 pub mod Explanation
 pub mod LocatedFault
 pub mod LineViolation
+pub mod Page
 pub mod Escapes
 pub mod Column
 pub mod ColumnCounter
@@ -9,6 +10,8 @@ pub mod CodePoint
 pub mod Ipv6
 pub mod Drive
 pub mod Domain
+pub mod Intention
+pub mod Start
 pub mod Message
 pub mod Window
 pub mod Format
@@ -16,10 +19,14 @@ pub mod Gnu
 pub mod Caret
 pub mod Github
 pub mod Checkstyle
+pub mod Junit
 pub mod Quoted
+pub mod Fingerprint
 pub mod RuleTexts
 pub mod Json
 pub mod Uri
 pub mod Sarif
+pub mod Gitlab
+pub mod Rdjson
 pub mod Report
 pub mod Rows

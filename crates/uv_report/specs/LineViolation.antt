@@ -1,5 +1,5 @@
 -- What is wrong with a line: its name, its sentence and its place.
-use Rattle.std.specs.Prelude.{ℕ, ◌+◌, List, [], ◌∷◌, codes, Option, find}
+use Rattle.std.specs.Prelude.{ℕ, ◌+◌, ◌-◌, ◌^◌, List, [], ◌∷◌, codes, min, Option, find}
 use Rattle.std.specs.Str.{bytes_eq}
 use Rattle.uv_model.specs.Violations.Rule.{rule_name, rule_number, rule_sentence}
 use Rattle.uv_report.specs.declared.line_violation.LineViolation.{LineViolation}
@@ -55,3 +55,9 @@ violation_place (Refused refusal) = refusal.place
 violation_place (NotUtf8 place) = place
 violation_place TooLong = 0
 violation_place (NotLocated fault) = 0
+
+-- The place at which what is wrong ends: that behind the code point that violates a rule. Of a line that isn't judged
+-- no code point is wrong, and it ends where it begins. The greatest number of 64 bits stands for each place beyond it.
+abbrev pub violation_end : LineViolation → ℕ
+violation_end (Refused refusal) = min (refusal.place + 1) (2 ^ 64 - 1)
+violation_end violation = violation_place violation

@@ -10,12 +10,14 @@ use Rattle.uv_model.specs.declared.rule.Rule.{Rule}
 use Rattle.uv_model.specs.declared.rule.Rule.TheVariants.{NoScheme, HostMissing, HostDomain, HostNumber, HostIpv6}
 use Rattle.uv_model.specs.declared.rule.Rule.TheVariants.{HostCodePoint, PortDigit, PortRange, CodePoint, Percent}
 use Rattle.uv_model.specs.Violations.Rule.{rule_sentence}
-use Rattle.uv_report.specs.CodePoint.{is_unseen, point_text}
+use Rattle.uv_report.specs.CodePoint.{point_text}
 use Rattle.uv_report.specs.Domain.{host_message}
 use Rattle.uv_report.specs.Drive.{drive_note}
-use Rattle.uv_report.specs.Ipv6.{has_bare_ipv6}
+use Rattle.uv_report.specs.Intention.{meant_note}
+use Rattle.uv_report.specs.Ipv6.{has_bare_ipv6, has_zone}
 use Rattle.uv_report.specs.LineViolation.{violation_sentence}
 use Rattle.uv_report.specs.LocatedFault.{located_sentence}
+use Rattle.uv_report.specs.Start.{start_sentence}
 use Rattle.uv_report.specs.declared.line_violation.LineViolation.{LineViolation}
 use Rattle.uv_report.specs.declared.line_violation.LineViolation.TheVariants.{Refused, NotUtf8, TooLong, NotLocated}
 
@@ -38,14 +40,6 @@ point_sentence rule _ _ = rule_sentence rule
 abbrev pub unit_sentence : List ℕ → ℕ → List ℕ
 unit_sentence line place =
     point_sentence CodePoint (said_of_point CodePoint) (slice_get (chars line) place) ++ drive_note line place
-
--- ---- what stands before a scheme (URL Standard, section 4.3: a scheme begins with an ASCII letter)
-
--- where a text that has no scheme begins with a code point of which nothing is seen, that it stands before the scheme
-abbrev pub start_sentence : Option ℕ → List ℕ
-start_sentence (Some c) =
-    if is_unseen c then point_text c ++ codes " stands before the scheme" else rule_sentence NoScheme
-start_sentence None = rule_sentence NoScheme
 
 -- ---- credentials (URL Standard, sections 4.1 and 4.3: a valid URL string has none)
 
@@ -79,7 +73,7 @@ has_credentials line place = is_at_sign (part_end line place)
 
 -- what is said of them
 abbrev pub credentials_sentence : List ℕ
-credentials_sentence = codes "a URL string has no credentials: no user name, password or @ before its host"
+credentials_sentence = codes "a URL string has no credentials: no user name, password or @ before its host; leave them out"
 
 -- ---- an address
 
@@ -87,21 +81,34 @@ credentials_sentence = codes "a URL string has no credentials: no user name, pas
 abbrev pub bare_ipv6_sentence : List ℕ
 bare_ipv6_sentence = codes "a host that is an IPv6 address stands in brackets"
 
+-- what is said of one in brackets that has a zone
+abbrev pub zone_sentence : List ℕ
+zone_sentence = codes "an IPv6 address in a URL has no zone: leave out the % and what follows it"
+
+-- what is said of a host that is no IPv6 address in brackets
+abbrev pub ipv6_sentence : List ℕ → List ℕ
+ipv6_sentence line = if has_zone line then zone_sentence else rule_sentence HostIpv6
+
 -- ---- a line
 
 -- what is said of a place by a rule that the profile asks
 abbrev pub rule_message : Profile → List ℕ → ℕ → Rule → List ℕ
-rule_message profile line place NoScheme = start_sentence (slice_get (chars line) place)
+rule_message profile line place NoScheme = start_sentence line (slice_get (chars line) place)
 rule_message profile line place HostDomain = host_message profile line place
+rule_message profile line place HostIpv6 = ipv6_sentence line
 rule_message profile line place CodePoint = unit_sentence line place
 rule_message profile line place rule = point_sentence rule (said_of_point rule) (slice_get (chars line) place)
 
--- what is reported of a line that is refused by a profile
-unfoldable pub refusal_message : Profile → List ℕ → Refusal → List ℕ
-refusal_message profile line refusal =
+-- what is wrong with a line that is refused by a profile
+unfoldable pub refusal_sentence : Profile → List ℕ → Refusal → List ℕ
+refusal_sentence profile line refusal =
     if is_of_authority refusal.rule && has_credentials line refusal.place then credentials_sentence
     else if is_of_authority refusal.rule && has_bare_ipv6 line then bare_ipv6_sentence
     else rule_message profile line refusal.place refusal.rule
+
+-- what is reported of it: this, and what the line shows of its author's intention
+abbrev pub refusal_message : Profile → List ℕ → Refusal → List ℕ
+refusal_message profile line refusal = refusal_sentence profile line refusal ++ meant_note line refusal.rule
 
 -- what is reported of a line that is judged by a profile
 abbrev pub message : Profile → List ℕ → LineViolation → List ℕ

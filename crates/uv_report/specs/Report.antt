@@ -6,22 +6,30 @@ use Rattle.uv_report.specs.declared.completion.Completion.{Completion}
 use Rattle.uv_report.specs.declared.diagnostic.Diagnostic.{Diagnostic}
 use Rattle.uv_report.specs.declared.format.Format.{Format}
 use Rattle.uv_report.specs.declared.format.Format.TheVariants.{Gnu, Caret, Json, Github, Sarif, Checkstyle}
+use Rattle.uv_report.specs.declared.format.Format.TheVariants.{Junit, Gitlab, Rdjson}
 use Rattle.uv_report.specs.Caret.{caret_text}
 use Rattle.uv_report.specs.Checkstyle.{checkstyle_text, document_begin, document_end, file_begin, file_end}
 use Rattle.uv_report.specs.Github.{github_text}
+use Rattle.uv_report.specs.Gitlab.{gitlab_begin, gitlab_end, gitlab_text}
 use Rattle.uv_report.specs.Gnu.{gnu_text}
 use Rattle.uv_report.specs.Json.{json_text}
+use Rattle.uv_report.specs.Junit.{junit_begin, junit_end, junit_text, suite_begin, suite_end}
+use Rattle.uv_report.specs.Rdjson.{rdjson_begin, rdjson_end, rdjson_text}
 use Rattle.uv_report.specs.Sarif.{sarif_begin, sarif_end, sarif_text}
 
 -- what a report begins with; in SARIF that says what its columns count
 abbrev pub begin_text : Format → Columns → List ℕ
 begin_text Sarif columns = sarif_begin columns
 begin_text Checkstyle columns = document_begin
+begin_text Junit columns = junit_begin
+begin_text Gitlab columns = gitlab_begin
+begin_text Rdjson columns = rdjson_begin
 begin_text _ columns = []
 
 -- what stands before the diagnostics of a file
 abbrev pub file_begin_text : Format → List ℕ → List ℕ
 file_begin_text Checkstyle file = file_begin file
+file_begin_text Junit file = suite_begin file
 file_begin_text _ file = []
 
 -- a diagnostic, which is the first one of the report or isn't
@@ -32,14 +40,21 @@ diagnostic_text Json is_first diagnostic = json_text diagnostic
 diagnostic_text Github is_first diagnostic = github_text diagnostic
 diagnostic_text Sarif is_first diagnostic = sarif_text is_first diagnostic
 diagnostic_text Checkstyle is_first diagnostic = checkstyle_text diagnostic
+diagnostic_text Junit is_first diagnostic = junit_text diagnostic
+diagnostic_text Gitlab is_first diagnostic = gitlab_text is_first diagnostic
+diagnostic_text Rdjson is_first diagnostic = rdjson_text is_first diagnostic
 
 -- what stands behind the diagnostics of a file
 abbrev pub file_end_text : Format → List ℕ
 file_end_text Checkstyle = file_end
+file_end_text Junit = suite_end
 file_end_text _ = []
 
 -- what a report ends with, by how the run over its files has ended
 abbrev pub end_text : Format → Completion → List ℕ
 end_text Sarif completion = sarif_end completion
 end_text Checkstyle completion = document_end
+end_text Junit completion = junit_end completion
+end_text Gitlab completion = gitlab_end
+end_text Rdjson completion = rdjson_end
 end_text _ completion = []

@@ -1,15 +1,18 @@
 -- Code points that are named, columns, messages and windows, written out.
-use Rattle.std.specs.Prelude.{◌≡◌, ℕ, true, false, List, [], ◌∷◌, ◌++◌, codes, replicate}
+use Rattle.std.specs.Prelude.{◌≡◌, ℕ, true, false, List, [], ◌∷◌, ◌++◌, codes, replicate, None, Some}
 use Rattle.uv_model.specs.declared.profile.Profile.{Profile}
 use Rattle.uv_model.specs.declared.profile.Profile.TheVariants.{Standard, Wide, Parser}
 use Rattle.uv_model.specs.declared.rule.Rule.TheVariants.{NoScheme, HostMissing, HostDomain, PortDigit, CodePoint}
+use Rattle.uv_model.specs.declared.rule.Rule.TheVariants.{FirstSegmentEmpty, HostIpv6, Percent}
 use Rattle.uv_model.specs.Violations.Rule.{rule_sentence}
+use Rattle.uv_report.specs.declared.intention.Intention.TheVariants.{Template, WindowsPath, TwoSchemes, JoinedSlashes}
 use Rattle.uv_report.specs.declared.line_violation.LineViolation.TheVariants.{Refused, NotLocated}
 use Rattle.uv_report.specs.declared.located_fault.LocatedFault.TheVariants.{NoColumn}
 use Rattle.uv_report.specs.declared.column.Columns.TheVariants.{CodePoints, Bytes, Utf16, Screen}
 use Rattle.uv_report.specs.CodePoint.{point_text}
 use Rattle.uv_report.specs.Column.{column_at, width}
 use Rattle.uv_report.specs.Drive.{drive_sentence}
+use Rattle.uv_report.specs.Intention.{intention, is_offered}
 use Rattle.uv_report.specs.Ipv6.{has_bare_ipv6}
 use Rattle.uv_report.specs.Message.{credentials_sentence, has_credentials, message}
 use Rattle.uv_report.specs.Uri.{uri_path}
@@ -63,6 +66,20 @@ pub record MessageRows : Type 0 where
       ≡ codes "U+FEFF stands before the scheme"
   pub no_break_space : message Standard (0xC2 ∷ 0xA0 ∷ codes "a:") (Refused (record { place = 0; rule = NoScheme }))
       ≡ codes "U+00A0 stands before the scheme"
+  pub quotation : message Standard (codes "\"https://a/\"") (Refused (record { place = 0; rule = NoScheme }))
+      ≡ codes "U+0022 QUOTATION MARK stands before the scheme"
+  pub bracket : message Standard (codes "<https://a/>") (Refused (record { place = 0; rule = NoScheme }))
+      ≡ codes "U+003C LESS-THAN SIGN stands before the scheme"
+  pub no_scheme : message Standard (codes "(a b: c)") (Refused (record { place = 0; rule = NoScheme }))
+      ≡ codes "there is no scheme and no base"
+  pub colon : message Standard (codes "HTTP//a/") (Refused (record { place = 0; rule = NoScheme }))
+      ≡ codes "there is no scheme and no base; write : behind the scheme"
+  pub slashes : message Standard (codes "//a/") (Refused (record { place = 0; rule = NoScheme }))
+      ≡ codes "there is no scheme and no base; write https: before it, or name its base (--base)"
+  pub domain : message Standard (codes "www.a.b/c d") (Refused (record { place = 0; rule = NoScheme }))
+      ≡ codes "there is no scheme and no base; write https:// before a host, or name its base (--base)"
+  pub dots : message Standard (codes "../a.b") (Refused (record { place = 0; rule = NoScheme }))
+      ≡ codes "there is no scheme and no base"
   pub relative : message Standard (codes "a b") (Refused (record { place = 0; rule = NoScheme }))
       ≡ codes "there is no scheme and no base"
   pub user : message Standard (codes "http://u@h/") (Refused (record { place = 7; rule = HostDomain }))
@@ -76,8 +93,45 @@ pub record MessageRows : Type 0 where
       ≡ codes "U+007C VERTICAL LINE may not stand in a URL: a drive letter is written with :"
   pub bar : message Standard (codes "file:///x/C|/") (Refused (record { place = 11; rule = CodePoint }))
       ≡ codes "U+007C VERTICAL LINE may not stand in a URL"
+  pub template : message Standard (codes "https://h/%s") (Refused (record { place = 10; rule = Percent }))
+      ≡ codes "U+0025 PERCENT SIGN has to be followed by two hex digits; this looks like a template: check what it makes"
+  pub windows : message Standard (codes "C:\\x") (Refused (record { place = 2; rule = CodePoint }))
+      ≡ codes "U+005C REVERSE SOLIDUS may not stand in a URL; this looks like a path of Windows, whose URL begins with file:///"
+  pub twice : message Standard (codes "http://http://x") (Refused (record { place = 13; rule = FirstSegmentEmpty }))
+      ≡ codes "the path's first segment is empty, and others follow it; this has two schemes: write one of them"
+  pub joined : message Standard (codes "https://h//a") (Refused (record { place = 10; rule = FirstSegmentEmpty }))
+      ≡ codes "the path's first segment is empty, and others follow it; --profile wide takes it; write one slash where two weren't meant"
+  pub zone : message Standard (codes "http://[fe80::1%25eth0]/") (Refused (record { place = 7; rule = HostIpv6 }))
+      ≡ codes "an IPv6 address in a URL has no zone: leave out the % and what follows it"
+  pub open_bracket : message Standard (codes "http://[::1/%") (Refused (record { place = 7; rule = HostIpv6 }))
+      ≡ rule_sentence HostIpv6
   pub located : message Standard (codes "a:1:x") (NotLocated NoColumn)
       ≡ codes "this line isn't FILE:LINE:COLUMN:LINK, since COLUMN is missing"
+
+-- what texts show of their author's intention, beside what they are mended to: templates; paths of Windows, and what is
+-- none; two schemes, the second one without its colon too, and names of hosts that are none; two slashes that a mended
+-- text keeps; and texts that show nothing
+pub record IntentionRows : Type 0 where
+  pub braces : intention (codes "{{ url }}") (codes "%7B%7B%20url%20%7D%7D") ≡ Some Template
+  pub block : intention (codes "{% url 'a' %}") (codes "%7B%25%20url%20'a'%20%25%7D") ≡ Some Template
+  pub variable : intention (codes "https://h/${v}") (codes "https://h/$%7Bv%7D") ≡ Some Template
+  pub tag : intention (codes "https://h/<%= v %>") (codes "https://h/%3C%25=%20v%20%25%3E") ≡ Some Template
+  pub printf : intention (codes "https://h/%s") (codes "https://h/%25s") ≡ Some Template
+  pub single : is_offered (codes "https://h/{v}") (codes "https://h/%7Bv%7D") ≡ true
+  pub percent : is_offered (codes "https://h/5%") (codes "https://h/5%25") ≡ true
+  pub drive : intention (codes "C:\\Users") (codes "C:%5CUsers") ≡ Some WindowsPath
+  pub server : intention (codes "\\\\server\\x") (codes "//server/x") ≡ Some WindowsPath
+  pub two_letters : is_offered (codes "ab:\\x") (codes "ab:%5Cx") ≡ true
+  pub twice : intention (codes "http://http://x") (codes "http://http:/.//x") ≡ Some TwoSchemes
+  pub no_slashes : intention (codes "HTTP:https://x") (codes "HTTP://https:/.//x") ≡ Some TwoSchemes
+  pub no_colon : intention (codes "https://https//x/") (codes "https://https/.//x/") ≡ Some TwoSchemes
+  pub file : intention (codes "file:///http://x") (codes "file:///http://x") ≡ None
+  pub own_host : is_offered (codes "http://https/a b") (codes "http://https/a%20b") ≡ true
+  pub own_port : is_offered (codes "http://http:80/a b") (codes "http://http:80/a%20b") ≡ true
+  pub other : is_offered (codes "view-source:https://h/a b") (codes "view-source:https://h/a%20b") ≡ true
+  pub joined : intention (codes "https://h//a") (codes "https://h/.//a") ≡ Some JoinedSlashes
+  pub dotted : is_offered (codes "https://h/.//a b") (codes "https://h/.//a%20b") ≡ true
+  pub space : is_offered (codes "https://h/a b") (codes "https://h/a%20b") ≡ true
 
 -- the message on a host that begins behind `http://`
 abbrev pub of_host : Profile → List ℕ → List ℕ
@@ -87,17 +141,20 @@ of_host profile line = message profile line (Refused (record { place = 7; rule =
 -- empty, too long, or have hyphens where the standard profile permits none; a port and a drive letter of a `file` link;
 -- and hosts of which nothing is shown
 pub record DomainRows : Type 0 where
-  pub mark : of_host Standard (codes "http://x_y!/") ≡ codes "U+005F LOW LINE may not stand in a domain"
-  pub wide : of_host Wide (codes "http://x_y!/") ≡ codes "U+0021 EXCLAMATION MARK may not stand in a domain"
+  pub mark : of_host Standard (codes "http://x_y!/") ≡ codes "U+005F LOW LINE may not stand in a domain; --profile wide takes it"
+  pub wide : of_host Wide (codes "http://x_y!/")
+      ≡ codes "U+0021 EXCLAMATION MARK may not stand in a domain; --profile parser takes it"
   pub parser : of_host Parser (codes "http://x_y!%20\\z/") ≡ codes "U+005C REVERSE SOLIDUS may not stand in a domain"
-  pub percent : of_host Standard (codes "http://a%41/") ≡ codes "U+0025 PERCENT SIGN may not stand in a domain"
-  pub empty : of_host Wide (codes "http://a..b/") ≡ codes "a label of this domain is empty"
-  pub root : of_host Standard (codes "http://.:80") ≡ codes "a label of this domain is empty"
+  pub percent : of_host Standard (codes "http://a%41/")
+      ≡ codes "U+0025 PERCENT SIGN may not stand in a domain; --profile parser takes it"
+  pub empty : of_host Wide (codes "http://a..b/") ≡ codes "a label of this domain is empty; --profile parser takes it"
+  pub root : of_host Standard (codes "http://.:80") ≡ codes "a label of this domain is empty; --profile parser takes it"
   pub long : of_host Standard (codes "http://b." ++ (replicate 64 97 ++ codes "./"))
-      ≡ codes "a label of this domain has more than 63 code points"
-  pub outer : of_host Standard (codes "http://a.b-?c--d") ≡ codes "a label of this domain begins or ends with -"
+      ≡ codes "a label of this domain has more than 63 code points; --profile parser takes it"
+  pub outer : of_host Standard (codes "http://a.b-?c--d")
+      ≡ codes "a label of this domain begins or ends with -; --profile wide takes it"
   pub inner : of_host Standard (codes "http://XM--a.b/")
-      ≡ codes "a label of this domain has -- in its third and fourth place"
+      ≡ codes "a label of this domain has -- in its third and fourth place; --profile wide takes it"
   pub punycode : of_host Standard (codes "http://Xn--a-/") ≡ rule_sentence HostDomain
   pub hyphens : of_host Wide (codes "http://-a--b/") ≡ rule_sentence HostDomain
   pub port : of_host Standard (codes "File://h:80/")

@@ -1,6 +1,7 @@
 -- A diagnostic as a result of SARIF 2.1.0 (sections 3.27 to 3.30, and 3.55 to 3.57), and the document round the
 -- results.
-use Rattle.std.specs.Prelude.{ℕ, Bool, true, false, List, [], ◌++◌, codes, flat_map, Option, Some, None}
+use Rattle.std.specs.Prelude.{ℕ, Bool, true, false, List, [], ◌++◌, codes, decimal, flat_map, if◌then◌else◌, Option}
+use Rattle.std.specs.Prelude.{Some, None}
 use Rattle.serde_json.specs.Data.{Data, Members, boolean, number, unsigned, string, array, no_items, item, object}
 use Rattle.serde_json.specs.Data.{member, no_members}
 use Rattle.serde_json.specs.Written.{compact_text}
@@ -17,9 +18,12 @@ use Rattle.uv_report.specs.declared.line_violation.LineViolation.{LineViolation}
 use Rattle.uv_report.specs.declared.line_violation.LineViolation.TheVariants.{Refused, NotUtf8, TooLong, NotLocated}
 use Rattle.uv_report.specs.declared.located_fault.LocatedFault.TheVariants.{NoFile}
 use Rattle.uv_report.specs.declared.mended.Mended.{Mended}
+use Rattle.uv_report.specs.Intention.{is_offered}
 use Rattle.uv_report.specs.LineViolation.{violation_help, violation_index, violation_name, violation_place}
 use Rattle.uv_report.specs.LineViolation.{violation_sentence, violation_uri}
+use Rattle.uv_report.specs.Fingerprint.{text_fingerprint}
 use Rattle.uv_report.specs.Message as reported
+use Rattle.uv_report.specs.Page.{address, rule_page}
 use Rattle.uv_report.specs.Uri.{uri_path}
 use Rattle.uv_report.specs.Window.{carried, is_cut}
 
@@ -29,14 +33,19 @@ message text = object (member (codes "text") (string text) no_members)
 
 -- ---- the rules (section 3.49)
 
+-- where what it asks stands in the URL Standard
+abbrev pub section_value : LineViolation → Data
+section_value violation = object (member (codes "section") (string (violation_uri violation)) no_members)
+
 -- the rule of a violation
 abbrev pub rule_value : LineViolation → Data
 rule_value violation =
     object (member (codes "fullDescription") (message (violation_help violation))
     (member (codes "help") (message (violation_help violation))
-    (member (codes "helpUri") (string (violation_uri violation))
+    (member (codes "helpUri") (string (rule_page violation))
     (member (codes "id") (string (violation_name violation))
-    (member (codes "shortDescription") (message (violation_sentence violation)) no_members)))))
+    (member (codes "properties") (section_value violation)
+    (member (codes "shortDescription") (message (violation_sentence violation)) no_members))))))
 
 -- its text
 unfoldable pub rule_text : LineViolation → List ℕ
@@ -60,13 +69,18 @@ column_kind CodePoints = codes "\"columnKind\":\"unicodeCodePoints\","
 column_kind Utf16 = codes "\"columnKind\":\"utf16CodeUnits\","
 column_kind _ = []
 
+-- the tool up to its rules (section 3.19): where it is told of, its name and its version
+unfoldable pub driver_begin : List ℕ
+driver_begin =
+    codes "\"tool\":{\"driver\":{\"informationUri\":\"" ++ (address
+    ++ codes "/\",\"name\":\"urlcheck\",\"version\":\"0.3.0\",\"rules\":[")
+
 -- what it begins with
 unfoldable pub sarif_begin : Columns → List ℕ
 sarif_begin columns =
     codes "{\"$schema\":\"https://json.schemastore.org/sarif-2.1.0.json\",\"version\":\"2.1.0\","
     ++ (codes "\"runs\":[{" ++ (column_kind columns
-    ++ (codes "\"tool\":{\"driver\":{\"name\":\"urlcheck\",\"version\":\"0.2.0\",\"rules\":["
-    ++ (all_rules ++ codes "]}},\"results\":[\n"))))
+    ++ (driver_begin ++ (all_rules ++ codes "]}},\"results\":[\n"))))
 
 -- a message to the one who reads how the run went
 abbrev pub notification : List ℕ → List ℕ
@@ -95,11 +109,19 @@ single value = array (item value no_items)
 abbrev pub artifact_value : List ℕ → Data
 artifact_value file = object (member (codes "uri") (string (uri_path file)) no_members)
 
--- the line and the column
+-- the line, and between which columns it is wrong (section 3.30)
 abbrev pub region_value : Diagnostic → Data
 region_value diagnostic =
-    object (member (codes "startColumn") (number (unsigned diagnostic.column))
-    (member (codes "startLine") (number (unsigned diagnostic.line)) no_members))
+    object (member (codes "endColumn") (number (unsigned diagnostic.end))
+    (member (codes "startColumn") (number (unsigned diagnostic.column))
+    (member (codes "startLine") (number (unsigned diagnostic.line)) no_members)))
+
+-- the text of this between the path of the file's name and the end of the line's number
+abbrev pub region_pieces : Diagnostic → List ℕ
+region_pieces diagnostic =
+    (codes "\"},\"region\":{\"endColumn\":" ++ decimal diagnostic.end)
+    ++ ((codes ",\"startColumn\":" ++ decimal diagnostic.column)
+    ++ (codes ",\"startLine\":" ++ decimal diagnostic.line))
 
 -- these two
 abbrev pub physical_value : Diagnostic → Data
@@ -110,6 +132,12 @@ physical_value diagnostic =
 -- where a diagnostic is
 abbrev pub location_value : Diagnostic → Data
 location_value diagnostic = object (member (codes "physicalLocation") (physical_value diagnostic) no_members)
+
+-- What tells a result from another in a later run too, wherever it stands then (section 3.27.17). The number behind the
+-- name rises where it is made in another way.
+abbrev pub fingerprints_value : LineViolation → List ℕ → Data
+fingerprints_value violation text =
+    object (member (codes "urlcheckText/v1") (string (text_fingerprint violation text)) no_members)
 
 -- a line of which this is found, and whether it is cut
 abbrev pub link_of : List ℕ → LineViolation → Data
@@ -168,9 +196,10 @@ result_with diagnostic mended =
     (member (codes "level") (string (codes "error"))
     (member (codes "locations") (single (location_value diagnostic))
     (member (codes "message") (message (reported.message diagnostic.profile diagnostic.text.now diagnostic.violation))
+    (member (codes "partialFingerprints") (fingerprints_value diagnostic.violation diagnostic.text.now)
     (member (codes "properties") (link_value diagnostic)
     (member (codes "ruleId") (string (violation_name diagnostic.violation))
-    (member (codes "ruleIndex") (number (unsigned (violation_index diagnostic.violation))) no_members)))))))
+    (member (codes "ruleIndex") (number (unsigned (violation_index diagnostic.violation))) no_members))))))))
 
 -- what the text of a result begins with: a fix, and a comma behind it, where there is a mended text
 abbrev pub result_begin : Diagnostic → Option Mended → List ℕ
@@ -186,16 +215,25 @@ location_begin = codes "\"level\":\"error\",\"locations\":[{\"physicalLocation\"
 abbrev pub fix_begin : List ℕ
 fix_begin = codes "{\"fixes\":[{\"artifactChanges\":[{\"artifactLocation\":{\"uri\":\""
 
--- the result of a diagnostic
+-- the mended text that is offered in place of a text, where there is one
+abbrev pub offered_in : List ℕ → Option Mended → Option Mended
+offered_in text None = None
+offered_in text (Some mended) = if is_offered text mended.text.now then Some mended else None
+
+-- the result of a diagnostic: its fix writes the mended text that is offered
 abbrev pub result_value : Diagnostic → Data
-result_value diagnostic = result_with diagnostic diagnostic.mended
+result_value diagnostic = result_with diagnostic (offered_in diagnostic.text.now diagnostic.mended)
 
 -- a comma before each result but the first
 abbrev pub separator : Bool → List ℕ
 separator true = []
 separator false = codes ","
 
--- a result, and a line feed
+-- a result with this mended text, and a line feed
+abbrev pub sarif_with : Bool → Diagnostic → Option Mended → List ℕ
+sarif_with is_first diagnostic mended =
+    separator is_first ++ (compact_text (result_with diagnostic mended) ++ codes "\n")
+
+-- a result with the mended text that is offered
 unfoldable pub sarif_text : Bool → Diagnostic → List ℕ
-sarif_text is_first diagnostic =
-    separator is_first ++ (compact_text (result_value diagnostic) ++ codes "\n")
+sarif_text is_first diagnostic = sarif_with is_first diagnostic (offered_in diagnostic.text.now diagnostic.mended)

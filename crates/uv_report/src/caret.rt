@@ -2,20 +2,22 @@
 ghost use Rattle.std.specs.Prelude.{◌≡◌, ◌++◌, OnOk, replicate, string_bytes, take};
 ghost use Rattle.std.specs.List.{flat_map};
 ghost use Rattle.std.specs.Str.{chars};
-ghost use Rattle.uv_report.specs.Caret.{below, caret_lines, caret_text, help_line, help_text, padding, shown_lines};
-ghost use Rattle.uv_report.specs.Caret.{shows_line, window_lines};
+ghost use Rattle.uv_report.specs.Caret.{below, caret_lines, caret_text, help_line, help_text, help_words, named_as};
+ghost use Rattle.uv_report.specs.Caret.{padding, shown_lines, shows_line, window_lines};
 
 use crate::column::shown_width;
 use crate::diagnostic::Diagnostic;
 use crate::escapes::{Escapes, push_escaped};
 use crate::gnu::push_gnu;
+use crate::intention::is_offered;
 use crate::line_violation::LineViolation;
 use crate::mended::Mended;
 use crate::window::{window, window_place};
 use std::alloc::{AllocError, Global};
+use uv_model::MendKind;
 
 /// Pushes the line of `gnu`, what is shown of the line that it is about and the line of the caret where a text is
-/// carried, and `help: write TEXT` where there is a mended text.
+/// carried, and where there is a mended text `help: write TEXT`, or a note that names one that isn't offered.
 #[tactic(auto, unfolding(crate::specs::Caret::caret_text))]
 pub(crate) fn push_caret(
     alloc: Global,
@@ -24,10 +26,15 @@ pub(crate) fn push_caret(
 ) -> Result<(), AllocError>
     ensures { OnOk result (string_bytes text.new ≡ string_bytes text.old ++ caret_text diagnostic.now) }
 {
-    let place = diagnostic.violation.place();
     push_gnu(alloc, text, diagnostic)?;
     push_shown(alloc, text, diagnostic.text, diagnostic.violation)?;
-    push_help(alloc, text, place, diagnostic.mended)?;
+    push_help(
+        alloc,
+        text,
+        diagnostic.text,
+        diagnostic.violation.place(),
+        diagnostic.mended,
+    )?;
     Ok(())
 }
 
@@ -71,29 +78,56 @@ fn push_window(alloc: Global, text: &mut String, line: &str, place: usize) -> Re
 fn push_help(
     alloc: Global,
     text: &mut String,
+    line: &str,
     place: usize,
     mended: Option<Mended<'_>>,
 ) -> Result<(), AllocError>
-    ensures { OnOk result (string_bytes text.new ≡ string_bytes text.old ++ help_text place mended.entry) }
+    ensures { OnOk result (string_bytes text.new ≡ string_bytes text.old ++ help_text line.now place mended.entry) }
 {
     match mended {
-        Some(mended) => push_help_line(alloc, text, place, mended.text),
+        Some(mended) => {
+            let words = help_words(is_offered(line, mended.text), mended.kind);
+            push_help_line(alloc, text, words, place, mended.text)
+        }
         None => Ok(()),
     }
 }
 
-// Pushes `help: write TEXT`: what is shown of a mended text around a place.
+// What stands before a mended text, which is offered or isn't.
+fn help_words(offered: bool, kind: MendKind) -> &'static str
+    ensures { result.now ≡ help_words offered kind }
+{
+    if offered {
+        "help: write "
+    } else {
+        named_as(kind)
+    }
+}
+
+// How a mended text is named that isn't offered.
+fn named_as(kind: MendKind) -> &'static str
+    ensures { result.now ≡ named_as kind }
+{
+    match kind {
+        MendKind::Same => "note: the same URL, written validly, is ",
+        MendKind::Escaped => "note: the same text, percent-encoded, is ",
+        MendKind::Changed => "note: a valid URL string that is near it is ",
+    }
+}
+
+// Pushes these words, and what is shown of a mended text around a place.
 #[tactic(auto, unfolding(crate::specs::Caret::help_line))]
 fn push_help_line(
     alloc: Global,
     text: &mut String,
+    words: &str,
     place: usize,
     mended: &str,
 ) -> Result<(), AllocError>
-    ensures { OnOk result (string_bytes text.new ≡ string_bytes text.old ++ help_line place mended.now) }
+    ensures { OnOk result (string_bytes text.new ≡ string_bytes text.old ++ help_line words.now place mended.now) }
 {
     let shown = window(alloc, mended, place)?;
-    text.push_str("help: write ")?;
+    text.push_str(words)?;
     push_escaped(text, shown.as_str(), Escapes::Shown)?;
     text.push_str("\n")?;
     Ok(())

@@ -61,6 +61,17 @@ impl<'t> ColumnCounter<'t> {
         self.last = mark_at(self.columns, self.last, place);
         self.last.column
     }
+
+    /// The column of a place, as `column` tells it. The next one is still told from where the last one was.
+    pub fn column_ahead(&self, place: usize) -> u64
+        ensures { result ≡ column_at self.now.columns self.now.start self.now.text place }
+    {
+        if place < self.last.place {
+            mark_at(self.columns, first_mark(self.start, self.text), place).column
+        } else {
+            mark_at(self.columns, self.last, place).column
+        }
+    }
 }
 
 // The mark of the place 0.

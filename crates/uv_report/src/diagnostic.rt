@@ -13,6 +13,8 @@ pub struct Diagnostic<'a> {
     pub line: u64,
     /// The column of the place at which the text is wrong, in its line, from 1: `ColumnCounter::column` tells it.
     pub column: u64,
+    /// The column at which what is wrong ends, behind its last code point: that of the place `LineViolation::end`.
+    pub end: u64,
     /// By which profile the text is judged.
     pub profile: Profile,
     /// What is wrong with the text.

@@ -3,9 +3,10 @@ ghost use Rattle.idna.specs.Labels.{labels_of};
 ghost use Rattle.idna.specs.Validity.{has_ace_prefix, has_hyphen_first_or_last, has_hyphens_third_and_fourth};
 ghost use Rattle.idna.specs.Validity.{is_all_ascii};
 ghost use Rattle.std.specs.List.{before_first, list_any};
-ghost use Rattle.std.specs.Prelude.{◌≡◌, ◌++◌, ◌==◌, OnOk, find, option_copied, slice_index, string_bytes};
+ghost use Rattle.std.specs.Prelude.{◌≡◌, ◌++◌, ◌==◌, OnOk, find, not, option_copied, slice_index, string_bytes};
 ghost use Rattle.uv_model.specs.Hosts.Domain as domain;
 ghost use Rattle.uv_model.specs.Scheme.{lowercase};
+ghost use Rattle.uv_model.specs.declared.profile.Profile.TheVariants.{Parser};
 ghost use Rattle.uv_report.specs.Domain as spec;
 
 use crate::code_point::push_point;
@@ -29,16 +30,21 @@ enum LabelFault {
 }
 
 impl LabelFault {
-    // What is wrong, in a sentence without its end.
+    // What is wrong, in a sentence without its end, and which other profile takes it.
     fn sentence(self) -> &'static str
         ensures { result.now ≡ spec.label_sentence self }
     {
         match self {
-            LabelFault::Empty => "a label of this domain is empty",
-            LabelFault::Long => "a label of this domain has more than 63 code points",
-            LabelFault::OuterHyphen => "a label of this domain begins or ends with -",
-            LabelFault::InnerHyphens =>
-                "a label of this domain has -- in its third and fourth place",
+            LabelFault::Empty => "a label of this domain is empty; --profile parser takes it",
+            LabelFault::Long => {
+                "a label of this domain has more than 63 code points; --profile parser takes it"
+            }
+            LabelFault::OuterHyphen => {
+                "a label of this domain begins or ends with -; --profile wide takes it"
+            }
+            LabelFault::InnerHyphens => {
+                "a label of this domain has -- in its third and fourth place; --profile wide takes it"
+            }
         }
     }
 
@@ -99,23 +105,61 @@ fn push_host_sentence(
     ensures { OnOk result (string_bytes text.new
         ≡ string_bytes text.old ++ spec.domain_sentence profile host.now) }
 {
-    let Some(foreign) = foreign_in(profile, host) else {
-        return text.push_str(labels_sentence(profile, host));
-    };
+    match foreign_in(profile, host) {
+        Some(foreign) => push_foreign(alloc, text, profile, foreign),
+        None => text.push_str(labels_sentence(profile, host)),
+    }
+}
+
+// Pushes that a byte may not stand in a domain by a profile.
+fn push_foreign(
+    alloc: Global,
+    text: &mut String,
+    profile: Profile,
+    foreign: u8,
+) -> Result<(), AllocError>
+    ensures { OnOk result (string_bytes text.new
+        ≡ string_bytes text.old ++ spec.foreign_sentence profile foreign) }
+{
     push_point(alloc, text, char::from(foreign))?;
     text.push_str(" may not stand in a domain")?;
-    text.push_str(port_note(foreign))?;
+    text.push_str(foreign_note(profile, foreign))?;
     Ok(())
 }
 
-// What is said behind a byte that may not stand in a domain: of the one that begins a port elsewhere, else nothing.
-fn port_note(foreign: u8) -> &'static str
-    ensures { result.now ≡ spec.port_note foreign }
+// Which profile takes a byte that is foreign by this one: the next wider one that does.
+fn profile_note(profile: Profile, foreign: u8) -> &'static str
+    ensures { result.now ≡ spec.profile_note profile foreign }
+{
+    match profile {
+        Profile::Standard if is_foreign(Profile::Wide, foreign) => parser_note(foreign),
+        Profile::Standard => "; --profile wide takes it",
+        Profile::Wide => parser_note(foreign),
+        Profile::Parser => "",
+    }
+}
+
+// That the parser's profile takes a byte, where it does.
+fn parser_note(foreign: u8) -> &'static str
+    ensures { result.now ≡ spec.taken_note (not (spec.is_foreign Parser foreign)) Parser }
+{
+    if is_foreign(Profile::Parser, foreign) {
+        ""
+    } else {
+        "; --profile parser takes it"
+    }
+}
+
+// What is said behind a byte that may not stand in a domain: of the one that begins a port elsewhere, and else which
+// profile takes it.
+#[tactic(auto, unfolding(crate::specs::Domain::foreign_note))]
+fn foreign_note(profile: Profile, foreign: u8) -> &'static str
+    ensures { result.now ≡ spec.foreign_note profile foreign }
 {
     if foreign == b':' {
         ": a file URL has no port"
     } else {
-        ""
+        profile_note(profile, foreign)
     }
 }
 

@@ -48,8 +48,8 @@ pub(crate) fn is_file_link(line: &str) -> bool
     is_name(before_colon(line), "file")
 }
 
-// What stands before the first `:`.
-fn before_colon(line: &str) -> &str
+/// What stands before the first `:`.
+pub(crate) fn before_colon(line: &str) -> &str
     ensures { result.now ≡ before_first (λ b. b == colon) line.now }
 {
     match line.split_once(':') {
@@ -58,8 +58,8 @@ fn before_colon(line: &str) -> &str
     }
 }
 
-// What stands behind the first `:`.
-fn behind_scheme(line: &str) -> &str
+/// What stands behind the first `:`.
+pub(crate) fn behind_scheme(line: &str) -> &str
     ensures { result.now ≡ after_first (λ b. b == colon) line.now }
 {
     match line.split_once(':') {

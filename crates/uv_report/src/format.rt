@@ -1,6 +1,6 @@
 //! The formats of diagnostics.
 ghost use Rattle.std.specs.Prelude.{◌≡◌};
-ghost use Rattle.uv_report.specs.Format.{format_name, named_format, takes_columns};
+ghost use Rattle.uv_report.specs.Format.{format_name, named_format, own_columns, takes_columns};
 ghost use Rattle.uv_report.specs.Format as spec;
 
 use crate::column::Columns;
@@ -20,6 +20,12 @@ pub enum Format {
     Sarif,
     /// A document of Checkstyle, in XML.
     Checkstyle,
+    /// A document of JUnit, in XML.
+    Junit,
+    /// A report of GitLab on the quality of code, in JSON.
+    Gitlab,
+    /// A document of reviewdog's diagnostics, in JSON.
+    Rdjson,
 }
 
 impl Format {
@@ -34,6 +40,9 @@ impl Format {
             Format::Github => "github",
             Format::Sarif => "sarif",
             Format::Checkstyle => "checkstyle",
+            Format::Junit => "junit",
+            Format::Gitlab => "gitlab",
+            Format::Rdjson => "rdjson",
         }
     }
 
@@ -42,8 +51,27 @@ impl Format {
         ensures { result ≡ spec.shows_mended self }
     {
         match self {
-            Format::Caret | Format::Json | Format::Sarif => true,
-            Format::Gnu | Format::Github | Format::Checkstyle => false,
+            Format::Caret | Format::Json | Format::Sarif | Format::Rdjson => true,
+            Format::Gnu | Format::Github | Format::Checkstyle | Format::Junit | Format::Gitlab => {
+                false
+            }
+        }
+    }
+
+    /// Whether a diagnostic says that as an edit of its file: then the columns between which the replaced text stands
+    /// are written with it.
+    pub fn writes_edits(self) -> bool
+        ensures { result ≡ spec.writes_edits self }
+    {
+        match self {
+            Format::Sarif | Format::Rdjson => true,
+            Format::Gnu
+            | Format::Caret
+            | Format::Json
+            | Format::Github
+            | Format::Checkstyle
+            | Format::Junit
+            | Format::Gitlab => false,
         }
     }
 
@@ -58,18 +86,39 @@ impl Format {
             "github" => Some(Format::Github),
             "sarif" => Some(Format::Sarif),
             "checkstyle" => Some(Format::Checkstyle),
+            "junit" => Some(Format::Junit),
+            "gitlab" => Some(Format::Gitlab),
+            "rdjson" => Some(Format::Rdjson),
             _ => None,
         }
     }
 
     /// Whether the format takes columns that count this: SARIF has words for code points and for code units of UTF-16
-    /// alone, and the others leave it open.
+    /// alone, those of reviewdog are bytes, and the others leave it open.
     pub fn takes_columns(self, columns: Columns) -> bool
         ensures { result ≡ takes_columns self columns }
     {
         match (self, columns) {
             (Format::Sarif, Columns::Bytes | Columns::Screen) => false,
+            (Format::Rdjson, Columns::CodePoints | Columns::Utf16 | Columns::Screen) => false,
             (_, _) => true,
+        }
+    }
+
+    /// What columns count in the format where nothing else is said: code points, and in reviewdog's bytes.
+    pub fn own_columns(self) -> Columns
+        ensures { result ≡ own_columns self }
+    {
+        match self {
+            Format::Rdjson => Columns::Bytes,
+            Format::Gnu
+            | Format::Caret
+            | Format::Json
+            | Format::Github
+            | Format::Sarif
+            | Format::Checkstyle
+            | Format::Junit
+            | Format::Gitlab => Columns::CodePoints,
         }
     }
 }

@@ -1,8 +1,10 @@
 //! Diagnostics as objects of JSON, one a line.
 ghost use Rattle.std.specs.Prelude.{◌≡◌, ◌++◌, OnOk, codes, decimal, string_bytes};
+ghost use Rattle.serde_json.specs.Data.{boolean};
 ghost use Rattle.serde_json.specs.Written.{compact_text};
 ghost use Rattle.uv_model.specs.MendKindName.{kind_name};
-ghost use Rattle.uv_report.specs.Json.{cut_member, json_text, json_value, line_member, mended_member};
+ghost use Rattle.uv_report.specs.Json.{cut_member, json_text, json_value, line_member, mended_member, offered_member};
+ghost use Rattle.uv_report.specs.Json.{told_members};
 ghost use Rattle.uv_report.specs.LineViolation.{violation_place};
 ghost use Rattle.uv_report.specs.Message as reported;
 ghost use Rattle.uv_report.specs.Quoted.{quoted};
@@ -10,6 +12,7 @@ ghost use Rattle.uv_report.specs.Window as shown;
 
 use crate::diagnostic::Diagnostic;
 use crate::gnu::push_number;
+use crate::intention::is_offered;
 use crate::line_violation::LineViolation;
 use crate::quoted::{push_quoted, push_quoted_message};
 use crate::rule_texts::rule_member;
@@ -43,15 +46,7 @@ fn push_object(
     push_number_member(text, "{\"column\":", diagnostic.column)?;
     push_file(alloc, text, diagnostic)?;
     push_line(text, diagnostic)?;
-    push_mended(alloc, text, diagnostic)?;
-    push_message_member(
-        alloc,
-        text,
-        ",\"message\":",
-        diagnostic.profile,
-        diagnostic.text,
-        diagnostic.violation,
-    )?;
+    push_told(alloc, text, diagnostic)?;
     push_link(
         alloc,
         text,
@@ -145,6 +140,49 @@ fn kind_text(kind: MendKind) -> &'static str
         MendKind::Same => ",\"kind\":\"same\",\"line\":",
         MendKind::Escaped => ",\"kind\":\"escaped\",\"line\":",
         MendKind::Changed => ",\"kind\":\"changed\",\"line\":",
+    }
+}
+
+// Pushes the mended text, where there is one, what is reported of the line, and whether the mended text is offered.
+#[tactic(auto, unfolding(crate::specs::Json::told_members))]
+fn push_told(
+    alloc: Global,
+    text: &mut String,
+    diagnostic: &Diagnostic<'_>,
+) -> Result<(), AllocError>
+    ensures { OnOk result (string_bytes text.new ≡ string_bytes text.old ++ told_members diagnostic.now) }
+{
+    push_mended(alloc, text, diagnostic)?;
+    push_message_member(
+        alloc,
+        text,
+        ",\"message\":",
+        diagnostic.profile,
+        diagnostic.text,
+        diagnostic.violation,
+    )?;
+    text.push_str(offered_member(diagnostic))?;
+    Ok(())
+}
+
+// The member of whether a mended text is offered, where there is one.
+fn offered_member(diagnostic: &Diagnostic<'_>) -> &'static str
+    ensures { result.now ≡ offered_member diagnostic.now.text.now diagnostic.now.mended }
+{
+    match diagnostic.mended {
+        Some(mended) => offered_text(is_offered(diagnostic.text, mended.text)),
+        None => "",
+    }
+}
+
+// The same where there is one.
+fn offered_text(offered: bool) -> &'static str
+    ensures { result.now ≡ codes ",\"offered\":" ++ compact_text (boolean offered) }
+{
+    if offered {
+        ",\"offered\":true"
+    } else {
+        ",\"offered\":false"
     }
 }
 

@@ -1,5 +1,5 @@
 //! Laws over what is reported, each as the clause of a function that does nothing.
-ghost use Rattle.uv_report.specs.Rows.{ColumnRows, DomainRows, MessageRows, PointRows, UriRows, WindowRows};
+ghost use Rattle.uv_report.specs.Rows.{ColumnRows, DomainRows, IntentionRows, MessageRows, PointRows, UriRows, WindowRows};
 
 /// Code points by name.
 pub fn point_rows()
@@ -14,6 +14,11 @@ pub fn column_rows()
 /// Messages that name a code point, or that a URL string has no credentials.
 pub fn message_rows()
     ensures { MessageRows }
+{}
+
+/// What texts show of their author's intention.
+pub fn intention_rows()
+    ensures { IntentionRows }
 {}
 
 /// Messages that say why a host is no valid domain.

@@ -1,7 +1,7 @@
 //! What is wrong with a line.
 ghost use Rattle.std.specs.Prelude.{◌≡◌};
-ghost use Rattle.uv_report.specs.LineViolation.{violation_help, violation_index, violation_name, violation_place};
-ghost use Rattle.uv_report.specs.LineViolation.{violation_sentence, violation_uri, named_violation};
+ghost use Rattle.uv_report.specs.LineViolation.{violation_end, violation_help, violation_index, violation_name};
+ghost use Rattle.uv_report.specs.LineViolation.{violation_place, violation_sentence, violation_uri, named_violation};
 
 use crate::explanation::{explain, section_uri};
 use crate::located_fault::LocatedFault;
@@ -107,6 +107,19 @@ impl LineViolation {
             LineViolation::Refused(refusal) => refusal.place,
             LineViolation::NotUtf8(place) => place,
             LineViolation::TooLong | LineViolation::NotLocated(_) => 0,
+        }
+    }
+
+    /// The place at which what is wrong ends: that behind the code point that violates a rule. Where the line isn't
+    /// judged no code point is wrong, and it is `place`.
+    pub fn end(self) -> usize
+        ensures { result ≡ violation_end self }
+    {
+        match self {
+            LineViolation::Refused(refusal) => refusal.place.saturating_add(1),
+            LineViolation::NotUtf8(_) | LineViolation::TooLong | LineViolation::NotLocated(_) => {
+                self.place()
+            }
         }
     }
 }

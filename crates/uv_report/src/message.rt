@@ -6,18 +6,22 @@ ghost use Rattle.uv_report.specs.CodePoint.{point_text};
 ghost use Rattle.uv_report.specs.Escapes.{escaped};
 ghost use Rattle.uv_report.specs.Message as spec;
 
-use crate::code_point::{is_unseen, push_point};
+use crate::code_point::push_point;
 use crate::domain::push_domain_sentence;
 use crate::drive::push_drive_note;
 use crate::escapes::{Escapes, push_escaped};
-use crate::ipv6::has_bare_ipv6;
+use crate::intention::push_meant_note;
+use crate::ipv6::{has_bare_ipv6, has_zone};
 use crate::line_violation::LineViolation;
+use crate::start::push_start_sentence;
 use crate::window::{point_at, rest_at};
 use std::alloc::{AllocError, Global};
 use uv_model::{Profile, Refusal, Rule};
 
 const CREDENTIALS: &str =
-    "a URL string has no credentials: no user name, password or @ before its host";
+    "a URL string has no credentials: no user name, password or @ before its host; leave them out";
+
+const ZONE: &str = "an IPv6 address in a URL has no zone: leave out the % and what follows it";
 
 const BARE_IPV6: &str = "a host that is an IPv6 address stands in brackets";
 
@@ -69,8 +73,7 @@ pub(crate) fn push_escaped_message(
     push_escaped(text, message.as_str(), escapes)
 }
 
-// Pushes what is reported of a refused line.
-#[tactic(auto, unfolding(crate::specs::Message::refusal_message))]
+// Pushes what is reported of a refused line: what is wrong with it, and what it shows of its author's intention.
 fn push_refusal(
     alloc: Global,
     text: &mut String,
@@ -80,6 +83,22 @@ fn push_refusal(
 ) -> Result<(), AllocError>
     ensures { OnOk result (string_bytes text.new
         ≡ string_bytes text.old ++ spec.refusal_message profile line.now refusal) }
+{
+    push_refusal_sentence(alloc, text, profile, line, refusal)?;
+    push_meant_note(text, line, refusal.rule)
+}
+
+// Pushes what is wrong with a refused line.
+#[tactic(auto, unfolding(crate::specs::Message::refusal_sentence))]
+fn push_refusal_sentence(
+    alloc: Global,
+    text: &mut String,
+    profile: Profile,
+    line: &str,
+    refusal: Refusal,
+) -> Result<(), AllocError>
+    ensures { OnOk result (string_bytes text.new
+        ≡ string_bytes text.old ++ spec.refusal_sentence profile line.now refusal) }
 {
     if is_of_authority(refusal.rule) && has_credentials(line, refusal.place) {
         return text.push_str(CREDENTIALS);
@@ -102,35 +121,23 @@ fn push_rule_message(
         ≡ string_bytes text.old ++ spec.rule_message profile line.now refusal.place refusal.rule) }
 {
     match refusal.rule {
-        Rule::NoScheme => push_start_sentence(alloc, text, point_at(line, refusal.place)),
+        Rule::NoScheme => push_start_sentence(alloc, text, line, point_at(line, refusal.place)),
         Rule::HostDomain => push_domain_sentence(alloc, text, profile, line, refusal.place),
+        Rule::HostIpv6 => text.push_str(ipv6_sentence(line)),
         Rule::CodePoint => push_unit_sentence(alloc, text, line, refusal.place),
         _ => push_point_sentence(alloc, text, refusal.rule, point_at(line, refusal.place)),
     }
 }
 
-// Pushes that the first code point stands before the scheme, where nothing is seen of it, else the rule's sentence.
-fn push_start_sentence(
-    alloc: Global,
-    text: &mut String,
-    first: Option<char>,
-) -> Result<(), AllocError>
-    ensures { OnOk result (string_bytes text.new ≡ string_bytes text.old ++ spec.start_sentence first) }
+// What is said of a host that is no IPv6 address in brackets.
+fn ipv6_sentence(line: &str) -> &'static str
+    ensures { result.now ≡ spec.ipv6_sentence line.now }
 {
-    match first {
-        Some(c) if is_unseen(c) => push_stray(alloc, text, c),
-        _ => text.push_str(Rule::NoScheme.sentence()),
+    if has_zone(line) {
+        ZONE
+    } else {
+        Rule::HostIpv6.sentence()
     }
-}
-
-// Pushes that a code point stands before the scheme.
-fn push_stray(alloc: Global, text: &mut String, c: char) -> Result<(), AllocError>
-    ensures { OnOk result (string_bytes text.new
-        ≡ string_bytes text.old ++ (point_text c ++ codes " stands before the scheme")) }
-{
-    push_point(alloc, text, c)?;
-    text.push_str(" stands before the scheme")?;
-    Ok(())
 }
 
 // Pushes that the code point at a place may not stand in a URL, and of the mark of a drive letter what it has to be.

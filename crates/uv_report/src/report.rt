@@ -10,8 +10,11 @@ use crate::completion::Completion;
 use crate::diagnostic::Diagnostic;
 use crate::format::Format;
 use crate::github::push_github;
+use crate::gitlab::push_gitlab;
 use crate::gnu::push_gnu;
 use crate::json::push_json;
+use crate::junit::{JUNIT_BEGIN, junit_end, push_junit, push_junit_file};
+use crate::rdjson::{push_rdjson, push_rdjson_begin};
 use crate::sarif::{push_sarif, push_sarif_begin, sarif_end};
 use std::alloc::{AllocError, Global};
 
@@ -42,12 +45,16 @@ fn begin_of(alloc: Global, format: Format, columns: Columns) -> Result<String, A
                 "<?xml version=\"1.0\" encoding=\"UTF-8\"?>\n<checkstyle version=\"4.3\">\n",
             )?
         }
+        Format::Junit => begin.push_str(JUNIT_BEGIN)?,
+        Format::Gitlab => begin.push_str("[\n")?,
+        Format::Rdjson => push_rdjson_begin(&mut begin)?,
         Format::Gnu | Format::Caret | Format::Json | Format::Github => {}
     }
     Ok(begin)
 }
 
-/// Pushes what stands before the diagnostics of a file: a start tag in Checkstyle's format, and nothing in another.
+/// Pushes what stands before the diagnostics of a file: a start tag in the formats of Checkstyle and JUnit, with a test
+/// that passes in the latter, and nothing in another.
 /// Where an allocation fails, the text stays as it was.
 pub fn push_file_begin(
     alloc: Global,
@@ -58,15 +65,31 @@ pub fn push_file_begin(
     ensures ok { OnOk result (string_bytes text.new ≡ string_bytes text.old ++ file_begin_text format file.now) }
     ensures err { OnErr result (string_bytes text.new ≡ string_bytes text.old) }
 {
-    let mut begin = String::new(alloc);
-    if format == Format::Checkstyle {
-        push_checkstyle_file(&mut begin, file)?;
-    }
+    let begin = file_begin_of(alloc, format, file)?;
     text.push_str(begin.as_str())
 }
 
-/// Pushes a diagnostic. In SARIF a comma stands before each but the first one of the report. Where an allocation fails,
-/// the text stays as it was.
+// What stands before the diagnostics of a file.
+fn file_begin_of(alloc: Global, format: Format, file: &str) -> Result<String, AllocError>
+    ensures { IfOk result (λ begin. string_bytes begin ≡ file_begin_text format file.now) }
+{
+    let mut begin = String::new(alloc);
+    match format {
+        Format::Checkstyle => push_checkstyle_file(&mut begin, file)?,
+        Format::Junit => push_junit_file(&mut begin, file)?,
+        Format::Gnu
+        | Format::Caret
+        | Format::Json
+        | Format::Github
+        | Format::Sarif
+        | Format::Gitlab
+        | Format::Rdjson => {}
+    }
+    Ok(begin)
+}
+
+/// Pushes a diagnostic. In SARIF and in the formats of GitLab and reviewdog a comma stands before each but the first
+/// one of the report. Where an allocation fails, the text stays as it was.
 pub fn push_diagnostic(
     alloc: Global,
     text: &mut String,
@@ -125,18 +148,28 @@ fn push_piecewise(
         Format::Github => push_github(alloc, text, diagnostic),
         Format::Sarif => push_sarif(alloc, text, diagnostic, is_first),
         Format::Checkstyle => push_checkstyle(alloc, text, diagnostic),
+        Format::Junit => push_junit(alloc, text, diagnostic),
+        Format::Gitlab => push_gitlab(alloc, text, diagnostic, is_first),
+        Format::Rdjson => push_rdjson(alloc, text, diagnostic, is_first),
     }
 }
 
-/// Pushes what stands behind the diagnostics of a file: an end tag in the format of Checkstyle, and nothing in another.
-/// Where an allocation fails, the text stays as it was.
+/// Pushes what stands behind the diagnostics of a file: an end tag in the formats of Checkstyle and JUnit, and nothing
+/// in another. Where an allocation fails, the text stays as it was.
 pub fn push_file_end(text: &mut String, format: Format) -> Result<(), AllocError>
     ensures ok { OnOk result (string_bytes text.new ≡ string_bytes text.old ++ file_end_text format) }
     ensures err { OnErr result (string_bytes text.new ≡ string_bytes text.old) }
 {
     text.push_str(match format {
         Format::Checkstyle => "</file>\n",
-        Format::Gnu | Format::Caret | Format::Json | Format::Github | Format::Sarif => "",
+        Format::Junit => "</testsuite>\n",
+        Format::Gnu
+        | Format::Caret
+        | Format::Json
+        | Format::Github
+        | Format::Sarif
+        | Format::Gitlab
+        | Format::Rdjson => "",
     })
 }
 
@@ -148,6 +181,9 @@ pub fn end_of(format: Format, completion: Completion) -> &'static str
     match format {
         Format::Sarif => sarif_end(completion),
         Format::Checkstyle => "</checkstyle>\n",
+        Format::Junit => junit_end(completion),
+        Format::Gitlab => "]\n",
+        Format::Rdjson => "]}\n",
         Format::Gnu | Format::Caret | Format::Json | Format::Github => "",
     }
 }

@@ -3,15 +3,20 @@ ghost use Rattle.std.specs.Prelude.{◌≡◌, ◌++◌, IfOk, OnOk, Some, codes
 ghost use Rattle.serde_json.specs.Data.{boolean};
 ghost use Rattle.serde_json.specs.View.{view};
 ghost use Rattle.serde_json.specs.Written.{compact_text};
+ghost use Rattle.uv_report.specs.Fingerprint.{text_fingerprint};
+ghost use Rattle.uv_report.specs.Quoted.{quoted};
 ghost use Rattle.uv_report.specs.Sarif as spec;
 
 use crate::column::Columns;
 use crate::completion::Completion;
 use crate::diagnostic::Diagnostic;
+use crate::fingerprint::text_fingerprint;
+use crate::intention::is_offered;
 use crate::json::{push_link, push_message_member, push_number_member, push_text_member};
 use crate::line_violation::LineViolation;
 use crate::located_fault::LocatedFault;
 use crate::mended::Mended;
+use crate::page::{ADDRESS, rule_page};
 use crate::rule_texts::result_end;
 use crate::uri::push_uri_path;
 use crate::window::is_cut;
@@ -33,9 +38,20 @@ pub(crate) fn push_sarif_begin(
     )?;
     text.push_str("\"runs\":[{")?;
     text.push_str(column_kind(columns))?;
-    text.push_str("\"tool\":{\"driver\":{\"name\":\"urlcheck\",\"version\":\"0.2.0\",\"rules\":[")?;
+    push_driver(text)?;
     push_rules(alloc, text)?;
     text.push_str("]}},\"results\":[\n")?;
+    Ok(())
+}
+
+// Pushes the tool up to its rules: where it is told of, its name and its version.
+#[tactic(auto, unfolding(crate::specs::Sarif::driver_begin))]
+fn push_driver(text: &mut String) -> Result<(), AllocError>
+    ensures { OnOk result (string_bytes text.new ≡ string_bytes text.old ++ spec.driver_begin) }
+{
+    text.push_str("\"tool\":{\"driver\":{\"informationUri\":\"")?;
+    text.push_str(ADDRESS)?;
+    text.push_str("/\",\"name\":\"urlcheck\",\"version\":\"0.3.0\",\"rules\":[")?;
     Ok(())
 }
 
@@ -116,17 +132,33 @@ fn push_rule(alloc: Global, text: &mut String, violation: LineViolation) -> Resu
     Ok(())
 }
 
-// A rule, with what is wrong where it is violated, and what it asks.
+// A rule, with what is wrong where it is violated, what it asks, its page, and where it stands in the URL Standard.
 fn rule_object(alloc: Global, violation: LineViolation) -> Result<Value, AllocError>
     ensures { IfOk result (λ value. view value ≡ spec.rule_value violation) }
 {
+    let page = rule_page(alloc, violation)?;
     json!(in alloc; {
-        "fullDescription": {"text": violation.help()},
-        "help": {"text": violation.help()},
-        "helpUri": violation.uri(),
+        "fullDescription": worded(alloc, violation.help())?,
+        "help": worded(alloc, violation.help())?,
+        "helpUri": page.as_str(),
         "id": violation.name(),
-        "shortDescription": {"text": violation.sentence()}
+        "properties": section(alloc, violation)?,
+        "shortDescription": worded(alloc, violation.sentence())?
     })
+}
+
+// An object with a text alone.
+fn worded(alloc: Global, text: &str) -> Result<Value, AllocError>
+    ensures { IfOk result (λ value. view value ≡ spec.message text.now) }
+{
+    json!(in alloc; {"text": text})
+}
+
+// Where what a rule asks stands in the URL Standard.
+fn section(alloc: Global, violation: LineViolation) -> Result<Value, AllocError>
+    ensures { IfOk result (λ value. view value ≡ spec.section_value violation) }
+{
+    json!(in alloc; {"section": violation.uri()})
 }
 
 /// Pushes a result, and before it a comma where it isn't the first one.
@@ -145,7 +177,7 @@ pub(crate) fn push_sarif(
     Ok(())
 }
 
-// Pushes the result of a diagnostic, with a fix where there is a mended text, and before it a comma where it isn't the
+// Pushes the result of a diagnostic, with a fix where a mended text is offered, and before it a comma where it isn't the
 // first one. What stands between two values is pushed at once, since each piece costs a call.
 fn push_result(
     alloc: Global,
@@ -158,8 +190,7 @@ fn push_result(
 {
     push_result_begin(alloc, text, diagnostic, is_first)?;
     push_uri_path(text, diagnostic.file)?;
-    push_number_member(text, "\"},\"region\":{\"startColumn\":", diagnostic.column)?;
-    push_number_member(text, ",\"startLine\":", diagnostic.line)?;
+    push_region(text, diagnostic)?;
     push_message_member(
         alloc,
         text,
@@ -168,6 +199,7 @@ fn push_result(
         diagnostic.text,
         diagnostic.violation,
     )?;
+    push_fingerprint(alloc, text, diagnostic)?;
     push_link(
         alloc,
         text,
@@ -179,7 +211,44 @@ fn push_result(
     Ok(())
 }
 
-// Pushes what a result begins with up to the path of the file's name: its fix, where there is a mended text.
+// Pushes between which columns of which line a diagnostic is.
+fn push_region(text: &mut String, diagnostic: &Diagnostic<'_>) -> Result<(), AllocError>
+    ensures { OnOk result (string_bytes text.new ≡ string_bytes text.old ++ spec.region_pieces diagnostic.now) }
+{
+    push_number_member(text, "\"},\"region\":{\"endColumn\":", diagnostic.end)?;
+    push_number_member(text, ",\"startColumn\":", diagnostic.column)?;
+    push_number_member(text, ",\"startLine\":", diagnostic.line)?;
+    Ok(())
+}
+
+// Pushes the fingerprint of what is wrong with the text, behind the end of what is reported.
+fn push_fingerprint(
+    alloc: Global,
+    text: &mut String,
+    diagnostic: &Diagnostic<'_>,
+) -> Result<(), AllocError>
+    ensures { OnOk result (string_bytes text.new ≡ string_bytes text.old
+        ++ (codes "},\"partialFingerprints\":{\"urlcheckText/v1\":"
+        ++ quoted (text_fingerprint diagnostic.now.violation diagnostic.now.text.now))) }
+{
+    let fingerprint = text_fingerprint(alloc, diagnostic.violation, diagnostic.text)?;
+    push_text_member(
+        alloc,
+        text,
+        "},\"partialFingerprints\":{\"urlcheckText/v1\":",
+        fingerprint.as_str(),
+    )?;
+    Ok(())
+}
+
+/// What stands before a result, an issue or a diagnostic that isn't the first one: a comma.
+pub(crate) fn separator(is_first: bool) -> &'static str
+    ensures { result.now ≡ spec.separator is_first }
+{
+    if is_first { "" } else { "," }
+}
+
+// Pushes what a result begins with up to the path of the file's name: its fix, where a mended text is offered.
 fn push_result_begin(
     alloc: Global,
     text: &mut String,
@@ -187,11 +256,14 @@ fn push_result_begin(
     is_first: bool,
 ) -> Result<(), AllocError>
     ensures { OnOk result (string_bytes text.new ≡ string_bytes text.old ++ (spec.separator is_first
-        ++ (spec.result_begin diagnostic.now diagnostic.now.mended ++ spec.location_begin))) }
+        ++ (spec.result_begin diagnostic.now (spec.offered_in diagnostic.now.text.now diagnostic.now.mended)
+        ++ spec.location_begin))) }
 {
     match diagnostic.mended {
-        Some(mended) => push_fix(alloc, text, diagnostic, is_first, mended),
-        None => text.push_str(location_begin(is_first)),
+        Some(mended) if is_offered(diagnostic.text, mended.text) => {
+            push_fix(alloc, text, diagnostic, is_first, mended)
+        }
+        _ => text.push_str(location_begin(is_first)),
     }
 }
 

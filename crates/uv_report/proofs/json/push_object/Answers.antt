@@ -4,7 +4,7 @@ use Rattle.uv_report.specs.LineViolation.{violation_place}
 use Rattle.uv_report.specs.Quoted.{quoted}
 use Rattle.uv_report.specs.Window.{carried}
 use Rattle.uv_report.proofs.JsonLemmas.{object_pieces}
-use Rattle.uv_report.proofs.PieceLemmas.{seven_pieces}
+use Rattle.uv_report.proofs.PieceLemmas.{six_pieces}
 use Rattle.uv_report.proofs.json.push_object.Goals as goal
 
 pub returns : goal.returns
@@ -13,8 +13,7 @@ returns c =
     let start = string_bytes c.args.text.now in
     let diagnostic = c.args.diagnostic.now in
     let link = quoted (carried diagnostic.text.now (violation_place diagnostic.violation)) in
-    let linked = c.in_ok-push_link.ensures ∙ ap (λ before. string_bytes c.push_message_member.new.text ++ (before ++ link)) c.rule_member.ensures in
-    seven_pieces start _ _ _ _ _ _ _ c.in_ok-push_number_member.ensures c.in_ok-push_file.ensures
-    c.in_ok-push_line.ensures c.in_ok-push_mended.ensures c.in_ok-push_message_member.ensures linked
-    c.in_ok-push.ensures.bytes
-    ∙ ap (λ pieces. start ++ pieces) (object_pieces diagnostic diagnostic.mended)
+    let linked = c.in_ok-push_link.ensures ∙ ap (λ before. string_bytes c.push_told.new.text ++ (before ++ link)) c.rule_member.ensures in
+    six_pieces start _ _ _ _ _ _ c.in_ok-push_number_member.ensures c.in_ok-push_file.ensures
+    c.in_ok-push_line.ensures c.in_ok-push_told.ensures linked c.in_ok-push.ensures.bytes
+    ∙ ap (λ pieces. start ++ pieces) (object_pieces diagnostic)

@@ -44,11 +44,12 @@ loop-violation-preserved g c =
     let violation = get_or violations i none in
     let invariant = c.loop-violation.invariant in
     let said = invariant.said in
+    let counted = c.column-column.ensures.same ∙ invariant.counter in
     let told = c.loop-violation.told in
     let mended = mended_on setting.columns (reported_view line) (option_map mended_line_view c.args.mended.now) in
     let one = framed_text setting.form setting.format line.file.now (diagnostic_text setting.format
     c.loop-violation.is_first
-    (diagnostic_in line.file line.text line.line c.column-column.result setting.profile violation told)) in
+    (diagnostic_in line.file line.text line.line c.column-column.result c.column_ahead-end.result setting.profile violation told)) in
     let old = g.W.Sink.contents c.args.writer.now in
     let new = g.W.Sink.contents c.say_framed.new.writer in
     record {
@@ -59,9 +60,10 @@ loop-violation-preserved g c =
             c.loop-violation.text.items c.say_framed.new.text.items said.1
             (rw c.diagnostic_in-found.ensures at c.in_default.ensures.text)),
         said_next setting.form setting.format setting.columns setting.profile line.file line.text line.line line.start
-            c.column-column.result c.args.is_first c.loop-violation.is_first mended told violations i none said.0
-            c.loop-violation-test.true (c.column-column.ensures.column ∙ rw (invariant.counter, c.place.ensures) refl)
-            said.2,
+            c.column-column.result c.column_ahead-end.result c.args.is_first c.loop-violation.is_first mended told
+            violations i none said.0 c.loop-violation-test.true
+            (c.column-column.ensures.column ∙ rw (invariant.counter, c.place.ensures) refl)
+            (c.column_ahead-end.ensures ∙ rw (counted, c.end.ensures) refl) said.2,
       );
       quiet = c.in_default.ensures.quiet ∙ invariant.quiet;
       counter = c.column-column.ensures.same ∙ invariant.counter;
@@ -77,14 +79,17 @@ returns-in-Err-clause-fault g c =
     let violation = get_or violations i none in
     let invariant = c.loop-violation.invariant in
     let said = invariant.said in
+    let counted = c.column-column.ensures.same ∙ invariant.counter in
     let told = c.loop-violation.told in
     let mended = mended_on setting.columns (reported_view line) (option_map mended_line_view c.args.mended.now) in
     let one = framed_text setting.form setting.format line.file.now (diagnostic_text setting.format
     c.loop-violation.is_first
-    (diagnostic_in line.file line.text line.line c.column-column.result setting.profile violation told)) in
+    (diagnostic_in line.file line.text line.line c.column-column.result c.column_ahead-end.result setting.profile violation told)) in
     let with_one = said_next setting.form setting.format setting.columns setting.profile line.file line.text line.line
-    line.start c.column-column.result c.args.is_first c.loop-violation.is_first mended told violations i none said.0
-    c.loop-violation-test.true (c.column-column.ensures.column ∙ rw (invariant.counter, c.place.ensures) refl) said.2 in
+    line.start c.column-column.result c.column_ahead-end.result c.args.is_first c.loop-violation.is_first mended told
+    violations i none said.0 c.loop-violation-test.true
+    (c.column-column.ensures.column ∙ rw (invariant.counter, c.place.ensures) refl)
+    (c.column_ahead-end.ensures ∙ rw (counted, c.end.ensures) refl) said.2 in
     parts_behind (IsNoneOr one) (AreFirstDiagnostics setting.form setting.format setting.columns
     setting.profile (reported_view line)
     c.args.is_first mended violations) c.in-Err.fault c.args.text.now.items said.0

@@ -1,0 +1,184 @@
+//! Diagnostics as a document of reviewdog, which is written diagnostic by diagnostic.
+ghost use Rattle.std.specs.Prelude.{◌≡◌, ◌++◌, IfOk, None, OnOk, Some, string_bytes};
+ghost use Rattle.serde_json.specs.View.{view};
+ghost use Rattle.serde_json.specs.Written.{compact_text};
+ghost use Rattle.uv_report.specs.Message as reported;
+ghost use Rattle.uv_report.specs.Rdjson as spec;
+ghost use Rattle.uv_report.specs.Sarif.{offered_in};
+
+use crate::diagnostic::Diagnostic;
+use crate::intention::is_offered;
+use crate::line_violation::LineViolation;
+use crate::mended::Mended;
+use crate::message::message;
+use crate::page::{ADDRESS, rule_page};
+use crate::sarif::separator;
+use serde_json::{Value, json};
+use std::alloc::{AllocError, Global};
+
+/// Pushes what the document begins with.
+pub(crate) fn push_rdjson_begin(text: &mut String) -> Result<(), AllocError>
+    ensures { OnOk result (string_bytes text.new ≡ string_bytes text.old ++ spec.rdjson_begin) }
+{
+    text.push_str("{\"source\":{\"name\":\"urlcheck\",\"url\":\"")?;
+    text.push_str(ADDRESS)?;
+    text.push_str("/\"},\"severity\":\"ERROR\",\"diagnostics\":[\n")?;
+    Ok(())
+}
+
+/// Pushes a diagnostic, and before it a comma where it isn't the first one.
+#[tactic(auto, unfolding(crate::specs::Rdjson::rdjson_text))]
+pub(crate) fn push_rdjson(
+    alloc: Global,
+    text: &mut String,
+    diagnostic: &Diagnostic<'_>,
+    is_first: bool,
+) -> Result<(), AllocError>
+    ensures { OnOk result (string_bytes text.new
+        ≡ string_bytes text.old ++ spec.rdjson_text is_first diagnostic.now) }
+{
+    text.push_str(separator(is_first))?;
+    push_object(alloc, text, diagnostic)?;
+    text.push_str("\n")?;
+    Ok(())
+}
+
+// Pushes the object of a diagnostic.
+fn push_object(
+    alloc: Global,
+    text: &mut String,
+    diagnostic: &Diagnostic<'_>,
+) -> Result<(), AllocError>
+    ensures { OnOk result (string_bytes text.new ≡ string_bytes text.old ++ spec.object_text diagnostic.now) }
+{
+    let object = object_text(alloc, diagnostic)?;
+    text.push_str(object.as_str())
+}
+
+// The text of the object, with a suggestion where a mended text is offered.
+#[tactic(auto, unfolding(crate::specs::Rdjson::object_text))]
+fn object_text(alloc: Global, diagnostic: &Diagnostic<'_>) -> Result<String, AllocError>
+    ensures { IfOk result (λ text. string_bytes text ≡ spec.object_text diagnostic.now) }
+{
+    match diagnostic.mended {
+        Some(mended) => mended_text(alloc, diagnostic, mended),
+        None => plain_text(alloc, diagnostic),
+    }
+}
+
+// The same where there is a mended text.
+fn mended_text(
+    alloc: Global,
+    diagnostic: &Diagnostic<'_>,
+    mended: Mended<'_>,
+) -> Result<String, AllocError>
+    ensures { IfOk result (λ text. string_bytes text
+        ≡ compact_text (spec.rdjson_with diagnostic.now (offered_in diagnostic.now.text.now (Some mended.entry)))) }
+{
+    if is_offered(diagnostic.text, mended.text) {
+        suggesting_text(alloc, diagnostic, mended)
+    } else {
+        plain_text(alloc, diagnostic)
+    }
+}
+
+// The text of the object that suggests a mended text.
+fn suggesting_text(
+    alloc: Global,
+    diagnostic: &Diagnostic<'_>,
+    mended: Mended<'_>,
+) -> Result<String, AllocError>
+    ensures { IfOk result (λ text. string_bytes text
+        ≡ compact_text (spec.rdjson_with diagnostic.now (Some mended.entry))) }
+{
+    suggesting(alloc, diagnostic, mended)?.to_string(alloc)
+}
+
+// The text of the object without a suggestion.
+fn plain_text(alloc: Global, diagnostic: &Diagnostic<'_>) -> Result<String, AllocError>
+    ensures { IfOk result (λ text. string_bytes text ≡ compact_text (spec.rdjson_with diagnostic.now None)) }
+{
+    plain(alloc, diagnostic)?.to_string(alloc)
+}
+
+// The object without a suggestion.
+fn plain(alloc: Global, diagnostic: &Diagnostic<'_>) -> Result<Value, AllocError>
+    ensures { IfOk result (λ value. view value ≡ spec.rdjson_with diagnostic.now None) }
+{
+    let message = said(alloc, diagnostic)?;
+    json!(in alloc; {
+        "code": code(alloc, diagnostic.violation)?,
+        "location": location(alloc, diagnostic)?,
+        "message": message.as_str(),
+        "severity": "ERROR"
+    })
+}
+
+// The object that suggests a mended text.
+fn suggesting(
+    alloc: Global,
+    diagnostic: &Diagnostic<'_>,
+    mended: Mended<'_>,
+) -> Result<Value, AllocError>
+    ensures { IfOk result (λ value. view value ≡ spec.rdjson_with diagnostic.now (Some mended.entry)) }
+{
+    let message = said(alloc, diagnostic)?;
+    json!(in alloc; {
+        "code": code(alloc, diagnostic.violation)?,
+        "location": location(alloc, diagnostic)?,
+        "message": message.as_str(),
+        "severity": "ERROR",
+        "suggestions": [suggestion(alloc, diagnostic.line, mended)?]
+    })
+}
+
+// What is reported.
+fn said(alloc: Global, diagnostic: &Diagnostic<'_>) -> Result<String, AllocError>
+    ensures { IfOk result (λ said. string_bytes said ≡ reported.message diagnostic.now.profile
+        diagnostic.now.text.now diagnostic.now.violation) }
+{
+    message(
+        alloc,
+        diagnostic.profile,
+        diagnostic.text,
+        diagnostic.violation,
+    )
+}
+
+// The rule, and its page.
+fn code(alloc: Global, violation: LineViolation) -> Result<Value, AllocError>
+    ensures { IfOk result (λ value. view value ≡ spec.code_value violation) }
+{
+    let page = rule_page(alloc, violation)?;
+    json!(in alloc; {"url": page.as_str(), "value": violation.name()})
+}
+
+// The file, and what is wrong in it.
+fn location(alloc: Global, diagnostic: &Diagnostic<'_>) -> Result<Value, AllocError>
+    ensures { IfOk result (λ value. view value ≡ spec.location_value diagnostic.now) }
+{
+    json!(in alloc; {
+        "path": diagnostic.file,
+        "range": range(alloc, diagnostic.line, diagnostic.column, diagnostic.end)?
+    })
+}
+
+// A mended text in place of all of the text, which stands in the line with this number.
+fn suggestion(alloc: Global, line: u64, mended: Mended<'_>) -> Result<Value, AllocError>
+    ensures { IfOk result (λ value. view value ≡ spec.suggestion_value line mended.entry) }
+{
+    json!(in alloc; {
+        "range": range(alloc, line, mended.start, mended.end)?,
+        "text": mended.text
+    })
+}
+
+// What stands in a line from a column on, up to the one behind it.
+fn range(alloc: Global, line: u64, start: u64, end: u64) -> Result<Value, AllocError>
+    ensures { IfOk result (λ value. view value ≡ spec.range_value line start end) }
+{
+    json!(in alloc; {
+        "end": {"column": end, "line": line},
+        "start": {"column": start, "line": line}
+    })
+}
