@@ -2,6 +2,7 @@ mod ArgumentLemmas
 mod CheckLemmas
 mod LintLemmas
 mod ListLemmas
+mod LookLemmas
 mod MendLemmas
 mod NameLemmas
 mod OptionLemmas

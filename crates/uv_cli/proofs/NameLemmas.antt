@@ -1,6 +1,7 @@
 -- Names that none has, with a further name.
-use Rattle.std.proofs.Common.{◌≡◌, ◌∙◌, ◌++◌, Bool, true, false, ℕ, List, [], ◌∷◌, ap, append-nil}
-use Rattle.std.proofs.Common.{filter, not, refl, Global, IfOk, Result, String, string_bytes, subst}
+use Rattle.std.proofs.Common.{◌≡◌, ◌∙◌, ◌++◌, ◌&&◌, ◌||◌, ◌==◌, Bool, true, false, ℕ, List, [], ◌∷◌, ap, append-nil, arith}
+use Rattle.std.proofs.Common.{filter, if◌then◌else◌, length, not, refl, Global, IfOk, Result, String, string_bytes, subst, sym}
+use Rattle.std.proofs.lemmas.Bool.{ne_eqb}
 use Rattle.std.proofs.lemmas.List.Elements.{filter-append}
 use Rattle.std.proofs.lemmas.Map.Views.{any-filter_same}
 use Rattle.std.proofs.lemmas.Slice.Eq.{bytes_eq-Decides}
@@ -8,7 +9,7 @@ use Rattle.std.specs.List.{list_any}
 use Rattle.std.specs.Str.{bytes_eq}
 use Rattle.uv_cli.specs.Explain.{is_explained}
 use Rattle.uv_cli.specs.Messages.{unknown_name_text}
-use Rattle.uv_cli.specs.Names.{each_once, with_further, with_unknown, unknown_rules}
+use Rattle.uv_cli.specs.Names.{behind_letter, each_once, is_in_order, with_further, with_unknown, unknown_rules}
 
 -- the names that aren't the first one
 abbrev others : List ℕ → List (List ℕ) → List (List ℕ)
@@ -68,3 +69,46 @@ unknown_with result one all given names name same said =
     subst
     (λ (n : List (List ℕ)). IfOk result (λ text. string_bytes text ≡ unknown_name_text one all n name))
     same said
+
+-- what holds of the rest where it holds of the whole, or where something else does
+either_rest : (is_next rest whole longer : Bool) → (longer ≡ true → whole ≡ true)
+    → (is_next && whole) || longer ≡ true → rest || whole ≡ true
+either_rest is_next true whole longer shorter among = refl
+either_rest is_next false true longer shorter among = refl
+either_rest is_next false false true shorter among = shorter refl
+either_rest true false false false shorter among = among
+either_rest false false false false shorter among = among
+
+-- letters that stand in their order stand so without the first one
+without_first : (b : ℕ) (rest others : List ℕ) → is_in_order (b ∷ rest) others ≡ true
+    → is_in_order rest others ≡ true
+without_first b [] others among = refl
+without_first b (d ∷ rest) [] among = cc
+without_first b (d ∷ rest) (c ∷ others) among =
+    either_rest (b == c) ((d == c) && is_in_order rest others) (is_in_order (d ∷ rest) others)
+    (is_in_order (b ∷ d ∷ rest) others) (without_first b (d ∷ rest) others) among
+
+-- what follows from something else is the same as either
+same_as_either : (is other : Bool) → (other ≡ true → is ≡ true) → is ≡ is || other
+same_as_either true other so = refl
+same_as_either false true so = so refl
+same_as_either false false so = refl
+
+-- behind a letter that is the first one, or another one
+in_order_where : (b : ℕ) (rest others : List ℕ) (is_first : Bool)
+    → is_in_order (if is_first then rest else b ∷ rest) others
+    ≡ (is_first && is_in_order rest others) || is_in_order (b ∷ rest) others
+in_order_where b rest others true =
+    same_as_either (is_in_order rest others) (is_in_order (b ∷ rest) others) (without_first b rest others)
+in_order_where b rest others false = refl
+
+-- what is left of letters behind a letter stands among the rest of the others where all do among all
+pub in_order_behind : (letters : List ℕ) (letter : ℕ) (others : List ℕ)
+    → is_in_order (behind_letter letters letter) others ≡ is_in_order letters (letter ∷ others)
+in_order_behind [] letter others = refl
+in_order_behind (b ∷ rest) letter others = in_order_where b rest others (b == letter)
+
+-- only no letters stand among none
+pub in_order_at_end : (letters : List ℕ) → is_in_order letters [] ≡ (length letters == 0)
+in_order_at_end [] = refl
+in_order_at_end (b ∷ rest) = sym (ne_eqb (length (b ∷ rest)) 0 (λ same. omega (arith, same)))

@@ -12,6 +12,9 @@ use Rattle.uv_words.specs.declared.words.Job.{Job}
 use Rattle.uv_words.specs.declared.words.Job.TheVariants as job
 use Rattle.uv_cli.specs.FileNames.{has_document_end, names_file}
 use Rattle.uv_cli.specs.Linted.{is_stopped}
+use Rattle.uv_cli.specs.Messages.{unknown_text}
+use Rattle.uv_cli.specs.Names.{command_names, meant}
+use Rattle.uv_cli.specs.Options.{option_hint}
 use Rattle.uv_cli.specs.declared.ends.End.{End}
 use Rattle.uv_cli.specs.declared.ends.End.TheVariants.{Linted, Refused}
 use Rattle.uv_cli.specs.declared.linted.Linted as linted
@@ -105,6 +108,25 @@ one_text_hint command last = []
 abbrev pub is_lint : Option (List ℕ) → Bool
 is_lint (Some command) = bytes_eq command (codes "lint")
 is_lint None = false
+
+-- the line of a word that is no command, with the one that is likely meant, or nothing
+abbrev pub near_command_text : List ℕ → Option (List ℕ) → List ℕ
+near_command_text word None = []
+near_command_text word (Some near) = unknown_text (codes "command") word (Some near)
+
+-- the hint at a first word that is no command: at the command that is likely meant, or at the option that the word is
+-- named as; nothing where there is none
+abbrev pub command_hint : Option (List ℕ) → List ℕ
+command_hint (Some word) =
+    if bytes_eq word (codes "version") then codes "urlcheck: version is no command: write urlcheck --version\n"
+    else near_command_text word (meant word command_names)
+command_hint None = []
+
+-- the hint in place of the tips of `clap`, by the command, by the option that it doesn't take, if there is one, and by
+-- why the words are refused
+abbrev pub near_hint : Option (List ℕ) → Option (List ℕ) → ErrorKind → List ℕ
+near_hint command option InvalidSubcommand = command_hint command
+near_hint command option kind = option_hint command option
 
 -- the hint where words of this command, with this last one, are refused for this reason: of no command, in whose place
 -- a text or a file may stand; of `links` with a word too many, whose last one may be a file; of `check` and `mend`,

@@ -17,6 +17,8 @@ pub mod Filter
 pub mod Messages
 pub mod Names
 pub mod Options
+pub mod Look
+pub mod Contents
 pub mod Program
 pub mod Reasons
 pub mod Unjudged

@@ -13,7 +13,7 @@ use Rattle.uv_report.specs.declared.column.Columns.TheVariants.{CodePoints}
 use Rattle.uv_report.specs.declared.format.Format.{Format}
 use Rattle.uv_report.specs.declared.format.Format.TheVariants.{Gnu}
 use Rattle.uv_report.specs.Column.{named_columns}
-use Rattle.uv_report.specs.Format.{named_format, takes_columns}
+use Rattle.uv_report.specs.Format.{named_format, own_columns, takes_columns}
 use Rattle.uv_report.specs.Report.{begin_text, end_text}
 use Rattle.uv_lines.specs.declared.limits.LineLimits.{LineLimits}
 use Rattle.uv_lint.specs.declared.counts.LintCounts.{LintCounts}
@@ -44,10 +44,10 @@ abbrev pub format_of : Option (Bor (List ℕ)) → Option Format
 format_of None = Some Gnu
 format_of (Some name) = named_format name.now
 
--- what the name says that columns count, or code points where nothing is named
-abbrev pub columns_of : Option (Bor (List ℕ)) → Option Columns
-columns_of None = Some CodePoints
-columns_of (Some name) = named_columns name.now
+-- what the name says that columns count in a format, or where nothing is named what they count there
+abbrev pub columns_of : Format → Option (Bor (List ℕ)) → Option Columns
+columns_of format None = Some (own_columns format)
+columns_of format (Some name) = named_columns name.now
 
 -- what a line is: where each is to say where its link stands, it is that, else a text
 abbrev pub form_of : Bool → LineForm
@@ -210,7 +210,7 @@ HasLintedAgainst asked base format columns _ input rest old new = ⊥
 pub record AreNamed (name unit : Option (Bor (List ℕ))) (format : Format) (columns : Columns) (takes : Bool)
     : Type 0 where
   pub format_is : format_of name ≡ Some format
-  pub columns_are : columns_of unit ≡ Some columns
+  pub columns_are : columns_of format unit ≡ Some columns
   pub takes_is : takes_columns format columns ≡ takes
 
 -- The same by the texts that the job has: its base, the name of the format, and that of what columns count. Both names
@@ -220,7 +220,8 @@ abbrev pub HasLinted : LintJob → Option (Bor (List ℕ)) → Option (Bor (List
 HasLinted asked base name unit end.UnknownFormat input rest old new =
     (format_of name ≡ None) × (rest ≡ input) × (new ≡ old)
 HasLinted asked base name unit end.UnknownColumns input rest old new =
-    (columns_of unit ≡ None) × (rest ≡ input) × (new ≡ old)
+    ((format : Format) × (format_of name ≡ Some format) × (columns_of format unit ≡ None))
+    × (rest ≡ input) × (new ≡ old)
 HasLinted asked base name unit end.ColumnsRefused input rest old new =
     ((format : Format) × (columns : Columns) × AreNamed name unit format columns false)
     × (rest ≡ input) × (new ≡ old)

@@ -5,7 +5,8 @@ use Rattle.std.specs.List.{starts_with}
 use Rattle.std.specs.Option.{option_map_or}
 use Rattle.std.specs.Str.Lines.{lines}
 use Rattle.uv_report.specs.Escapes.{shown_text}
-use Rattle.uv_report.specs.declared.format.Format.TheVariants.{Sarif}
+use Rattle.uv_report.specs.declared.format.Format.{Format}
+use Rattle.uv_report.specs.Format.{format_name, named_format}
 use Rattle.uv_words.specs.declared.words.FilterJob.{FilterJob}
 use Rattle.uv_words.specs.declared.words.Job.{Job}
 use Rattle.uv_words.specs.declared.words.Job.TheVariants as job
@@ -85,25 +86,32 @@ abbrev pub unknown_rules_text : List (List ℕ) → List ℕ
 unknown_rules_text rules =
     unknown_names_text (codes "rule") (codes "rules") rule_names (unknown_rules rules)
 
--- what is reported of what columns count where SARIF has no word for it, by the names of what it has one for
-abbrev pub refused_unit_text : List ℕ → List (List ℕ) → List ℕ
-refused_unit_text name names =
-    codes "urlcheck: sarif doesn't take the column unit " ++ (shown_text name
-    ++ (codes "\n" ++ names_text (codes "column units of sarif") [] names))
+-- what is reported of what columns count where the format with this name doesn't take it, by the names of what it takes
+abbrev pub refused_unit_text : List ℕ → List ℕ → List (List ℕ) → List ℕ
+refused_unit_text format name names =
+    codes "urlcheck: " ++ (format ++ (codes " doesn't take the column unit " ++ (shown_text name
+    ++ (codes "\n" ++ names_text (codes "column units of " ++ format) [] names))))
 
--- what is reported where what columns count has this name, and a lint ended so: none has the name, or SARIF has no word
--- for it
-abbrev pub unit_text : List ℕ → End → List ℕ
-unit_text name end.UnknownColumns =
+-- the same of a format, where one is named
+abbrev pub refused_by : Option Format → List ℕ → List ℕ
+refused_by None name = []
+refused_by (Some format) name = refused_unit_text (format_name format) name (unit_names (Some format))
+
+-- what is reported where what columns count has this name, and a lint ended so: none has the name, or the format
+-- doesn't take it
+abbrev pub unit_text : Option Format → List ℕ → End → List ℕ
+unit_text format name end.UnknownColumns =
     unknown_name_text (codes "column unit") (codes "column units") (unit_names None) name
-unit_text name end.ColumnsRefused = refused_unit_text name (unit_names (Some Sarif))
-unit_text name other = []
+unit_text format name end.ColumnsRefused = refused_by format name
+unit_text format name other = []
 
 -- what is reported of the names that a lint is given, where it ended so
 abbrev pub unknown_of_lint : LintJob → End → List ℕ
 unknown_of_lint asked end.UnknownFormat =
     unknown_name_text (codes "format") (codes "formats") format_names (option_map_or string_bytes asked.format [])
-unknown_of_lint asked other = unit_text (option_map_or string_bytes asked.columns []) other
+unknown_of_lint asked other =
+    unit_text (named_format (option_map_or string_bytes asked.format [])) (option_map_or string_bytes asked.columns [])
+    other
 
 -- what is reported of the name that a filter is given, where it ended so
 abbrev pub unknown_of_filter : FilterJob → End → List ℕ

@@ -9,7 +9,7 @@ use Rattle.clap.specs.declared.error.kind.ErrorKind.{ErrorKind}
 use Rattle.clap.specs.declared.error.kind.ErrorKind.TheVariants.{UnknownArgument}
 use Rattle.uv_report.specs.Escapes.{shown_text}
 use Rattle.uv_words.specs.Commands.{urlcheck}
-use Rattle.uv_cli.specs.Names.{nearest}
+use Rattle.uv_cli.specs.Names.{meant}
 
 -- ---- which commands take an option
 
@@ -89,18 +89,19 @@ option_text command name =
     codes "urlcheck: " ++ (name ++ (codes " is an option of " ++ (listed (takers name)
     ++ (place_note command ++ codes "\n"))))
 
--- the line of an option that no command takes, with the nearest of this command's own options; nothing where none is
--- near
+-- the line of an option that no command takes, with the one of this command's own that is likely meant; nothing where
+-- none is
 abbrev pub near_option_text : Text → Text → Option Text → List ℕ
 near_option_text command name None = []
 near_option_text command name (Some near) =
     codes "urlcheck: " ++ (command ++ (codes " has no option " ++ (shown_text name
     ++ (codes "; the nearest is " ++ (near ++ codes "\n")))))
 
--- the hint at an option that this command doesn't take: at the commands that take it, else at the nearest of its own
+-- the hint at an option that this command doesn't take: at the commands that take it, else at
+-- the one of its own that is likely meant
 abbrev pub unknown_option_text : Text → Text → List ℕ
 unknown_option_text command name =
-    if length (takers name) == 0 then near_option_text command name (nearest name (option_names command))
+    if length (takers name) == 0 then near_option_text command name (meant name (option_names command))
     else option_text command name
 
 -- the hint at an option that a command doesn't take, where there are both

@@ -2,7 +2,8 @@
 use Rattle.std.specs.Prelude.{◌≡◌, ◌≢◌, ℕ, List, [], ◌∷◌, ◌++◌, codes, Option, Some}
 use Rattle.std.specs.declared.io.ErrorKind.{ErrorKind}
 use Rattle.std.specs.declared.io.ErrorKind.TheVariants.{NotFound, PermissionDenied, NotADirectory, IsADirectory}
-use Rattle.std.specs.declared.io.ErrorKind.TheVariants.{OutOfMemory}
+use Rattle.std.specs.declared.io.ErrorKind.TheVariants.{FilesystemLoop, InvalidFilename, ResourceBusy, TimedOut}
+use Rattle.std.specs.declared.io.ErrorKind.TheVariants.{StaleNetworkFileHandle, OutOfMemory}
 use Rattle.uv_report.specs.Escapes.{shown_text}
 use Rattle.uv_cli.specs.declared.unread.FileFault.{FileFault}
 use Rattle.uv_cli.specs.declared.unread.FileFault.TheVariants as file
@@ -16,8 +17,15 @@ IsReason kind unread.Missing = kind ≡ Some NotFound
 IsReason kind unread.Folder = kind ≡ Some IsADirectory
 IsReason kind unread.NoFolder = kind ≡ Some NotADirectory
 IsReason kind unread.NotPermitted = kind ≡ Some PermissionDenied
+IsReason kind unread.Loop = kind ≡ Some FilesystemLoop
+IsReason kind unread.LongName = kind ≡ Some InvalidFilename
+IsReason kind unread.Busy = kind ≡ Some ResourceBusy
+IsReason kind unread.TimedOut = kind ≡ Some TimedOut
+IsReason kind unread.Stale = kind ≡ Some StaleNetworkFileHandle
 IsReason kind unread.Other =
     (kind ≢ Some NotFound) × (kind ≢ Some IsADirectory) × (kind ≢ Some NotADirectory) × (kind ≢ Some PermissionDenied)
+    × (kind ≢ Some FilesystemLoop) × (kind ≢ Some InvalidFilename) × (kind ≢ Some ResourceBusy)
+    × (kind ≢ Some TimedOut) × (kind ≢ Some StaleNetworkFileHandle)
 
 -- the reason, by the kind of the library's error, if that is known
 abbrev pub unread_of : Option ErrorKind → Unread
@@ -25,6 +33,11 @@ unread_of (Some NotFound) = unread.Missing
 unread_of (Some IsADirectory) = unread.Folder
 unread_of (Some NotADirectory) = unread.NoFolder
 unread_of (Some PermissionDenied) = unread.NotPermitted
+unread_of (Some FilesystemLoop) = unread.Loop
+unread_of (Some InvalidFilename) = unread.LongName
+unread_of (Some ResourceBusy) = unread.Busy
+unread_of (Some TimedOut) = unread.TimedOut
+unread_of (Some StaleNetworkFileHandle) = unread.Stale
 unread_of kind = unread.Other
 
 -- a file isn't read since memory ran out, or for another reason
@@ -37,7 +50,12 @@ abbrev pub reason_text : Unread → List ℕ
 reason_text unread.Missing = codes ": there is no such file"
 reason_text unread.Folder = codes ": it is a folder"
 reason_text unread.NoFolder = codes ": a part of its path is no folder"
-reason_text unread.NotPermitted = codes ": it may not be read"
+reason_text unread.NotPermitted = codes ": permission denied"
+reason_text unread.Loop = codes ": its symbolic links lead in a circle"
+reason_text unread.LongName = codes ": its name is too long"
+reason_text unread.Busy = codes ": it is in use"
+reason_text unread.TimedOut = codes ": the system took too long"
+reason_text unread.Stale = codes ": it is no longer on its server"
 reason_text unread.Other = []
 
 -- a file's name, as a terminal may show it: an empty one in quotes

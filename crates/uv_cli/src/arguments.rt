@@ -137,8 +137,8 @@ pub(crate) fn said_of(text: &str) -> Option<&str>
     }
 }
 
-// A text without the hyphen that it begins with, if it does.
-fn without_hyphen(text: &str) -> &str
+/// A text without the hyphen that it begins with, if it does.
+pub(crate) fn without_hyphen(text: &str) -> &str
     ensures { result.now ≡ without_hyphen text.now }
 {
     match text.strip_prefix('-') {

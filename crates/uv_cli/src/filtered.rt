@@ -1,5 +1,5 @@
 //! What a filter of lines has come to.
-ghost use Rattle.std.specs.Prelude.{◌≡◌, IfOk, string_bytes};
+ghost use Rattle.std.specs.Prelude.{◌≡◌, ◌==◌, IfOk, string_bytes};
 ghost use Rattle.uv_cli.specs.Filtered as spec;
 ghost use Rattle.uv_cli.specs.Filtered.{counts_text, filter_status, filtered_text, lines_text, mended_count};
 ghost use Rattle.uv_cli.specs.Filtered.{mended_text, refused_count, refused_text};
@@ -43,6 +43,13 @@ impl Filtered {
             stopped: Some(fault),
             is_quiet: self.is_quiet,
         }
+    }
+
+    /// Whether no line stays refused.
+    pub(crate) fn is_clean(self) -> bool
+        ensures { result ≡ (refused_count self.counts == 0) }
+    {
+        refused(self.counts) == 0
     }
 
     /// The exit status: 3 where something stopped the filter; else 1 where a line stays refused; else 0.

@@ -3,12 +3,16 @@ ghost use Rattle.std.specs.List.{after_first};
 ghost use Rattle.std.specs.Prelude.{◌≡◌, ◌==◌, IfOk, option_copied, string_bytes};
 ghost use Rattle.uv_cli.specs.Hints.{begins_with_hyphen, file_hint, is_file_of, is_lint, job_hint, lint_hint};
 ghost use Rattle.uv_cli.specs.Hints.{names_link, of_file, one_text_hint, one_text_line, starts_with_slashes};
+ghost use Rattle.uv_cli.specs.Hints.{command_hint, near_command_text, near_hint};
 ghost use Rattle.uv_cli.specs.Hints.{takes_one_text, text_hint, text_line, words_hint};
 ghost use Rattle.uv_model.specs.Ascii.{colon};
 
 use crate::ends::End;
 use crate::file_names::{has_document_end, names_file};
 use crate::linted::Linted;
+use crate::names::{command_names, meant};
+use crate::options::option_hint;
+use crate::unknown::unknown_line;
 use crate::unread::Unread;
 use clap::error::ErrorKind;
 use std::alloc::{AllocError, Global};
@@ -49,6 +53,9 @@ const NO_FILE_OF_LINKS: &str =
 // What is said where the first word is no command.
 const OF_NO_COMMAND: &str =
     "urlcheck: check TEXT judges one text, and lint FILE the lines of a file\n";
+
+// What is said where the first word is the name of an option.
+const OF_VERSION: &str = "urlcheck: version is no command: write urlcheck --version\n";
 
 // What is said where `lint` is given no file.
 const INPUT_OF_LINT: &str = "urlcheck: lint reads standard input as the FILE -\n";
@@ -167,6 +174,45 @@ fn behind_colon(name: &str) -> &str
     match name.split_once(':') {
         Some((_, behind)) => behind,
         None => "",
+    }
+}
+
+/// The hint in place of the tips of `clap`, or nothing, by the command, by the option that it doesn't take, if there is
+/// one, and by why the words are refused: at the command or the option that is likely meant.
+pub(crate) fn near_hint(
+    alloc: Global,
+    command: Option<&str>,
+    option: Option<&str>,
+    kind: ErrorKind,
+) -> Result<String, AllocError>
+    ensures { IfOk result (λ hint. string_bytes hint
+        ≡ near_hint (option_copied command.entry) (option_copied option.entry) kind) }
+{
+    match kind {
+        ErrorKind::InvalidSubcommand => command_hint(alloc, command),
+        _ => option_hint(alloc, command, option),
+    }
+}
+
+// The hint at a first word that is no command, or nothing.
+fn command_hint(alloc: Global, word: Option<&str>) -> Result<String, AllocError>
+    ensures { IfOk result (λ hint. string_bytes hint ≡ command_hint (option_copied word.entry)) }
+{
+    match word {
+        Some("version") => String::from_str(alloc, OF_VERSION),
+        Some(word) => near_command_line(alloc, word, meant(alloc, word, command_names())?),
+        None => Ok(String::new(alloc)),
+    }
+}
+
+// The line of a word that is no command, with the one that is likely meant, or nothing.
+fn near_command_line(alloc: Global, word: &str, near: Option<&str>) -> Result<String, AllocError>
+    ensures { IfOk result (λ line. string_bytes line
+        ≡ near_command_text word.now (option_copied near.entry)) }
+{
+    match near {
+        Some(_) => unknown_line(alloc, "command", word, near),
+        None => Ok(String::new(alloc)),
     }
 }
 

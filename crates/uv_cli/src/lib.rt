@@ -3,6 +3,7 @@
 
 mod arguments;
 mod check;
+mod contents;
 mod ends;
 mod explain;
 mod file_names;
@@ -13,8 +14,10 @@ mod jobs;
 mod links;
 mod lint;
 mod linted;
+mod look;
 mod mend;
 mod messages;
+mod names;
 mod options;
 pub mod program;
 mod reasons;

@@ -10,6 +10,7 @@ ghost use Rattle.uv_cli.specs.Linted.{is_stopped, is_writable};
 ghost use Rattle.uv_cli.specs.Unread.{unread_of, unread_text};
 
 use crate::arguments::said_of;
+use crate::contents::{Content, content_hint, found_content};
 use crate::ends::End;
 use crate::file_names::has_document_end;
 use crate::hints::file_hint;
@@ -36,7 +37,7 @@ const NONE_COUNTED: LintCounts = LintCounts {
 
 /// Reports on the lines of the job's files, in their order: in the format with the name, or in that of compilers, and
 /// alone or against the base, which is resolved alone, before anything is read. Columns count what the unit says, or
-/// code points. The base, the name and the unit are the texts that the job has. The input is read for each file named
+/// what they count in the format. The base, the name and the unit are the texts that the job has. The input is read for each file named
 /// `-`.
 ///
 /// A file that can't be opened, or not be read to its end, is reported on standard error by its name, and the next
@@ -62,7 +63,7 @@ pub(crate) fn lint_files<R: Files + Eprint + AllocGlobal, I: Source, S: Sink>(
     let Some(format) = format_of(name) else {
         return End::UnknownFormat;
     };
-    let Some(columns) = columns_of(unit) else {
+    let Some(columns) = columns_of(format, unit) else {
         return End::UnknownColumns;
     };
     if !format.takes_columns(columns) {
@@ -85,13 +86,13 @@ fn format_of(name: Option<&str>) -> Option<Format>
     }
 }
 
-// What columns count by its name, or code points where nothing is named.
-fn columns_of(name: Option<&str>) -> Option<Columns>
-    ensures { result ≡ columns_of name.entry }
+// What columns count in a format by its name, or where nothing is named what they count there.
+fn columns_of(format: Format, name: Option<&str>) -> Option<Columns>
+    ensures { result ≡ columns_of format name.entry }
 {
     match name {
         Some(name) => Columns::of_name(name),
-        None => Some(Columns::CodePoints),
+        None => Some(format.own_columns()),
     }
 }
 
@@ -304,7 +305,9 @@ fn lint_opened<R: Files + Eprint + AllocGlobal, S: Sink>(
         Ok(opened) => {
             let mut source = FromReader::new(WatchedReader::new(opened));
             let answer = run_lint(rt.alloc(), &mut source, out, file, is_first, setting);
-            report_failed_read(rt, file, answer.1, source.into_reader().fault());
+            let reader = source.into_reader();
+            report_failed_read(rt, file, answer.1, reader.fault());
+            report_content(rt, file, found_content(answer.0, reader.content()));
             answer
         }
         Err(error) => (NONE_COUNTED, Err(unopened(rt, file, error.kind()))),
@@ -319,6 +322,11 @@ fn report_failed_read<R: Eprint + AllocGlobal>(
     kind: Option<ErrorKind>,
 ) {
     say(rt, failed_read_lines(rt.alloc(), file, answer, kind));
+}
+
+// Reports what a file looks like that isn't a list of links.
+fn report_content<R: Eprint + AllocGlobal>(rt: &R, file: &str, content: Option<Content>) {
+    say(rt, content_hint(rt.alloc(), file, content, "lint -"));
 }
 
 // What is reported of a file that wasn't read to its end, where a read of it failed, or nothing.

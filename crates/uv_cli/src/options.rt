@@ -7,7 +7,7 @@ ghost use Rattle.uv_cli.specs.Options.{option_hint};
 ghost use Rattle.uv_cli.specs.Options.{option_name, option_names, option_text, place_note, takers, unknown_among};
 ghost use Rattle.uv_cli.specs.Options.{unknown_option, unknown_option_text};
 
-use crate::unknown::nearest;
+use crate::names::meant;
 use clap::error::ErrorKind;
 use std::alloc::{AllocError, Global};
 use uv_report::push_shown;
@@ -115,7 +115,7 @@ fn option_names(command: &str) -> &'static [&'static str]
 }
 
 /// The hint at an option that a command doesn't take, or nothing where there is none: at the commands that take it,
-/// else at the nearest of the command's own options.
+/// else at the one of the command's own options that is likely meant.
 pub(crate) fn option_hint(
     alloc: Global,
     command: Option<&str>,
@@ -139,14 +139,14 @@ fn unknown_option_line(alloc: Global, command: &str, name: &str) -> Result<Strin
             alloc,
             command,
             name,
-            nearest(alloc, name, option_names(command))?,
+            meant(alloc, name, option_names(command))?,
         )
     } else {
         option_line(alloc, command, name)
     }
 }
 
-// The line of an option that no command takes, with the nearest of the command's own options, or nothing.
+// The line of an option that no command takes, with the one of the command's own that is likely meant, or nothing.
 fn near_option_line(
     alloc: Global,
     command: &str,

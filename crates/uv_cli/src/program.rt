@@ -8,13 +8,14 @@ ghost use Rattle.uv_cli.specs.Flushed.{ended_after, open_end};
 ghost use Rattle.uv_cli.specs.Program.{HasAnswered, HasEndedJob, HasFile, HasRun, HasShown, IsStatus};
 
 use crate::arguments::{OwnArguments, refused, words_of};
+use crate::contents::input_hint;
 use crate::ends::{
     End, end_after_output, end_without_file, end_without_job, fixed_line, numbered_line, status,
 };
-use crate::hints::{job_hint, words_hint};
+use crate::hints::{job_hint, near_hint, words_hint};
 use crate::jobs::run_job;
 use crate::messages::{message_line, message_lines, say};
-use crate::options::{option_hint, unknown_option};
+use crate::options::unknown_option;
 use crate::reasons::{base_of, profile_of, report_reasons};
 use crate::unknown::unknown_lines;
 use crate::unread::{FileFault, read_vector_file, report_unread};
@@ -114,10 +115,12 @@ fn done<R: Files + Input + Print + Eprint + AllocGlobal>(rt: &R, job: &Job) -> E
     let mut input = FromReader::new(WatchedReader::new(rt.reader()));
     let (ended, out) = done_over(rt, job, file.as_slice(), &mut input, io::writer(rt));
     if !ended.is_closed {
-        let read = input.into_reader().fault();
+        let reader = input.into_reader();
+        let read = reader.fault();
         let profile = profile_of(job);
         report_reasons(rt, profile, base_of(job), ended.end, read, out.fault());
         say(rt, job_hint(rt.alloc(), job, ended.end));
+        say(rt, input_hint(rt.alloc(), job, ended.end, reader.content()));
     }
     ended
 }
@@ -192,11 +195,11 @@ fn shown<R: Print + Eprint + AllocGlobal>(rt: &R, words: &[&str], fault: &WordsF
     // (before the command stands the program's name)
     let command = words.get(1).copied();
     let option = unknown_option(words, error.kind());
-    let hint = option_hint(rt.alloc(), command, option);
+    let hint = near_hint(rt.alloc(), command, option, error.kind());
     let has_hint = matches!(&hint, Ok(line) if !line.is_empty());
     say(rt, clap_lines(rt.alloc(), error, has_hint));
     say(rt, hint);
-    if option.is_none() {
+    if option.is_none() && !has_hint {
         say(
             rt,
             words_hint(rt.alloc(), command, words.last().copied(), error.kind()),

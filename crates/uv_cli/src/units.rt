@@ -1,6 +1,7 @@
-//! Names of what columns count that none has, or that SARIF has no word for.
+//! Names of what columns count that none has, or that a format doesn't take.
 ghost use Rattle.std.specs.Prelude.{◌≡◌, IfOk, None, Some, codes, map, string_bytes};
-ghost use Rattle.uv_cli.specs.Messages.{refused_unit_text, unit_text, unknown_name_text};
+ghost use Rattle.uv_report.specs.Format.{format_name};
+ghost use Rattle.uv_cli.specs.Messages.{refused_by, refused_unit_text, unit_text, unknown_name_text};
 ghost use Rattle.uv_cli.specs.Names.{takes_unit, unit_names};
 
 use crate::ends::End;
@@ -21,13 +22,19 @@ const UNIT: Noun = Noun {
     all: "column units",
 };
 
-/// What is reported of a lint that names what columns count, where nothing has that name, or SARIF no word for it.
-pub(crate) fn unit_lines(alloc: Global, name: &str, end: End) -> Result<String, AllocError>
-    ensures { IfOk result (λ text. string_bytes text ≡ unit_text name.now end) }
+/// What is reported of a lint that names what columns count, where nothing has that name, or the format doesn't take
+/// it.
+pub(crate) fn unit_lines(
+    alloc: Global,
+    format: Option<Format>,
+    name: &str,
+    end: End,
+) -> Result<String, AllocError>
+    ensures { IfOk result (λ text. string_bytes text ≡ unit_text format name.now end) }
 {
     match end {
         End::UnknownColumns => unknown_unit_lines(alloc, name),
-        End::ColumnsRefused => sarif_lines(alloc, name),
+        End::ColumnsRefused => refused_lines(alloc, format, name),
         _ => Ok(String::new(alloc)),
     }
 }
@@ -41,23 +48,43 @@ fn unknown_unit_lines(alloc: Global, name: &str) -> Result<String, AllocError>
     lines(alloc, UNIT, name, names.as_slice())
 }
 
-// What is reported of a unit that SARIF has no word for.
-fn sarif_lines(alloc: Global, name: &str) -> Result<String, AllocError>
-    ensures { IfOk result (λ text. string_bytes text
-        ≡ refused_unit_text name.now (unit_names (Some Format.Sarif))) }
+// What is reported of a unit that the named format doesn't take.
+fn refused_lines(alloc: Global, format: Option<Format>, name: &str) -> Result<String, AllocError>
+    ensures { IfOk result (λ text. string_bytes text ≡ refused_by format name.now) }
 {
-    let names = unit_names(alloc, Some(Format::Sarif))?;
-    refused_unit_lines(alloc, name, names.as_slice())
+    match format {
+        Some(format) => format_lines(alloc, format, name),
+        None => Ok(String::new(alloc)),
+    }
 }
 
-// What is reported of a unit that SARIF has no word for, by the names of those that it has one for.
-fn refused_unit_lines(alloc: Global, name: &str, names: &[&str]) -> Result<String, AllocError>
-    ensures { IfOk result (λ text. string_bytes text ≡ refused_unit_text name.now (map (λ n. n.now) names.now)) }
+// What is reported of a unit that a format doesn't take.
+fn format_lines(alloc: Global, format: Format, name: &str) -> Result<String, AllocError>
+    ensures { IfOk result (λ text. string_bytes text
+        ≡ refused_unit_text (format_name format) name.now (unit_names (Some format))) }
 {
-    let mut text = String::from_str(alloc, "urlcheck: sarif doesn't take the column unit ")?;
+    let names = unit_names(alloc, Some(format))?;
+    refused_unit_lines(alloc, format.name(), name, names.as_slice())
+}
+
+// What is reported of a unit that a format with this name doesn't take, by the names of those that it takes.
+fn refused_unit_lines(
+    alloc: Global,
+    format: &str,
+    name: &str,
+    names: &[&str],
+) -> Result<String, AllocError>
+    ensures { IfOk result (λ text. string_bytes text
+        ≡ refused_unit_text format.now name.now (map (λ n. n.now) names.now)) }
+{
+    let mut noun = String::from_str(alloc, "column units of ")?;
+    noun.push_str(format)?;
+    let mut text = String::from_str(alloc, "urlcheck: ")?;
+    text.push_str(format)?;
+    text.push_str(" doesn't take the column unit ")?;
     push_shown(&mut text, name)?;
     text.push_str("\n")?;
-    push_names(&mut text, "column units of sarif", "", names)?;
+    push_names(&mut text, noun.as_str(), "", names)?;
     Ok(text)
 }
 

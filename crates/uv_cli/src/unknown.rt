@@ -5,32 +5,18 @@ ghost use Rattle.uv_cli.specs.Messages.{longer_text, named_text, near_text, name
 ghost use Rattle.uv_cli.specs.Messages.{unknown_name_text, unknown_names_text, unknown_rules_text, unknown_text};
 ghost use Rattle.uv_cli.specs.Messages.{unknown_of_job, unknown_of_lint};
 ghost use Rattle.uv_cli.specs.Explain.{is_explained};
-ghost use Rattle.uv_cli.specs.Names.{is_longer, longer_names, nearest, rule_names, unknown_rules};
+ghost use Rattle.uv_cli.specs.Names.{nearest, rule_names, unknown_rules};
 ghost use Rattle.uv_cli.specs.Names.{format_names, kind_names, profile_names, with_further, with_unknown};
 
 use crate::ends::End;
 use crate::messages::message_line;
+use crate::names::{format_names, kind_names, longer_names, nearest, profile_names, rule_names};
 use crate::options::is_among;
 use crate::units::unit_lines;
 use std::alloc::{AllocError, Global};
-use strsim::osa_distance;
-use uv_mend::MendKind;
-use uv_model::{Profile, Rule};
-use uv_report::{Format, LineViolation, LocatedFault, push_shown};
+use uv_model::Rule;
+use uv_report::{Format, LineViolation, push_shown};
 use uv_words::{Job, LintJob};
-
-// The formats in the order of docs and help.
-const FORMATS: [Format; 6] = [
-    Format::Gnu,
-    Format::Caret,
-    Format::Json,
-    Format::Github,
-    Format::Sarif,
-    Format::Checkstyle,
-];
-
-// The kinds in the order of docs and help.
-const KINDS: [MendKind; 3] = [MendKind::Same, MendKind::Escaped, MendKind::Changed];
 
 /// What is named: one, and all of them.
 #[derive(Clone, Copy)]
@@ -93,7 +79,10 @@ fn names_lines(alloc: Global, asked: &LintJob, end: End) -> Result<String, Alloc
 {
     match end {
         End::UnknownFormat => format_lines(alloc, or_empty(&asked.format)),
-        end => unit_lines(alloc, or_empty(&asked.columns), end),
+        end => {
+            let format = Format::of_name(or_empty(&asked.format));
+            unit_lines(alloc, format, or_empty(&asked.columns), end)
+        }
     }
 }
 
@@ -188,53 +177,6 @@ fn is_explained(name: &str) -> bool
     Rule::of_name(name).is_some() || LineViolation::of_name(name).is_some()
 }
 
-// The names that are explained: those of the rules, and of what else is found with a line.
-fn rule_names(alloc: Global) -> Result<Vec<&'static str>, AllocError>
-    ensures { IfOk result (λ names. map (λ n. n.now) names.items ≡ rule_names) }
-{
-    let mut names = Vec::new(alloc);
-    for rule in &Rule::in_order() {
-        names.push(rule.name())?;
-    }
-    names.push(LineViolation::NotUtf8(0).name())?;
-    names.push(LineViolation::TooLong.name())?;
-    names.push(LineViolation::NotLocated(LocatedFault::NoFile).name())?;
-    Ok(names)
-}
-
-// The names of the formats.
-fn format_names(alloc: Global) -> Result<Vec<&'static str>, AllocError>
-    ensures { IfOk result (λ names. map (λ n. n.now) names.items ≡ format_names) }
-{
-    let mut names = Vec::new(alloc);
-    for format in &FORMATS {
-        names.push(format.name())?;
-    }
-    Ok(names)
-}
-
-// The names of the kinds.
-fn kind_names(alloc: Global) -> Result<Vec<&'static str>, AllocError>
-    ensures { IfOk result (λ names. map (λ n. n.now) names.items ≡ kind_names) }
-{
-    let mut names = Vec::new(alloc);
-    for kind in &KINDS {
-        names.push(kind.name())?;
-    }
-    Ok(names)
-}
-
-// The names of the profiles.
-fn profile_names(alloc: Global) -> Result<Vec<&'static str>, AllocError>
-    ensures { IfOk result (λ names. map (λ n. n.now) names.items ≡ profile_names) }
-{
-    let mut names = Vec::new(alloc);
-    for profile in &Profile::in_order() {
-        names.push(profile.name())?;
-    }
-    Ok(names)
-}
-
 /// What is reported of a name that none has, of the kind that the noun says.
 pub(crate) fn lines(
     alloc: Global,
@@ -288,8 +230,8 @@ fn push_told(
     }
 }
 
-// The line of a name that none has, with the nearest one, if one is near.
-fn unknown_line(
+/// The line of a name that none has, with the nearest one, if one is near.
+pub(crate) fn unknown_line(
     alloc: Global,
     noun: &str,
     name: &str,
@@ -366,52 +308,4 @@ fn push_spaced(text: &mut String, names: &[&str]) -> Result<(), AllocError>
         text.push_str(name)?;
     }
     Ok(())
-}
-
-// The names that begin with a word, whatever its case; none begins with an empty one.
-fn longer_names<'n>(
-    alloc: Global,
-    word: &str,
-    names: &[&'n str],
-) -> Result<Vec<&'n str>, AllocError>
-    ensures { IfOk result (λ found. map (λ n. n.now) found.items
-        ≡ longer_names word.now (map (λ n. n.now) names.now)) }
-{
-    let mut found = Vec::new(alloc);
-    let word = word.to_ascii_lowercase(alloc)?;
-    for name in names {
-        if is_longer(name.as_bytes(), word.as_bytes()) {
-            found.push(*name)?;
-        }
-    }
-    Ok(found)
-}
-
-// Whether a name begins with a word, which isn't empty.
-fn is_longer(name: &[u8], word: &[u8]) -> bool
-    ensures { result ≡ is_longer name.now word.now }
-{
-    !word.is_empty() && name.starts_with(word)
-}
-
-/// The nearest of the names, where no more than a third of the word's letters, or one of a shorter word, have to be
-/// changed, taken away, added or swapped with the next one, whatever their case.
-pub(crate) fn nearest<'n>(
-    alloc: Global,
-    word: &str,
-    names: &[&'n str],
-) -> Result<Option<&'n str>, AllocError>
-    ensures { IfOk result (λ near. option_copied near ≡ nearest word.now (map (λ n. n.now) names.now)) }
-{
-    let word = word.to_ascii_lowercase(alloc)?;
-    let mut near = None;
-    let mut limit = (word.len() / 3).max(1) + 1;
-    for name in names {
-        let edits = osa_distance(alloc, word.as_str(), name)?;
-        if edits < limit {
-            near = Some(*name);
-            limit = edits;
-        }
-    }
-    Ok(near)
 }

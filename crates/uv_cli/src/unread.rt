@@ -21,6 +21,16 @@ pub(crate) enum Unread {
     NoFolder,
     /// It may not be read.
     NotPermitted,
+    /// Its symbolic links lead in a circle, or over too many others.
+    Loop,
+    /// Its name is too long.
+    LongName,
+    /// It is in use.
+    Busy,
+    /// The system took too long.
+    TimedOut,
+    /// It is no longer on its server.
+    Stale,
     /// For another reason.
     Other,
 }
@@ -36,6 +46,11 @@ impl Unread {
             Some(ErrorKind::IsADirectory) => Unread::Folder,
             Some(ErrorKind::NotADirectory) => Unread::NoFolder,
             Some(ErrorKind::PermissionDenied) => Unread::NotPermitted,
+            Some(ErrorKind::FilesystemLoop) => Unread::Loop,
+            Some(ErrorKind::InvalidFilename) => Unread::LongName,
+            Some(ErrorKind::ResourceBusy) => Unread::Busy,
+            Some(ErrorKind::TimedOut) => Unread::TimedOut,
+            Some(ErrorKind::StaleNetworkFileHandle) => Unread::Stale,
             _ => Unread::Other,
         }
     }
@@ -48,7 +63,12 @@ impl Unread {
             Unread::Missing => ": there is no such file",
             Unread::Folder => ": it is a folder",
             Unread::NoFolder => ": a part of its path is no folder",
-            Unread::NotPermitted => ": it may not be read",
+            Unread::NotPermitted => ": permission denied",
+            Unread::Loop => ": its symbolic links lead in a circle",
+            Unread::LongName => ": its name is too long",
+            Unread::Busy => ": it is in use",
+            Unread::TimedOut => ": the system took too long",
+            Unread::Stale => ": it is no longer on its server",
             Unread::Other => "",
         }
     }

@@ -1,26 +1,36 @@
-//! Readers and writers that keep why a call of them failed, where the product's own keep only that one did.
-ghost use Rattle.std.specs.Prelude.{◌≡◌, false, is_ok};
+//! Readers and writers that keep why a call of them failed, where the product's own keep only that one did. A reader keeps
+//! what is seen of its bytes too.
+ghost use Rattle.std.specs.Prelude.{◌≡◌, [], MatchResult, false, is_ok, take};
 ghost use Rattle.std.specs.Io.{ReadsAtMost, WritesAtMost};
 ghost use Rattle.std.specs.Io.KnownBytes.{Keeps, ReadConsumes, WriteAppends};
 ghost use Rattle.uv_cli.specs.Calls.{fault_after};
+ghost use Rattle.uv_cli.specs.Contents.{content_of};
+ghost use Rattle.uv_cli.specs.Look.{Sees, SeesMore};
 
+use crate::contents::Content;
+use crate::look::Look;
 use std::io::{self, ErrorKind, Read, Write};
 
-/// A reader, with the kind of its last error, if a read of it has failed.
+/// A reader, with the kind of its last error, if a read of it has failed, and with what is seen of the bytes that were
+/// read.
 #[derive(Drop)]
 pub(crate) struct WatchedReader<R> {
     reader: R,
     fault: Option<ErrorKind>,
+    look: Look,
 }
 
 impl<R> WatchedReader<R> {
-    /// The reader, of which no read has failed yet.
+    /// The reader, of which nothing was read yet.
     pub(crate) fn new(reader: R) -> WatchedReader<R>
-        ensures { result ≡ record { reader = reader; fault = None } }
+        ensures reader { result.reader ≡ reader }
+        ensures fault { result.fault ≡ None }
+        ensures look { Sees result.look [] }
     {
         WatchedReader {
             reader,
             fault: None,
+            look: Look::new(),
         }
     }
 
@@ -29,6 +39,13 @@ impl<R> WatchedReader<R> {
         ensures { result ≡ self.now.fault }
     {
         self.fault
+    }
+
+    /// What the bytes that were read look like, where they don't look like lines of links.
+    pub(crate) fn content(&self) -> Option<Content>
+        ensures { result ≡ content_of self.now.look.first.items self.now.look.ends }
+    {
+        self.look.content()
     }
 }
 
@@ -39,9 +56,14 @@ impl<R: Read> Read for WatchedReader<R> {
         ensures bound { ReadsAtMost result buf.new }
         ensures bytes { ReadConsumes (R.remaining self.old.reader) (R.remaining self.new.reader) result buf.new }
         ensures fault { self.new.fault ≡ fault_after self.old.fault result }
+        ensures look { MatchResult result (λ given. SeesMore self.old.look self.new.look (take given buf.new))
+            (λ error. self.new.look ≡ self.old.look) }
     {
         match self.reader.read(buf) {
-            Ok(given) => Ok(given),
+            Ok(given) => {
+                self.look.add(&buf[..given]);
+                Ok(given)
+            }
             Err(error) => {
                 self.fault = Some(error.kind());
                 Err(error)

@@ -96,12 +96,21 @@ Exit statuses:
 Example:
   urlcheck explain host-missing";
 
+// The usage of the commands that take options. Where these are given, `clap`'s own shows them as if they had to be.
+const CHECK_USAGE: &str = "urlcheck check [--base <TEXT>] [OPTIONS] <TEXT>";
+
+const LINT_USAGE: &str = "urlcheck lint [--base <TEXT>] [OPTIONS] <FILE>...";
+
+const LINKS_USAGE: &str = "urlcheck links [--base <TEXT>] [OPTIONS]";
+
+const MEND_USAGE: &str = "urlcheck mend [--base <TEXT>] [OPTIONS] [TEXT]";
+
 /// The commands of the program `urlcheck`.
 pub(crate) fn urlcheck<'a>(alloc: Global) -> Result<Command<'a>, AllocError>
     ensures { IfOk result (λ c. app_of c ≡ urlcheck) }
 {
     let program = Command::new(alloc, "urlcheck")
-        .version("0.2.0")
+        .version("0.3.0")
         .about("Says whether a text is a valid URL string")
         .after_help(STATUSES)
         .subcommand_required(true);
@@ -142,10 +151,24 @@ fn bare<'a>(alloc: Global, name: &'a str, about: &'a str, notes: &'a str) -> Com
     Command::new(alloc, name).about(about).after_help(notes)
 }
 
+// The same with a usage in place of `clap`'s own.
+fn used<'a>(
+    alloc: Global,
+    name: &'a str,
+    about: &'a str,
+    notes: &'a str,
+    usage: &'a str,
+) -> Command<'a>
+    ensures { IsApp (new_app name.entry.now) result }
+{
+    bare(alloc, name, about, notes).override_usage(usage)
+}
+
 fn check<'a>(alloc: Global) -> Result<Command<'a>, AllocError>
     ensures { IfOk result (IsApp check_command) }
 {
-    let command = bare(alloc, "check", "Judges one text", CHECK_NOTES);
+    let about = "Judges one text";
+    let command = used(alloc, "check", about, CHECK_NOTES, CHECK_USAGE);
     let command = and_arg(Ok(command), base(alloc));
     let command = and_arg(command, all(alloc));
     let command = and_arg(command, profile(alloc));
@@ -157,7 +180,7 @@ fn lint<'a>(alloc: Global) -> Result<Command<'a>, AllocError>
     ensures { IfOk result (IsApp lint_command) }
 {
     let about = "Judges each line of files";
-    let command = bare(alloc, "lint", about, LINT_NOTES);
+    let command = used(alloc, "lint", about, LINT_NOTES, LINT_USAGE);
     let command = and_arg(Ok(command), base(alloc));
     let command = and_arg(command, all(alloc));
     let command = and_arg(command, profile(alloc));
@@ -174,7 +197,7 @@ fn links<'a>(alloc: Global) -> Result<Command<'a>, AllocError>
     ensures { IfOk result (IsApp links_command) }
 {
     let about = "Judges each line of standard input";
-    let command = bare(alloc, "links", about, LINKS_NOTES);
+    let command = used(alloc, "links", about, LINKS_NOTES, LINKS_USAGE);
     let command = and_arg(Ok(command), base(alloc));
     let command = and_arg(command, profile(alloc));
     and_arg(command, wide(alloc))
@@ -184,7 +207,7 @@ fn mend<'a>(alloc: Global) -> Result<Command<'a>, AllocError>
     ensures { IfOk result (IsApp mend_command) }
 {
     let about = "Says what to write in place of a refused text";
-    let command = bare(alloc, "mend", about, MEND_NOTES);
+    let command = used(alloc, "mend", about, MEND_NOTES, MEND_USAGE);
     let command = and_arg(Ok(command), base(alloc));
     let command = and_arg(command, profile(alloc));
     let command = and_arg(command, wide(alloc));
@@ -275,7 +298,8 @@ fn format<'a>(alloc: Global) -> Arg<'a>
     ensures rule { rule_of result ≡ option_rule (codes "format") }
     ensures local { result.global ≡ false }
 {
-    let help = "gnu, caret, json, github, sarif or checkstyle; without it gnu";
+    let help =
+        "gnu, caret, json, github, sarif, checkstyle, junit, gitlab or rdjson; without it gnu";
     option(alloc, "format", "FORMAT", help)
 }
 
@@ -283,7 +307,7 @@ fn columns<'a>(alloc: Global) -> Arg<'a>
     ensures rule { rule_of result ≡ option_rule (codes "columns") }
     ensures local { result.global ≡ false }
 {
-    let help = "code-points, bytes, utf16 or screen; without it code-points";
+    let help = "code-points, bytes, utf16 or screen; without it code-points, and with rdjson bytes";
     option(alloc, "columns", "UNIT", help)
 }
 

@@ -2,6 +2,7 @@
 #![tactic(auto)]
 
 mod commands;
+mod entries;
 mod inputs;
 mod profile;
 mod words;

@@ -8,6 +8,7 @@ ghost use Rattle.uv_words.specs.Words.{explain, filter_by, filter_in, mend_in, r
 ghost use Rattle.uv_words.specs.Words.{request_in, request_of, vectors, wanted_in, wanted_view, IsFaultOf, IsFrom};
 
 use crate::commands::urlcheck;
+use crate::entries::{copied, copied_all, extent, has, value, values};
 use crate::inputs::has_input;
 use crate::profile::{Asked, asked_for};
 use clap::error::ErrorKind;
@@ -343,59 +344,4 @@ fn lint_in(
         stdin_name: copied(alloc, value(entries, "stdin-name"))?,
         quiet: has(entries, "quiet"),
     })))
-}
-
-fn copied_all(alloc: Global, texts: &[&str]) -> Result<Vec<String>, AllocError>
-    ensures { IfOk result (λ r. map string_bytes r.items ≡ map (λ t. t.now) texts.now) }
-{
-    let mut copies = Vec::new(alloc);
-    for text in texts {
-        copies.push(text.to_string(alloc)?)?;
-    }
-    Ok(copies)
-}
-
-fn copied(alloc: Global, text: Option<&str>) -> Result<Option<String>, AllocError>
-    ensures { IfOk result (λ r. option_map string_bytes r ≡ option_map (λ t. t.now) text.entry) }
-{
-    match text {
-        Some(text) => Ok(Some(text.to_string(alloc)?)),
-        None => Ok(None),
-    }
-}
-
-// The first value of an entry.
-fn value<'a>(entries: &ArgMatches<'a>, id: &str) -> Option<&'a str>
-    ensures { option_map (λ t. t.now) result ≡ first_of id.now (rows_of (found_of entries.now)) }
-{
-    entries.get_str(id)
-}
-
-// All values of an entry.
-fn values<'m, 'a>(entries: &'m ArgMatches<'a>, id: &str) -> Option<&'m [&'a str]>
-    ensures { option_map (λ texts. map (λ t. t.now) texts.now) result
-        ≡ all_of id.now (rows_of (found_of entries.now)) }
-{
-    entries.get_strs(id)
-}
-
-// Whether a flag was given.
-fn has(entries: &ArgMatches<'_>, id: &str) -> bool
-    ensures { result ≡ has_flag id.now (rows_of (found_of entries.now)) }
-{
-    match value(entries, id) {
-        Some(text) => text == "true",
-        None => false,
-    }
-}
-
-// How many violations are asked for.
-fn extent(entries: &ArgMatches<'_>) -> Extent
-    ensures { result ≡ extent_in (rows_of (found_of entries.now)) }
-{
-    if has(entries, "all") {
-        Extent::All
-    } else {
-        Extent::First
-    }
 }

@@ -12,7 +12,7 @@ returns c =
     (c.and_arg-command-4.ensures _ _
     (c.and_arg-command-3.ensures _ _
     (c.and_arg-command-2.ensures _ _
-    (c.and_arg-command.ensures _ _ c.bare-command.ensures c.base.ensures.rule c.base.ensures.local) c.all.ensures.rule
+    (c.and_arg-command.ensures _ _ c.used-command.ensures c.base.ensures.rule c.base.ensures.local) c.all.ensures.rule
     c.all.ensures.local) c.profile.ensures.rule c.profile.ensures.local) c.wide.ensures.rule c.wide.ensures.local)
     c.format.ensures.rule c.format.ensures.local) c.columns.ensures.rule c.columns.ensures.local)
     c.located.ensures.rule c.located.ensures.local) c.stdin_name.ensures.rule c.stdin_name.ensures.local)

@@ -8,7 +8,7 @@ returns c =
     (c.and_arg-command-4.ensures _ _
     (c.and_arg-command-3.ensures _ _
     (c.and_arg-command-2.ensures _ _
-    (c.and_arg-command.ensures _ _ c.bare-command.ensures c.base.ensures.rule c.base.ensures.local)
+    (c.and_arg-command.ensures _ _ c.used-command.ensures c.base.ensures.rule c.base.ensures.local)
     c.profile.ensures.rule c.profile.ensures.local) c.wide.ensures.rule c.wide.ensures.local)
     c.only.ensures.rule c.only.ensures.local) c.quiet.ensures.rule c.quiet.ensures.local)
     c.mended.ensures.rule c.mended.ensures.local

@@ -1,7 +1,7 @@
 -- The names that were found so far.
 use Rattle.std.proofs.Common.{◌≡◌, filter, map, take, string_bytes}
 use Rattle.uv_cli.specs.Names.{is_longer}
-use Rattle.uv_cli.proofs.unknown.longer_names.Given as goal
+use Rattle.uv_cli.proofs.names.longer_names.Given as goal
 
 abbrev pub invariant-loop-name : goal.invariant-loop-name
 invariant-loop-name l =

@@ -2,7 +2,7 @@
 use Rattle.std.proofs.Common.{◌≡◌, drop, map, option_copied, string_bytes}
 use Rattle.std.specs.Option.{option_or}
 use Rattle.uv_cli.specs.Names.{nearest_below}
-use Rattle.uv_cli.proofs.unknown.nearest.Given as goal
+use Rattle.uv_cli.proofs.names.nearest.Given as goal
 
 abbrev pub invariant-loop-name : goal.invariant-loop-name
 invariant-loop-name l =
