@@ -21,6 +21,9 @@
 #include <stddef.h>
 #include <stdint.h>
 
+/* The version of this header: 10000 times its first number, 100 times its second, and its third. */
+#define URLCHECK_VERSION 300
+
 /* A truth value, of one byte: 0 or 1. */
 #if defined(__cplusplus)
 typedef bool urlcheck_bool;
@@ -123,6 +126,28 @@ typedef struct urlcheck_resolved {
     size_t length;
 } urlcheck_resolved;
 
+/* The kinds of hosts (section 3.1). */
+enum urlcheck_host {
+    URLCHECK_DOMAIN = 1,      /* a domain, of a special URL */
+    URLCHECK_IPV4 = 2,        /* an IPv4 address */
+    URLCHECK_IPV6 = 3,        /* an IPv6 address, which stands in brackets */
+    URLCHECK_OPAQUE_HOST = 4, /* an opaque host, of a URL that isn't special */
+    URLCHECK_EMPTY_HOST = 5   /* the empty host */
+};
+
+/*
+ * The answer of urlcheck_resolve_record: the length in bytes of the record's text, and where its parts stand in it. The
+ * path is always there, and begins with its `/` where it isn't opaque or empty: of such a path, the segments are what
+ * stands between two `/`. A `/.` before the path of a record without a host is no part of it.
+ */
+typedef struct urlcheck_record {
+    urlcheck_finding found;
+    size_t length;        /* 0 where there is no record */
+    urlcheck_spans parts; /* where there is no record, none is present */
+    uint32_t host;        /* one of urlcheck_host, or 0 where there is none */
+    uint32_t opaque_path; /* 1 where the path is opaque, else 0 */
+} urlcheck_record;
+
 /* How a mended text stands to the refused one. */
 enum urlcheck_mend_kind {
     URLCHECK_SAME = 1,    /* a second parser reads both as the same URL */
@@ -182,10 +207,13 @@ enum urlcheck_format {
     URLCHECK_JSON = 2,
     URLCHECK_GITHUB = 3,
     URLCHECK_SARIF = 4,
-    URLCHECK_CHECKSTYLE = 5
+    URLCHECK_CHECKSTYLE = 5,
+    URLCHECK_JUNIT = 6,
+    URLCHECK_GITLAB = 7,
+    URLCHECK_RDJSON = 8
 };
 
-/* What columns count, as `urlcheck lint --columns` names it. SARIF takes code points and UTF-16 alone. */
+/* What columns count, as `urlcheck lint --columns` names it. SARIF takes code points and UTF-16, rdjson bytes alone. */
 enum urlcheck_unit {
     URLCHECK_CODE_POINTS = 0,
     URLCHECK_BYTES = 1, /* the bytes of UTF-8 */
@@ -193,7 +221,7 @@ enum urlcheck_unit {
     URLCHECK_SCREEN = 3 /* the columns of a screen, on which a tab goes on to the next of the columns 9, 17, .. */
 };
 
-/* How the run over the files of a report has ended. SARIF alone says it. */
+/* How the run over the files of a report has ended. SARIF and JUnit say it. */
 enum urlcheck_completion {
     URLCHECK_WHOLE = 0,  /* every file was read to its end */
     URLCHECK_UNREAD = 1, /* a file couldn't be read to its end */
@@ -214,7 +242,7 @@ typedef struct urlcheck_batch {
     uint32_t outcome; /* URLCHECK_DONE, or why nothing was judged and nothing written: one of urlcheck_outcome */
     size_t row;       /* of URLCHECK_NO_OFFSETS the first text whose offsets are wrong, from 0; else 0 */
     size_t valid;     /* how many texts are valid */
-    size_t length;    /* 0: of a batch that writes texts the length of them all */
+    size_t length;    /* of urlcheck_resolve_many the length of the texts that it writes, else 0 */
 } urlcheck_batch;
 
 /* The answer of urlcheck_next_refused: a line that isn't valid, in bytes. */
@@ -249,6 +277,8 @@ typedef struct urlcheck_violation {
     uint32_t has_region; /* 1 where a program may write it where this one stands, all of it in the line; else 0 */
     uint64_t first_column; /* where has_region is 1: the column of the text's first code point, from 1 */
     uint64_t end_column;   /* the column behind its last one, from 1 */
+    uint64_t end;          /* the column at which what is wrong ends: of a rule of texts that of the place behind
+                              `place`, where the text has one, and else `column` */
 } urlcheck_violation;
 
 /* Whether the text is a valid URL string alone. The verdict is never about a base. */
@@ -339,6 +369,23 @@ urlcheck_batch urlcheck_check_many_32(const uint8_t *texts, size_t length, const
                                       uint32_t profile, uint8_t *verdicts, uint8_t *rules, uint64_t *places);
 
 /*
+ * Resolves many texts alone by a profile, which stand as those of urlcheck_check_many, whose three columns this call
+ * fills with what urlcheck_resolve answers. The texts of the records stand one behind the other at the start of `out`:
+ * that of text i from ends[i] to ends[i + 1], and of no bytes where the verdict isn't URLCHECK_VALID. So `ends` has
+ * `count` + 1 elements, or is null. The answer has the length of them all. Where `room` is less, `out` stays as it is,
+ * and all else is written: so a second call with so much room writes them. A text for whose record malloc gave no
+ * memory has the verdict URLCHECK_MEMORY. Where the outcome isn't URLCHECK_DONE, nothing is written.
+ */
+urlcheck_batch urlcheck_resolve_many(const uint8_t *texts, size_t length, const uint64_t *offsets, size_t count,
+                                     uint32_t profile, uint8_t *verdicts, uint8_t *rules, uint64_t *places,
+                                     uint64_t *ends, uint8_t *out, size_t room);
+
+/* The same where the offsets of the texts have 32 bits. */
+urlcheck_batch urlcheck_resolve_many_32(const uint8_t *texts, size_t length, const uint32_t *offsets, size_t count,
+                                        uint32_t profile, uint8_t *verdicts, uint8_t *rules, uint64_t *places,
+                                        uint64_t *ends, uint8_t *out, size_t room);
+
+/*
  * Judges the lines of a buffer alone by a profile, from the byte `from` on, up to the first that isn't valid. A line
  * ends with LF, and one CR before that is no part of its text; what follows the last LF is a line where it isn't empty.
  * An empty line is the empty text. `found` is what urlcheck_check finds of the line's text. Where all lines are valid
@@ -352,6 +399,21 @@ urlcheck_line urlcheck_next_refused(const uint8_t *lines, size_t length, size_t 
  */
 urlcheck_resolved urlcheck_resolve_with(const uint8_t *text, size_t length, const urlcheck_base *base,
                                         const uint8_t *base_text, size_t base_length, uint8_t *out, size_t room);
+
+/*
+ * The same text as that of urlcheck_resolve, where its parts stand in it, of which kind its host is, and whether its
+ * path is opaque. So nobody has to take the text apart.
+ */
+urlcheck_record urlcheck_resolve_record(const uint8_t *text, size_t length, uint32_t profile, uint8_t *out,
+                                        size_t room);
+
+/* The same against a base, which is judged alone by the same profile. */
+urlcheck_record urlcheck_resolve_record_against(const uint8_t *text, size_t length, const uint8_t *base,
+                                                size_t base_length, uint32_t profile, uint8_t *out, size_t room);
+
+/* The same against a base that was prepared, and its bytes. */
+urlcheck_record urlcheck_resolve_record_with(const uint8_t *text, size_t length, const urlcheck_base *base,
+                                             const uint8_t *base_text, size_t base_length, uint8_t *out, size_t room);
 
 /* The same answer as that of urlcheck_mend_against on the base's bytes and profile. */
 urlcheck_mended urlcheck_mend_with(const uint8_t *text, size_t length, const urlcheck_base *base,
@@ -371,8 +433,8 @@ urlcheck_written urlcheck_report_file_begin(uint32_t format, const uint8_t *file
 /*
  * What is reported of a violation of a text in the file of that name. `is_first` is 1 where no other diagnostic stands
  * before it in the report, else 0. The mended text is read where the violation's kind isn't 0; the region is asked for
- * where `has_region` is 1, and SARIF, whose fix needs it, leaves the mended text out where there is none. A format that
- * says no text to write (urlcheck_shows_mended) leaves both out.
+ * where `has_region` is 1. SARIF and rdjson write an edit, which needs it, and leave the mended text out where there is
+ * none. A format that says no text to write (urlcheck_shows_mended) leaves both out.
  */
 urlcheck_written urlcheck_diagnostic(uint32_t format, uint32_t is_first, const urlcheck_violation *violation,
                                      const uint8_t *file, size_t file_length, const uint8_t *text, size_t length,
@@ -413,7 +475,7 @@ size_t urlcheck_explain(uint32_t rule, uint32_t part, uint8_t *out, size_t room)
 /* The place at which the example of the rule is refused, in code points; 0 where no rule has the number. */
 size_t urlcheck_example_place(uint32_t rule);
 
-/* The version of the library: 10000 times its first number, 100 times its second, and its third. */
+/* The version of the library, as URLCHECK_VERSION is that of the header. */
 uint32_t urlcheck_version(void);
 
 #ifdef __cplusplus
@@ -446,6 +508,9 @@ URLCHECK_HOLDS(sizeof(urlcheck_answer) == 168 && offsetof(urlcheck_answer, found
 URLCHECK_HOLDS(offsetof(urlcheck_answer, parts) == 24);
 URLCHECK_HOLDS(sizeof(urlcheck_resolved) == 32 && offsetof(urlcheck_resolved, found) == 0);
 URLCHECK_HOLDS(offsetof(urlcheck_resolved, length) == 24);
+URLCHECK_HOLDS(sizeof(urlcheck_record) == 184 && offsetof(urlcheck_record, found) == 0);
+URLCHECK_HOLDS(offsetof(urlcheck_record, length) == 24 && offsetof(urlcheck_record, parts) == 32);
+URLCHECK_HOLDS(offsetof(urlcheck_record, host) == 176 && offsetof(urlcheck_record, opaque_path) == 180);
 URLCHECK_HOLDS(sizeof(urlcheck_mended) == 40 && offsetof(urlcheck_mended, found) == 0);
 URLCHECK_HOLDS(offsetof(urlcheck_mended, kind) == 24 && offsetof(urlcheck_mended, length) == 32);
 URLCHECK_HOLDS(sizeof(urlcheck_fault) == 24 && offsetof(urlcheck_fault, rule) == 0);
@@ -462,11 +527,12 @@ URLCHECK_HOLDS(sizeof(urlcheck_written) == 32 && offsetof(urlcheck_written, foun
 URLCHECK_HOLDS(offsetof(urlcheck_written, length) == 24);
 URLCHECK_HOLDS(sizeof(urlcheck_counted) == 32 && offsetof(urlcheck_counted, found) == 0);
 URLCHECK_HOLDS(offsetof(urlcheck_counted, column) == 24);
-URLCHECK_HOLDS(sizeof(urlcheck_violation) == 56 && offsetof(urlcheck_violation, profile) == 0);
+URLCHECK_HOLDS(sizeof(urlcheck_violation) == 64 && offsetof(urlcheck_violation, profile) == 0);
 URLCHECK_HOLDS(offsetof(urlcheck_violation, rule) == 4 && offsetof(urlcheck_violation, place) == 8);
 URLCHECK_HOLDS(offsetof(urlcheck_violation, line) == 16 && offsetof(urlcheck_violation, column) == 24);
 URLCHECK_HOLDS(offsetof(urlcheck_violation, kind) == 32 && offsetof(urlcheck_violation, has_region) == 36);
 URLCHECK_HOLDS(offsetof(urlcheck_violation, first_column) == 40 && offsetof(urlcheck_violation, end_column) == 48);
+URLCHECK_HOLDS(offsetof(urlcheck_violation, end) == 56);
 #undef URLCHECK_HOLDS
 #endif
 #endif

@@ -37,9 +37,20 @@
                                                size_t, uint8_t *, size_t, uint64_t *, size_t);                         \
     urlcheck_batch urlcheck_check_many_32_##build(const uint8_t *, size_t, const uint32_t *, size_t, uint32_t,         \
                                                   uint8_t *, size_t, uint8_t *, size_t, uint64_t *, size_t);           \
+    urlcheck_batch urlcheck_resolve_many_##build(const uint8_t *, size_t, const uint64_t *, size_t, uint32_t,          \
+                                                 uint8_t *, size_t, uint8_t *, size_t, uint64_t *, size_t, uint64_t *, \
+                                                 size_t, uint8_t *, size_t);                                           \
+    urlcheck_batch urlcheck_resolve_many_32_##build(const uint8_t *, size_t, const uint32_t *, size_t, uint32_t,       \
+                                                    uint8_t *, size_t, uint8_t *, size_t, uint64_t *, size_t,          \
+                                                    uint64_t *, size_t, uint8_t *, size_t);                            \
     urlcheck_line urlcheck_next_refused_##build(const uint8_t *, size_t, size_t, uint32_t);                            \
     urlcheck_resolved urlcheck_resolve_with_##build(const uint8_t *, size_t, const urlcheck_base *, const uint8_t *,   \
                                                     size_t, uint8_t *, size_t);                                        \
+    urlcheck_record urlcheck_resolve_record_##build(const uint8_t *, size_t, uint32_t, uint8_t *, size_t);             \
+    urlcheck_record urlcheck_resolve_record_against_##build(const uint8_t *, size_t, const uint8_t *, size_t,          \
+                                                            uint32_t, uint8_t *, size_t);                              \
+    urlcheck_record urlcheck_resolve_record_with_##build(const uint8_t *, size_t, const urlcheck_base *,               \
+                                                         const uint8_t *, size_t, uint8_t *, size_t);                  \
     urlcheck_mended urlcheck_mend_with_##build(const uint8_t *, size_t, const urlcheck_base *, const uint8_t *,        \
                                                size_t, uint8_t *, size_t);                                             \
     urlcheck_written urlcheck_report_begin_##build(uint32_t, uint32_t, uint8_t *, size_t);                             \
@@ -222,6 +233,22 @@ static size_t column_room(const void *column, size_t count) { return column ? co
 CHECK_MANY(urlcheck_check_many, uint64_t)
 CHECK_MANY(urlcheck_check_many_32, uint32_t)
 
+#define RESOLVE_MANY(name, offset)                                                                                     \
+    EXPORT urlcheck_batch name(const uint8_t *texts, size_t length, const offset *offsets, size_t count,               \
+                               uint32_t profile, uint8_t *verdicts, uint8_t *rules, uint64_t *places, uint64_t *ends,  \
+                               uint8_t *out, size_t room) {                                                            \
+        static const offset no_offsets[1];                                                                             \
+        size_t rows = offsets ? count : 0;                                                                             \
+        if (lacks(texts, length) || lacks(offsets, count) || lacks(out, room)) return null_batch();                    \
+        return CALL(name, read_from(texts), length, offsets ? offsets : no_offsets, rows + 1, profile,                 \
+                    written_to(verdicts), column_room(verdicts, rows), written_to(rules), column_room(rules, rows),    \
+                    places ? places : no_places, column_room(places, rows), ends ? ends : no_places,                   \
+                    column_room(ends, rows + 1), written_to(out), room);                                               \
+    }
+
+RESOLVE_MANY(urlcheck_resolve_many, uint64_t)
+RESOLVE_MANY(urlcheck_resolve_many_32, uint32_t)
+
 EXPORT urlcheck_line urlcheck_next_refused(const uint8_t *lines, size_t length, size_t from, uint32_t profile) {
     if (lacks(lines, length)) {
         urlcheck_line answer = {{URLCHECK_NULL, 0, 0, 0}, 0, 0, 0, 0};
@@ -239,6 +266,34 @@ EXPORT urlcheck_resolved urlcheck_resolve_with(const uint8_t *text, size_t lengt
     }
     return CALL(urlcheck_resolve_with, read_from(text), length, held_in(base), read_from(base_text), base_length,
                 written_to(out), room);
+}
+
+static urlcheck_record null_record(void) {
+    urlcheck_record answer = {0};
+    answer.found.verdict = URLCHECK_NULL;
+    return answer;
+}
+
+EXPORT urlcheck_record urlcheck_resolve_record(const uint8_t *text, size_t length, uint32_t profile, uint8_t *out,
+                                               size_t room) {
+    if (lacks(text, length) || lacks(out, room)) return null_record();
+    return CALL(urlcheck_resolve_record, read_from(text), length, profile, written_to(out), room);
+}
+
+EXPORT urlcheck_record urlcheck_resolve_record_against(const uint8_t *text, size_t length, const uint8_t *base,
+                                                       size_t base_length, uint32_t profile, uint8_t *out,
+                                                       size_t room) {
+    if (lacks(text, length) || lacks(base, base_length) || lacks(out, room)) return null_record();
+    return CALL(urlcheck_resolve_record_against, read_from(text), length, read_from(base), base_length, profile,
+                written_to(out), room);
+}
+
+EXPORT urlcheck_record urlcheck_resolve_record_with(const uint8_t *text, size_t length, const urlcheck_base *base,
+                                                    const uint8_t *base_text, size_t base_length, uint8_t *out,
+                                                    size_t room) {
+    if (lacks(text, length) || lacks(base_text, base_length) || lacks(out, room)) return null_record();
+    return CALL(urlcheck_resolve_record_with, read_from(text), length, held_in(base), read_from(base_text),
+                base_length, written_to(out), room);
 }
 
 EXPORT urlcheck_mended urlcheck_mend_with(const uint8_t *text, size_t length, const urlcheck_base *base,

@@ -1,6 +1,6 @@
 -- What a base that is held says of the bytes from which it was prepared.
 use Rattle.std.proofs.Common.{◌≡◌, ◌≢◌, ℕ, Bool, true, false, List, None, Some, IsUtf8, refl, sym, ap, ◌∙◌, inl, inr}
-use Rattle.std.proofs.Common.{subst, arith}
+use Rattle.std.proofs.Common.{subst}
 use Rattle.std.specs.Prelude.{not, ◌==◌}
 use Rattle.std.proofs.lemmas.Option.{same_Some}
 use Rattle.uv_model.specs.declared.profile.Profile.{Profile}
@@ -13,9 +13,9 @@ use Rattle.urlcheck_c.specs.declared.bases.Base.{Base}
 use Rattle.urlcheck_c.specs.declared.finding.Finding.{Finding}
 use Rattle.urlcheck_c.specs.declared.finding.CallOutcome.TheVariants.{NoUtf8}
 use Rattle.urlcheck_c.specs.Base.{IsBaseOfKind, IsPreparedBase, IsUnread, flag_number, held_base, kind_in, scheme_number}
-use Rattle.urlcheck_c.specs.Base.{scheme_with}
+use Rattle.urlcheck_c.specs.Base.{base_fault, scheme_with}
 use Rattle.urlcheck_c.specs.Finding.{profile_of}
-use Rattle.urlcheck_c.specs.Request.{IsBase, IsNoBase, IsNoText, IsRequest, IsUnjudged}
+use Rattle.urlcheck_c.specs.Request.{IsBase, IsNoText, IsRequest, IsUnjudged}
 
 -- ---- the kind and its numbers
 
@@ -35,21 +35,6 @@ pub kind_back : (number : ℕ) (kind : BaseKind) → kind_in (held_base number k
 kind_back number kind =
     rw (scheme_back kind.scheme, flag_back kind.has_opaque_path, flag_back kind.has_empty_host) refl
 
--- ---- the verdict on a base
-
--- the verdict on a base from which nothing is read
-unread_verdict : (profile : Profile) (bytes : List ℕ) (finding : Finding) → IsNoBase profile bytes finding
-    → (finding.verdict ≢ 6) × (finding.verdict ≢ 0)
-unread_verdict profile bytes finding (inl x) =
-    let is : finding.verdict ≡ 4 = ap (λ (f : Finding). f.verdict) x.said in
-    (λ six. omega arith, λ valid. omega arith)
-unread_verdict profile bytes finding (inr (utf8, inl x)) =
-    let is : finding.verdict ≡ 3 = ap (λ (f : Finding). f.verdict) x.said in
-    (λ six. omega arith, λ valid. omega arith)
-unread_verdict profile bytes finding (inr (utf8, inr x)) =
-    let is : finding.verdict ≡ 5 = ap (λ (f : Finding). f.verdict) x.0 in
-    (λ six. omega arith, λ valid. omega arith)
-
 -- ---- why nothing is judged
 
 -- the text is no UTF-8
@@ -62,22 +47,21 @@ no_text number base bytes held finding (inl (inr (profile, is, x), numbers)) oth
 no_text number base bytes held finding (inr (kind, of_kind, same)) other text =
     inr (of_kind.profile, of_kind.profile_is, inl text)
 
--- nothing is read from the base
-pub no_base : (number : ℕ) (base bytes : List ℕ) (held : Base) → IsPreparedBase number base held
-    → held.found.verdict ≢ 6 → held.found.verdict ≢ 0 → IsUtf8 bytes
-    → IsUnjudged number (Some base) bytes held.found
-no_base number base bytes held (inl (inl x, numbers)) other unread utf8 =
-    absurd (other (ap (λ (f : Finding). f.verdict) x.1))
-no_base number base bytes held (inl (inr (profile, is, x), numbers)) other unread utf8 = inr (profile, is, inr (utf8, x))
-no_base number base bytes held (inr (kind, of_kind, same)) other unread utf8 =
-    absurd (unread (ap (λ (b : Base). b.found.verdict) same))
+-- what is told of a base that is refused is what was found of it
+pub told_fault : (number : ℕ) (bytes : List ℕ) (base : Base) → IsUnread number bytes base.found
+    → base.found.verdict ≢ 6 → base_fault base ≡ base.found
+told_fault number bytes base (inl x) other = absurd (other (ap (λ (f : Finding). f.verdict) x.1))
+told_fault number bytes base (inr (profile, is, inl x)) other = rw x.said refl
+told_fault number bytes base (inr (profile, is, inr (utf8, inl x))) other = rw x.said refl
+told_fault number bytes base (inr (profile, is, inr (utf8, inr x))) other = rw x.0 refl
 
--- a base from which nothing is read isn't valid
-pub unread_other : (number : ℕ) (bytes : List ℕ) (finding : Finding) → IsUnread number bytes finding
-    → finding.verdict ≢ 0
-unread_other number bytes finding (inl x) =
-    let six : finding.verdict ≡ 6 = ap (λ (f : Finding). f.verdict) x.1 in λ valid. omega arith
-unread_other number bytes finding (inr (profile, is, x)) = (unread_verdict profile bytes finding x).1
+-- nothing is read from the base
+pub no_base : (number : ℕ) (base bytes : List ℕ) (held : Base) → IsUnread number base held.found
+    → held.found.verdict ≢ 6 → IsUtf8 bytes → IsUnjudged number (Some base) bytes (base_fault held)
+no_base number base bytes held (inl x) other utf8 = absurd (other (ap (λ (f : Finding). f.verdict) x.1))
+no_base number base bytes held (inr (profile, is, x)) other utf8 =
+    subst (λ (f : Finding). IsUnjudged number (Some base) bytes f)
+    (sym (told_fault number base held (inr (profile, is, x)) other)) (inr (profile, is, inr (utf8, x)))
 
 -- ---- what is judged
 

@@ -21,7 +21,7 @@ use Rattle.urlcheck_c.proofs.StoreLemmas.{kept_more}
 -- ---- small numbers
 
 -- the number of a rule is small
-small_rule : (rule : Rule) → rule_number rule < 256
+pub small_rule : (rule : Rule) → rule_number rule < 256
 small_rule NoScheme = lit< tt
 small_rule OpaqueBase = lit< tt
 small_rule TwoSlashes = lit< tt
@@ -85,7 +85,7 @@ column_more rows row values old now new value count below column put = (
 )
 
 -- the same of what a function gives of elements
-mapped_more : {X : Type 0} (f : Finding → X) (rows row : ℕ) (found : List Finding) (last : Finding)
+pub mapped_more : {X : Type 0} (f : Finding → X) (rows row : ℕ) (found : List Finding) (last : Finding)
     (old now new : List X) → length found ≡ row → row < rows → IsColumn rows (map f found) old now
     → IsPut rows row (f last) now new → IsColumn rows (map f (found ++ (last ∷ []))) old new
 mapped_more f rows row found last old now new count below column put =
@@ -93,6 +93,14 @@ mapped_more f rows row found last old now new count below column put =
     (column_more rows row (map f found) old now new (f last) (length-map found f ∙ count) below column put)
 
 -- ---- the texts
+
+bit_at_most : (b : Bool) → (if b then 1 else 0) ≤ 1
+bit_at_most true = omega arith
+bit_at_most false = omega arith
+
+-- a text is one valid text at most
+pub one_at_most : (finding : Finding) → one_if_valid finding ≤ 1
+one_at_most finding = bit_at_most (finding.verdict == 0)
 
 -- a text more is judged
 pub judged_more : (number : ℕ) (texts offsets : List ℕ) (row : ℕ) (old now new : Columns) (valid more : ℕ)
@@ -118,13 +126,6 @@ judged_more number texts offsets row old now new valid more last below judged fo
       places = mapped_more (λ f. f.place) rows row judged.found last old.places now.places new.places
           judged.count below judged.places place;
     })
-  where
-    bit_at_most : (b : Bool) → (if b then 1 else 0) ≤ 1
-    bit_at_most true = omega arith
-    bit_at_most false = omega arith
-
-    one_at_most : (finding : Finding) → one_if_valid finding ≤ 1
-    one_at_most finding = bit_at_most (finding.verdict == 0)
 
 -- no text is judged, and the columns are as they were
 pub none_judged : (number : ℕ) (texts offsets : List ℕ) (old : Columns)

@@ -4,6 +4,8 @@ mod BatchLemmas
 mod NextLineLemmas
 mod PlaceLemmas
 mod RecordLemmas
+mod RecordPlaceLemmas
+mod ResolvedBatchLemmas
 mod SeenLemmas
 mod SpanLemmas
 mod StoreLemmas

@@ -1,11 +1,13 @@
 -- The answer on a text that denotes a URL.
-use Rattle.std.proofs.Common.{◌≡◌, List, ℕ, inl, inr, subst}
+use Rattle.std.proofs.Common.{◌≡◌, List, ℕ, ap, inl, inr, subst, sym, ◌∙◌}
 use Rattle.std.specs.Prelude.{Option}
 use Rattle.std.specs.Str.{chars}
 use Rattle.uv_model.specs.declared.profile.Profile.{Profile}
 use Rattle.uv_model.specs.Records.Url.{Url}
 use Rattle.uv_resolve.specs.Resolve.{Denotes}
+use Rattle.urlcheck_c.specs.declared.placed_records.PlacedRecord.{PlacedRecord}
 use Rattle.urlcheck_c.specs.declared.records.Resolved.{Resolved}
+use Rattle.urlcheck_c.specs.PlacedRecord.{IsPlacedJudged, IsPlacedOrWanting, no_record}
 use Rattle.urlcheck_c.specs.Resolved.{IsRecordAnswer, IsRecordWritten}
 
 -- the URL's text is written, or memory ran out
@@ -17,3 +19,17 @@ written_is_answer profile given base bytes old new url answer same denotes (inl 
 written_is_answer profile given base bytes old new url answer same denotes (inr wanting) =
     let known = subst (λ (b : Option Url). Denotes profile b (chars bytes) url) same denotes in
     inr (inr (wanting.0, wanting.1, λ free. free.1 known.0 known.1))
+
+-- so are the places in it
+pub placed_is_answer : (profile : Profile) (given base : Option Url) (bytes old new : List ℕ) (url : Url)
+    (answer : PlacedRecord) → given ≡ base → Denotes profile given (chars bytes) url
+    → IsPlacedOrWanting url old new answer → IsPlacedJudged profile base bytes old new answer
+placed_is_answer profile given base bytes old new url answer same denotes (inl placed) =
+    inl (url, subst (λ (b : Option Url). Denotes profile b (chars bytes) url) same denotes, placed)
+placed_is_answer profile given base bytes old new url answer same denotes (inr wanting) =
+    let known = subst (λ (b : Option Url). Denotes profile b (chars bytes) url) same denotes in
+    let found = ap (λ (a : PlacedRecord). a.found) wanting.0 in
+    inr (
+      (wanting.0 ∙ ap no_record (sym found), wanting.1),
+      inr (found, λ free. free.1 known.0 known.1),
+    )

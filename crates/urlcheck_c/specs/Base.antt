@@ -1,5 +1,6 @@
 -- A base that is judged once and held between calls.
-use Rattle.std.specs.Prelude.{◌≡◌, ℕ, ◌⊎◌, Bool, true, false, not, ◌==◌, List, Option, Some, None, Result, Ok, Err}
+use Rattle.std.specs.Prelude.{◌≡◌, ◌≢◌, ℕ, ◌⊎◌, Bool, true, false, not, ◌||◌, ◌==◌, List, Option, Some, None}
+use Rattle.std.specs.Prelude.{Result, Ok, Err, IsUtf8}
 use Rattle.std.specs.Prelude.{if◌then◌else◌, option_map}
 use Rattle.uv_model.specs.declared.profile.Profile.{Profile}
 use Rattle.uv_model.specs.Records.Url.{Url}
@@ -11,9 +12,10 @@ use Rattle.urlcheck_c.specs.declared.bases.Base.{Base}
 use Rattle.urlcheck_c.specs.declared.bases.HeldBase.{HeldBase}
 use Rattle.urlcheck_c.specs.declared.bases.HeldRequest.{HeldRequest}
 use Rattle.urlcheck_c.specs.declared.finding.Finding.{Finding}
-use Rattle.urlcheck_c.specs.declared.finding.CallOutcome.TheVariants.{NoProfile, Valid as valid_outcome}
-use Rattle.urlcheck_c.specs.Finding.{plain_finding, profile_of}
-use Rattle.urlcheck_c.specs.Request.{IsBase, IsNoBase, IsRequest, IsUnjudged}
+use Rattle.urlcheck_c.specs.declared.finding.CallOutcome.TheVariants.{BaseRefused, BaseNoUtf8, Memory, NoBase, NoProfile}
+use Rattle.urlcheck_c.specs.declared.finding.CallOutcome.TheVariants.{NoUtf8, Valid as valid_outcome}
+use Rattle.urlcheck_c.specs.Finding.{outcome_number, plain_finding, profile_of}
+use Rattle.urlcheck_c.specs.Request.{IsBase, IsNoBase, IsNoText, IsRequest, IsUnjudged}
 
 -- ---- a base as numbers
 
@@ -109,3 +111,32 @@ IsPreparedWith number base bytes (Ok request) =
     (request.text.now ≡ bytes)
     × ((url : Url) × IsRequest number (Some base) bytes request.base.profile (Some url) × IsOfKind url request.base.kind)
 IsPreparedWith number base bytes (Err finding) = IsUnjudged number (Some base) bytes finding
+
+-- ---- a base that was never prepared
+
+-- its numbers say no kind or no profile
+abbrev pub SaysNoBase : Base → Type 0
+SaysNoBase base = (kind_in base ≡ None) ⊎ (profile_of base.profile ≡ None)
+
+-- whether a base that its profile refuses has this verdict
+abbrev pub is_refused_base : ℕ → Bool
+is_refused_base verdict =
+    verdict == outcome_number BaseRefused
+    || (verdict == outcome_number BaseNoUtf8 || verdict == outcome_number Memory)
+
+-- what was found of a base that is refused; of any other, that none was prepared
+abbrev pub base_fault : Base → Finding
+base_fault base = if is_refused_base base.found.verdict then base.found else plain_finding NoBase
+
+-- Nothing is judged against a base, whatever its numbers are: it says that no profile has its number; else the text is
+-- no UTF-8; else it is refused, or none was prepared.
+abbrev pub IsUnjudgedWith : Base → List ℕ → Finding → Type 0
+IsUnjudgedWith base bytes finding =
+    ((base.found.verdict ≡ outcome_number NoProfile) × (finding ≡ base.found))
+    ⊎ ((base.found.verdict ≢ outcome_number NoProfile)
+    × (IsNoText NoUtf8 bytes finding ⊎ (IsUtf8 bytes × (finding ≡ base_fault base))))
+
+-- nothing is to be judged against the base, and why
+abbrev pub IsNotPreparedWith : Base → List ℕ → Result HeldRequest Finding → Type 0
+IsNotPreparedWith base bytes (Ok request) = ⊥
+IsNotPreparedWith base bytes (Err finding) = IsUnjudgedWith base bytes finding

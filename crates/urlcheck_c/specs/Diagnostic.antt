@@ -1,9 +1,9 @@
 -- A diagnostic on a text that stands in a file, by numbers.
-use Rattle.std.specs.Prelude.{◌≡◌, ◌≢◌, ℕ, ◌⊎◌, ◌==◌, not, List, Option, Some, None, Result, Ok, Err, IsUtf8}
+use Rattle.std.specs.Prelude.{◌≡◌, ◌≢◌, ℕ, ◌⊎◌, ◌==◌, not, true, List, Option, Some, None, Result, Ok, Err, IsUtf8}
 use Rattle.uv_report.specs.declared.diagnostic.Diagnostic.{Diagnostic}
 use Rattle.uv_report.specs.declared.format.Format.{Format}
-use Rattle.uv_report.specs.declared.format.Format.TheVariants.{Sarif}
 use Rattle.uv_report.specs.declared.mended.Mended.{Mended}
+use Rattle.uv_report.specs.Format.{writes_edits}
 use Rattle.uv_report.specs.Report.{diagnostic_text}
 use Rattle.urlcheck_c.specs.declared.diagnostics.Violation.{Violation}
 use Rattle.urlcheck_c.specs.declared.finding.Finding.{Finding}
@@ -27,10 +27,10 @@ pub record IsMended (violation : Violation) (bytes : List ℕ) (mended : Mended)
   pub start : mended.start ≡ violation.first_column
   pub end : mended.end ≡ violation.end_column
 
--- A diagnostic carries none: the kind is 0, or there is no region, which the fix of SARIF needs.
+-- A diagnostic carries none: the kind is 0, or there is no region, which an edit of the file needs.
 abbrev pub HasNoMended : Format → Violation → Type 0
 HasNoMended format violation =
-    (violation.kind ≡ 0) ⊎ ((violation.has_region ≡ 0) × (format ≡ Sarif))
+    (violation.kind ≡ 0) ⊎ ((violation.has_region ≡ 0) × (writes_edits format ≡ true))
 
 -- The numbers say none of these: no kind has the number, the bytes are no UTF-8, or a column of the region is out of
 -- range.
@@ -56,18 +56,20 @@ pub record IsDiagnostic (format : Format) (violation : Violation) (file text men
   pub utf8 : IsUtf8 file
   pub line : diagnostic.line ≡ violation.line
   pub column : diagnostic.column ≡ violation.column
+  pub end : diagnostic.end ≡ violation.end
   pub text_is : diagnostic.text.now ≡ text
   pub violated : IsViolation violation.profile violation.rule violation.place text diagnostic.profile
       diagnostic.violation
   pub mended_is : IsMendedRead format violation mended (Ok diagnostic.mended)
 
--- They say none: nothing is said of the text, the file's name is no UTF-8, the line or the column is out of range, or
--- no mended text is said.
+-- They say none: nothing is said of the text, the file's name is no UTF-8, the line or one of both columns is out of
+-- range, or no mended text is said.
 abbrev pub IsNoDiagnostic : Violation → List ℕ → List ℕ → List ℕ → Finding → Type 0
 IsNoDiagnostic violation file text mended finding =
     IsNoViolation violation.profile violation.rule violation.place text finding
     ⊎ (IsNoText FileNoUtf8 file finding
-    ⊎ (((¬ (IsInRange violation.line × IsInRange violation.column)) × (finding ≡ plain_finding NoColumn))
+    ⊎ (((¬ (IsInRange violation.line × IsInRange violation.column × IsInRange violation.end))
+    × (finding ≡ plain_finding NoColumn))
     ⊎ ((violation.kind ≢ 0) × IsNoMended violation mended finding)))
 
 -- the diagnostic that they say, or why they say none

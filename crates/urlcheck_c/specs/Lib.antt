@@ -12,10 +12,13 @@ pub mod Mended
 pub mod Names
 pub mod NextLine
 pub mod Offsets
+pub mod PlacedRecord
+pub mod RecordPlaces
 pub mod Report
 pub mod ReportNumbers
 pub mod Request
 pub mod Resolved
+pub mod ResolvedBatch
 pub mod Span
 pub mod Validity
 pub mod Violation

@@ -9,6 +9,7 @@ use Rattle.uv_report.specs.declared.completion.Completion.{Completion}
 use Rattle.uv_report.specs.declared.completion.Completion.TheVariants.{Whole, Unread, Stopped}
 use Rattle.uv_report.specs.declared.format.Format.{Format}
 use Rattle.uv_report.specs.declared.format.Format.TheVariants.{Gnu, Caret, Json, Github, Sarif, Checkstyle}
+use Rattle.uv_report.specs.declared.format.Format.TheVariants.{Junit, Gitlab, Rdjson}
 use Rattle.uv_report.specs.declared.line_violation.LineViolation.{LineViolation}
 use Rattle.uv_report.specs.declared.line_violation.LineViolation.TheVariants.{Refused, NotUtf8, TooLong, NotLocated}
 use Rattle.uv_report.specs.declared.located_fault.LocatedFault.TheVariants.{NoFile, NoLine, LineRange, NoColumn}
@@ -22,7 +23,10 @@ format_of number =
     else (if number == 1 then Some Caret
     else (if number == 2 then Some Json
     else (if number == 3 then Some Github
-    else (if number == 4 then Some Sarif else (if number == 5 then Some Checkstyle else None)))))
+    else (if number == 4 then Some Sarif
+    else (if number == 5 then Some Checkstyle
+    else (if number == 6 then Some Junit
+    else (if number == 7 then Some Gitlab else (if number == 8 then Some Rdjson else None))))))))
 
 -- the unit of columns with a number
 abbrev pub unit_of : ℕ → Option Columns

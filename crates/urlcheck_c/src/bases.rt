@@ -1,8 +1,8 @@
 //! A base that is judged once and held between calls.
-ghost use Rattle.std.specs.Prelude.{◌≡◌, ◌≢◌, ◌==◌, ℕ, List, Some, not};
+ghost use Rattle.std.specs.Prelude.{◌≡◌, ◌==◌, ℕ, List, None, Some, not};
 ghost use Rattle.urlcheck_c.specs.Base.{IsHeld, IsKindDenoted, IsKindRead, IsPreparedBase, IsPreparedWith, IsUnread};
-ghost use Rattle.urlcheck_c.specs.Base.{flag_number};
-ghost use Rattle.urlcheck_c.specs.Base.{held_base, kind_in, scheme_number, scheme_with, unread_base};
+ghost use Rattle.urlcheck_c.specs.Base.{IsNotPreparedWith, IsUnjudgedWith, SaysNoBase, base_fault, flag_number};
+ghost use Rattle.urlcheck_c.specs.Base.{held_base, is_refused_base, kind_in, scheme_number, scheme_with, unread_base};
 ghost use Rattle.urlcheck_c.specs.Request.{IsUnjudged};
 
 use crate::finding::{CallOutcome, Finding};
@@ -93,8 +93,9 @@ impl Base {
     /// How texts are judged against a valid base. Any other says no scheme, so its verdict needn't be read.
     #[inline(always)]
     pub(crate) fn read(&self) -> Option<HeldBase>
-        ensures { (number : ℕ) (bytes : List ℕ) → IsPreparedBase number bytes self.now
+        ensures held { (number : ℕ) (bytes : List ℕ) → IsPreparedBase number bytes self.now
             → IsHeld number bytes self.now.found result }
+        ensures none { SaysNoBase self.now → result ≡ None }
     {
         let Some(kind) = self.kind() else {
             return None;
@@ -105,14 +106,14 @@ impl Base {
         }
     }
 
-    // What was found of a base that isn't valid.
+    // What was found of a base that is refused. Any other that isn't read was never prepared.
     fn fault(&self) -> Finding
-        ensures { self.now.found.verdict ≢ 0 → result ≡ self.now.found }
+        ensures { result ≡ base_fault self.now }
     {
-        if self.found.verdict == CallOutcome::Valid.number() {
-            return Finding::plain(CallOutcome::NoBase);
+        if is_refused_base(self.found.verdict) {
+            return self.found;
         }
-        self.found
+        Finding::plain(CallOutcome::NoBase)
     }
 
     // The kind that the numbers of a base say: none where no scheme has its number, as 0.
@@ -129,6 +130,15 @@ impl Base {
             None => None,
         }
     }
+}
+
+// Whether a base that its profile refuses has this verdict.
+fn is_refused_base(verdict: u32) -> bool
+    ensures { result ≡ is_refused_base verdict }
+{
+    verdict == CallOutcome::BaseRefused.number()
+        || verdict == CallOutcome::BaseNoUtf8.number()
+        || verdict == CallOutcome::Memory.number()
 }
 
 // The number of a scheme.
@@ -179,8 +189,9 @@ pub(crate) struct HeldRequest<'t> {
 /// What is to be judged of the bytes of a text against a base that is held, or why nothing is.
 #[inline(always)]
 pub(crate) fn prepared_with<'t>(text: &'t [u8], base: &Base) -> Result<HeldRequest<'t>, Finding>
-    ensures { (number : ℕ) (bytes : List ℕ) → IsPreparedBase number bytes base.now
+    ensures held { (number : ℕ) (bytes : List ℕ) → IsPreparedBase number bytes base.now
         → IsPreparedWith number bytes text.now result }
+    ensures none { SaysNoBase base.now → IsNotPreparedWith base.now text.now result }
 {
     match base.read() {
         Some(held) => match text_of(text, CallOutcome::NoUtf8) {
@@ -215,8 +226,9 @@ pub(crate) fn prepared_against<'t>(
 /// back is made here alone.
 #[inline(always)]
 pub(crate) fn unread(text: &[u8], base: &Base) -> Finding
-    ensures { (number : ℕ) (bytes : List ℕ) → IsPreparedBase number bytes base.now
+    ensures held { (number : ℕ) (bytes : List ℕ) → IsPreparedBase number bytes base.now
         → IsUnread number bytes base.now.found → IsUnjudged number (Some bytes) text.now result }
+    ensures said { IsUnjudgedWith base.now text.now result }
 {
     first_unread(text, base)
 }
@@ -224,8 +236,9 @@ pub(crate) fn unread(text: &[u8], base: &Base) -> Finding
 // The same. The order is that of a base that is judged with the text: a profile, the text, and then the base.
 #[inline(never)]
 fn first_unread(text: &[u8], base: &Base) -> Finding
-    ensures { (number : ℕ) (bytes : List ℕ) → IsPreparedBase number bytes base.now
+    ensures held { (number : ℕ) (bytes : List ℕ) → IsPreparedBase number bytes base.now
         → IsUnread number bytes base.now.found → IsUnjudged number (Some bytes) text.now result }
+    ensures said { IsUnjudgedWith base.now text.now result }
 {
     if base.found.verdict == CallOutcome::NoProfile.number() {
         return base.found;

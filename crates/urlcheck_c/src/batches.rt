@@ -130,9 +130,9 @@ fn judge_rows(
     valid
 }
 
-// Puts a value into a column at its row, where the column has room for all rows.
+/// Puts a value into a column at its row, where the column has room for all rows.
 #[inline(always)]
-fn put<T: Copy>(column: &mut [T], rows: usize, row: usize, value: T)
+pub(crate) fn put<T: Copy>(column: &mut [T], rows: usize, row: usize, value: T)
     requires { row < rows }
     ensures { IsPut rows row value column.old column.new }
 {
@@ -142,8 +142,8 @@ fn put<T: Copy>(column: &mut [T], rows: usize, row: usize, value: T)
 }
 
 impl Batch {
-    // Nothing was judged.
-    fn unjudged(outcome: CallOutcome, row: usize) -> Batch
+    /// Nothing was judged.
+    pub(crate) fn unjudged(outcome: CallOutcome, row: usize) -> Batch
         ensures { result ≡ unjudged_batch outcome row }
     {
         Batch {

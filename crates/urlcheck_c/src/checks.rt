@@ -7,7 +7,7 @@ ghost use Rattle.uv_grammar.specs.Verdict.{IsVerdict};
 ghost use Rattle.uv_model.specs.declared.profile.Profile.{Profile};
 ghost use Rattle.uv_model.specs.Records.Url.{Url};
 ghost use Rattle.urlcheck_c.specs.Answer.{IsAnswer, IsFound, IsJudged};
-ghost use Rattle.urlcheck_c.specs.Base.{IsPreparedBase};
+ghost use Rattle.urlcheck_c.specs.Base.{IsPreparedBase, IsUnjudgedWith, SaysNoBase};
 ghost use Rattle.urlcheck_c.specs.Span.{no_spans};
 
 use crate::bases::{Base, HeldBase, prepared_against, unread};
@@ -73,11 +73,13 @@ pub extern "C" fn urlcheck_check_against(
 }
 
 /// The same against a base that `urlcheck_prepare` gave, by the base's profile: what `urlcheck_check_against` says of
-/// the text and of the bytes from which the base was prepared.
+/// the text and of the bytes from which the base was prepared. Against one that was never prepared nothing is judged.
 #[unsafe(no_mangle)]
 pub extern "C" fn urlcheck_check_with(alloc: Global, text: &[u8], base: &Base) -> Answer
-    ensures { (number : ℕ) (bytes : List ℕ) → IsPreparedBase number bytes base.now
+    ensures held { (number : ℕ) (bytes : List ℕ) → IsPreparedBase number bytes base.now
         → IsAnswer number (Some bytes) text.now result }
+    ensures none { SaysNoBase base.now
+        → (result.parts ≡ no_spans) × IsUnjudgedWith base.now text.now result.found }
 {
     match base.read() {
         Some(held) => match text_of(text, CallOutcome::NoUtf8) {

@@ -34,6 +34,8 @@ pub struct Violation {
     pub first_column: u64,
     /// The column behind its last one, from 1.
     pub end_column: u64,
+    /// The column at which what is wrong ends, from 1.
+    pub end: u64,
 }
 
 /// Writes what is reported of a violation of a text in the file of that name, in the format with this number.
@@ -85,7 +87,10 @@ fn diagnostic_read<'t>(
 {
     let found = violation_read(text, violation.profile, violation.rule, violation.place)?;
     let file = text_of(file, CallOutcome::FileNoUtf8)?;
-    if !is_in_range(violation.line) || !is_in_range(violation.column) {
+    if !is_in_range(violation.line)
+        || !is_in_range(violation.column)
+        || !is_in_range(violation.end)
+    {
         return Err(Finding::plain(CallOutcome::NoColumn));
     }
     let mended = mended_read(format, violation, mended)?;
@@ -93,6 +98,7 @@ fn diagnostic_read<'t>(
         file,
         line: violation.line,
         column: violation.column,
+        end: violation.end,
         profile: found.profile,
         violation: found.violation,
         text: found.text,
@@ -115,7 +121,7 @@ fn mended_read<'t>(
         return Err(Finding::plain(CallOutcome::NoKind));
     };
     let text = text_of(mended, CallOutcome::MendedNoUtf8)?;
-    if violation.has_region == 0 && format == Format::Sarif {
+    if violation.has_region == 0 && format.writes_edits() {
         return Ok(None);
     }
     if violation.has_region != 0

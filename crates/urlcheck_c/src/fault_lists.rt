@@ -2,7 +2,7 @@
 ghost use Rattle.std.specs.Prelude.{◌≡◌, ℕ, List, None, Some, option_copied};
 ghost use Rattle.uv_grammar.specs.Bases.{IsOfKind};
 ghost use Rattle.uv_model.specs.Records.Url.{Url};
-ghost use Rattle.urlcheck_c.specs.Base.{IsPreparedBase};
+ghost use Rattle.urlcheck_c.specs.Base.{IsPreparedBase, IsUnjudgedWith, SaysNoBase};
 ghost use Rattle.urlcheck_c.specs.Faults.{IsFaultsAnswer, IsFaultsJudged, first_finding};
 
 use crate::bases::{Base, HeldRequest, prepared_with};
@@ -71,8 +71,10 @@ pub extern "C" fn urlcheck_faults_with(
     base: &Base,
     out: &mut [Fault],
 ) -> FaultCount
-    ensures { (number : ℕ) (bytes : List ℕ) → IsPreparedBase number bytes base.now
+    ensures held { (number : ℕ) (bytes : List ℕ) → IsPreparedBase number bytes base.now
         → IsFaultsAnswer number (Some bytes) text.now out.old out.new result }
+    ensures none { SaysNoBase base.now
+        → (result.count ≡ 0) × (out.new ≡ out.old) × IsUnjudgedWith base.now text.now result.found }
 {
     match prepared_with(text, base) {
         Ok(request) => judged_with(alloc, &request, out),

@@ -10,6 +10,7 @@ use crate::fault_lists::{Fault, FaultCount};
 use crate::finding::Finding;
 use crate::lines::Line;
 use crate::mended::Mended;
+use crate::placed_records::PlacedRecord;
 use crate::records::Resolved;
 use crate::spans::{Span, Spans};
 use crate::written::Written;
@@ -26,6 +27,8 @@ const _: () = prove!(size_of::<Answer>() == 168);
 
 const _: () = prove!(size_of::<Resolved>() == 32);
 
+const _: () = prove!(size_of::<PlacedRecord>() == 184);
+
 const _: () = prove!(size_of::<Mended>() == 40);
 
 const _: () = prove!(size_of::<Fault>() == 24);
@@ -38,6 +41,6 @@ const _: () = prove!(size_of::<Written>() == 32);
 
 const _: () = prove!(size_of::<Counted>() == 32);
 
-const _: () = prove!(size_of::<Violation>() == 56);
+const _: () = prove!(size_of::<Violation>() == 64);
 
 const _: () = prove!(size_of::<Line>() == 56);

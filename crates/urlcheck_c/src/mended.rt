@@ -1,6 +1,6 @@
 //! What to write in place of a text that is refused.
 ghost use Rattle.std.specs.Prelude.{◌≡◌, ℕ, None, Some, option_copied};
-ghost use Rattle.urlcheck_c.specs.Base.{IsPreparedBase};
+ghost use Rattle.urlcheck_c.specs.Base.{IsPreparedBase, IsUnjudgedWith, SaysNoBase};
 ghost use Rattle.urlcheck_c.specs.Mended.{IsMendedAnswer, IsRequestMended, IsSaid, kind_number, unmended};
 
 use crate::bases::{Base, unread};
@@ -54,8 +54,10 @@ pub extern "C" fn urlcheck_mend_with(
     base_text: &[u8],
     out: &mut [u8],
 ) -> Mended
-    ensures { (number : ℕ) → IsPreparedBase number base_text.now base.now
+    ensures held { (number : ℕ) → IsPreparedBase number base_text.now base.now
         → IsMendedAnswer number (Some base_text.now) text.now out.old out.new result }
+    ensures none { SaysNoBase base.now
+        → (result ≡ unmended result.found) × (out.new ≡ out.old) × IsUnjudgedWith base.now text.now result.found }
 {
     match base.read() {
         Some(_) => mended_answer(alloc, text, Some(base_text), base.profile, out),

@@ -7,12 +7,12 @@ ghost use Rattle.urlcheck_c.specs.Names.{name_of_number, rule_with_number, sente
 use crate::buffers::write_prefix;
 use uv_model::Rule;
 
-/// The version of the library, 0.2.0, as 10000 times its first number, 100 times its second and its third.
+/// The version of the library, 0.3.0, as 10000 times its first number, 100 times its second and its third.
 #[unsafe(no_mangle)]
 pub extern "C" fn urlcheck_version() -> u32
-    ensures { result ≡ 200 }
+    ensures { result ≡ 300 }
 {
-    200
+    300
 }
 
 /// Writes the name of the rule with this number to the start of `out` where it fits, and gives its length: 0 where no

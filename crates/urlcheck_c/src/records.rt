@@ -1,6 +1,6 @@
 //! The text of the record that a valid text denotes.
 ghost use Rattle.std.specs.Prelude.{◌≡◌, ℕ, None, Some, option_copied};
-ghost use Rattle.urlcheck_c.specs.Base.{IsPreparedBase};
+ghost use Rattle.urlcheck_c.specs.Base.{IsPreparedBase, IsUnjudgedWith, SaysNoBase};
 ghost use Rattle.urlcheck_c.specs.Resolved.{IsRecordAnswer, IsRecordWritten, IsResolvedAnswer, no_memory};
 
 use crate::bases::{Base, unread};
@@ -58,8 +58,10 @@ pub extern "C" fn urlcheck_resolve_with(
     base_text: &[u8],
     out: &mut [u8],
 ) -> Resolved
-    ensures { (number : ℕ) → IsPreparedBase number base_text.now base.now
+    ensures held { (number : ℕ) → IsPreparedBase number base_text.now base.now
         → IsResolvedAnswer number (Some base_text.now) text.now out.old out.new result }
+    ensures none { SaysNoBase base.now
+        → (result.length ≡ 0) × (out.new ≡ out.old) × IsUnjudgedWith base.now text.now result.found }
 {
     match base.read() {
         Some(_) => record_answer(alloc, text, Some(base_text), base.profile, out),

@@ -17,6 +17,9 @@ pub(crate) fn format_of(number: u32) -> Option<Format>
         3 => Some(Format::Github),
         4 => Some(Format::Sarif),
         5 => Some(Format::Checkstyle),
+        6 => Some(Format::Junit),
+        7 => Some(Format::Gitlab),
+        8 => Some(Format::Rdjson),
         _ => None,
     }
 }

@@ -1,8 +1,8 @@
 //! Whether a text is valid, without its parts or what is wrong with it.
-ghost use Rattle.std.specs.Prelude.{None, Some, ℕ, List};
+ghost use Rattle.std.specs.Prelude.{◌≡◌, None, Some, ℕ, List, false};
 ghost use Rattle.uv_grammar.specs.Bases.{IsOfKind};
 ghost use Rattle.uv_model.specs.Records.Url.{Url};
-ghost use Rattle.urlcheck_c.specs.Base.{IsPreparedBase};
+ghost use Rattle.urlcheck_c.specs.Base.{IsPreparedBase, SaysNoBase};
 ghost use Rattle.urlcheck_c.specs.Validity.{IsKnownValid, IsValidityAnswer};
 
 use crate::bases::{Base, HeldRequest, prepared_with};
@@ -26,8 +26,9 @@ pub extern "C" fn urlcheck_is_valid(alloc: Global, text: &[u8], profile: u32) ->
 /// The same against a base that `urlcheck_prepare` gave, by the base's profile.
 #[unsafe(no_mangle)]
 pub extern "C" fn urlcheck_is_valid_with(alloc: Global, text: &[u8], base: &Base) -> bool
-    ensures { (number : ℕ) (bytes : List ℕ) → IsPreparedBase number bytes base.now
+    ensures held { (number : ℕ) (bytes : List ℕ) → IsPreparedBase number bytes base.now
         → IsValidityAnswer number (Some bytes) text.now result }
+    ensures none { SaysNoBase base.now → result ≡ false }
 {
     match prepared_with(text, base) {
         Ok(request) => is_known_valid_with(alloc, &request),

@@ -2,14 +2,15 @@
 use Rattle.std.proofs.Common.{ℕ, List, Some, inl, inr, sym, subst}
 use Rattle.urlcheck_c.specs.declared.finding.Finding.{Finding}
 use Rattle.urlcheck_c.specs.Answer.{IsJudged}
+use Rattle.urlcheck_c.specs.Base.{IsUnjudgedWith}
 use Rattle.urlcheck_c.specs.Request.{IsUnjudged}
 use Rattle.urlcheck_c.proofs.BaseLemmas.{held_request}
 use Rattle.urlcheck_c.proofs.checks.urlcheck_check_with.Goals as goal
 
-pub returns-in-Ok : goal.returns-in-Ok
-returns-in-Ok c = λ number bytes is.
+pub returns-in-Ok-clause-held : goal.returns-in-Ok-clause-held
+returns-in-Ok-clause-held c = λ number bytes is.
     let held = c.in-Some.held in
-    let read = c.in-Some.ensures number bytes is in
+    let read = c.in-Some.ensures.held number bytes is in
     let asked = held_request number bytes c.args.text.now held.profile held.kind read.0 read.1 c.in-Ok.ensures.1 in
     inr (
       held.profile,
@@ -19,20 +20,27 @@ returns-in-Ok c = λ number bytes is.
           (c.judged_with.ensures asked.0 asked.2),
     )
 
-pub returns-in-Err : goal.returns-in-Err
-returns-in-Err c = λ number bytes is.
+pub returns-in-Err-clause-held : goal.returns-in-Err-clause-held
+returns-in-Err-clause-held c = λ number bytes is.
     inl (
       c.unjudged.ensures.parts,
       subst (λ (finding : Finding). IsUnjudged number (Some bytes) c.args.text.now finding)
           (sym c.unjudged.ensures.found)
-          (inr (c.in-Some.held.profile, (c.in-Some.ensures number bytes is).0, inl c.in-Err.ensures)),
+          (inr (c.in-Some.held.profile, (c.in-Some.ensures.held number bytes is).0, inl c.in-Err.ensures)),
     )
 
-pub returns-in-None : goal.returns-in-None
-returns-in-None c = λ number bytes is.
+pub returns-in-None-clause-held : goal.returns-in-None-clause-held
+returns-in-None-clause-held c = λ number bytes is.
     inl (
       c.unjudged-in-None.ensures.parts,
       subst (λ (finding : Finding). IsUnjudged number (Some bytes) c.args.text.now finding)
           (sym c.unjudged-in-None.ensures.found)
-          (c.unread.ensures number bytes is (c.in-None.ensures number bytes is)),
+          (c.unread.ensures.held number bytes is (c.in-None.ensures.held number bytes is)),
     )
+
+pub returns-in-None-clause-none : goal.returns-in-None-clause-none
+returns-in-None-clause-none c = λ says. (
+  c.unjudged-in-None.ensures.parts,
+  subst (λ (finding : Finding). IsUnjudgedWith c.args.base.now c.args.text.now finding)
+      (sym c.unjudged-in-None.ensures.found) c.unread.ensures.said,
+)

@@ -3,9 +3,9 @@ use Rattle.std.proofs.Common.{ℕ, List, Some, inl, inr, refl, subst}
 use Rattle.urlcheck_c.specs.Faults.{IsFaultsJudged}
 use Rattle.urlcheck_c.proofs.fault_lists.urlcheck_faults_with.Goals as goal
 
-pub returns-in-Ok : goal.returns-in-Ok
-returns-in-Ok c = λ number bytes is.
-    let read = c.in-Ok.ensures number bytes is in
+pub returns-in-Ok-clause-held : goal.returns-in-Ok-clause-held
+returns-in-Ok-clause-held c = λ number bytes is.
+    let read = c.in-Ok.ensures.held number bytes is in
     inr (
       c.in-Ok.request.base.profile,
       Some read.1.0,
@@ -17,6 +17,6 @@ returns-in-Ok c = λ number bytes is.
           read.0 (c.judged_with.ensures read.1.0 read.1.2),
     )
 
-pub returns-in-Err : goal.returns-in-Err
-returns-in-Err c = λ number bytes is.
-    inl (record { count = refl; same = refl }, c.in-Err.ensures number bytes is)
+pub returns-in-Err-clause-held : goal.returns-in-Err-clause-held
+returns-in-Err-clause-held c = λ number bytes is.
+    inl (record { count = refl; same = refl }, c.in-Err.ensures.held number bytes is)

@@ -7,14 +7,14 @@ use Rattle.urlcheck_c.specs.Request.{IsUnjudged}
 use Rattle.urlcheck_c.proofs.BaseLemmas.{prepared_profile}
 use Rattle.urlcheck_c.proofs.mended.urlcheck_mend_with.Goals as goal
 
-pub returns-in-Some : goal.returns-in-Some
-returns-in-Some c = λ number is.
+pub returns-in-Some-clause-held : goal.returns-in-Some-clause-held
+returns-in-Some-clause-held c = λ number is.
     subst (λ (n : ℕ). IsMendedAnswer n (Some c.args.base_text.now) c.args.text.now c.args.out.now
     c.mended_answer.new.out c.mended_answer.result)
     (prepared_profile number c.args.base_text.now c.args.base.now is) c.mended_answer.ensures
 
-pub returns-in-None : goal.returns-in-None
-returns-in-None c = λ number is.
+pub returns-in-None-clause-held : goal.returns-in-None-clause-held
+returns-in-None-clause-held c = λ number is.
     let none = c.none.ensures in
     inl (
       ap (λ (m : Mended). m.kind) none,
@@ -22,5 +22,5 @@ returns-in-None c = λ number is.
       refl,
       subst (λ (finding : Finding). IsUnjudged number (Some c.args.base_text.now) c.args.text.now finding)
           (sym (ap (λ (m : Mended). m.found) none))
-          (c.unread.ensures number c.args.base_text.now is (c.in-None.ensures number c.args.base_text.now is)),
+          (c.unread.ensures.held number c.args.base_text.now is (c.in-None.ensures.held number c.args.base_text.now is)),
     )

@@ -4,12 +4,12 @@ use Rattle.urlcheck_c.specs.Resolved.{IsResolvedAnswer}
 use Rattle.urlcheck_c.proofs.BaseLemmas.{prepared_profile}
 use Rattle.urlcheck_c.proofs.records.urlcheck_resolve_with.Goals as goal
 
-pub returns-in-Some : goal.returns-in-Some
-returns-in-Some c = λ number is.
+pub returns-in-Some-clause-held : goal.returns-in-Some-clause-held
+returns-in-Some-clause-held c = λ number is.
     subst (λ (n : ℕ). IsResolvedAnswer n (Some c.args.base_text.now) c.args.text.now c.args.out.now
     c.record_answer.new.out c.record_answer.result)
     (prepared_profile number c.args.base_text.now c.args.base.now is) c.record_answer.ensures
 
-pub returns-in-None : goal.returns-in-None
-returns-in-None c = λ number is.
-    inl (refl, refl, c.unread.ensures number c.args.base_text.now is (c.in-None.ensures number c.args.base_text.now is))
+pub returns-in-None-clause-held : goal.returns-in-None-clause-held
+returns-in-None-clause-held c = λ number is.
+    inl (refl, refl, c.unread.ensures.held number c.args.base_text.now is (c.in-None.ensures.held number c.args.base_text.now is))

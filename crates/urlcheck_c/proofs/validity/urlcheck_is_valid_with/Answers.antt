@@ -3,9 +3,9 @@ use Rattle.std.proofs.Common.{ℕ, List, Some, inl, inr, refl, subst}
 use Rattle.urlcheck_c.specs.Validity.{IsKnownValid}
 use Rattle.urlcheck_c.proofs.validity.urlcheck_is_valid_with.Goals as goal
 
-pub returns-in-Ok : goal.returns-in-Ok
-returns-in-Ok c = λ number bytes is.
-    let read = c.in-Ok.ensures number bytes is in
+pub returns-in-Ok-clause-held : goal.returns-in-Ok-clause-held
+returns-in-Ok-clause-held c = λ number bytes is.
+    let read = c.in-Ok.ensures.held number bytes is in
     inr (
       c.in-Ok.request.base.profile,
       Some read.1.0,
@@ -14,5 +14,5 @@ returns-in-Ok c = λ number bytes is.
           read.0 (c.is_known_valid_with.ensures read.1.0 read.1.2),
     )
 
-pub returns-in-Err : goal.returns-in-Err
-returns-in-Err c = λ number bytes is. inl (refl, c.in-Err.field-0, c.in-Err.ensures number bytes is)
+pub returns-in-Err-clause-held : goal.returns-in-Err-clause-held
+returns-in-Err-clause-held c = λ number bytes is. inl (refl, c.in-Err.field-0, c.in-Err.ensures.held number bytes is)

@@ -1,0 +1,207 @@
+-- Texts that are resolved one by one, and the texts of their records one behind the other.
+use Rattle.std.proofs.Common.{◌≡◌, ℕ, suc, ◌+◌, ◌<◌, List, [], ◌∷◌, ◌++◌, length, refl, sym, ap, ◌∙◌, inl, inr}
+use Rattle.std.proofs.Common.{arith, append-nil, lit<, subst}
+use Rattle.std.specs.List.{concat}
+use Rattle.std.specs.Prelude.{Err, None, Ok, String, string_bytes}
+use Rattle.std.specs.declared.alloc.Global.{Global}
+use Rattle.std.proofs.lemmas.List.{drop_all, length-append}
+use Rattle.std.proofs.lemmas.List.Folds.{concat-append}
+use Rattle.uv_model.specs.declared.profile.Profile.{Profile}
+use Rattle.uv_model.specs.Records.Serialize.{serial}
+use Rattle.uv_resolve.specs.Resolve.{DenotesText}
+use Rattle.urlcheck_c.specs.declared.finding.Finding.{Finding}
+use Rattle.urlcheck_c.specs.declared.finding.CallOutcome.TheVariants.{Memory, Valid}
+use Rattle.urlcheck_c.specs.Batch.{IsColumn, IsPut, one_if_valid}
+use Rattle.urlcheck_c.specs.Buffer.{IsWritten}
+use Rattle.urlcheck_c.specs.Finding.{plain_finding}
+use Rattle.urlcheck_c.specs.Offsets.{row_count, row_text}
+use Rattle.urlcheck_c.specs.Request.{IsRequest, IsUnjudged}
+use Rattle.urlcheck_c.specs.ResolvedBatch.{AreRowsResolved, IsAppended, IsResolvedRow, IsTextResolved, ResolvedColumns}
+use Rattle.urlcheck_c.specs.ResolvedBatch.{text_offsets}
+use Rattle.urlcheck_c.proofs.BatchLemmas.{IsSmall, column_more, mapped_more, one_at_most, small_rule}
+
+-- ---- a row
+
+-- the numbers of a text that isn't judged are small
+small_unjudged : (number : ℕ) (bytes : List ℕ) (finding : Finding) → IsUnjudged number None bytes finding
+    → IsSmall finding
+small_unjudged number bytes finding (inl (lacking, found)) = rw found (lit< tt, lit< tt)
+small_unjudged number bytes finding (inr (profile, some, inl text)) = rw text.said (lit< tt, lit< tt)
+small_unjudged number bytes finding (inr (profile, some, inr (utf8, given))) = absurd given
+
+-- a text is written whole into a buffer of its length
+written_whole : (text : List ℕ) → IsWritten text text text (length text)
+written_whole text = record {
+  given_is = refl;
+  fits = λ room. sym (ap (λ t. text ++ t) (drop_all (length text) text (omega arith)) ∙ append-nil text);
+  short = λ less. absurd (omega (arith, less));
+}
+
+-- the text of the URL is what is answered
+text_row : (number : ℕ) (bytes text : List ℕ) (profile : Profile) → IsRequest number None bytes profile None
+    → DenotesText profile None bytes text → IsResolvedRow number bytes (plain_finding Valid) text
+text_row number bytes text profile request (url, denotes, is) =
+    subst (λ (t : List ℕ). IsResolvedRow number bytes (plain_finding Valid) t) (sym is)
+    (record {
+      room = serial url;
+      answer = inr (
+        profile,
+        None,
+        request,
+        inl (url, denotes, record { found = refl; written = written_whole (serial url) }),
+      );
+    })
+
+-- where memory runs out for it, that is what is answered
+wanting_row : (number : ℕ) (bytes text : List ℕ) (profile : Profile) → IsRequest number None bytes profile None
+    → DenotesText profile None bytes text → IsResolvedRow number bytes (plain_finding Memory) []
+wanting_row number bytes text profile request (url, denotes, is) = record {
+  room = [];
+  answer = inr (profile, None, request, inr (inr (refl, refl, λ free. free.1 denotes.0 denotes.1)));
+}
+
+-- a text that is resolved
+resolved_row : (number : ℕ) (bytes : List ℕ) (text : String Global) → IsTextResolved number bytes (Ok text)
+    → IsResolvedRow number bytes (plain_finding Valid) (string_bytes text)
+    × IsResolvedRow number bytes (plain_finding Memory) []
+resolved_row number bytes text (inl (finding, is, unjudged)) = absurd cc
+resolved_row number bytes text (inr (profile, request, denotes)) = (
+  text_row number bytes (string_bytes text) profile request denotes,
+  wanting_row number bytes (string_bytes text) profile request denotes,
+)
+
+-- the row of a text that is resolved and appended
+pub appended_row : (number : ℕ) (bytes : List ℕ) (text : String Global) (written old new : List ℕ) (finding : Finding)
+    → IsTextResolved number bytes (Ok text) → written ≡ string_bytes text → IsAppended written old new finding
+    → ((row : List ℕ) × IsResolvedRow number bytes finding row × (new ≡ old ++ row)) × IsSmall finding
+appended_row number bytes text written old new finding resolved is (inl (valid, whole)) =
+    let row = (resolved_row number bytes text resolved).0 in (
+      (
+        string_bytes text,
+        subst (λ (f : Finding). IsResolvedRow number bytes f (string_bytes text)) (sym valid) row,
+        whole ∙ ap (λ t. old ++ t) is,
+      ),
+      rw valid (lit< tt, lit< tt),
+    )
+appended_row number bytes text written old new finding resolved is (inr (memory, same)) =
+    let row = (resolved_row number bytes text resolved).1 in (
+      (
+        [],
+        subst (λ (f : Finding). IsResolvedRow number bytes f []) (sym memory) row,
+        same ∙ sym (append-nil old),
+      ),
+      rw memory (lit< tt, lit< tt),
+    )
+
+-- a text that is refused, or isn't judged, and the numbers of what was found of it
+pub refused_row : (number : ℕ) (bytes : List ℕ) (finding : Finding) → IsTextResolved number bytes (Err finding)
+    → IsResolvedRow number bytes finding [] × IsSmall finding
+refused_row number bytes finding (inl (found, same, unjudged)) =
+    let is : finding ≡ found = cc in (
+      record {
+        room = [];
+        answer = inl (refl, refl, subst (λ (f : Finding). IsUnjudged number None bytes f) (sym is) unjudged);
+      },
+      subst (λ (f : Finding). IsSmall f) (sym is) (small_unjudged number bytes found unjudged),
+    )
+refused_row number bytes finding (inr (profile, request, inl refused)) = (
+  record {
+    room = [];
+    answer = inr (profile, None, request, inr (inl (record { refused = refused; length = refl; same = refl })));
+  },
+  rw refused.said (lit< tt, small_rule refused.refusal.rule),
+)
+refused_row number bytes finding (inr (profile, request, inr wanting)) = (
+  record {
+    room = [];
+    answer = inr (
+      profile,
+      None,
+      request,
+      inr (inr (ap (λ (f : Finding). record { found = f; length = 0 }) wanting.0, refl, wanting.1)),
+    );
+  },
+  rw wanting.0 (lit< tt, lit< tt),
+)
+
+-- ---- where texts begin and end
+
+offsets_length : (from : ℕ) (texts : List (List ℕ)) → length (text_offsets from texts) ≡ length texts + 1
+offsets_length from [] = refl
+offsets_length from (text ∷ rest) = ap suc (offsets_length (from + length text) rest) ∙ omega arith
+
+-- a text more ends behind all of them
+offsets_more : (from : ℕ) (texts : List (List ℕ)) (text : List ℕ)
+    → text_offsets from (texts ++ (text ∷ []))
+    ≡ text_offsets from texts ++ ((from + length (concat texts ++ text)) ∷ [])
+offsets_more from [] text = refl
+offsets_more from (first ∷ rest) text =
+    let more : from + length first + length (concat rest ++ text) ≡ from + length ((first ++ concat rest) ++ text)
+    = simp (length-append) (omega arith) in
+    ap (λ t. from ∷ t) (offsets_more (from + length first) rest text
+    ∙ ap (λ n. text_offsets (from + length first) rest ++ (n ∷ [])) more)
+
+-- ---- the rows
+
+-- a text more is resolved
+pub resolved_more : (number : ℕ) (texts offsets : List ℕ) (row : ℕ) (old now new : ResolvedColumns)
+    (bytes text after : List ℕ) (valid more : ℕ) (last : Finding) → row < row_count offsets
+    → AreRowsResolved number texts offsets row old now bytes valid
+    → IsResolvedRow number (row_text texts offsets row) last text → after ≡ bytes ++ text
+    → more ≡ valid + one_if_valid last
+    → IsPut (row_count offsets) row last.verdict now.found.verdicts new.found.verdicts
+    → IsPut (row_count offsets) row last.rule now.found.rules new.found.rules
+    → IsPut (row_count offsets) row last.place now.found.places new.found.places
+    → (count end : ℕ) → count ≡ row_count offsets → end ≡ length after
+    → IsPut (count + 1) (row + 1) end now.ends new.ends
+    → AreRowsResolved number texts offsets (row + 1) old new after more
+resolved_more number texts offsets row old now new bytes text after valid more last below made found appended is
+    verdict rule place count end counted ended put =
+    let next : suc row ≡ row + 1 = omega arith in
+    let rows = row_count offsets in
+    let joined : after ≡ concat made.written ++ text = appended ∙ ap (λ b. b ++ text) made.bytes_are in
+    let end_is : 0 + length (concat made.written ++ text) ≡ length after = omega (arith, ap length joined) in
+    let ends_put : IsPut (rows + 1) (row + 1) (length after) now.ends new.ends
+    = subst (λ (n : ℕ). IsPut (rows + 1) (row + 1) n now.ends new.ends) ended
+    (subst (λ (n : ℕ). IsPut (n + 1) (row + 1) end now.ends new.ends) counted put) in
+    let ends_before : length (text_offsets 0 made.written) ≡ row + 1
+    = offsets_length 0 made.written ∙ ap (λ n. n + 1) made.count_written in
+    subst (λ n. AreRowsResolved number texts offsets n old new after more) next
+    (record {
+      found = made.found ++ (last ∷ []);
+      written = made.written ++ (text ∷ []);
+      resolved = (made.found, made.written, valid, last, text, made.resolved, found, refl, refl, is);
+      count = length-append made.found (last ∷ []) ∙ omega (arith, made.count);
+      count_written = length-append made.written (text ∷ []) ∙ omega (arith, made.count_written);
+      few = omega (arith, made.few, is, one_at_most last);
+      bytes_are = joined ∙ sym (concat-append made.written (text ∷ []) ∙ ap (λ t. concat made.written ++ t) (append-nil text));
+      verdicts = mapped_more (λ f. f.verdict) rows row made.found last old.found.verdicts now.found.verdicts
+          new.found.verdicts made.count below made.verdicts verdict;
+      rules = mapped_more (λ f. f.rule) rows row made.found last old.found.rules now.found.rules new.found.rules
+          made.count below made.rules rule;
+      places = mapped_more (λ f. f.place) rows row made.found last old.found.places now.found.places new.found.places
+          made.count below made.places place;
+      ends = subst (λ (values : List ℕ). IsColumn (rows + 1) values old.ends new.ends)
+          (sym (offsets_more 0 made.written text ∙ ap (λ n. text_offsets 0 made.written ++ (n ∷ [])) end_is))
+          (column_more (rows + 1) (row + 1) (text_offsets 0 made.written) old.ends now.ends new.ends (length after)
+          ends_before (omega (arith, below)) made.ends ends_put);
+    })
+
+-- no text is resolved, and the column of ends begins with 0
+pub none_resolved : (number : ℕ) (texts offsets : List ℕ) (old : ResolvedColumns) (ends bytes : List ℕ)
+    → bytes ≡ [] → IsPut (row_count offsets + 1) 0 0 old.ends ends
+    → AreRowsResolved number texts offsets 0 old (record { found = old.found; ends = ends }) bytes 0
+none_resolved number texts offsets old ends bytes none end = record {
+  found = [];
+  written = [];
+  resolved = (refl, refl, refl);
+  count = refl;
+  count_written = refl;
+  few = omega arith;
+  bytes_are = none;
+  verdicts = (λ room. refl, λ short. refl);
+  rules = (λ room. refl, λ short. refl);
+  places = (λ room. refl, λ short. refl);
+  ends = column_more (row_count offsets + 1) 0 [] old.ends old.ends ends 0 refl (omega arith)
+      (λ room. refl, λ short. refl) end;
+}

@@ -1,0 +1,116 @@
+-- Many texts in one call: of each what urlcheck_resolve answers, in columns, and the texts of their records in a buffer.
+use Rattle.std.specs.Prelude.{◌≡◌, ℕ, ◌⊎◌, ◌+◌, ◌≤◌, List, [], ◌∷◌, ◌++◌, length, map, Some, None, zero, suc}
+use Rattle.std.specs.Prelude.{Result, Ok, Err, String, string_bytes}
+use Rattle.std.specs.declared.alloc.Global.{Global}
+use Rattle.std.specs.List.{concat}
+use Rattle.uv_model.specs.declared.profile.Profile.{Profile}
+use Rattle.uv_resolve.specs.Resolve.{DenotesText}
+use Rattle.urlcheck_c.specs.declared.batches.Batch.{Batch}
+use Rattle.urlcheck_c.specs.declared.finding.Finding.{Finding}
+use Rattle.urlcheck_c.specs.declared.finding.CallOutcome.TheVariants.{Done, Memory, NoOffsets, NoProfile, Refused, Valid}
+use Rattle.urlcheck_c.specs.Batch.{Columns, IsColumn, one_if_valid, unjudged_batch}
+use Rattle.urlcheck_c.specs.Buffer.{IsWritten}
+use Rattle.urlcheck_c.specs.Finding.{outcome_number, plain_finding, profile_of}
+use Rattle.urlcheck_c.specs.Offsets.{AreRows, IsFirstWrong, row_count, row_text}
+use Rattle.urlcheck_c.specs.Request.{IsRefusedText, IsRequest, IsUnjudged, LacksMemory}
+use Rattle.urlcheck_c.specs.Resolved.{IsResolvedAnswer}
+
+-- ---- what is resolved of a text
+
+-- the text of the URL that the bytes denote alone; or they are refused, or memory ran out
+abbrev pub IsRequestResolved : Profile → List ℕ → Result (String Global) Finding → Type 0
+IsRequestResolved profile bytes (Ok text) = DenotesText profile None bytes (string_bytes text)
+IsRequestResolved profile bytes (Err finding) =
+    IsRefusedText Refused profile None bytes finding ⊎ LacksMemory profile None bytes finding
+
+-- the bytes aren't judged; or they are, and that is said of them
+abbrev pub IsTextResolved : ℕ → List ℕ → Result (String Global) Finding → Type 0
+IsTextResolved number bytes result =
+    ((finding : Finding) × (result ≡ Err finding) × IsUnjudged number None bytes finding)
+    ⊎ ((profile : Profile) × IsRequest number None bytes profile None × IsRequestResolved profile bytes result)
+
+-- the text is appended; or memory ran out, and nothing was appended
+abbrev pub IsAppended : List ℕ → List ℕ → List ℕ → Finding → Type 0
+IsAppended text old new finding =
+    ((finding ≡ plain_finding Valid) × (new ≡ old ++ text)) ⊎ ((finding ≡ plain_finding Memory) × (new ≡ old))
+
+-- ---- what is resolved of texts
+
+-- This is what urlcheck_resolve answers on the bytes alone where its buffer is just as long as the text that it writes,
+-- and this is that text.
+pub record IsResolvedRow (number : ℕ) (bytes : List ℕ) (found : Finding) (text : List ℕ) : Type 0 where
+  pub room : List ℕ
+  pub answer : IsResolvedAnswer number None bytes room text (record { found = found; length = length text })
+
+-- these are the answers on the first so many texts, one by one; so many are valid
+abbrev pub AreResolved : ℕ → List ℕ → List ℕ → ℕ → List Finding → List (List ℕ) → ℕ → Type 0
+AreResolved number texts offsets zero found written valid = (found ≡ []) × (written ≡ []) × (valid ≡ 0)
+AreResolved number texts offsets (suc row) found written valid =
+    (before : List Finding) × (earlier : List (List ℕ)) × (count : ℕ) × (last : Finding) × (text : List ℕ)
+    × AreResolved number texts offsets row before earlier count
+    × IsResolvedRow number (row_text texts offsets row) last text × (found ≡ before ++ (last ∷ []))
+    × (written ≡ earlier ++ (text ∷ [])) × (valid ≡ count + one_if_valid last)
+
+-- where texts that stand one behind the other from here on begin, and where the last ends
+abbrev pub text_offsets : ℕ → List (List ℕ) → List ℕ
+text_offsets from [] = from ∷ []
+text_offsets from (text ∷ rest) = from ∷ text_offsets (from + length text) rest
+
+-- ---- columns
+
+-- the caller's columns, and that of where the texts of the records begin
+pub record ResolvedColumns : Type 0 where
+  pub found : Columns
+  pub ends : List ℕ
+
+-- the columns of these elements
+abbrev pub resolved_columns : List ℕ → List ℕ → List ℕ → List ℕ → ResolvedColumns
+resolved_columns verdicts rules places ends = record {
+  found = record { verdicts = verdicts; rules = rules; places = places };
+  ends = ends;
+}
+
+-- Of the first so many texts the columns have the answers, and where the texts of their records begin. These texts are the
+-- bytes one behind the other, and so many texts are valid.
+pub record AreRowsResolved (number : ℕ) (texts offsets : List ℕ) (rows : ℕ) (old new : ResolvedColumns)
+    (bytes : List ℕ) (valid : ℕ) : Type 0 where
+  pub found : List Finding
+  pub written : List (List ℕ)
+  pub resolved : AreResolved number texts offsets rows found written valid
+  pub count : length found ≡ rows
+  pub count_written : length written ≡ rows
+  pub few : valid ≤ rows
+  pub bytes_are : bytes ≡ concat written
+  pub verdicts : IsColumn (row_count offsets) (map (λ f. f.verdict) found) old.found.verdicts new.found.verdicts
+  pub rules : IsColumn (row_count offsets) (map (λ f. f.rule) found) old.found.rules new.found.rules
+  pub places : IsColumn (row_count offsets) (map (λ f. f.place) found) old.found.places new.found.places
+  pub ends : IsColumn (row_count offsets + 1) (text_offsets 0 written) old.ends new.ends
+
+-- ---- the answer
+
+-- the answer where all was resolved
+abbrev pub resolved_batch : ℕ → ℕ → Batch
+resolved_batch valid length = record { outcome = outcome_number Done; row = 0; valid = valid; length = length }
+
+-- Each text is resolved, and the columns have the answers. The texts of the records are at the start of the buffer where
+-- they fit, and their length is given.
+pub record IsBatchResolved (number : ℕ) (texts offsets : List ℕ) (old new : ResolvedColumns) (out_old out_new : List ℕ)
+    (answer : Batch) : Type 0 where
+  pub bytes : List ℕ
+  pub rows : AreRows (length texts) offsets (row_count offsets)
+  pub resolved : AreRowsResolved number texts offsets (row_count offsets) old new bytes answer.valid
+  pub written : IsWritten bytes out_old out_new answer.length
+  pub answer_is : answer ≡ resolved_batch answer.valid answer.length
+
+-- nothing was resolved, and nothing was written
+abbrev pub IsUnresolved : Batch → ResolvedColumns → ResolvedColumns → List ℕ → List ℕ → Batch → Type 0
+IsUnresolved why old new out_old out_new answer = (answer ≡ why) × (new ≡ old) × (out_new ≡ out_old)
+
+-- No profile has the number; or the offsets of a text are wrong, of which this is the first; else all are resolved.
+abbrev pub IsResolvedBatch : ℕ → List ℕ → List ℕ → ResolvedColumns → ResolvedColumns → List ℕ → List ℕ → Batch → Type 0
+IsResolvedBatch number texts offsets old new out_old out_new answer =
+    ((profile_of number ≡ None) × IsUnresolved (unjudged_batch NoProfile 0) old new out_old out_new answer)
+    ⊎ ((profile : Profile) × (profile_of number ≡ Some profile)
+    × (((row : ℕ) × IsFirstWrong (length texts) offsets (Some row)
+    × IsUnresolved (unjudged_batch NoOffsets row) old new out_old out_new answer)
+    ⊎ IsBatchResolved number texts offsets old new out_old out_new answer))
