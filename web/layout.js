@@ -7,12 +7,15 @@ export const PARTS = 6
 export const SPAN_WORDS = 6
 export const SPAN_LENGTH = 2
 export const SPAN_PRESENT = 4
-export const RESOLVED_LENGTH = 6
+export const RECORD_LENGTH = 6
+export const RECORD_PARTS = 8
+export const RECORD_HOST = RECORD_PARTS + 6 * SPAN_WORDS
+export const RECORD_OPAQUE_PATH = RECORD_HOST + 1
 export const FAULT_COUNT = 6
 export const MEND_KIND = 6
 export const MENDED_LENGTH = 8
 export const WRITTEN_LENGTH = 6
-export const ANSWER_WORDS = PARTS + 6 * SPAN_WORDS
+export const ANSWER_WORDS = RECORD_OPAQUE_PATH + 1
 // The same of a fault.
 export const FAULT_WORDS = 6
 export const FAULT_PLACE = 2
@@ -37,7 +40,7 @@ export const VIOLATION_PLACE = 2
 export const VIOLATION_LINE = 4
 export const VIOLATION_COLUMN = 6
 export const VIOLATION_KIND = 8
-export const VIOLATION_WORDS = 14
+export const VIOLATION_WORDS = 16
 // How many a base has that is held.
 export const HELD_WORDS = 10
 

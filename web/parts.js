@@ -1,10 +1,17 @@
 // The parts of a valid text and of a record, and the indices of the caller's string.
-import { PARTS, SPAN_LENGTH, SPAN_PRESENT, SPAN_WORDS } from './layout.js'
+import {
+  PARTS, RECORD_HOST, RECORD_OPAQUE_PATH, RECORD_PARTS, SPAN_LENGTH, SPAN_PRESENT, SPAN_WORDS
+} from './layout.js'
 
 /** @typedef {import('./urlcheck.js').Range} Range */
 /** @typedef {import('./urlcheck.js').UrlRecord} UrlRecord */
+/** @typedef {NonNullable<UrlRecord['host']>['kind']} HostKind */
 
-const SPECIAL_SCHEMES = ['ftp', 'file', 'http', 'https', 'ws', 'wss']
+/**
+ * The kinds of hosts, by the numbers of `urlcheck_host` from 1.
+ * @type {HostKind[]}
+ */
+const HOST_KINDS = ['domain', 'ipv4', 'ipv6', 'opaque', 'empty']
 
 /** Walks through a text, and finds the index of the unit at which a byte of its UTF-8 begins. */
 export class UnitWalker {
@@ -36,57 +43,51 @@ export class UnitWalker {
 }
 
 /**
- * The parts of a record's text (URL Standard, section 4.5).
- * @param {string} text
- * @returns {UrlRecord}
- */
-export function recordOf(text) {
-  const [, scheme, rest] = /** @type {RegExpMatchArray} */ (/^([^:]*):([^]*)$/.exec(text))
-  const [, front, query = null, fragment = null] = /** @type {RegExpMatchArray} */ (
-    /^([^?#]*)(?:\?([^#]*))?(?:#([^]*))?$/.exec(rest)
-  )
-  const authority = /^\/\/([^/]*)([^]*)$/.exec(front)
-  const path = authority ? authority[2] : front.replace(/^\/\.\/\//, '//')
-  const isOpaque = !authority && !path.startsWith('/')
-  const segments = isOpaque || path === '' ? [] : path.slice(1).split('/')
-  const end = { query, fragment, segments: isOpaque ? null : segments, opaquePath: isOpaque ? path : null }
-  if (!authority) return { scheme, host: null, port: null, ...end }
-  const [, host, port = null] = /** @type {RegExpMatchArray} */ (/^(\[[^\]]*\]|[^:]*)(?::([^]*))?$/.exec(authority[1]))
-  return { scheme, host: { kind: hostKind(scheme, host), text: host }, port, ...end }
-}
-
-/**
- * @param {string} scheme
- * @param {string} host
- * @returns {'domain' | 'ipv4' | 'ipv6' | 'opaque' | 'empty'}
- */
-function hostKind(scheme, host) {
-  if (host === '') return 'empty'
-  if (host.startsWith('[')) return 'ipv6'
-  if (!SPECIAL_SCHEMES.includes(scheme)) return 'opaque'
-  return /^[0-9]+(\.[0-9]+){3}$/.test(host) ? 'ipv4' : 'domain'
-}
-
-/**
  * Where a part begins in the text, in bytes, or -1 where there is none.
  * @param {Uint32Array} answer
+ * @param {number} parts where the answer has its parts
  * @param {number} part
  * @returns {number}
  */
-function startOf(answer, part) {
-  const at = PARTS + part * SPAN_WORDS
+function startOf(answer, parts, part) {
+  const at = parts + part * SPAN_WORDS
   return (answer[at + SPAN_PRESENT] & 0xff) === 0 ? -1 : answer[at]
 }
 
 /**
  * Where it ends.
  * @param {Uint32Array} answer
+ * @param {number} parts
  * @param {number} part
  * @returns {number}
  */
-function endOf(answer, part) {
-  const at = PARTS + part * SPAN_WORDS
+function endOf(answer, parts, part) {
+  const at = parts + part * SPAN_WORDS
   return (answer[at + SPAN_PRESENT] & 0xff) === 0 ? -1 : answer[at] + answer[at + SPAN_LENGTH]
+}
+
+/**
+ * The record of a URL, by the places of its parts in its text, which is ASCII.
+ * @param {string} text
+ * @param {Uint32Array} answer of the call that has written the text
+ * @returns {UrlRecord}
+ */
+export function recordOf(text, answer) {
+  const [scheme, host, port, path, query, fragment] = [0, 1, 2, 3, 4, 5].map(part => {
+    const start = startOf(answer, RECORD_PARTS, part)
+    return start < 0 ? null : text.slice(start, endOf(answer, RECORD_PARTS, part))
+  })
+  const whole = /** @type {string} */ (path)
+  const isOpaque = answer[RECORD_OPAQUE_PATH] === 1
+  return {
+    scheme: /** @type {string} */ (scheme),
+    host: host === null ? null : { kind: HOST_KINDS[answer[RECORD_HOST] - 1], text: host },
+    port,
+    query,
+    fragment,
+    segments: isOpaque ? null : whole.split('/').slice(1),
+    opaquePath: isOpaque ? whole : null
+  }
 }
 
 /** A valid text, whose parts are taken out of it when they are asked for: most callers ask for few of them. */
@@ -104,8 +105,9 @@ export class ValidText {
     this.valid = true
     this.#text = text
     this.#edges = [
-      startOf(answer, 0), endOf(answer, 0), startOf(answer, 1), endOf(answer, 1), startOf(answer, 2), endOf(answer, 2),
-      startOf(answer, 3), endOf(answer, 3), startOf(answer, 4), endOf(answer, 4), startOf(answer, 5), endOf(answer, 5)
+      startOf(answer, PARTS, 0), endOf(answer, PARTS, 0), startOf(answer, PARTS, 1), endOf(answer, PARTS, 1),
+      startOf(answer, PARTS, 2), endOf(answer, PARTS, 2), startOf(answer, PARTS, 3), endOf(answer, PARTS, 3),
+      startOf(answer, PARTS, 4), endOf(answer, PARTS, 4), startOf(answer, PARTS, 5), endOf(answer, PARTS, 5)
     ]
     if (!isAscii) this.#countUnits()
   }

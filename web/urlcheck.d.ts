@@ -84,7 +84,7 @@ export interface Checker {
   /**
    * A report in pieces, as `urlcheck lint` writes it: `begin`, for each file `fileBegin`, its diagnostics and
    * `fileEnd`, and then `end`.
-   * @param unit what its columns count; without one code points
+   * @param unit what its columns count; without one code points, and in `rdjson` bytes
    * @throws {TypeError} where no format or unit has the name, or the format has no word for the unit
    */
   report(format: ReportFormat, unit?: ColumnUnit): Report
@@ -191,7 +191,7 @@ export interface Violation {
 }
 
 /** The formats of reports, as `urlcheck lint --format` names them. */
-export type ReportFormat = 'gnu' | 'caret' | 'json' | 'github' | 'sarif' | 'checkstyle'
+export type ReportFormat = 'gnu' | 'caret' | 'json' | 'github' | 'sarif' | 'checkstyle' | 'junit' | 'gitlab' | 'rdjson'
 
 /** What columns count, as `urlcheck lint --columns` names it. */
 export type ColumnUnit = 'code-points' | 'bytes' | 'utf16' | 'screen'

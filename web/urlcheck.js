@@ -12,7 +12,7 @@
 import { HeldBase } from './base.js'
 import {
   BASE_REFUSED, BYTE_PLACE, FAULT_BYTE_PLACE, FAULT_COUNT, FAULT_PLACE, FAULT_WORDS, MEMORY, MENDED, MENDED_LENGTH,
-  MEND_KIND, PLACE, REFUSED, RESOLVED_LENGTH, RULE, VERDICT
+  MEND_KIND, PLACE, RECORD_LENGTH, REFUSED, RULE, VERDICT
 } from './layout.js'
 import { checkedLines } from './lines.js'
 import { Room } from './memory.js'
@@ -179,8 +179,8 @@ class Checker {
     if (base === undefined) room.exports.resolve(room.textLength, profile)
     else room.exports.resolve_against(room.textLength, room.baseLength, profile)
     if (this.#isRefused(base)) return this.#refused(text)
-    const written = room.read(room.exports.out_at(), room.word(RESOLVED_LENGTH))
-    return { valid: true, text: written, record: recordOf(written) }
+    const written = room.read(room.exports.out_at(), room.word(RECORD_LENGTH))
+    return { valid: true, text: written, record: recordOf(written, room.answer) }
   }
 
   /**
@@ -236,15 +236,17 @@ class Checker {
   /**
    * A report, as `urlcheck lint` writes it.
    * @param {ReportFormat} format
-   * @param {ColumnUnit} [unit] what its columns count
+   * @param {ColumnUnit} [unit] what its columns count; without one the first that the format takes
    * @returns {Report}
    * @throws {TypeError} where no format or unit has the name, or the format has no word for the unit
    */
-  report(format, unit = 'code-points') {
-    const [one, other] = [this.formats.indexOf(format), this.units.indexOf(unit)]
+  report(format, unit) {
+    const one = this.formats.indexOf(format)
     if (one < 0) throw new TypeError(`no format has the name ${String(format)}`)
+    const takes = (/** @type {number} */ number) => this.#room.exports.takes_unit(one, number) !== 0
+    const other = unit === undefined ? this.units.findIndex((_, number) => takes(number)) : this.units.indexOf(unit)
     if (other < 0) throw new TypeError(`no unit has the name ${String(unit)}`)
-    if (!this.#room.exports.takes_unit(one, other)) throw new TypeError(`the format ${format} has no word for ${unit}`)
+    if (!takes(other)) throw new TypeError(`the format ${format} has no word for ${String(unit)}`)
     const numbers = { ofRule: this.#numberOfAny, ofProfile: profileNumber, ofKind: kindNumber }
     return new Report(this.#room, numbers, one, other)
   }

@@ -152,11 +152,49 @@ static urlcheck_finding append_made(const uint8_t *text, size_t length, const as
     return made.found;
 }
 
+static urlcheck_batch resolve_into(const texts *texts, uint32_t profile, makings *out) {
+    int64_t end = offset_at(texts, texts->count);
+    size_t length = end < 0 ? 0 : (size_t)end;
+    uint64_t *ends = (uint64_t *)out->offsets;
+
+    return texts->is_wide ? urlcheck_resolve_many(texts->data, length, texts->offsets, texts->count, profile, out->marks,
+                                                  NULL, NULL, ends, out->data, out->room)
+                          : urlcheck_resolve_many_32(texts->data, length, texts->offsets, texts->count, profile,
+                                                     out->marks, NULL, NULL, ends, out->data, out->room);
+}
+
+/* Resolves texts without a base, in one call, and in a second one where the room was too small. */
+static size_t resolve_alone(const texts *texts, uint32_t profile, makings *out, urlcheck_finding *why) {
+    int64_t from = offset_at(texts, 0), to = offset_at(texts, texts->count);
+    size_t length = from < 0 || to < from ? 0 : (size_t)(to - from);
+    urlcheck_batch batch = {URLCHECK_MEMORY, 0, 0, 0};
+
+    if (make_room(out, length + 16 * texts->count)) batch = resolve_into(texts, profile, out);
+    if (batch.length > out->room) {
+        if (!make_room(out, batch.length)) batch.outcome = URLCHECK_MEMORY;
+        else batch = resolve_into(texts, profile, out);
+    }
+    why->verdict = batch.outcome == URLCHECK_NO_OFFSETS ? BROKEN : batch.outcome;
+    if (batch.outcome != URLCHECK_DONE) return batch.outcome == URLCHECK_NO_OFFSETS ? first_broken(texts) : 0;
+    for (size_t at = 0; at < texts->count; at++) {
+        int is_there = !is_missing_at(texts, at);
+        if (is_there && out->marks[at] > URLCHECK_NO_UTF8) {
+            why->verdict = out->marks[at];
+            return at;
+        }
+        out->marks[at] = is_there && out->marks[at] == URLCHECK_VALID;
+    }
+    out->length = batch.length;
+    return texts->count;
+}
+
 size_t make_texts(const texts *texts, const asked *asked, int mends, makings *out, urlcheck_finding *why) {
     const urlcheck_finding broken = {BROKEN, 0, 0, 0};
     const uint8_t *start = NULL;
 
-    out->offsets[0] = (int64_t)out->length;
+    out->length = 0;
+    out->offsets[0] = 0;
+    if (!mends && !asked->base && texts->count) return resolve_alone(texts, asked->profile, out, why);
     for (size_t at = 0; at < texts->count; at++) {
         int64_t length = text_at(texts, at, &start);
         urlcheck_finding found = broken;
@@ -338,7 +376,6 @@ static int make_list(state *state, PyObject *list, PyObject *missing, const aske
     while (done < count && join(piece, list, (Py_ssize_t)done, missing)) {
         struct texts given = texts_of(piece);
         if (piece->count > count - done) given.count = count - done;
-        made.length = 0;
         Py_BEGIN_ALLOW_THREADS
         stopped = make_texts(&given, asked, mends, &made, &why);
         Py_END_ALLOW_THREADS

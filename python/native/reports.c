@@ -139,24 +139,24 @@ PyObject *native_message(PyObject *module, PyObject *args) {
 }
 
 /*
- * diagnostic(format, is_first, file, (profile, rule, place, line, column), text, kind, mended, (start, end)): the kind is 0
- * where there is no mended text. The last two are columns of the text, 0 where there is no region.
+ * diagnostic(format, is_first, file, (profile, rule, place, line, column, end), text, kind, mended, (start, end)): the kind
+ * is 0 where there is no mended text. The last two are columns of the text, 0 where there is no region.
  */
 PyObject *native_diagnostic(PyObject *module, PyObject *args) {
     said said = {.call = write_diagnostic};
     urlcheck_violation *violation = &said.violation;
     const char *file, *text, *mended;
     Py_ssize_t file_length, length, mended_length, place;
-    unsigned long long line, column, first, end;
+    unsigned long long line, column, wrong_end, first, end;
     int is_first;
 
     (void)module;
-    if (!PyArg_ParseTuple(args, "Ips#(IInKK)s#Iz#(KK):diagnostic", &said.format, &is_first, &file, &file_length,
-                          &violation->profile, &violation->rule, &place, &line, &column, &text, &length,
+    if (!PyArg_ParseTuple(args, "Ips#(IInKKK)s#Iz#(KK):diagnostic", &said.format, &is_first, &file, &file_length,
+                          &violation->profile, &violation->rule, &place, &line, &column, &wrong_end, &text, &length,
                           &violation->kind, &mended, &mended_length, &first, &end))
         return NULL;
     violation->place = place < 0 ? SIZE_MAX : (size_t)place;
-    violation->line = line, violation->column = column;
+    violation->line = line, violation->column = column, violation->end = wrong_end;
     violation->has_region = first != 0, violation->first_column = first, violation->end_column = end;
     said.is_first = (uint32_t)is_first;
     said.file = (const uint8_t *)file, said.file_length = (size_t)file_length;

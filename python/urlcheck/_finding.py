@@ -9,7 +9,7 @@ from urllib.parse import quote
 
 from . import explain
 from ._apart import Fault
-from ._report import Diagnostic, begin, end, said
+from ._report import Diagnostic, begin, end, pages, passed, said
 from ._rules import OF_FORMATS
 from ._streams import named
 
@@ -54,7 +54,8 @@ def _of_format(format: str, it: Diagnostic) -> str:
     rule, (one, other) = OF_FORMATS[it.rule], _STAND_INS
     first, second = (said(format, it._replace(rule=each.rule), False) for each in _STAND_INS)
     words = [(one.rule, other.rule, rule.name), (one.sentence, other.sentence, rule.sentence)]
-    written = _reworded(first, second, [*words, (one.url, other.url, rule.url)])
+    urls = [(one.url, other.url, rule.url), (pages()[one.rule].page, pages()[other.rule].page, rule.url)]
+    written = _reworded(first, second, [*words, *urls])
     return re.sub(',"ruleIndex":[0-9]+}\n\\Z', "}\n", written) if format == "sarif" else written
 
 
@@ -139,6 +140,10 @@ class Report:
             lines = lines[between:]
             self._is_first = False
         self._write(lines)
+
+    def passed(self, name: str) -> None:
+        """Writes what is said of a document in which nothing is wrong."""
+        self._write(passed(self._format, readable(name)).encode("utf-8"))
 
     def end(self, is_whole: bool) -> None:
         """Writes what stands behind all, by whether each document was read to its end."""

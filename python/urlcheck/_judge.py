@@ -96,7 +96,8 @@ class Judge:
         line, column = places.position(link.place(wrong.place))
         region = None if wrong.mended is None else region_of(places, link)
         where = name, line, column, link.text, wrong.rule, wrong.place
-        return Finding(Diagnostic(*where, self._profile, wrong.mended, region), wrong.message, link.within)
+        end = end_of(places, link, wrong.place)
+        return Finding(Diagnostic(*where, self._profile, wrong.mended, region, end), wrong.message, link.within)
 
     def wrong(self, link: Link) -> Optional[Wrong]:
         """What is wrong with a link, if something is."""
@@ -137,6 +138,16 @@ class Judge:
         """Whether another text may be written as it is where a link stands."""
         # (without the tab or the line's end, what follows the & might be read as a character reference)
         return link.is_verbatim and not ("&" in link.text and re.search("[\t\n\r]", link.text))
+
+
+def end_of(places: Positions, link: Link, place: int) -> int:
+    """The column behind the code point at a place of a link, which stands in the line of that place; the column of the
+    place where there is none, as at the end of the link."""
+    line, column = places.position(link.place(place))
+    if place >= len(link.text):
+        return column
+    last_line, end = places.position(link.place(place + 1))
+    return end if last_line == line and end >= column else column + 1
 
 
 def region_of(places: Positions, link: Link) -> Optional[Region]:

@@ -18,6 +18,7 @@ from ._editing import LinePlaces
 from ._judge import Judge, Verdicts
 from ._markdown_links import Inlines
 from ._readers import LIST, Found, Reading, Unread, found_in
+from ._report import is_offered
 from ._source import Foreign, Link
 
 Range = Tuple[Tuple[int, int], Tuple[int, int]]
@@ -71,8 +72,10 @@ class Mistake(NamedTuple):
     rule: str
     message: str
     mended: Optional[str] = None
-    """What may be written in the place of the whole link."""
+    """What may be written in the place of the whole link, and is offered."""
     kind: Optional[MendKind] = None
+    named: Optional[str] = None
+    """What isn't offered, since something else was likely meant."""
 
 
 class Remark(NamedTuple):
@@ -125,11 +128,12 @@ def _mistakes_in(asked: Asked, found: Found, judge: Judge, places: LinePlaces) -
         at, end = link.place(wrong.place), _end_of(link)
         whole = places.position(link.offset), places.position(max(end, link.offset))
         region = places.position(at), places.position(max(end, at + 1 if wrong.place < len(link.text) else at))
-        is_written = wrong.mended is not None and judge.may_be_written(link)
-        mended = wrong.mended.text if wrong.mended is not None and is_written else None
+        offered = wrong.mended if wrong.mended is not None and is_offered(link.text, wrong.mended) else None
+        named = wrong.mended.text if wrong.mended is not None and offered is None else None
+        mended = offered.text if offered is not None and judge.may_be_written(link) else None
         said = wrong.message if not link.within else "{}, in {}".format(wrong.message, link.within)
         kind = wrong.mended.kind if wrong.mended is not None else None
-        mistakes.append(Mistake(region, whole, wrong.rule, said, mended, kind))
+        mistakes.append(Mistake(region, whole, wrong.rule, said, mended, kind, named))
     return mistakes
 
 

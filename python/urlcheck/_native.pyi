@@ -23,7 +23,7 @@ def diagnostic(
     format: int,
     is_first: bool,
     file: str,
-    place: Tuple[int, int, int, int, int],
+    place: Tuple[int, int, int, int, int, int],
     text: str,
     kind: int,
     mended: Optional[str],

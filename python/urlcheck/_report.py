@@ -62,7 +62,9 @@ class Diagnostic(NamedTuple):
     mended: Optional[Mended] = None
     """What to write in place of the text; a format that doesn't say it leaves it out."""
     region: Optional[Region] = None
-    """Where the text stands, if that may be written there as it is; without it SARIF has no fix."""
+    """Where the text stands, if that may be written there as it is; without it SARIF has no fix, and rdjson no suggestion."""
+    end: Optional[int] = None
+    """The column at which what is wrong ends; without it the one behind the code point at the place, in the line of that."""
 
 
 class Explanation(NamedTuple):
@@ -102,7 +104,7 @@ def explain(rule: str) -> Explanation:
     number = _NUMBERS[rule]
     asks, section, base, example, mended = (native.explain(number, part) for part in range(5))
     place = native.example_place(number)
-    return Explanation(rule, sentence(rule), asks, section, _urls()[rule], base or None, example, place, mended)
+    return Explanation(rule, sentence(rule), asks, section, pages()[rule].section, base or None, example, place, mended)
 
 
 def column(text: str, place: int, unit: str = "code-points", start: int = 1) -> int:
@@ -133,7 +135,7 @@ def _reported(diagnostics: Iterable[Diagnostic], format: str, unit: str, is_whol
     yield begin(format, unit)
     is_first = True
     for it in diagnostics:
-        yield said(format, it, is_first)
+        yield said(format, it, is_first, unit)
         is_first = False
     yield end(format, is_whole)
 
@@ -163,32 +165,64 @@ def end(format: str, is_whole: bool) -> str:
     return native.report_end(_named(format, FORMATS, "format"), _WHOLE if is_whole else _UNREAD)
 
 
-def said(format: str, it: Diagnostic, is_first: bool) -> str:
+def passed(format: str, file: str) -> str:
+    """What is said of a file in which nothing is wrong: in JUnit a suite whose test passes, and nothing in another format."""
+    number = _named(format, FORMATS, "format")
+    return native.file_begin(number, file) + native.file_end(number) if format == "junit" else ""
+
+
+def _end_of(it: Diagnostic, unit: str) -> int:
+    """The column at which what is wrong ends."""
+    wrong = it.text[it.place : it.place + 1]
+    return native.column(wrong, UNITS.index(unit), it.column, len(wrong)) if it.end is None else it.end
+
+
+def said(format: str, it: Diagnostic, is_first: bool, unit: str = "code-points") -> str:
     """What is said of a text that is refused: whole lines. Behind another one it begins with what stands between both."""
     number = _named(format, FORMATS, "format")
     kind, mended = (0, None) if it.mended is None else (_KINDS[it.mended.kind], it.mended.text)
     region = (0, 0) if it.region is None else (it.region.column, it.region.end_column)
-    place = it.profile, _NUMBERS[it.rule], it.place, it.line, it.column
+    place = it.profile, _NUMBERS[it.rule], it.place, it.line, it.column, _end_of(it, unit)
     written = native.diagnostic(number, is_first, it.file, place, it.text, kind, mended, region)
     if mended is not None and it.region is not None:
-        written = _over_lines(written, it.line, it.region)
+        written = _over_lines(format, written, it.line, it.region)
     return native.file_begin(number, it.file) + written + native.file_end(number)
 
 
-def _over_lines(written: str, line: int, region: Region) -> str:
-    """The same with the lines of a fix whose text doesn't stand in the one line of its wrong place."""
+def is_offered(text: str, mended: Mended) -> bool:
+    """Whether a mended text is offered in place of a text: neither shows that the text's author meant something else."""
+    it = Diagnostic("", 1, 1, text, "code-point", 0, mended=mended)
+    return bool(json.loads(said("json", it, True))["offered"])
+
+
+def _over_lines(format: str, written: str, line: int, region: Region) -> str:
+    """The same with the lines of an edit whose text doesn't stand in the one line of its wrong place."""
     if region.line == line == region.last_line:
         return written
     # (no text of a document of JSON has quotes as they are)
+    if format == "rdjson":
+        edit = '"suggestions":[{{"range":{{"end":{{"column":{},"line":{}}},"start":{{"column":{},"line":{}}}}}'
+        ends = region.end_column, line, region.column, line
+        own = region.end_column, region.last_line, region.column, region.line
+        return written.replace(edit.format(*ends), edit.format(*own), 1)
     columns = '"deletedRegion":{{"endColumn":{},'.format(region.end_column)
     last = "" if region.last_line == region.line else '"endLine":{},'.format(region.last_line)
     start = '"startColumn":{},"startLine":'.format(region.column)
     return written.replace(columns + start + str(line), columns + last + start + str(region.line), 1)
 
 
+class Pages(NamedTuple):
+    """Where a rule is told of."""
+
+    section: str
+    """What it asks, in the URL Standard."""
+    page: str
+    """Its page among those of the project."""
+
+
 @functools.lru_cache(maxsize=1)
-def _urls() -> Dict[str, str]:
-    """Where what the rules ask stands, by their names: as a document of SARIF has it."""
+def pages() -> Dict[str, Pages]:
+    """Where the rules are told of, by their names: as a document of SARIF has it."""
     document = json.loads(begin("sarif", "code-points") + end("sarif", True))
-    rules: List[Dict[str, str]] = document["runs"][0]["tool"]["driver"]["rules"]
-    return {it["id"]: it["helpUri"] for it in rules}
+    rules = document["runs"][0]["tool"]["driver"]["rules"]
+    return {it["id"]: Pages(it["properties"]["section"], it["helpUri"]) for it in rules}

@@ -209,9 +209,11 @@ class Run:
 
     def _end(self, document: Document, apart: Apart) -> None:
         """Writes the located links of a document or what is wrong with them."""
+        is_passed = self._is_judged
         for taken in apart.taken():
             self.counts.add(taken)
             self._report.add(taken.lines)
+            is_passed = is_passed and not taken.lines and taken.fault is None
             for note in taken.notes:
                 self._note(document.name, note)
             if taken.fault is not None:
@@ -219,6 +221,8 @@ class Run:
                 self._report.add(not_read(self._settings.format, name, taken.fault).encode("utf-8"))
                 is_input = name == "-" and taken.fault.line is None
                 tell(("standard input" if is_input else named(name) or "''") + taken.fault.behind())
+        if is_passed:
+            self._report.passed(document.name)
 
     def _note(self, name: str, note: str) -> None:
         """Says what a reader passed over, each once."""

@@ -6,6 +6,7 @@
 
 import logging
 import os
+import re
 import sys
 import threading
 import time
@@ -49,6 +50,14 @@ MOST_WAITED = 20
 _NOT_INITIALIZED, _INVALID_REQUEST, _CONTENT_MODIFIED = -32002, -32600, -32801
 _WARNING, _INFORMATION = 2, 3
 _FIX_ALL = "source.fixAll.urlcheck"
+
+_NAMED_AS = {
+    MendKind.SAME: "The same URL, written validly,",
+    MendKind.ESCAPED: "The same text, percent-encoded,",
+    MendKind.CHANGED: "A valid URL string that is near it",
+    None: "A valid URL string",
+}
+"""How a mended text is named that isn't offered."""
 
 Json = Dict[str, Any]
 
@@ -328,7 +337,9 @@ class Server(MethodDispatcher):  # type: ignore[misc]
             if not found:
                 return None
             rule = rule_of(found[0].rule)
-            value = "**{}**: {}\n\n{}\n\n[{}]({})".format(rule.name, found[0].message, rule.asks, "The standard", rule.url)
+            named = "" if found[0].named is None else "\n\n" + _named(found[0].named, found[0].kind)
+            said = "**{}**: {}{}\n\n{}".format(rule.name, found[0].message, named, rule.asks)
+            value = "{}\n\n[{}]({})".format(said, "The standard", rule.url)
             return {"contents": {"kind": "markdown", "value": value}, "range": _span(found[0].whole)}
 
         return hover
@@ -351,6 +362,13 @@ class Server(MethodDispatcher):  # type: ignore[misc]
             return said
 
         return actions
+
+
+def _named(text: str, kind: Optional[MendKind]) -> str:
+    """A mended text that isn't offered, in Markdown: as code between more backticks than stand in it."""
+    runs = re.findall("`+", text)
+    ticks = "`" * (max(map(len, runs), default=0) + 1)
+    return "{} is {} {} {}.".format(_NAMED_AS[kind], ticks, text, ticks)
 
 
 def _is_wanted(kind: str, wanted: Any) -> bool:

@@ -11,7 +11,9 @@ _Static_assert(offsetof(urlcheck_finding, verdict) == 0 && offsetof(urlcheck_fin
 _Static_assert(offsetof(urlcheck_finding, place) == 8 && offsetof(urlcheck_finding, byte_place) == 16, "layout");
 _Static_assert(offsetof(urlcheck_answer, parts) == 24 && sizeof(urlcheck_spans) == 6 * 24, "layout");
 _Static_assert(offsetof(urlcheck_span, length) == 8 && offsetof(urlcheck_span, present) == 16, "layout");
-_Static_assert(offsetof(urlcheck_resolved, length) == 24 && offsetof(urlcheck_fault_count, count) == 24, "layout");
+_Static_assert(offsetof(urlcheck_record, length) == 24 && offsetof(urlcheck_record, parts) == 32, "layout");
+_Static_assert(offsetof(urlcheck_record, host) == 176 && offsetof(urlcheck_record, opaque_path) == 180, "layout");
+_Static_assert(offsetof(urlcheck_fault_count, count) == 24, "layout");
 _Static_assert(offsetof(urlcheck_fault, rule) == 0 && offsetof(urlcheck_fault, place) == 8, "layout");
 _Static_assert(offsetof(urlcheck_fault, byte_place) == 16 && sizeof(urlcheck_fault) == 24, "layout");
 _Static_assert(sizeof(urlcheck_base) == 40, "layout");
@@ -25,11 +27,11 @@ uint64_t proved_mend(urlcheck_mended *answer, const uint8_t *text, size_t length
                      size_t room) PROVED("mend");
 uint64_t proved_mend_against(urlcheck_mended *answer, const uint8_t *text, size_t length, const uint8_t *base,
                              size_t base_length, uint32_t profile, uint8_t *out, size_t room) PROVED("mend_against");
-uint64_t proved_resolve(urlcheck_resolved *answer, const uint8_t *text, size_t length, uint32_t profile, uint8_t *out,
-                        size_t room) PROVED("resolve");
-uint64_t proved_resolve_against(urlcheck_resolved *answer, const uint8_t *text, size_t length, const uint8_t *base,
+uint64_t proved_resolve(urlcheck_record *answer, const uint8_t *text, size_t length, uint32_t profile, uint8_t *out,
+                        size_t room) PROVED("resolve_record");
+uint64_t proved_resolve_against(urlcheck_record *answer, const uint8_t *text, size_t length, const uint8_t *base,
                                 size_t base_length, uint32_t profile, uint8_t *out, size_t room)
-    PROVED("resolve_against");
+    PROVED("resolve_record_against");
 uint64_t proved_faults(urlcheck_fault_count *answer, const uint8_t *text, size_t length, uint32_t profile,
                        urlcheck_fault *out, size_t room) PROVED("faults");
 uint64_t proved_faults_against(urlcheck_fault_count *answer, const uint8_t *text, size_t length, const uint8_t *base,
@@ -108,9 +110,9 @@ bool takes_out(uint64_t bytes) {
 static void resolve_into(uint32_t length, uint32_t base_length, bool has_base, uint32_t profile, uint64_t room) {
     if (!takes_out(room)) return;
     if (has_base) {
-        proved_resolve_against(&answer.resolved, heap_text(), length, heap_base(), base_length, profile, out, room);
+        proved_resolve_against(&answer.record, heap_text(), length, heap_base(), base_length, profile, out, room);
     } else {
-        proved_resolve(&answer.resolved, heap_text(), length, profile, out, room);
+        proved_resolve(&answer.record, heap_text(), length, profile, out, room);
     }
 }
 
@@ -118,8 +120,8 @@ static void resolve_into(uint32_t length, uint32_t base_length, bool has_base, u
 static void resolve_whole(uint32_t length, uint32_t base_length, bool has_base, uint32_t profile) {
     uint64_t room = (uint64_t)length + base_length + 256;
     resolve_into(length, base_length, has_base, profile, room);
-    if (answer.found.verdict == URLCHECK_VALID && answer.resolved.length > room) {
-        resolve_into(length, base_length, has_base, profile, answer.resolved.length);
+    if (answer.found.verdict == URLCHECK_VALID && answer.record.length > room) {
+        resolve_into(length, base_length, has_base, profile, answer.record.length);
     }
 }
 

@@ -29,7 +29,7 @@ typedef struct {
 extern union answer {
     urlcheck_finding found;
     urlcheck_answer checked;
-    urlcheck_resolved resolved;
+    urlcheck_record record;
     urlcheck_mended mended;
     urlcheck_fault_count counted;
     urlcheck_written written;

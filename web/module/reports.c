@@ -25,7 +25,7 @@ uint64_t proved_column(urlcheck_counted *answer, const uint8_t *text, size_t len
 _Static_assert(offsetof(urlcheck_written, length) == 24, "layout");
 _Static_assert(offsetof(urlcheck_violation, rule) == 4 && offsetof(urlcheck_violation, place) == 8, "layout");
 _Static_assert(offsetof(urlcheck_violation, line) == 16 && offsetof(urlcheck_violation, column) == 24, "layout");
-_Static_assert(offsetof(urlcheck_violation, kind) == 32 && sizeof(urlcheck_violation) == 56, "layout");
+_Static_assert(offsetof(urlcheck_violation, kind) == 32 && sizeof(urlcheck_violation) == 64, "layout");
 
 /* The bytes that a first call has room for, where more are rare. */
 enum { SHORT = 2048 };
@@ -81,6 +81,12 @@ static uint64_t code_points(const uint8_t *text, uint32_t length) {
     return count;
 }
 
+/* The column behind the code point at the violation's place, where a rule of texts is violated, and else its column. */
+static uint64_t end_of(const urlcheck_violation *told, uint32_t length, uint32_t unit) {
+    if (told->rule >= URLCHECK_LINE_NO_UTF8 || told->place >= code_points(heap_text(), length)) return told->column;
+    return column_of(length, unit, told->first_column, (uint64_t)told->place + 1);
+}
+
 /* What is reported of the violation, at its place in the text, with the mended text where its kind isn't 0. */
 void diagnostic(uint32_t format, uint32_t unit, uint32_t is_first, uint32_t length, uint32_t file_length,
                 uint32_t mended_length) {
@@ -90,6 +96,7 @@ void diagnostic(uint32_t format, uint32_t unit, uint32_t is_first, uint32_t leng
     told.column = column_of(length, unit, told.first_column, told.place);
     if (told.column == 0) return;
     told.end_column = column_of(length, unit, told.first_column, code_points(heap_text(), length));
+    told.end = end_of(&told, length, unit);
     const uint8_t *file = heap_base(), *mended = file + file_length;
     WRITE(proved_diagnostic(&answer.written, format, is_first, &told, file, file_length, heap_text(), length, mended,
                             mended_length, out, room));

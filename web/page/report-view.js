@@ -7,8 +7,11 @@ import { shownText } from './drawing.js'
 const ROWS = 100
 
 /** How the page calls a format, if not by its own name, and how the name of its file ends, if not with `txt`. */
-const NAMES = { gnu: 'lines', caret: 'lines with carets', json: 'JSON', github: 'GitHub', sarif: 'SARIF' }
-const ENDS = { json: 'json', sarif: 'sarif', checkstyle: 'xml' }
+const NAMES = {
+  gnu: 'lines', caret: 'lines with carets', json: 'JSON', github: 'GitHub', sarif: 'SARIF', junit: 'JUnit', gitlab: 'GitLab',
+  rdjson: 'reviewdog'
+}
+const ENDS = { json: 'json', sarif: 'sarif', checkstyle: 'xml', junit: 'xml', gitlab: 'json', rdjson: 'json' }
 
 /** Gives a file to the browser, to be kept. */
 function download(blob, name) {

@@ -19,7 +19,7 @@ export function judged(urlcheck, text, base, profile) {
     const isLong = text.length > LONGEST_FOR_FAULTS
     if (isLong) return { kind: 'refused', isLong, faults: [answer] }
     const faults = urlcheck.faults(text, options)
-    return { kind: 'refused', isLong, faults, instead: insteadOf(urlcheck, text, options) }
+    return { kind: 'refused', isLong, faults, instead: insteadOf(urlcheck, text, answer, options) }
   } catch (error) {
     if (error instanceof BaseRefused) return { kind: 'base', faults: urlcheck.faults(base, { profile }) }
     if (error instanceof RangeError) return { kind: 'unjudged', message: 'out of memory: the text is too large' }
@@ -28,11 +28,16 @@ export function judged(urlcheck, text, base, profile) {
   }
 }
 
-/** What to write in place of a refused text, or null where there is none, or no memory for it. */
-function insteadOf(urlcheck, text, options) {
+/**
+ * What a refused text is mended to, and whether that is offered in its place: JSON says so. It is null where there is
+ * none, or no memory for it.
+ */
+function insteadOf(urlcheck, text, { rule, place }, options) {
   try {
     const mended = urlcheck.mend(text, options)
-    return mended !== null && 'text' in mended ? mended : null
+    if (mended === null || !('text' in mended)) return null
+    const told = { file: '', line: 1, text, rule, place, profile: options.profile, mended }
+    return { ...mended, isOffered: JSON.parse(urlcheck.report('json').diagnostic(told)).offered }
   } catch (error) {
     if (error instanceof RangeError) return null
     throw error
@@ -87,10 +92,17 @@ const KINDS = {
   changed: 'look whether this is what was meant'
 }
 
-/** What to write in place of a refused text, which a button tries. */
-function insteadLine({ text, kind }, base, onTry) {
+/** How a mended text is named that isn't offered. */
+const NAMED_AS = {
+  same: 'the same URL, written validly, is ',
+  escaped: 'the same text, percent-encoded, is ',
+  changed: 'a valid URL string that is near it is '
+}
+
+/** What a refused text is mended to, which a button tries. */
+function insteadLine({ text, kind, isOffered }, base, onTry) {
   return element('p', { class: 'instead', 'data-kind': kind },
-    element('span', { class: 'hint' }, 'write instead '),
+    element('span', { class: 'hint' }, isOffered ? 'write instead ' : NAMED_AS[kind]),
     button(shownText(text, -1), () => onTry(text, base), { class: 'try', title: 'try this text' }),
     element('span', { class: 'hint' }, ` ${KINDS[kind]}`))
 }

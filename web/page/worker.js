@@ -12,7 +12,11 @@ const TELLING = 100
 const LINKS = 1000
 const JOINED = 10_000
 
-const TYPES = { json: 'application/json', sarif: 'application/json', checkstyle: 'application/xml' }
+const JSON_TYPE = 'application/json'
+const XML_TYPE = 'application/xml'
+const TYPES = {
+  json: JSON_TYPE, sarif: JSON_TYPE, gitlab: JSON_TYPE, rdjson: JSON_TYPE, checkstyle: XML_TYPE, junit: XML_TYPE
+}
 
 const loading = load()
 const decoder = new TextDecoder('utf-8', { ignoreBOM: true })
