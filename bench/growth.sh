@@ -262,7 +262,7 @@ for what in check faults mend links; do
     done
 done
 if [ -z "$only" ] || [ "$only" = written ]; then
-    for format in gnu caret json github sarif checkstyle; do
+    for format in gnu caret json github sarif checkstyle junit gitlab rdjson; do
         for shape in bad_host path+% 'path+[' 'query+['; do grows written "$shape" $(line_counts "$shape"); done
     done
 fi

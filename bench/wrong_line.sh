@@ -52,7 +52,7 @@ linted() {
     [ -n "$peak" ] && ((peak > 0 && peak < 10000)) || { echo "FAILED: the memory isn't below 10 MB"; failed=1; }
 }
 
-for format in gnu caret json github sarif checkstyle; do
+for format in gnu caret json github sarif checkstyle junit gitlab rdjson; do
     wrong urn: '^'
     linted 'code points' code-point $format
     wrong foo:// '^'

@@ -111,7 +111,7 @@ ROWS
 # A base that is refused alone is named with its own place and rule, and of many faults with the least.
 expect 2 '' "$(no_base 7 host-missing 'a host has to stand here')" check --base http:// '#f'
 expect 2 '' "$(no_base 10 code-point 'U+0020 SPACE may not stand in a URL')" check --base 'http://h/a b' x
-expect 2 '' "$(no_base 7 host-domain 'a URL string has no credentials: no user name, password or @ before its host')" \
+expect 2 '' "$(no_base 7 host-domain 'a URL string has no credentials: no user name, password or @ before its host; leave them out')" \
     check --base http://u@h/ x
 expect 2 '' "$(no_base 5 two-slashes '// has to follow this scheme')" check --all --base 'http:a b' 'x y'
 

@@ -10,11 +10,11 @@ of_list() {
 }
 # counted LINES REFUSED : what standard error says of so many lines
 counted() { [ "$1" = 1 ] && echo "urlcheck: 1 line, $2 refused\\n" || echo "urlcheck: $1 lines, $2 refused\\n"; }
-domain='error: U+005F LOW LINE may not stand in a domain [host-domain]'
+domain='error: U+005F LOW LINE may not stand in a domain; --profile wide takes it [host-domain]'
 utf8="error: this line isn't UTF-8 [not-utf8]"
 scheme='error: there is no scheme and no base [no-scheme]'
 space='error: U+0020 SPACE may not stand in a URL [code-point]'
-credentials='error: a URL string has no credentials: no user name, password or @ before its host [host-domain]'
+credentials='error: a URL string has no credentials: no user name, password or @ before its host; leave them out [host-domain]'
 percent='error: U+0025 PERCENT SIGN has to be followed by two hex digits [percent]'
 slashes='error: // has to follow this scheme [two-slashes]'
 document='<?xml version="1.0" encoding="UTF-8"?>\n<checkstyle version="4.3">\n'
@@ -44,13 +44,20 @@ of_list 1 'list:3:8: error: the host that begins here ends in a number, and is n
 
 # Why a host is no valid domain: the first ASCII code point that the profile doesn't permit, else a label that is empty,
 # has more than 63 code points, or has hyphens where the standard profile permits none. Of one that begins with `xn--`,
-# and of what ToASCII makes of code points beyond ASCII, nothing is said.
+# and of what ToASCII makes of code points beyond ASCII, nothing is said. Where another profile takes it, that is said.
 # in_domain CODE_POINT : that it may not stand in a domain
-in_domain() { echo "error: U+$1 may not stand in a domain [host-domain]"; }
-empty='error: a label of this domain is empty [host-domain]'
-long='error: a label of this domain has more than 63 code points [host-domain]'
-outer='error: a label of this domain begins or ends with - [host-domain]'
-inner='error: a label of this domain has -- in its third and fourth place [host-domain]'
+in_domain() {
+    local taken=''
+    case $1 in
+        '005F LOW LINE') taken='; --profile wide takes it' ;;
+        '0021 EXCLAMATION MARK' | '0025 PERCENT SIGN') taken='; --profile parser takes it' ;;
+    esac
+    echo "error: U+$1 may not stand in a domain$taken [host-domain]"
+}
+empty='error: a label of this domain is empty; --profile parser takes it [host-domain]'
+long='error: a label of this domain has more than 63 code points; --profile parser takes it [host-domain]'
+outer='error: a label of this domain begins or ends with -; --profile wide takes it [host-domain]'
+inner='error: a label of this domain has -- in its third and fourth place; --profile wide takes it [host-domain]'
 none='error: the host that begins here is no valid domain [host-domain]'
 label=$(printf 'a%.0s' {1..64})
 of_list 1 "list:1:9: $(in_domain '0020 SPACE')\nlist:2:8: $(in_domain '005C REVERSE SOLIDUS')
@@ -84,6 +91,21 @@ list:10:1: $(before 3000)\nlist:11:1: $(before 2060)\nlist:12:1: $(before E0001)
 list:13:1: $scheme\nlist:14:1: $scheme\nlist:15:1: $scheme\n" "$(counted 15 15)" \
     ' https://a/\n\thttp://h/\n\x1furn:a\n\x7furn:a\n\xc2\x85urn:a\n\xc2\xa0urn:a\n\xe2\x80\x8burn:a\n\xe2\x80\xa8urn:a
 \xc2\xadurn:a\n\xe3\x80\x80urn:a\n\xe2\x81\xa0urn:a\n\xf3\xa0\x80\x81urn:a\n\xc3\xa9urn:a\n:a\n\xe2\x80\x90urn:a\n'
+# A quotation mark, an apostrophe, a backtick or a bracket, where a scheme follows it.
+of_list 1 "list:1:1: $(before '0022 QUOTATION MARK')\nlist:2:1: $(before '0027 APOSTROPHE')
+list:3:1: $(before '0028 LEFT PARENTHESIS')\nlist:4:1: $(before '003C LESS-THAN SIGN')
+list:5:1: $(before '005B LEFT SQUARE BRACKET')\nlist:6:1: $(before '0060 GRAVE ACCENT')
+list:7:1: $(before '00AB \xc2\xab')\nlist:8:1: $(before '2018 \xe2\x80\x98')\nlist:9:1: $(before '201C \xe2\x80\x9c')
+list:10:1: $scheme\nlist:11:1: $scheme\nlist:12:1: $scheme\nlist:13:1: $scheme\n" "$(counted 13 13)" \
+    '"https://a/"\n'"'"'urn:a\n(urn:a)\n<a+b-c.1:>\n[urn:a]\n\x60urn:a\n\xc2\xaburn:a\n\xe2\x80\x98urn:a\n\xe2\x80\x9curn:a
+"a"\n(1:2)\n"a b:c"\n"\n'
+# What is likely missing: a `:`, a scheme before `//`, and one before what looks like a domain.
+missing() { echo "error: there is no scheme and no base; write $1 [no-scheme]"; }
+colon=$(missing ': behind the scheme') two=$(missing 'https: before it, or name its base (--base)')
+host=$(missing 'https:// before a host, or name its base (--base)')
+of_list 1 "list:1:1: $colon\nlist:2:1: $colon\nlist:3:1: $two\nlist:4:1: $host\nlist:5:1: $host\nlist:6:1: $host
+list:7:1: $scheme\nlist:8:1: $scheme\nlist:9:1: $scheme\nlist:10:1: $scheme\nlist:11:1: $scheme\n" "$(counted 11 11)" \
+    'http//a/\nFILE///a\n//h:80a/\nwww.example.com\nexample.com/a b\n127.0.0.1?q\n../a.b\na/b.c\nfoo//a\nhttp/a\na_b.c/\n'
 
 # A noncharacter is told as one, by its number alone, and nothing stands behind the number of what isn't seen.
 of_list 1 'list:1:10: error: U+FFFE <noncharacter> may not stand in a URL [code-point]
@@ -103,6 +125,11 @@ list:6:10: $bar: a drive letter is written with : [code-point]\nlist:7:10: $bar:
 list:8:10: $bar [code-point]\nlist:9:12: $bar [code-point]\nlist:10:10: $bar [code-point]\n" "$(counted 10 10)" \
     'file://h:80/\nFile://host:\nfile://C:/x\nfile://c|\nfile://CC:/x\nfile:///C|/x\nFILE:///z|
 file:///C|x\nfile:///x/C|/\nhttp://h/|/\n'
+# A zone, before which an address stands; elsewhere a `%` is none.
+zone='error: an IPv6 address in a URL has no zone: leave out the % and what follows it [host-ipv6]'
+ipv6='error: the host that begins here is no IPv6 address in brackets [host-ipv6]'
+of_list 1 "list:1:8: $zone\nlist:2:7: $zone\nlist:3:8: $ipv6\nlist:4:8: $ipv6\nlist:5:8: $ipv6\n" "$(counted 5 5)" \
+    'http://[fe80::1%25eth0]/\nfoo://[::1%%1]:80\nhttp://[::1/%%\nhttp://[x%%1]/\nhttp://[%%]/\n'
 brackets='error: a host that is an IPv6 address stands in brackets'
 of_list 1 "list:1:8: $brackets [host-number]\nlist:2:8: $brackets [host-missing]\nlist:3:14: $brackets [port-digit]
 list:4:7: $brackets [host-missing]\nlist:5:8: $brackets [host-domain]\nlist:6:8: $brackets [host-missing]
@@ -131,6 +158,39 @@ of_list 1 "$document<file name=\"list\">
 <error line=\"1\" column=\"1\" severity=\"error\" message=\"there is no scheme and no base\" source=\"urlcheck.no-scheme\"/>
 <error line=\"2\" column=\"2\" severity=\"error\" message=\"this line isn't UTF-8\" source=\"urlcheck.not-utf8\"/>
 </file>\n</checkstyle>\n" "$(counted 2 2)" "$both" --format checkstyle
+suites='<?xml version="1.0" encoding="UTF-8"?>\n<testsuites name="urlcheck">\n'
+run_passed='<testsuite name="urlcheck">\n<testcase classname="urlcheck" name="run"/>\n</testsuite>\n</testsuites>\n'
+of_list 1 "$suites<testsuite name=\"list\">\n<testcase classname=\"list\" name=\"file\"/>
+<testcase classname=\"list\" name=\"1:1 no-scheme\"><failure type=\"no-scheme\" message=\"there is no scheme and no base\">\
+/\xe6\x97\xa5\xc3\xa9 </failure></testcase>
+<testcase classname=\"list\" name=\"2:2 not-utf8\"><failure type=\"not-utf8\" message=\"this line isn't UTF-8\">\
+a\xef\xbf\xbdb</failure></testcase>\n</testsuite>\n$run_passed" "$(counted 2 2)" "$both" --format junit
+# digest BYTES : the SHA-256 of these
+digest() { printf '%b' "$1" | sha256sum | cut -c 1-64; }
+# issue LINE FINGERPRINT NAME SENTENCE : an issue of GitLab
+issue() {
+    echo "{\"check_name\":\"$3\",\"description\":\"$4\",\"fingerprint\":\"$2\",\
+\"location\":{\"lines\":{\"begin\":$1},\"path\":\"list\"},\"severity\":\"major\"}"
+}
+no_scheme=$(issue 1 "$(digest '1\n1\n"list"\nno-scheme\n0\n/\xe6\x97\xa5\xc3\xa9 ')" no-scheme 'there is no scheme and no base')
+no_utf8=$(issue 2 "$(digest '2\n2\n"list"\nnot-utf8\n1\na\xef\xbf\xbdb')" not-utf8 "this line isn't UTF-8")
+of_list 1 "[\n$no_scheme\n,$no_utf8\n]\n" "$(counted 2 2)" "$both" --format gitlab
+of_list 0 '[\n]\n' "$(counted 1 0)" 'urn:a\n' --format gitlab
+# told LINE START END PAGE NAME SENTENCE : a diagnostic of reviewdog
+site=https://yuccaeave.example/urlcheck
+told() {
+    echo "{\"code\":{\"url\":\"$site/docs/$4.html\",\"value\":\"$5\"},\"location\":{\"path\":\"list\",\"range\":{\
+\"end\":{\"column\":$3,\"line\":$1},\"start\":{\"column\":$2,\"line\":$1}}},\"message\":\"$6\",\"severity\":\"ERROR\""
+}
+told_begin="{\"source\":{\"name\":\"urlcheck\",\"url\":\"$site/\"},\"severity\":\"ERROR\",\"diagnostics\":[\n"
+of_list 1 "$told_begin$(told 1 1 2 rules/no-scheme no-scheme 'there is no scheme and no base')}
+,$(told 2 2 2 COMMANDS not-utf8 "this line isn't UTF-8")}\n]}\n" "$(counted 2 2)" "$both" --format rdjson
+of_list 0 "$told_begin]}\n" "$(counted 1 0)" 'urn:a\n' --format rdjson
+# Its columns are bytes of UTF-8: behind 13 of them stands one of three, and with the suggestion all 16 are replaced.
+of_list 1 "$told_begin$(told 1 14 17 rules/code-point code-point 'U+FDD0 <noncharacter> may not stand in a URL'),\"suggestions\":[{\
+\"range\":{\"end\":{\"column\":17,\"line\":1},\"start\":{\"column\":1,\"line\":1}},\
+\"text\":\"http://h/\xf0\x9f\x98\x80%EF%B7%90\"}]}\n]}\n" "$(counted 1 1)" \
+    'http://h/\xf0\x9f\x98\x80\xef\xb7\x90\n' --format rdjson
 
 # The column of the first byte that isn't UTF-8, in each unit: behind U+FFFD, which is UTF-8, U+65E5, `e` with U+0301,
 # U+1F600 and a tab; behind the column 10 of a link; and where a code point is cut off by the line's end.
@@ -150,9 +210,9 @@ list:2:8: $domain\nhttp://x_y/\n       ^\n" "$(counted 2 2)" 'urn:a b c\nhttp://
 of_list 1 "a:3:9: $slashes\nhttp:b\n     ^\nhelp: write http://b\n" "$(counted 1 1)" 'a:3:4:http:b\n' --all --format caret \
     --located
 of_list 1 '{"column":12,"cut":false,"file":"list","kind":"same","line":1,"mended":"http://x_y/%20c",'\
-'"message":"U+0020 SPACE may not stand in a URL","rule":"code-point","text":"http://x_y/ c"}\n'\
+'"message":"U+0020 SPACE may not stand in a URL","offered":true,"rule":"code-point","text":"http://x_y/ c"}\n'\
 '{"column":6,"cut":false,"file":"list","kind":"changed","line":2,"mended":"http://a",'\
-'"message":"// has to follow this scheme","rule":"two-slashes","text":"http:a"}\n' "$(counted 2 2)" \
+'"message":"// has to follow this scheme","offered":true,"rule":"two-slashes","text":"http:a"}\n' "$(counted 2 2)" \
     'http://x_y/ c\nhttp:a\n' --wide --base http://h/ --format json
 
 # A line of 65,536 code points is judged, also with its fault in the last column, and a longer one isn't. Of a long line
@@ -207,8 +267,9 @@ done
 # result LINE COLUMN TEXT : a result on a space
 result() {
     echo "\"level\":\"error\",\"locations\":[{\"physicalLocation\":{\"artifactLocation\":{\"uri\":\"list\"},\
-\"region\":{\"startColumn\":$2,\"startLine\":$1}}}],\"message\":{\"text\":\"U+0020 SPACE may not stand in a URL\"},\
-\"properties\":{\"cut\":false,\"text\":\"$3\"},\"ruleId\":\"code-point\",\"ruleIndex\":15}"
+\"region\":{\"endColumn\":$(($2 + 1)),\"startColumn\":$2,\"startLine\":$1}}}],\
+\"message\":{\"text\":\"U+0020 SPACE may not stand in a URL\"},\
+\"partialFingerprints\":{\"urlcheckText/v1\":\"$(digest "code-point\n$(($2 - 1))\n$3")\"},\"properties\":{\"cut\":false,\"text\":\"$3\"},\"ruleId\":\"code-point\",\"ruleIndex\":15}"
 }
 # fix LINE END TEXT SENTENCE : what puts a text in place of the first columns of a line
 fix() {
@@ -272,7 +333,7 @@ at_40() {
 at_40 gnu page.html "page.html:3:50: $space\n"
 at_40 caret 'a b' "a b:3:50: $space\nhttp://h/a b\n          ^\nhelp: write http://h/a%20b\n"
 at_40 json 'a b' '{"column":50,"cut":false,"file":"a b","kind":"same","line":3,"mended":"http://h/a%20b",'\
-'"message":"U+0020 SPACE may not stand in a URL","rule":"code-point","text":"http://h/a b"}\n'
+'"message":"U+0020 SPACE may not stand in a URL","offered":true,"rule":"code-point","text":"http://h/a b"}\n'
 at_40 github page.html '::error file=page.html,line=3,col=50,title=code-point::U+0020 SPACE may not stand in a URL\n'
 at_40 checkstyle page.html "$document<file name=\"page.html\">
 <error line=\"3\" column=\"50\" severity=\"error\" message=\"U+0020 SPACE may not stand in a URL\" \
@@ -307,7 +368,7 @@ link=http://h/$(head -c 65526 /dev/zero | tr '\0' a)
 # object FILE LINE COLUMN : the object of JSON on the last column of the link
 object() {
     echo "{\"column\":$3,\"cut\":true,\"file\":\"$1\",\"kind\":\"same\",\"line\":$2,\"mended\":\"$link\",\
-\"message\":\"U+0020 SPACE may not stand in a URL\",\"rule\":\"code-point\",\"text\":\"\xe2\x80\xa6$window \"}\n"
+\"message\":\"U+0020 SPACE may not stand in a URL\",\"offered\":true,\"rule\":\"code-point\",\"text\":\"\xe2\x80\xa6$window \"}\n"
 }
 of_list 1 "$(object list 1 65536)" "$(counted 1 1)" "$link \n" --format json
 of_list 1 '::error file=list,line=1,col=65536,title=code-point::U+0020 SPACE may not stand in a URL\n' \
@@ -358,4 +419,4 @@ ends_at 10 '\t\t' 25
 ends_at 40 'a\t' 49
 ends_at 1 '\x1b\xe2\x80\xae' 3
 
-all_cases 116
+all_cases 122

@@ -25,8 +25,9 @@ rm -f "$room/a" "$room/--all"
 
 # All options of a lint: the base and one of the links are valid by the wide profile alone.
 printf 'http://x_y//a b\n' >"$room/a b"
-space='"message":"U+0020 SPACE may not stand in a URL","rule":"code-point"'
-percent='"message":"U+0025 PERCENT SIGN has to be followed by two hex digits","rule":"percent"'
+space='"message":"U+0020 SPACE may not stand in a URL","offered":true,"rule":"code-point"'
+says='"message":"U+0025 PERCENT SIGN has to be followed by two hex digits"'
+percent="$says,\"rule\":\"percent\""
 does 1 "{\"column\":2,\"cut\":false,\"file\":\"-\",\"kind\":\"escaped\",\"line\":1,\"mended\":\"c%20d%254\",$space,\"text\":\"c d%4\"}
 {\"column\":4,\"cut\":false,\"file\":\"-\",\"line\":1,$percent,\"text\":\"c d%4\"}
 {\"column\":14,\"cut\":false,\"file\":\"a b\",\"kind\":\"same\",\"line\":1,\"mended\":\"http://x_y//a%20b\",$space,\"text\":\"http://x_y//a b\"}
@@ -39,7 +40,7 @@ $space,\"text\":\"http://h_/c d%4\"}
 {\"column\":14,\"cut\":false,\"file\":\"p\",\"line\":1,$percent,\"text\":\"http://h_/c d%4\"}
 {\"column\":10,\"cut\":false,\"file\":\"q\",\"kind\":\"same\",\"line\":2,\"mended\":\"\xe6\x97\xa5%20e\",$space,\
 \"text\":\"\xe6\x97\xa5 e\"}
-{\"column\":1,\"cut\":false,\"file\":\"r\",\"kind\":\"escaped\",\"line\":3,\"mended\":\"%254\",$percent,\"text\":\"%4\"}
+{\"column\":1,\"cut\":false,\"file\":\"r\",\"kind\":\"escaped\",\"line\":3,\"mended\":\"%254\",$says,\"offered\":true,\"rule\":\"percent\",\"text\":\"%4\"}
 " '' 'p:1:1:http://h_/c d%4\n' lint - --base=http://h/ --all --wide --format json --columns=screen --located \
     --stdin-name=n --quiet 'a b' -- --all
 rm -f "$room/a b" "$room/--all"
@@ -52,7 +53,7 @@ does 1 '-:1:7: error: U+0020 SPACE may not stand in a URL [code-point]\n' 'urlch
 
 # Names of no format and of no column unit, and which of them is told of where both are such: nothing is read.
 does 2 '' "urlcheck: no format is named 'GNU'; the nearest is gnu
-urlcheck: the formats: gnu caret json github sarif checkstyle\nwords\n" 'x\n' lint --columns byte --format GNU -
+urlcheck: the formats: gnu caret json github sarif checkstyle junit gitlab rdjson\nwords\n" 'x\n' lint --columns byte --format GNU -
 does 2 '' "urlcheck: no column unit is named ''\nurlcheck: the column units: code-points bytes utf16 screen\nwords\n" 'x\n' \
     lint --format sarif --columns= -
 does 2 '' "$(no_base 0 no-scheme 'it has no scheme')" 'x\n' lint --base x -

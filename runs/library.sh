@@ -56,10 +56,10 @@ gcc -std=c99 -D_XOPEN_SOURCE=600 "${strict[@]}" "${sanitized[@]}" -I "$include" 
 gcc -std=c99 "${strict[@]}" "${sanitized[@]}" -I "$include" lint.c "$archive" -o "$room/lint"
 gcc -std=c99 "${strict[@]}" "${sanitized[@]}" -I "$include" calls.c "$archive" -o "$room/calls"
 "$room/calls"
-formats=(gnu caret json github sarif checkstyle) units=(code-points bytes utf16 screen) reports=0
+formats=(gnu caret json github sarif checkstyle junit gitlab rdjson) units=(code-points bytes utf16 screen) reports=0
 for format in "${!formats[@]}"; do
     for unit in "${!units[@]}"; do
-        case ${formats[format]}-${units[unit]} in sarif-bytes | sarif-screen) continue ;; esac
+        case ${formats[format]}-${units[unit]} in sarif-bytes | sarif-screen | rdjson-[!b]*) continue ;; esac
         "$program" lint --quiet --format "${formats[format]}" --columns "${units[unit]}" "$room/lines" >"$room/wanted" ||
             [ $? = 1 ]
         "$room/lint" "$room/lines" "$room/lines" "$format" "$unit" | cmp - "$room/wanted"

@@ -17,7 +17,7 @@ reports 1 "$against" '' --base=http://h/
 wide='1 ok http://h/a\n2 ok http://h/\n3 ok http://x_y/\nlinks 3 ok 3 bad 0 differs 0\n'
 reports 0 "$wide" '' --wide --base http://h/
 reports 0 "${wide//h\//h_\/}" '' --wide --base http://h_/
-reports 2 '' "$(no_base 7 host-domain 'U+005F LOW LINE may not stand in a domain')" --base http://h_/
+reports 2 '' "$(no_base 7 host-domain 'U+005F LOW LINE may not stand in a domain; --profile wide takes it')" --base http://h_/
 reports 2 '' "$(no_base 7 host-missing 'a host has to stand here')" --base http://
 
 # An accepted line has the text that the second parser gives too. Each is worked out by hand from the URL Standard's
@@ -100,11 +100,12 @@ reports 0 'links 0 ok 0 bad 0 differs 0\n' ''
 printf 'http://h/\303\n' >"$room/list"
 reports 1 '1 bad 0 not-utf8\nlinks 1 ok 0 bad 1 differs 0\n' ''
 reports 1 '1 bad 0 not-utf8\nlinks 1 ok 0 bad 1 differs 0\n' '' --wide
+by_returns="urlcheck: standard input ends its lines by CR alone: tr '\\\\r' '\\\\n' <FILE | urlcheck links\\n"
 printf 'a\r' >"$room/list"
-reports 1 '1 bad 1 code-point\nlinks 1 ok 0 bad 1 differs 0\n' '' --base http://h/
-reports 1 '1 bad 1 code-point\nlinks 1 ok 0 bad 1 differs 0\n' '' --wide --base http://h/
+reports 1 '1 bad 1 code-point\nlinks 1 ok 0 bad 1 differs 0\n' "$by_returns" --base http://h/
+reports 1 '1 bad 1 code-point\nlinks 1 ok 0 bad 1 differs 0\n' "$by_returns" --wide --base http://h/
 printf 'http://h/a\r' >"$room/list"
-reports 1 '1 bad 10 code-point\nlinks 1 ok 0 bad 1 differs 0\n' ''
+reports 1 '1 bad 10 code-point\nlinks 1 ok 0 bad 1 differs 0\n' "$by_returns"
 printf 'urn:a\nurn:b' >"$room/list"
 reports 0 '1 ok urn:a\n2 ok urn:b\nlinks 2 ok 2 bad 0 differs 0\n' ''
 

@@ -5,7 +5,7 @@ printf 'http://h/a b\n\nhttp://ok/\r\nhttp://x_y/\n\xff\nnope' >"$room/links.txt
 printf 'https:///a\n' >"$room/other.txt"
 printf 'http://h/\n\n\r\nurn:a\n' >"$room/right.txt"
 first='links.txt:1:11: error: U+0020 SPACE may not stand in a URL [code-point]\n'
-underscore='links.txt:4:8: error: U+005F LOW LINE may not stand in a domain [host-domain]\n'
+underscore='links.txt:4:8: error: U+005F LOW LINE may not stand in a domain; --profile wide takes it [host-domain]\n'
 bytes="links.txt:5:1: error: this line isn't UTF-8 [not-utf8]\\n"
 last='links.txt:6:1: error: there is no scheme and no base [no-scheme]\n'
 other='other.txt:1:9: error: a host has to stand here [host-missing]\n'
@@ -51,7 +51,7 @@ places=$("$program" check --all 'http://a b:x/ %' | awk '{ print "1:" $2 + 1 " [
 [ "$(wc -l <"$room/out")" -gt 2 ] || fail "lint --all: it wrote $(cat "$room/out")"
 expect 2 '' "$(no_base 7 host-domain 'U+0020 SPACE may not stand in a domain')" lint --base 'http://h a/' links.txt
 expect 2 '' "$(no_base 0 no-scheme 'it has no scheme')" lint --base '' missing.txt
-formats='urlcheck: the formats: gnu caret json github sarif checkstyle\nwords\n'
+formats='urlcheck: the formats: gnu caret json github sarif checkstyle junit gitlab rdjson\nwords\n'
 for name in GNU gnu, gn jsan checkstle sarfi; do
     near=gnu
     case $name in j*) near=json ;; c*) near=checkstyle ;; s*) near=sarif ;; esac
@@ -75,7 +75,8 @@ expect 1 "$(columns_of columns.txt:1 23 24 26)\\n" '' lint -q --all --columns by
 expect 1 "$(columns_of columns.txt:1 16 17 19)\\n" '' lint -q --all --columns=utf16 columns.txt
 expect 1 "$(columns_of columns.txt:1 17 18 26)\\n" '' lint -q --all --columns screen columns.txt
 # Each format has them, the caret stands where it did, and SARIF says what they count, if it has a word for it.
-for shown in 'caret columns.txt:1:23:' 'json "column":23,' 'github ,col=23,' 'checkstyle column="23"'; do
+for shown in 'caret columns.txt:1:23:' 'json "column":23,' 'github ,col=23,' 'checkstyle column="23"' \
+    'junit name="1:23 code-point"' 'rdjson "start":{"column":23,"line":1}'; do
     "$program" lint -q --columns bytes --format "${shown%% *}" "$room/columns.txt" >"$room/out" 2>"$room/err"
     ends_with 1 $? '' "lint --columns bytes as ${shown%% *}"
     grep -qF "${shown#* }" "$room/out" || fail "lint --columns bytes: $(cat "$room/out")"
@@ -94,6 +95,14 @@ for unit in bytes screen; do
     expect 2 '' "urlcheck: sarif doesn't take the column unit $unit
 urlcheck: the column units of sarif: code-points utf16\nwords\n" lint --base 'a b' --format sarif --columns $unit columns.txt
 done
+for unit in code-points utf16 screen; do
+    expect 2 '' "urlcheck: rdjson doesn't take the column unit $unit
+urlcheck: the column units of rdjson: bytes\nwords\n" lint --base 'a b' --format rdjson --columns $unit columns.txt
+done
+# Without a unit columns count what they do in the format.
+"$program" lint -q --format rdjson "$room/columns.txt" >"$room/out" 2>"$room/err"
+ends_with 1 $? '' 'lint as rdjson'
+grep -qF '"range":{"end":{"column":24,"line":1},"start":{"column":23,"line":1}}' "$room/out" || fail "lint as rdjson: $(cat "$room/out")"
 units='urlcheck: the column units: code-points bytes utf16 screen\nwords\n'
 for name in byte,bytes utf-16,utf16 Screen,screen codepoints,code-points; do
     expect 2 '' "urlcheck: no column unit is named '${name%,*}'; the nearest is ${name#*,}\n$units" \
@@ -120,11 +129,11 @@ points.txt:2:5: error: U+FDD0 <noncharacter> may not stand in a URL [code-point]
 # Credentials: the place and the rule are those of a host or a port, and the sentence says what is wrong. An `@` behind
 # the authority's end is none.
 printf 'http://user:pw@h/\nhttp://u@h/\nfoo://u@h/\nhttp://x_y/@\nfoo://a^b?@\nhttp://h:8x#@\n' >"$room/credentials.txt"
-sentence='a URL string has no credentials: no user name, password or @ before its host'
+sentence='a URL string has no credentials: no user name, password or @ before its host; leave them out'
 expect 1 "credentials.txt:1:13: error: $sentence [port-digit]
 credentials.txt:2:8: error: $sentence [host-domain]
 credentials.txt:3:8: error: $sentence [host-code-point]
-credentials.txt:4:8: error: U+005F LOW LINE may not stand in a domain [host-domain]
+credentials.txt:4:8: error: U+005F LOW LINE may not stand in a domain; --profile wide takes it [host-domain]
 credentials.txt:5:8: error: U+005E CIRCUMFLEX ACCENT may not stand in a host [host-code-point]
 credentials.txt:6:11: error: U+0078 LATIN SMALL LETTER X is no digit of a port [port-digit]
 " 'urlcheck: 6 lines, 6 refused\n' lint credentials.txt
@@ -152,7 +161,7 @@ with written("txt") as text, written("caret") as caret, written("json") as json:
         cut, link = ("true", part) if number == 7 else ("false", line)
         mended = line.replace("^", "%5E")
         json.write(f'{{"column":{column},"cut":{cut},"file":"long.txt","kind":"escaped","line":{number},"mended":"{mended}",'
-            f'"message":"{sentence}","rule":"code-point","text":"{link}"}}\n')
+            f'"message":"{sentence}","offered":true,"rule":"code-point","text":"{link}"}}\n')
 PYTHON
 for format in caret json; do
     (cd "$room" && "$program" lint --format $format long.txt) >"$room/out" 2>"$room/err"
@@ -174,7 +183,7 @@ http://h/a b %
 mended.txt:1:14: error: $percent
 http://h/a b %
              ^
-mended.txt:2:8: error: U+005F LOW LINE may not stand in a domain [host-domain]
+mended.txt:2:8: error: U+005F LOW LINE may not stand in a domain; --profile wide takes it [host-domain]
 http://x_y/
        ^
 mended.txt:3:13: error: $percent
@@ -208,11 +217,48 @@ mends_to '--profile parser' '1 11 escaped http://h/a%20b%20%25' '2 12 same http:
 mends_to '--base http://h/' '1 11 escaped http://h/a%20b%20%25' '2 8 None None' '3 2 same a%20b' '4 6 changed http://a'
 mends_to '--all' '1 11 escaped http://h/a%20b%20%25' '1 13 None None' '1 14 None None' '2 8 None None' '2 12 None None' \
     '3 1 None None' '3 2 None None' '4 6 same http://a'
-for format in gnu github checkstyle; do
+for format in gnu github checkstyle gitlab; do
     (cd "$room" && "$program" lint --quiet --format $format mended.txt) >"$room/out" 2>"$room/err"
     ends_with 1 $? '' "mended texts as $format"
     ! grep -q 'http://h/' "$room/out" || fail "mended texts as $format: it wrote $(cat "$room/out")"
 done
+
+# Texts whose authors likely meant something else than what they are mended to: that is named and not offered, and the
+# sentence says what was likely meant.
+printf '%s\n' https://wixtoolset.org//documentation/ http://http://x 'C:\Users\x' 'https://example.com/{{ id }}' \
+    >"$room/meant.txt"
+empty="the path's first segment is empty, and others follow it"
+template='; this looks like a template: check what it makes [code-point]'
+expect 1 "meant.txt:1:24: error: $empty; --profile wide takes it; write one slash where two weren't meant [first-segment-empty]
+https://wixtoolset.org//documentation/
+                       ^
+note: the same URL, written validly, is https://wixtoolset.org/.//documentation/
+meant.txt:2:14: error: $empty; this has two schemes: write one of them [first-segment-empty]
+http://http://x
+             ^
+note: the same URL, written validly, is http://http:/.//x
+meant.txt:3:3: error: U+005C REVERSE SOLIDUS may not stand in a URL; this looks like a path of Windows, whose URL begins \
+with file:/// [code-point]
+C:\\Users\\x
+  ^
+note: the same text, percent-encoded, is C:%5CUsers%5Cx
+meant.txt:4:21: error: U+007B LEFT CURLY BRACKET may not stand in a URL$template
+https://example.com/{{ id }}
+                    ^
+note: the same URL, written validly, is https://example.com/%7B%7B%20id%20%7D%7D
+" 'urlcheck: 4 lines, 4 refused\n' lint --format caret meant.txt
+printf 'http://h/a b\n' >>"$room/meant.txt"
+# offers FORMAT READER ANSWER : of the five texts, this program reads these of the report in this format
+offers() {
+    (cd "$room" && "$program" lint --quiet --format "$1" meant.txt) >"$room/out" 2>"$room/err"
+    ends_with 1 $? '' "offered texts as $1"
+    [ "$(python3 -c "$2" <"$room/out")" = "$3" ] || fail "offered texts as $1: $(cat "$room/out")"
+}
+offers json 'import json, sys
+print(*(json.loads(line)["offered"] for line in sys.stdin))' 'False False False False True'
+offers sarif 'import json, sys
+print(*("fixes" in result for result in json.load(sys.stdin)["runs"][0]["results"]))' 'False False False False True'
+rm -f "$room/meant.txt"
 
 # The fixes of SARIF, made by a program that isn't ours, give lines that are valid, in a list and where a link stands.
 cat >"$room/fixed.py" <<'PYTHON'
@@ -321,6 +367,9 @@ urlcheck: other.txt/x: can't be read: a part of its path is no folder\\nurlcheck
     lint . '' other.txt other.txt/x
 expect 2 '' "urlcheck: /proc/self/mem: can't be read\\nurlcheck: 2 lines, 0 refused\\n" lint /proc/self/mem right.txt
 expect 2 '' "urlcheck: missing: can't be read: there is no such file\\n" lint --quiet missing right.txt
+ln -s circle "$room/circle"
+expect 2 '' "urlcheck: circle: can't be read: its symbolic links lead in a circle\\n" lint --quiet circle right.txt
+rm "$room/circle"
 expect 2 '' "urlcheck: a\\0357\\0277\\0275[2J\\0357\\0277\\0275b: can't be read: there is no such file\\n\
 urlcheck: 0 lines, 0 refused\\n" lint $'a\e[2J\nb'
 printf '\xff\n' >"$room/other.html"
@@ -331,7 +380,7 @@ chmod 000 "$room/links.txt"
 as_nobody=()
 if [ "$(id -u)" = 0 ]; then as_nobody=(setpriv --reuid=65534 --regid=65534 --clear-groups); fi
 (cd "$room" && "${as_nobody[@]}" ./program lint links.txt other.txt) >"$room/out" 2>"$room/err"
-ends_with 2 $? "urlcheck: links.txt: can't be read: it may not be read\\nurlcheck: 1 line, 1 refused\\n" \
+ends_with 2 $? "urlcheck: links.txt: can't be read: permission denied\\nurlcheck: 1 line, 1 refused\\n" \
     'lint of a file that may not be read'
 printf '%b' "$other" | cmp -s - "$room/out" || fail "lint of a file that isn't permitted: it wrote $(cat "$room/out")"
 chmod 644 "$room/links.txt"
@@ -396,7 +445,7 @@ for name in 'two words ' 'two  words' 'a b' 'a%2520b' "${name_255%n}" $'e\u0301\
 done
 expect 2 '' "urlcheck: right.txt/: can't be read: a part of its path is no folder\\n" lint -q right.txt/
 expect 2 '' "urlcheck: folder/: can't be read: it is a folder\\n$of_folders" lint -q folder/
-expect 2 '' "urlcheck: ${name_255}n: can't be read\\n" lint -q "${name_255}n"
+expect 2 '' "urlcheck: ${name_255}n: can't be read: its name is too long\\n" lint -q "${name_255}n"
 for name in "${names[@]}"; do rm -f -- "$room/$name"; done
 printf 'x\n' >"$room/"$'ends\n'
 expect 1 'ends\0357\0277\0275:1:1: error: there is no scheme and no base [no-scheme]\n' '' lint -q $'ends\n'
@@ -443,11 +492,11 @@ rm -f "$room/long"
 
 # An output that takes nothing stops the lint: no further file is opened. So it is in each format, also where nothing is
 # found and a document alone would be written.
-for format in gnu caret json github sarif checkstyle; do
+for format in gnu caret json github sarif checkstyle junit gitlab rdjson; do
     (cd "$room" && "$program" lint --quiet --format $format links.txt missing) >/dev/full 2>"$room/err"
     ends_with 3 $? "${no_space}write\\n" "lint --format $format to a full device"
 done
-for format in sarif checkstyle; do
+for format in sarif checkstyle junit gitlab rdjson; do
     (cd "$room" && "$program" lint --format $format right.txt) >/dev/full 2>"$room/err"
     ended=$?
     count=$((count + 1))
@@ -469,7 +518,7 @@ for name in ("plain", "a,b:c%d.txt", "<&\"'>.txt", "\x1b[2J\u202e.txt", "two wor
     open(sys.argv[1] + "/" + name, "wb").write(text)
 PYTHON
 hostile=(plain 'a,b:c%d.txt' "<&\"'>.txt" $'\e[2J\u202e.txt' 'two words' $'b\u00fccher')
-for format in gnu caret json github sarif checkstyle; do
+for format in gnu caret json github sarif checkstyle junit gitlab rdjson; do
     (cd "$room" && "$program" lint --all --format $format "${hostile[@]}") >"$room/hostile.$format" 2>"$room/err"
     ended=$?
     count=$((count + 1))
@@ -500,7 +549,10 @@ sees_spoiled() {
 }
 sees_spoiled diagnostics hostile readers 'gnu s/:1: error/:2: error/' 'caret s/^ \( *\)^$/\1^/' \
     'json s/"column":1,/"column":2,/' 'github s/col=1,/col=2,/' 'sarif s/"startColumn":1,/"startColumn":2,/' \
-    'checkstyle s/column="1"/column="2"/'
+    'sarif s/"endColumn":2,/"endColumn":3,/' 'sarif s/urlcheckText\/v1":"./&0/' 'checkstyle s/column="1"/column="2"/' \
+    'junit s/name="1:1 /name="1:2 /' 'junit s/<failure type="code-point"/<failure type="percent"/' \
+    'gitlab s/"begin":1}/"begin":2}/' 'gitlab s/"fingerprint":"../&0/' 'rdjson s/"start":{"column":1,/"start":{"column":2,/' \
+    'rdjson s/"text":"urn:/"text":"urm:/'
 
 # Lines that say where their links stand: FILE is all before the first run of two numbers, which are from 1 to 2^32 - 1; an
 # empty link is judged, an empty line isn't. What isn't of the form is reported by the list's own name and line.
@@ -544,7 +596,7 @@ for format in json caret; do
     (cd "$room" && "$program" lint --all --quiet --format $format alone.txt) >"$room/alone.$format" 2>"$room/err"
     ends_with 1 $? '' "links alone as $format"
 done
-for format in gnu caret json github sarif checkstyle; do
+for format in gnu caret json github sarif checkstyle junit gitlab rdjson; do
     (cd "$room" && "$program" lint --all --quiet --located --format $format located.txt) >"$room/located.$format" 2>"$room/err"
     ends_with 1 $? '' "located links as $format"
 done
@@ -553,7 +605,8 @@ located_readers=(python3 "$here/located_readers.py" "$room" read)
 "${located_readers[@]}" >"$room/out" 2>&1 || fail "readers of located links: $(cat "$room/out")"
 sees_spoiled 'located links' located located_readers 'gnu s/:12:34: error/:12:35: error/' 'caret s/^ \( *\)^$/\1^/' \
     'json s/"column":34,/"column":35,/' 'github s/col=34,/col=35,/' 'sarif s/"startColumn":34,/"startColumn":35,/' \
-    'checkstyle s/column="34"/column="35"/'
+    'checkstyle s/column="34"/column="35"/' 'junit s/name="12:34 /name="12:35 /' 'gitlab s/"begin":12}/"begin":13}/' \
+    'rdjson s/"line":12}/"line":13}/g'
 rm -f "$room"/located* "$room"/alone.*
 
 # Memory is flat: a million lines, of which each hundredth is wrong, in an address space of 10 MB.
@@ -567,4 +620,4 @@ if has prlimit 1; then
         fail "lint of a million lines: it ends with $(tail -n 1 "$room/out")"
 fi
 rm -f "$room/million" "$room"/hostile.* "$room"/none.*
-all_cases 228
+all_cases 262

@@ -3,6 +3,7 @@
     lint_readers.py DIR FILE..: in DIR stand hostile.FORMAT, of these FILEs, and none.FORMAT, of files without a fault.
 """
 
+import hashlib
 import json
 import re
 import sys
@@ -54,6 +55,8 @@ POINT = re.compile("^U\\+([0-9A-F]{4,6}) ?(.*) (may not stand in a URL|may not s
 
 
 # A mended text stands at the first diagnostic of its line. What its kind means, as the fixes of SARIF say it.
+NAMED = {"same": "note: the same URL, written validly, is ", "escaped": "note: the same text, percent-encoded, is ",
+         "changed": "note: a valid URL string that is near it is "}
 KINDS = {"same": "write the same URL as a valid URL string", "escaped": "percent-encode what may not stand in a URL string",
          "changed": "write a valid URL string, which may be another URL"}
 
@@ -67,6 +70,26 @@ def names_point(sentence, c):
     if "\ufdd0" <= c <= "\ufdef" or ord(c) % 0x10000 >= 0xFFFE:
         return m[2] == "<noncharacter>"
     return m[2] == ("" if HIDDEN.match(c) else c)
+
+
+# What a text shows that its author meant, as the sentence says it behind what is wrong.
+TEMPLATE = "; this looks like a template: check what it makes"
+WINDOWS = "; this looks like a path of Windows, whose URL begins with file:///"
+TWICE = "; this has two schemes: write one of them"
+JOINED = "; --profile wide takes it; write one slash where two weren't meant"
+SCHEME = "(?:https?|ftp|wss?|file)"
+
+
+def meant(text):
+    if re.search(r"\{\{|\{%|\$\{|<%|%s", text):
+        return TEMPLATE
+    if re.match(r"[A-Za-z]:\\|\\\\(?s:.)", text):
+        return WINDOWS
+    return TWICE if re.match(f"{SCHEME}:/{{0,2}}{SCHEME}:?//", text, re.A | re.I) else ""
+
+
+def is_offered(text, instead):
+    return not meant(text) and not ("/.//" in instead and "/.//" not in text)
 
 
 def text_of(one):
@@ -87,11 +110,12 @@ for entry in read("hostile.json").split("\n")[:-1]:
     one = json.loads(entry)
     members = ["column", "cut", "file", "line", "message", "rule", "text"]
     if "mended" in one:
-        members += ["kind", "mended"]
+        members += ["kind", "mended", "offered"]
+        want(one["offered"] is is_offered(text_of(one), one["mended"]), f"json: offered of line {one['line']}")
         want(not found or found[-1][:2] != (one["file"], one["line"]), f"json: line {one['line']} is mended twice")
         want(one["kind"] in KINDS, f"json: the kind {one['kind']}")
     want(sorted(one) == sorted(members), f"json: members {sorted(one)}")
-    mended.append((one["kind"], one["mended"]) if "mended" in one else None)
+    mended.append((one["kind"], one["mended"], one["offered"]) if "mended" in one else None)
     found.append((one["file"], one["line"], one["column"], one["rule"], one["message"]))
     text, place = text_of(one), one["column"] - 1
     texts.append(text)
@@ -99,7 +123,11 @@ for entry in read("hostile.json").split("\n")[:-1]:
     want(one["text"] == (window(text, place)[0] if one["cut"] else text), f"json: the text of line {one['line']}")
     want(0 <= place <= len(text), f"json: column {one['column']} of line {one['line']}")
     if one["rule"] in ("code-point", "host-code-point", "port-digit", "percent"):
-        want(names_point(one["message"], text[place]), f"json: {one['message']} of line {one['line']}")
+        said = one["message"].removesuffix(meant(text))
+        want(names_point(said, text[place]), f"json: {one['message']} of line {one['line']}")
+    elif one["rule"] not in ("not-utf8", "line-too-long"):
+        note = meant(text) or (JOINED if one["rule"] == "first-segment-empty" else "")
+        want(one["message"].endswith(note), f"json: {one['message']} of line {one['line']}")
     if one["rule"] == "not-utf8":
         want(place == foreign_place(lines[one["file"]][one["line"] - 1]), f"json: column {one['column']} of line {one['line']}")
 want(len(found) > 14 * len(names), f"json: {len(found)} diagnostics")
@@ -109,6 +137,16 @@ want([name for name in names if name in {one[0] for one in found}] == names, "js
 want(found == sorted(found, key=lambda one: (names.index(one[0]), one[1])), "json: the order")
 rules = {one[3] for one in found}
 want({"not-utf8", "line-too-long", "code-point", "percent", "no-scheme"} <= rules, f"json: the rules {rules}")
+
+# What a report carries of each text: the whole of it, or where it is cut what is shown of it.
+carried = [window(text, one[2] - 1)[0] if len(text) > 2000 else text for one, text in zip(found, texts)]
+
+
+def end_place(one, text):
+    """The place at which what is wrong ends: behind the code point that violates a rule, where there is one."""
+    place = one[2] - 1
+    return min(place + 1, len(text)) if one[3] not in ("not-utf8", "line-too-long") else place
+
 
 # GNU: FILE:LINE:COLUMN: error: SENTENCE [RULE], which Emacs and vim (`%f:%l:%v: error: %m`) match so. Nothing but line
 # feeds controls a terminal.
@@ -142,7 +180,8 @@ for one, text, it, head in zip(found, texts, mended, read("hostile.gnu").split("
     padding = "".join(width(c) for c in line[:place])
     want(caret == padding + "^", f"caret: {one} below {line[:40]!r} stands {caret[:40]!r}")
     if it:
-        want(next(rows, "") == "help: write " + shown(window(it[1], one[2] - 1)[0]), f"caret: {one}: no help, or another")
+        words = "help: write " if it[2] else NAMED[it[0]]
+        want(next(rows, "") == words + shown(window(it[1], one[2] - 1)[0]), f"caret: {one}: no help, or another")
 want(next(rows, None) is None, "caret: further lines")
 
 # GitHub: workflow commands, whose values are read back by what the runner's own reader does.
@@ -167,7 +206,8 @@ def sarif(text):
     want(len(ids) == 17 == len(set(ids)), f"sarif: the rules {ids}")
     for rule in driver["rules"]:
         want(rule["shortDescription"]["text"] and rule["help"] == rule["fullDescription"], "sarif: a rule")
-        want(re.match("https://url\\.spec\\.whatwg\\.org/#[a-z0-9-]+$", rule["helpUri"]), "sarif: a rule's address")
+        want(re.match("https://url\\.spec\\.whatwg\\.org/#[a-z0-9-]+$", rule["properties"]["section"]), "sarif: a rule's section")
+        want(rule["helpUri"].startswith(driver["informationUri"] + "docs/"), "sarif: a rule's page")
     told = []
     for result in run["results"]:
         (location,) = result["locations"]
@@ -177,6 +217,8 @@ def sarif(text):
         want(urlsplit(uri)[:2] == ("", "") and urlsplit(uri).path == uri, f"sarif: {uri} is no path")
         links.append((result["properties"]["cut"], result["properties"]["text"]))
         fixes.append((place["artifactLocation"], place["region"]["startLine"], result.get("fixes")))
+        ends.append(place["region"]["endColumn"])
+        fingerprints.append(result["partialFingerprints"])
         told.append((unquote(uri, errors="strict"), place["region"]["startLine"], place["region"]["startColumn"],
                      result["ruleId"], result["message"]["text"]))
     return told
@@ -189,10 +231,20 @@ def fix_of(place, line, text, kind, written):
     return [{"description": {"text": KINDS[kind]}, "artifactChanges": [{"artifactLocation": place, "replacements": [replacement]}]}]
 
 
-links, fixes = [], []
+links, fixes, ends, fingerprints = [], [], [], []
 want(sarif(read("hostile.sarif")) == found, "sarif: other diagnostics")
+want(ends == [end_place(*it) + 1 for it in zip(found, texts)], "sarif: other ends")
+
+
+def digest(text):
+    return hashlib.sha256(text.encode()).hexdigest()
+
+
+# The fingerprint of the rule, the place and what is carried of the text, wherever that stands.
+keys = [f"{one[3]}\n{one[2] - 1}\n{text}" for one, text in zip(found, carried)]
+want(fingerprints == [{"urlcheckText/v1": digest(key)} for key in keys], "sarif: other fingerprints")
 for (place, line, fix), text, it in zip(fixes, texts, mended):
-    want(fix == (fix_of(place, line, text, *it) if it else None), f"sarif: the fix of line {line}")
+    want(fix == (fix_of(place, line, text, *it[:2]) if it and it[2] else None), f"sarif: the fix of line {line}")
 want(links == [(one["cut"], one["text"]) for one in map(json.loads, read("hostile.json").split("\n")[:-1])],
      "sarif: other links")
 want(sarif(read("none.sarif")) == [], "sarif: results without a fault")
@@ -215,6 +267,72 @@ def checkstyle(text):
 want(checkstyle(read("hostile.checkstyle"))
      == [(xml_shown(one[0]),) + one[1:4] + (xml_shown(one[4]),) for one in found], "checkstyle: other diagnostics")
 want(checkstyle(read("none.checkstyle")) == [], "checkstyle: errors without a fault")
+
+# JUnit: a suite for each file, whose first test passes and whose others fail, and one for the run.
+def junit(text):
+    document = ElementTree.fromstring(text)
+    want((document.tag, document.get("name")) == ("testsuites", "urlcheck"), "junit: the document")
+    *suites, run = document
+    want([run.get("name"), [(case.get("name"), len(case)) for case in run]] == ["urlcheck", [("run", 0)]], "junit: the run")
+    told = []
+    for suite in suites:
+        file = suite.get("name")
+        first, *cases = suite
+        want((first.get("classname"), first.get("name"), len(first)) == (file, "file", 0), "junit: the test of a file")
+        want(all(case.tag == "testcase" and case.get("classname") == file for case in suite), "junit: a test of another file")
+        for case in cases:
+            (failure,) = case
+            line, column, rule = re.match("([0-9]+):([0-9]+) ([a-z0-9-]+)$", case.get("name")).groups()
+            want(failure.tag == "failure" and failure.get("type") == rule, "junit: the rule of a failure")
+            told.append((file, int(line), int(column), rule, failure.get("message"), failure.text or ""))
+    return [suite.get("name") for suite in suites], told
+
+
+wanted = [(xml_shown(one[0]),) + one[1:4] + (xml_shown(one[4]), xml_shown(text)) for one, text in zip(found, carried)]
+want(junit(read("hostile.junit")) == ([xml_shown(name) for name in names], wanted), "junit: other diagnostics")
+want(junit(read("none.junit")) == (["right.txt"], []), "junit: failures without a fault")
+
+# GitLab: an array of issues, each with the members that its documentation names, and a fingerprint of its own.
+issues = json.loads(read("hostile.gitlab"))
+told, marks = [], set()
+for one, key in zip(issues, keys):
+    want(sorted(one) == ["check_name", "description", "fingerprint", "location", "severity"], "gitlab: the members")
+    file, line = one["location"]["path"], one["location"]["lines"]["begin"]
+    want(one["severity"] in ("info", "minor", "major", "critical", "blocker"), "gitlab: the severity")
+    told.append((file, line, one["check_name"], one["description"]))
+    marks.add(one["fingerprint"])
+want(told == [(one[0], one[1], one[3], one[4]) for one in found], "gitlab: other diagnostics")
+want(len(marks) == len(issues) == len(found), "gitlab: fingerprints that aren't distinct")
+want([one["fingerprint"] for one in issues]
+     == [digest(f"{one[1]}\n{one[2]}\n{json.dumps(one[0], ensure_ascii=False)}\n{key}") for one, key in zip(found, keys)],
+     "gitlab: other fingerprints")
+want(json.loads(read("none.gitlab")) == [], "gitlab: issues without a fault")
+
+
+# reviewdog: its columns are bytes of UTF-8, and the end of a range stands behind what is in it.
+def column(text, place):
+    return len(text[:place].encode()) + 1
+
+
+def position(line, text, place):
+    return {"line": line, "column": column(text, place)}
+
+
+def suggestions(one, text, it):
+    return [{"range": {"start": position(one[1], text, 0), "end": position(one[1], text, len(text))}, "text": it[1]}]
+
+
+document = json.loads(read("hostile.rdjson"))
+want(sorted(document) == ["diagnostics", "severity", "source"] and document["source"]["name"] == "urlcheck", "rdjson: the document")
+for said, one, text, it in zip(document["diagnostics"], found, texts, mended):
+    place = one[2] - 1
+    where = {"start": position(one[1], text, place), "end": position(one[1], text, end_place(one, text))}
+    want(said["location"] == {"path": one[0], "range": where}, f"rdjson: where line {one[1]} is wrong")
+    want((said["message"], said["severity"], said["code"]["value"]) == (one[4], "ERROR", one[3]), "rdjson: other diagnostics")
+    want(said["code"]["url"].startswith(document["source"]["url"] + "docs/"), "rdjson: the page of a rule")
+    want(said.get("suggestions") == (suggestions(one, text, it) if it else None), f"rdjson: the suggestion of line {one[1]}")
+want(len(document["diagnostics"]) == len(found), "rdjson: more diagnostics, or fewer")
+want(json.loads(read("none.rdjson"))["diagnostics"] == [], "rdjson: diagnostics without a fault")
 want(all(read(f"none.{kind}") == "" for kind in ("gnu", "caret", "json", "github")), "lines without a fault")
 
 print("\n".join(failures[:20]))

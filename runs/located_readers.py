@@ -136,19 +136,38 @@ def checkstyle(text):
                    error.get("source")[len("urlcheck."):], error.get("message"))
 
 
+def junit(text):
+    for suite in list(ElementTree.fromstring(text))[:-1]:
+        passed, failed = suite
+        assert not len(passed), "the test of a file fails"
+        line, column, rule = re.match("([0-9]+):([0-9]+) (.*)$", failed.get("name")).groups()
+        yield suite.get("name"), int(line), int(column), rule, failed[0].get("message")
+
+
+def gitlab(text):
+    for one in json.loads(text):
+        yield one["location"]["path"], one["location"]["lines"]["begin"], one["check_name"], one["description"]
+
+
+def rdjson(text):
+    for one in json.loads(text)["diagnostics"]:
+        place = one["location"]
+        yield place["path"], place["range"]["start"]["line"], one["code"]["value"], one["message"]
+
+
 def blocks(text):
     """The lines of each diagnostic with a caret: that of gnu, the link, the caret, and what to write, where that is said."""
     rows = text.split("\n")[:-1]
     while rows:
-        count = 4 if len(rows) > 3 and rows[3].startswith("help: write ") else 3
+        count = 4 if len(rows) > 3 and rows[3].startswith(("help: write ", "note: ")) else 3
         count = 1 if rows[0].endswith(" [line-too-long]") else count
         yield rows[:count]
         rows = rows[count:]
 
 
 def mended():
-    """What is written in place of the links alone, by the line."""
-    return {one["line"]: one["mended"] for one in map(json.loads, read("alone.json").split("\n")[:-1]) if "mended" in one}
+    """What is offered in place of the links alone, by the line."""
+    return {one["line"]: one["mended"] for one in map(json.loads, read("alone.json").split("\n")[:-1]) if one.get("offered")}
 
 
 def wanted_fixes():
@@ -175,9 +194,12 @@ def read_all():
     assert len(want) > 300, len(want)
     terminal = [(shown(one[0]),) + one[1:] for one in want]
     xml = [(xml_shown(one[0]),) + one[1:4] + (xml_shown(one[4]),) for one in want]
+    # (GitLab's issues have no column, and reviewdog's columns are bytes)
+    lines_alone = [one[:2] + one[3:] for one in want]
     failed = []
     for kind, reader, expected in [("gnu", gnu, terminal), ("json", of_json, want), ("github", github, want),
-                                   ("sarif", sarif, want), ("checkstyle", checkstyle, xml)]:
+                                   ("sarif", sarif, want), ("checkstyle", checkstyle, xml),
+                                   ("junit", junit, xml), ("gitlab", gitlab, lines_alone), ("rdjson", rdjson, lines_alone)]:
         try:
             found = list(reader(read(f"located.{kind}")))
         except Exception as error:
@@ -196,7 +218,7 @@ def read_all():
     found = list(fixes(read("located.sarif")))
     if found != list(wanted_fixes()) or len(found) < 50:
         failed.append(f"sarif: {len(found)} fixes")
-    written = [one["mended"] for one in map(json.loads, read("located.json").split("\n")[:-1]) if "mended" in one]
+    written = [one["mended"] for one in map(json.loads, read("located.json").split("\n")[:-1]) if one.get("offered")]
     if written != [one[4] for one in found]:
         failed.append(f"json: {len(written)} mended texts")
     print("\n".join(failed))

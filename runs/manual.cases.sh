@@ -107,7 +107,7 @@ completes 'made' vectors ma
 completes 'explain' help ex
 completes 'sarif' lint --format sa
 completes 'sarif' lint --format = sa
-completes 'gnu caret json github sarif checkstyle' lint --format =
+completes 'gnu caret json github sarif checkstyle junit gitlab rdjson' lint --format =
 completes '--format=sarif' lint --format=sa
 completes 'screen' lint --columns s
 completes 'code-points bytes utf16 screen' lint --columns =
@@ -132,7 +132,7 @@ completes '' --exclude ma
 completes 'wide' --profile w
 completes '--format' --fo
 completes 'sarif' --check --format s
-completes 'gnu caret json github sarif checkstyle' --format =
+completes 'gnu caret json github sarif checkstyle junit gitlab rdjson' --format =
 completes 'html xml markdown rst notebook epub css json-feed' --type =
 completes 'code-points bytes utf16 screen' --check --columns =
 completes 'screen' --columns s

@@ -53,6 +53,9 @@ mends '' same $' http://h/a\n' http://h/a same $'ht\ttp://h/a\r\nb' http://h/ab 
 mends '' same 'http://h/a\b' http://h/a/b same 'http:\\h\a' http://h/a same http:/h/a http://h/a same http:h/a http://h/a \
     same https:///h/a https://h/a same file:/a/b file:///a/b same file:a file:///a same 'file:\a' file:///a \
     same file:////a file:///.//a same http://h//a http://h/.//a same foo://h//a foo://h/.//a
+# Also where lint doesn't offer it, since something else was likely meant.
+mends '' same http://http://x http://http:/.//x same 'http://h/{{ x }}' http://h/%7B%7B%20x%20%7D%7D \
+    escaped 'C:\x' C:%5Cx escaped http://h/%s http://h/%25s
 mends '' same http://127.0.01/ http://127.0.0.1/ same http://a%2Db:80/x http://a-b:80/x \
     same $'http://\357\274\221.2.3.4/' http://1.2.3.4/ same 'http://0x7f.1?q#f' 'http://127.0.0.1?q#f' \
     same 'http://127.0.01//a b' http://127.0.0.1/.//a%20b

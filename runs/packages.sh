@@ -88,7 +88,7 @@ PYTHONPATH=$at/lib/$python python3 "$room/page.py" | cmp - "$room/page.py.out" |
 # (the package finds the library that was installed with it)
 printf '<a href="http://x_y/">\n' >"$room/page.html"
 { (cd "$room" && PYTHONPATH=$at/lib/$python python3 "$at/bin/urlcheck-documents" --check page.html 2>"$room/said") ||
-    [ $? = 1 ]; } | cmp - <(echo 'page.html:1:17: error: U+005F LOW LINE may not stand in a domain [host-domain]') ||
+    [ $? = 1 ]; } | cmp - <(echo 'page.html:1:17: error: U+005F LOW LINE may not stand in a domain; --profile wide takes it [host-domain]') ||
     { cat "$room/said"; fail "urlcheck-documents"; }
 told=$(PYTHONPATH=$at/lib/$python python3 -c 'import urlcheck; print(urlcheck.version())')
 [ "$told" = "$version" ] || fail "the library says that its version is $told"
@@ -125,6 +125,8 @@ fi
 
 # ---- the header
 
+number=$((10#${version%%.*} * 10000 + 10#$(cut -d. -f2 <<<"$version") * 100 + 10#${version##*.}))
+grep -qx "#define URLCHECK_VERSION $number" "$at/include/urlcheck.h" || fail "the header has another version than VERSION"
 printf '#include "urlcheck.h"\nint main(void) { return urlcheck_version() == 0; }\n' >"$room/header.c"
 cp "$room/header.c" "$room/header.cpp"
 strict=(-Wall -Wextra -Wpedantic -Wundef -Wconversion -Wshadow -Werror -fsyntax-only -I "$at/include")

@@ -37,16 +37,21 @@ in_sarif 'two results' "a b/"$'\xc3\xa9.md' <<'ROWS'
 /runs/0/tool/driver/rules/2/id "not-located"
 /runs/0/tool/driver/rules/7/id "host-domain"
 /runs/0/tool/driver/rules/16/id "percent"
-/runs/0/tool/driver/rules/7/helpUri "https://url.spec.whatwg.org/#valid-domain-string"
+/runs/0/tool/driver/informationUri "https://yuccaeave.example/urlcheck/"
+/runs/0/tool/driver/rules/0/helpUri "https://yuccaeave.example/urlcheck/docs/COMMANDS.html"
+/runs/0/tool/driver/rules/7/helpUri "https://yuccaeave.example/urlcheck/docs/rules/host-domain.html"
+/runs/0/tool/driver/rules/7/properties {"section": "https://url.spec.whatwg.org/#valid-domain-string"}
 /runs/0/tool/driver/rules/10/fullDescription/text "Under a scheme that isn't special a host has URL units, but no forbidden host code points."
 /runs/0/results/0/ruleIndex 7
 /runs/0/results/0/level "error"
 /runs/0/results/0/fixes
 /runs/0/results/0/locations/0/physicalLocation/region/startLine 3
 /runs/0/results/0/locations/0/physicalLocation/region/startColumn 8
+/runs/0/results/0/partialFingerprints {"urlcheckText/v1": "fda428217e20ecb1ca51b58ca5e3aec637890cc68db7f7359427e54b248268b7"}
+/runs/0/results/1/partialFingerprints {"urlcheckText/v1": "fda428217e20ecb1ca51b58ca5e3aec637890cc68db7f7359427e54b248268b7"}
 /runs/0/results/1/ruleId "host-domain"
 /runs/0/results/1/level "error"
-/runs/0/results/1/message/text "U+005F LOW LINE may not stand in a domain"
+/runs/0/results/1/message/text "U+005F LOW LINE may not stand in a domain; --profile wide takes it"
 /runs/0/results/1/properties/text "http://a_b/"
 /runs/0/results/1/locations/0/physicalLocation/artifactLocation/uri "a%20b/%C3%A9.md"
 /runs/0/results/2
@@ -56,7 +61,7 @@ ROWS
 rm -r "$room/a b"
 printf 'a b:3:40:http://h/a b\nf:4:1:urn:a b\nf:5:1:http:a\nf:6:1:http://a_b/\n' >"$room/list"
 in_sarif 'fixes' --located --base http://h/ list <<'ROWS'
-/runs/0/results/0/locations/0/physicalLocation/region {"startColumn": 50, "startLine": 3}
+/runs/0/results/0/locations/0/physicalLocation/region {"endColumn": 51, "startColumn": 50, "startLine": 3}
 /runs/0/results/0/fixes/0/description/text "write the same URL as a valid URL string"
 /runs/0/results/0/fixes/0/artifactChanges/0/artifactLocation/uri "a%20b"
 /runs/0/results/0/fixes/0/artifactChanges/0/replacements/0/insertedContent/text "http://h/a%20b"

@@ -155,7 +155,7 @@ if [ -n "${PACKAGE:-}" ]; then
     recipe site bash >../formats.sh
     recipe site yaml | sed -n 's/^ *run: //p' >../step.sh
     recipe feed sh >../feeds.sh
-    sentence='U+005F LOW LINE may not stand in a domain'
+    sentence='U+005F LOW LINE may not stand in a domain; --profile wide takes it'
     # (a runner runs a step so)
     for recipe in 'check.sh' 'formats.sh' '-e step.sh'; do
         script=../${recipe##* } options=${recipe%"${recipe##* }"}
@@ -250,7 +250,7 @@ ends 2 'faults without a file of known ones' sh ../new-faults.sh a.links
 ends 1 'faults of which none is known' sh ../new-faults.sh a.links
 cp ../out known.json
 says 'faults of which none is known' '{"cut":false,"file":"a.links","kind":"same","mended":"http://h/a%20b","message":'\
-'"U+0020 SPACE may not stand in a URL","rule":"code-point","text":"http://h/a b"}'
+'"U+0020 SPACE may not stand in a URL","offered":true,"rule":"code-point","text":"http://h/a b"}'
 ends 0 'known faults' sh ../new-faults.sh a.links
 printf '%s\n\nhttp://h/a b\n' $right >a.links
 ends 0 'known faults elsewhere' sh ../new-faults.sh a.links

@@ -202,7 +202,7 @@ chmod 000 "$room/vectors.json"
 as_nobody=()
 if [ "$(id -u)" = 0 ]; then as_nobody=(setpriv --reuid=65534 --regid=65534 --clear-groups); fi
 (cd "$room" && "${as_nobody[@]}" ./program vectors vectors.json) >"$room/out" 2>"$room/err"
-ends_with 3 $? "urlcheck: vectors.json: can't be read: it may not be read\\nread\\n" 'vectors, of a file that may not be read'
+ends_with 3 $? "urlcheck: vectors.json: can't be read: permission denied\\nread\\n" 'vectors, of a file that may not be read'
 rm -f "$room/vectors.json"
 
 # The output can't be written.

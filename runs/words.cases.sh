@@ -43,8 +43,10 @@ expect 2 '' "urlcheck: a value is required for '--profile <PROFILE>' but none wa
 refused "'b'" check -- --base b t
 refused "'chek'" chek urn:a
 no_file='urlcheck: links reads standard input, and takes no file: urlcheck links <FILE'
-# (the usage names the file of the program)
-usage="urlcheck: Usage: $(basename "$program") links [OPTIONS]\nurlcheck: For more information, try '--help'.\n"
+# usage_of WORDS : what is said of how a command is used: an option is one of those that may be left out, also where it is given
+usage_of() { printf '%s' "urlcheck: Usage: $1\nurlcheck: For more information, try '--help'.\n"; }
+usage=$(usage_of 'urlcheck links [--base <TEXT>] [OPTIONS]')
+of_one=$(usage_of 'urlcheck check [--base <TEXT>] [OPTIONS] <TEXT>')
 of_all='urlcheck: --all is an option of check and lint\n'
 expect 2 '' "urlcheck: unexpected argument 'x' found\n$usage$no_file\nwords\n" links x
 expect 2 '' "urlcheck: unexpected argument 'links.txt' found\n$usage$no_file\nwords\n" links --base http://h/ links.txt
@@ -89,8 +91,8 @@ expect 0 'valid\nscheme http\nhost domain a_b\nsegment x\n' '' check x --base ht
 expect 0 'valid\nscheme http\nhost domain a-b\nsegment \n' '' check --profile parser http://a%2Db/
 expect 0 'valid\nscheme http\nhost ipv4 1.0.0.2\nsegment x\n' '' check x --base http://1.2/ --profile=parser
 expect 0 'links 0 ok 0 bad 0 differs 0\n' '' links --base http://h_/ --profile wide
-expect 2 '' "$(no_base 7 host-domain 'U+005F LOW LINE may not stand in a domain')" links --profile=standard --base http://h_/
-expect 2 '' "$(no_base 7 host-domain 'U+0021 EXCLAMATION MARK may not stand in a domain')" links --wide --base http://h_!/
+expect 2 '' "$(no_base 7 host-domain 'U+005F LOW LINE may not stand in a domain; --profile wide takes it')" links --profile=standard --base http://h_/
+expect 2 '' "$(no_base 7 host-domain 'U+0021 EXCLAMATION MARK may not stand in a domain; --profile parser takes it')" links --wide --base http://h_!/
 expect 2 '' "$(no_base 7 host-domain 'U+0020 SPACE may not stand in a domain')" mend --profile parser --base 'http://h_! /' x
 expect 0 'mended same\na%20b\n' '' mend --base http://h_/ --wide 'a b'
 refused "'--parser'" check --parser urn:a
@@ -157,6 +159,30 @@ for word in http://h/ links.txt; do
     fi
 done
 
+# One that is near to a command, or abbreviates just one by its first letter and further ones in their order: that one, in place
+# of clap's tips. `version` is told to be an option.
+# no_command HINT WORD.. : these words are refused for the first of them, with this hint alone
+no_command() {
+    local hint=$1
+    shift
+    expect 2 '' "urlcheck: unrecognized subcommand '$1'\n$(usage_of "$(basename "$program") <COMMAND>")urlcheck: $hint\nwords\n" "$@"
+}
+for words in 'chk check' 'chek check' 'LINT lint' 'lnit lint' 'mnd mend' 'vec vectors' 'exp explain' 'lks links'; do
+    read -r word near <<<"$words"
+    no_command "no command is named '$word'; the nearest is $near" $word urn:a
+done
+no_command 'version is no command: write urlcheck --version' version
+# (two begin so, the first letter is another one, or the letters stand in another order)
+for word in ln hck vtc; do
+    (cd "$room" && "$program" $word) >"$room/out" 2>"$room/err" </dev/null
+    ended=$?
+    count=$((count + 1))
+    if [ $ended != 2 ] || grep -q 'no command is named' "$room/err" ||
+        [ "$(tail -n 2 "$room/err")" != $'urlcheck: check TEXT judges one text, and lint FILE the lines of a file\nwords' ]; then
+        fail "$word: status $ended, on standard error: $(cat "$room/err")"
+    fi
+done
+
 # A text that is cut at its spaces: a hint at quotes, but not where the last word looks like an option.
 # cut_up HINTS WORD.. : these words are refused for one too many, and so many lines hint at quotes, before the last one
 cut_up() {
@@ -181,9 +207,17 @@ cut_up 0 check --bogus a b
 cut_up 0 vectors a b
 cut_up 0 links a b
 
+# The usage shows no option that was given as one that has to be, nor does the help.
+expect 2 '' "urlcheck: unexpected argument 'b' found\n${of_one}urlcheck: check takes one TEXT: write it in single quotes where it has spaces\n\
+words\n" check --base http://h/ --wide a b
+expect 2 '' "urlcheck: unexpected argument 'b' found\n$(usage_of 'urlcheck mend [--base <TEXT>] [OPTIONS] [TEXT]')\
+urlcheck: mend takes one TEXT: write it in single quotes where it has spaces\nwords\n" mend --base http://h/ a b
+shows 'Usage: urlcheck lint [--base <TEXT>] [OPTIONS] <FILE>...' lint --help
+shows 'Usage: urlcheck links [--base <TEXT>] [OPTIONS]' help links
+
 # A lint without a file: a hint at standard input.
 expect 2 '' "urlcheck: the following required arguments were not provided:\nurlcheck:   <FILE>...\n\
-urlcheck: Usage: $(basename "$program") lint <FILE>...\nurlcheck: For more information, try '--help'.\n\
+$(usage_of 'urlcheck lint [--base <TEXT>] [OPTIONS] <FILE>...')\
 urlcheck: lint reads standard input as the FILE -\nwords\n" lint
 
 # An option that another command takes: which commands these are, in place of the tip to hand it over as a text.
@@ -208,12 +242,12 @@ of_others 'check and lint' mend --all x
 of_others 'lint and mend' check -q x
 of_others 'lint and mend' vectors --quiet
 of_others 'check, lint, links and mend' explain --base x
-expect 2 '' "urlcheck: unexpected argument '--format' found\n${usage/links \[OPTIONS\]/check --all <TEXT>}\
+expect 2 '' "urlcheck: unexpected argument '--format' found\n${of_one}\
 urlcheck: --format is an option of lint\nwords\n" check --all --format json x
-# (before the command it is told where it stands)
+# (before the command it is told where it stands; the usage of all names the file of the program)
 for words in '--format lint json lint x' '--wide check,_lint,_links_and_mend check x' '--all check_and_lint check x'; do
     read -r option takers words <<<"$words"
-    expect 2 '' "urlcheck: unexpected argument '$option' found\n${usage/links \[OPTIONS\]/<COMMAND>}\
+    expect 2 '' "urlcheck: unexpected argument '$option' found\n$(usage_of "$(basename "$program") <COMMAND>")\
 urlcheck: $option is an option of ${takers//_/ }, and stands behind the command\nwords\n" $option $words
 done
 # (one that none takes stands first, or no option does, or it stands behind --)
@@ -221,8 +255,8 @@ for words in '--bogus --format x' '-- --format x' '- --bogus --format'; do
     refused "unexpected argument '" check $words
     ! grep -q 'is an option' "$room/err" || fail "check $words: on standard error: $(cat "$room/err")"
 done
-expect 2 '' "urlcheck: unexpected argument '--format' found\nurlcheck: Usage: $(basename "$program") check \
-[OPTIONS] <TEXT>\nurlcheck: For more information, try '--help'.\nurlcheck: --format is an option of lint\nwords\n" check --base --format
+expect 2 '' "urlcheck: unexpected argument '--format' found\n$of_one""urlcheck: --format is an option of lint\nwords\n" \
+    check --base --format
 
 of_others lint check --stdin-name x y
 
@@ -249,6 +283,20 @@ nearest_is --columns lint --colums bytes links.txt
 nearest_is --stdin-name lint --stdin-nam=n -
 nearest_is --only mend --onyl same
 nearest_is --all lint --alll links.txt
+# (so is one that abbreviates just one of them: by its first letter, and by further ones in their order)
+nearest_is --format lint --fmt gnu links.txt
+nearest_is --format lint -f gnu links.txt
+nearest_is --columns lint --cl=bytes links.txt
+nearest_is --stdin-name lint --sin n -
+nearest_is --base links --BS http://h/
+for word in --fto --mat= --t; do
+    (cd "$room" && "$program" lint $word links.txt) >"$room/out" 2>"$room/err" </dev/null
+    ended=$?
+    count=$((count + 1))
+    if [ $ended != 2 ] || grep -q 'has no option' "$room/err" || [ "$(tail -n 1 "$room/err")" != words ]; then
+        fail "lint $word: on standard error: $(cat "$room/err")"
+    fi
+done
 # (of one that isn't near nothing is said, nor that links takes no file; behind -- none is an option)
 for words in '--bogus http://h/' '-x links.txt' '--only= same'; do
     (cd "$room" && "$program" links $words) >"$room/out" 2>"$room/err" </dev/null
@@ -324,7 +372,7 @@ for flag in --all --wide; do
     expect 1 'refused 8 drive-after-host\n' '' check $flag file://h/C:/x
     expect 0 'valid\nscheme http\nhost domain h\nsegment \n' '' check $flag --base http://x/a //h
 done
-expect 2 '' "$(no_base 7 host-domain 'U+005F LOW LINE may not stand in a domain')" check --base http://a_b/ x
+expect 2 '' "$(no_base 7 host-domain 'U+005F LOW LINE may not stand in a domain; --profile wide takes it')" check --base http://a_b/ x
 expect 0 'valid\nscheme http\nhost domain a_b\nsegment x\n' '' check --wide --base http://a_b/ x
 expect 1 'refused 7 host-domain\nrefused 11 code-point\n' '' check --all 'http://a_b/ '
 expect 1 'refused 11 code-point\n' '' check --all --wide 'http://a_b/ '
@@ -369,4 +417,4 @@ expect 0 'valid\nscheme file\nhost domain h\nsegment C:\nsegment x\n' '' check -
 expect 0 'valid\nscheme urn\nopaque a b\nfragment f\n' '' check --profile parser --base 'urn:a b' '#f'
 expect 2 '' "$(no_base 5 code-point 'U+0020 SPACE may not stand in a URL')" check --wide --base 'urn:a b' '#f'
 expect 2 '' "$(no_base 7 host-number 'the host that begins here ends in a number, and is no IPv4 address')" check --profile parser --base http://256/ x
-all_cases 273
+all_cases 297

@@ -230,6 +230,24 @@ class Served(unittest.TestCase):
         self.assertEqual(client.diagnostics(uri), [])
         self.assertEqual(client.end(), 0)
 
+    def test_what_is_not_offered(self):
+        """A text whose author likely meant something else has no action, and the hover names what it is mended to."""
+        client = self.start()
+        uri = "file:///nowhere/a.html"
+        client.open(uri, "<a href='{{ url }}'><a href='http://h//`a'><a href='b c'>")
+        said = [client.ask("textDocument/hover", {"textDocument": {"uri": uri}, "position": {"line": 0, "character": at}})
+                for at in (10, 32, 53)]
+        first, second, third = [it["result"]["contents"]["value"].split("\n\n") for it in said]
+        self.assertEqual(first[:2], ["**code-point**: U+007B LEFT CURLY BRACKET may not stand in a URL; this looks like a "
+                                     "template: check what it makes",
+                                     "The same URL, written validly, is ` %7B%7B%20url%20%7D%7D `."])
+        self.assertEqual(second[1], "The same URL, written validly, is ` http://h/.//%60a `.")
+        self.assertTrue(third[1].startswith("A path, query"))
+        self.assertEqual([it["title"] for it in client.actions(uri, at(0, 0, 99))], ["Write b%20c (the same URL)"])
+        (every,) = client.actions(uri, at(0, 0), only=["source.fixAll"])
+        self.assertEqual([it["newText"] for it in every["edit"]["changes"][uri]], ["b%20c"])
+        self.assertEqual(client.end(), 0)
+
     def test_settings(self):
         client = self.start({"profile": "wide", "severity": "hint", "ignore": ["^x"], "gfm": True, "noEmpty": True})
         uri = "file:///nowhere/a.md"

@@ -121,9 +121,12 @@ class Texts(PageCase):
         wanted = self.mended(example)
         instead = self.page.run(
             "const it = document.querySelector('#drawn .instead');"
-            "return it && ['mended ' + it.dataset.kind, it.querySelector('.try').textContent]"
+            "return it && ['mended ' + it.dataset.kind, it.querySelector('.try').textContent, it.firstChild.textContent]"
         )
-        self.assertEqual(instead, wanted, name)
+        self.assertEqual(instead and instead[:2], wanted, name)
+        # (of two slashes one may have been meant)
+        hint = "the same URL, written validly, is " if name == "first-segment-empty" else "write instead "
+        self.assertIn(instead and instead[2], (None, hint), name)
         for button in [".instead .try"] * (wanted is not None) + ["#faults .try:nth-of-type(2)"]:
             self.page.open(**state)
             self.page.find(button).click()

@@ -72,6 +72,59 @@ static urlcheck_fault_count faults(const text *given, const text *base, uint32_t
     return urlcheck_faults_against(given->bytes, given->length, base->bytes, base->length, profile, out, room);
 }
 
+static urlcheck_record resolve_record(const text *given, const text *base, uint32_t profile, int is_held, uint8_t *out,
+                                      size_t room) {
+    if (base->length == NONE) return urlcheck_resolve_record(given->bytes, given->length, profile, out, room);
+    if (is_held) {
+        urlcheck_base held = urlcheck_prepare(base->bytes, base->length, profile);
+        return urlcheck_resolve_record_with(given->bytes, given->length, &held, base->bytes, base->length, out, room);
+    }
+    return urlcheck_resolve_record_against(given->bytes, given->length, base->bytes, base->length, profile, out, room);
+}
+
+/* The end of a part that stands here, behind a delimiter in the text, or this place where it is absent. */
+static size_t behind(const uint8_t *whole, urlcheck_span part, size_t at, const char *mark) {
+    size_t front = strlen(mark);
+    if (!part.present) {
+        if (part.start || part.length) fail("a part that is absent has a place");
+        return at;
+    }
+    if (part.start != at + front || memcmp(whole + at, mark, front) != 0) fail("a part stands elsewhere in a record");
+    return part.start + part.length;
+}
+
+/* The parts of a record, with their delimiters, are its text, but for the `/.` before a path. */
+static void join_parts(const uint8_t *whole, size_t length, urlcheck_record record) {
+    urlcheck_spans parts = record.parts;
+    size_t at = behind(whole, parts.scheme, 0, "");
+    if (!parts.scheme.present || !parts.path.present || at >= length || whole[at] != ':') fail("no scheme of a record");
+    at = behind(whole, parts.port, behind(whole, parts.host, at + 1, "//"), ":");
+    if (!parts.host.present && parts.path.start == at + 2 && memcmp(whole + at, "/.//", 4) == 0) at += 2;
+    at = behind(whole, parts.query, behind(whole, parts.path, at, ""), "?");
+    if (behind(whole, parts.fragment, at, "#") != length) fail("the parts of a record aren't its text");
+    if ((record.host != 0) != parts.host.present) fail("a kind of no host");
+    if ((record.host == URLCHECK_EMPTY_HOST) != (parts.host.present && !parts.host.length)) fail("an empty host");
+    int is_slashed = parts.path.length && whole[parts.path.start] == '/';
+    if (record.opaque_path ? is_slashed : parts.path.length && !is_slashed) fail("a path of another kind");
+}
+
+/* The record with the places of its parts has the same text. */
+static void compare_record(const text *given, const text *base, uint32_t profile, urlcheck_finding found,
+                           const uint8_t *wanted, size_t length) {
+    for (int is_held = 0; is_held < 2; is_held++) {
+        uint8_t *out = malloc(length ? length : 1);
+        if (!out) fail("memory");
+        urlcheck_record asked = resolve_record(given, base, profile, is_held, NULL, 0);
+        urlcheck_record record = resolve_record(given, base, profile, is_held, out, length);
+        if (!is_same(record.found, found) || record.length != length || asked.length != length) fail("another record");
+        if (found.verdict == URLCHECK_VALID) {
+            if (memcmp(out, wanted, length) != 0) fail("another text of a record");
+            join_parts(out, length, record);
+        }
+        free(out);
+    }
+}
+
 /* The record's text, asked for with no room, and then with exactly the room that it needs. */
 static void print_record(const text *given, const text *base, uint32_t profile, urlcheck_finding found) {
     uint8_t small = 'x';
@@ -88,6 +141,7 @@ static void print_record(const text *given, const text *base, uint32_t profile, 
     } else if (written.length != 0) {
         fail("a length without a record");
     }
+    compare_record(given, base, profile, found, out, written.length);
     free(out);
 }
 
@@ -159,6 +213,10 @@ static void refuse_stray_bases(void) {
     if (urlcheck_check_with(bytes, 9, &held).found.verdict != URLCHECK_VALID) fail("a base that is held");
     held.profile = 3;
     if (urlcheck_check_with(bytes, 9, &held).found.verdict != URLCHECK_NO_BASE) fail("a base of no profile");
+    held.profile = URLCHECK_STANDARD, held.scheme = 6;
+    if (urlcheck_check_with(bytes, 9, &held).found.verdict != URLCHECK_NO_BASE) fail("a base of no kind");
+    held.found.verdict = URLCHECK_REFUSED;
+    if (urlcheck_check_with(bytes, 9, &held).found.verdict != URLCHECK_NO_BASE) fail("a base with the verdict of a text");
     if (urlcheck_check_with(bytes, 9, &zeros).found.verdict != URLCHECK_NO_BASE) fail("a base of zeros");
     if (urlcheck_check_with(bytes, 9, NULL).found.verdict != URLCHECK_NO_BASE) fail("a null base");
     if (urlcheck_faults_with(bytes, 9, NULL, NULL, 0).found.verdict != URLCHECK_NO_BASE) fail("a null base");
@@ -251,6 +309,7 @@ int main(int count, char **words) {
     void (*say)(const text *, const text *, uint32_t) = is_place ? place : is_mended ? mended : answer;
     if (count != 2 + is_place + is_mended) fail("usage: answers CASES [places|mended]");
     if (urlcheck_rule_name(URLCHECK_PERCENT, NULL, 0) != 7) fail("a null buffer changes the length of a name");
+    if (urlcheck_version() != URLCHECK_VERSION) fail("the header has another version than the library");
     refuse_stray_bases();
     FILE *file = fopen(words[1], "rb");
     if (!file) fail("the cases can't be opened");

@@ -1,6 +1,6 @@
 /*
- * Judges the lines of a file by the calls for many texts, and compares each row with what a call on that text alone
- * says: batches FILE [time]. Then hands in what is wrong: each is an outcome of its own, and nothing is written. With
+ * Judges and resolves the lines of a file by the calls for many texts, and compares each row with what a call on that text
+ * alone says: batches FILE [time]. Then hands in what is wrong: each is an outcome of its own, and nothing is written. With
  * the word `time` it says how long a text takes by each call.
  */
 #include "urlcheck.h"
@@ -100,6 +100,63 @@ static void compare(const list *all, uint32_t profile, int is_narrow) {
     free(places);
 }
 
+/* By offsets of 64 bits or of 32: the two calls give the same. */
+static urlcheck_batch resolve_all(const list *all, uint32_t profile, int is_narrow, uint8_t *verdicts, uint8_t *rules,
+                                  uint64_t *places, uint64_t *ends, uint8_t *out, size_t room) {
+    return is_narrow ? urlcheck_resolve_many_32(all->texts, all->length, all->narrow, all->count, profile, verdicts,
+                                                rules, places, ends, out, room)
+                     : urlcheck_resolve_many(all->texts, all->length, all->wide, all->count, profile, verdicts, rules,
+                                             places, ends, out, room);
+}
+
+/* Of a row, the columns and the text have what urlcheck_resolve says of that text alone. */
+static void compare_resolved_row(const list *all, size_t row, uint32_t profile, const uint8_t *written, size_t length,
+                                 urlcheck_finding found) {
+    static uint8_t room[1 << 18];
+    urlcheck_resolved alone = urlcheck_resolve(all->texts + all->wide[row], all->wide[row + 1] - all->wide[row],
+                                               profile, room, sizeof room);
+    if (alone.length > sizeof room) fail("a text is too long for this run", row);
+    if (found.verdict != alone.found.verdict || found.rule != alone.found.rule || found.place != alone.found.place) {
+        fail("a row isn't the answer of resolve", row);
+    }
+    if (length != alone.length || (length && memcmp(written, room, length) != 0)) fail("another text of a record", row);
+}
+
+/* Each row is what urlcheck_resolve says of that text alone; the texts are written where they have exactly room. */
+static void compare_resolved(const list *all, uint32_t profile, int is_narrow) {
+    uint8_t *verdicts = taken(all->count, 1), *rules = taken(all->count, 1), small = 9;
+    uint64_t *places = taken(all->count, sizeof *places), *ends = taken(all->count + 1, sizeof *ends);
+    urlcheck_batch asked = resolve_all(all, profile, is_narrow, NULL, NULL, NULL, NULL, NULL, 0);
+    uint8_t *out = taken(asked.length, 1);
+    if (asked.length && resolve_all(all, profile, is_narrow, NULL, NULL, NULL, ends, &small, 0).length != asked.length) {
+        fail("columns change the length", asked.length);
+    }
+    if (small != 9 || ends[all->count] != asked.length) fail("no end of the texts without room for them", 0);
+    if (asked.length) {
+        memset(out, 7, asked.length);
+        resolve_all(all, profile, is_narrow, NULL, NULL, NULL, NULL, out, asked.length - 1);
+        for (size_t at = 0; at < asked.length; at++) {
+            if (out[at] != 7) fail("texts are written that don't fit", at);
+        }
+    }
+    urlcheck_batch answer = resolve_all(all, profile, is_narrow, verdicts, rules, places, ends, out, asked.length);
+    size_t valid = 0;
+    if (answer.outcome != URLCHECK_DONE || answer.row || answer.length != asked.length || ends[0] != 0) {
+        fail("the texts aren't resolved", 0);
+    }
+    for (size_t row = 0; row < all->count; row++) {
+        urlcheck_finding found = {verdicts[row], rules[row], (size_t)places[row], 0};
+        compare_resolved_row(all, row, profile, out + ends[row], (size_t)(ends[row + 1] - ends[row]), found);
+        valid += found.verdict == URLCHECK_VALID;
+    }
+    if (answer.valid != valid || asked.valid != valid) fail("another count of texts that denote a record", valid);
+    free(verdicts);
+    free(rules);
+    free(places);
+    free(ends);
+    free(out);
+}
+
 /* The refused lines, one after the other, are those that the check refuses. */
 static void walk(const list *all, uint32_t profile) {
     size_t from = 0, row = 0;
@@ -172,6 +229,32 @@ static void bad_input(void) {
     if (urlcheck_next_refused(text, 9, 0, 3).found.verdict != URLCHECK_NO_PROFILE) fail("a profile of no number", 3);
 }
 
+static void bad_resolving(void) {
+    const uint8_t *text = (const uint8_t *)"http://h/";
+    const uint64_t offsets[] = {0, 10}, whole[] = {0, 9}, longest = 9;
+    const uint32_t narrow[] = {4, 3};
+    uint8_t column = 7, out[9];
+    uint64_t ends[2] = {longest, longest};
+    memset(out, 7, sizeof out);
+    urlcheck_batch answer = urlcheck_resolve_many(text, 9, offsets, 1, 0, &column, NULL, NULL, ends, out, 9);
+    if (answer.outcome != URLCHECK_NO_OFFSETS || answer.row || answer.length) fail("wrong offsets are resolved", 0);
+    answer = urlcheck_resolve_many_32(text, 9, narrow, 1, 0, &column, NULL, NULL, ends, out, 9);
+    if (answer.outcome != URLCHECK_NO_OFFSETS) fail("wrong narrow offsets are resolved", 0);
+    answer = urlcheck_resolve_many(text, 9, whole, 1, 3, &column, NULL, NULL, ends, out, 9);
+    if (answer.outcome != URLCHECK_NO_PROFILE) fail("texts are resolved by no profile", 3);
+    if (urlcheck_resolve_many(NULL, 9, whole, 1, 0, &column, NULL, NULL, ends, out, 9).outcome != URLCHECK_NULL ||
+        urlcheck_resolve_many(text, 9, NULL, 1, 0, &column, NULL, NULL, ends, out, 9).outcome != URLCHECK_NULL ||
+        urlcheck_resolve_many_32(text, 9, NULL, 1, 0, &column, NULL, NULL, ends, out, 9).outcome != URLCHECK_NULL ||
+        urlcheck_resolve_many(text, 9, whole, 1, 0, &column, NULL, NULL, ends, NULL, 9).outcome != URLCHECK_NULL) {
+        fail("null is resolved", 0);
+    }
+    is_untouched(&column, 1);
+    is_untouched(out, sizeof out);
+    if (ends[0] != longest || ends[1] != longest) fail("ends are written for bad input", 0);
+    answer = urlcheck_resolve_many(NULL, 0, NULL, 0, 0, NULL, NULL, NULL, ends, NULL, 0);
+    if (answer.outcome != URLCHECK_DONE || answer.length || ends[0] != 0 || ends[1] != longest) fail("no texts", 0);
+}
+
 static double seconds(void) {
     struct timespec now;
     clock_gettime(CLOCK_PROCESS_CPUTIME_ID, &now);
@@ -213,10 +296,13 @@ int main(int count, char **words) {
     for (uint32_t profile = 0; profile < 3; profile++) {
         compare(&all, profile, 0);
         compare(&all, profile, 1);
+        compare_resolved(&all, profile, 0);
+        compare_resolved(&all, profile, 1);
         walk(&all, profile);
     }
     bad_input();
-    printf("batches: %zu texts, each row as the check of the text alone\n", all.count);
+    bad_resolving();
+    printf("batches: %zu texts, each row as the check, and the record, of the text alone\n", all.count);
     free(all.bytes);
     free(all.texts);
     free(all.wide);

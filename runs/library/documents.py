@@ -189,8 +189,8 @@ class Documents(Texts):
 <a href="foo://a^b"><a href="a b"><a href="x%4"><a href="a\x7f"><a href="a\u009f"><a href="a\ufdd0">
 """)
         self.assertEqual(self.run_on("--check", "a.html")[1].splitlines(), [
-            "a.html:1:19: error: a URL string has no credentials: no user name, password or @ before its host [port-digit]",
-            "a.html:1:41: error: a URL string has no credentials: no user name, password or @ before its host [host-domain]",
+            "a.html:1:19: error: a URL string has no credentials: no user name, password or @ before its host; leave them out [port-digit]",
+            "a.html:1:41: error: a URL string has no credentials: no user name, password or @ before its host; leave them out [host-domain]",
             "a.html:1:66: error: U+0078 LATIN SMALL LETTER X is no digit of a port [port-digit]",
             "a.html:2:17: error: U+005E CIRCUMFLEX ACCENT may not stand in a host [host-code-point]",
             "a.html:2:31: error: U+0020 SPACE may not stand in a URL [code-point]",
@@ -202,15 +202,16 @@ class Documents(Texts):
 
     def test_hosts(self):
         """Why a host is no valid domain, by each profile."""
-        empty, long = "a label of this domain is empty", "a label of this domain has more than 63 code points"
-        outer = "a label of this domain begins or ends with -"
-        inner = "a label of this domain has -- in its third and fourth place"
+        wide, parser = "; --profile wide takes it", "; --profile parser takes it"
+        empty, long = "a label of this domain is empty" + parser, "a label of this domain has more than 63 code points" + parser
+        outer = "a label of this domain begins or ends with -" + wide
+        inner = "a label of this domain has -- in its third and fourth place" + wide
         none, point = "the host that begins here is no valid domain", "U+{} may not stand in a domain"
         label = "a" * 64
         for profile, rows in (
             ("standard", (
-                ("exa mple.com/", point.format("0020 SPACE")), ("a%41/", point.format("0025 PERCENT SIGN")),
-                ("x.._!/", point.format("005F LOW LINE")), ("\u00e9_/", point.format("005F LOW LINE")),
+                ("exa mple.com/", point.format("0020 SPACE")), ("a%41/", point.format("0025 PERCENT SIGN") + parser),
+                ("x.._!/", point.format("005F LOW LINE") + wide), ("\u00e9_/", point.format("005F LOW LINE") + wide),
                 ("a^b:80", point.format("005E CIRCUMFLEX ACCENT")), ("a\x7fb?", point.format("007F DELETE")),
                 ("a..b/_", empty), (".", empty), (".a?_", empty), ("\u00e9..b:80", empty), ("a..", empty),
                 ("b." + label + "./", long), ("xn--" + label, none), ("a-:80/", outer), ("a.-b.c#_", outer),
@@ -218,7 +219,7 @@ class Documents(Texts):
                 ("-\u3002a/", none), ("\u00e9" * 64, none),
             )),
             ("wide", (
-                ("x_y!/", point.format("0021 EXCLAMATION MARK")), ("a..b/", empty), (label, long), ("xn--a-/", none),
+                ("x_y!/", point.format("0021 EXCLAMATION MARK") + parser), ("a..b/", empty), (label, long), ("xn--a-/", none),
             )),
             ("parser", (
                 ("x_y! z/", point.format("0020 SPACE")), ("a..%20/", none),
@@ -249,9 +250,9 @@ class Documents(Texts):
         self.assertEqual(status, 2)
         self.assertIn("the base is refused at place 0: it has no scheme [no-scheme]", said)
         for base, wanted in (
-            ("http://a_b/", "7: U+005F LOW LINE may not stand in a domain [host-domain]"),
+            ("http://a_b/", "7: U+005F LOW LINE may not stand in a domain; --profile wide takes it [host-domain]"),
             ("http://h/a b", "10: U+0020 SPACE may not stand in a URL [code-point]"),
-            ("http://u@h/", "7: a URL string has no credentials: no user name, password or @ before its host"),
+            ("http://u@h/", "7: a URL string has no credentials: no user name, password or @ before its host; leave them out"),
         ):
             status, _, said = self.run_on("--base", base, "none.html")
             self.assertEqual(status, 2)

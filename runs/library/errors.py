@@ -87,7 +87,7 @@ class Errors(unittest.TestCase):
 
     def test_what_is_said_of_a_text(self):
         refused = urlcheck.check("http://h_/\u65e5", None)
-        self.assertEqual(urlcheck.message("http://h_/", refused), "U+005F LOW LINE may not stand in a domain")
+        self.assertEqual(urlcheck.message("http://h_/", refused), "U+005F LOW LINE may not stand in a domain; --profile wide takes it")
         with self.assertRaises(urlcheck.BaseRefused) as base:
             urlcheck.Base("http://h/%")
         said = "U+0025 PERCENT SIGN has to be followed by two hex digits"
@@ -121,6 +121,7 @@ class Errors(unittest.TestCase):
     def test_reports(self):
         wrong = urlcheck.Diagnostic("a", 1, 2, "x y", "code-point", 1)
         self.assertEqual(urlcheck.FORMATS[:6], ("gnu", "caret", "json", "github", "sarif", "checkstyle"))
+        self.assertEqual(urlcheck.FORMATS[6:9], ("junit", "gitlab", "rdjson"))
         self.assertEqual(urlcheck.UNITS, ("code-points", "bytes", "utf16", "screen"))
         said = "a:1:2: error: U+0020 SPACE may not stand in a URL [code-point]\n"
         self.assertEqual(list(urlcheck.report([wrong])), ["", said, ""])
@@ -128,11 +129,12 @@ class Errors(unittest.TestCase):
             (([], "xml"), "no format is named 'xml': there are gnu, "),
             (([], "gnu", "points"), "no column unit is named 'points': there are code-points, "),
             (([], "sarif", "bytes"), "sarif doesn't take the column unit bytes"),
+            (([], "rdjson", "utf16"), "rdjson doesn't take the column unit utf16"),
         ):
             with self.subTest(words), self.assertRaisesRegex(ValueError, why):
                 urlcheck.report(*words)
         for field, value, error in (("place", 4, ValueError), ("place", -1, ValueError), ("line", 0, ValueError),
-                                    ("column", 1 << 32, ValueError), ("rule", "no-utf8", KeyError),
+                                    ("column", 1 << 32, ValueError), ("end", 1 << 32, ValueError), ("rule", "no-utf8", KeyError),
                                     ("profile", 9, ValueError), ("text", "\udfff", UnicodeEncodeError),
                                     ("file", "\udcff", UnicodeEncodeError)):
             with self.subTest(field), self.assertRaises(error):

@@ -17,10 +17,11 @@ import urlcheck
 from room import PROGRAM, Room
 
 LINT = [os.path.realpath(sys.argv.pop(1)), "lint", "--quiet", "--located"] if len(sys.argv) > 1 else []
-FORMATS = ("gnu", "caret", "json", "github", "sarif", "checkstyle")
+FORMATS = ("gnu", "caret", "json", "github", "sarif", "checkstyle", "junit", "gitlab", "rdjson")
 UNITS = ("code-points", "bytes", "utf16", "screen")
-UNITS_OF_FORMATS = ("screen", "code-points", "utf16", "bytes", "utf16", "screen")
+UNITS_OF_FORMATS = ("screen", "code-points", "utf16", "bytes", "utf16", "screen", "code-points", "utf16", "bytes")
 UNITS_OF_SARIF = {"code-points", "utf16"}
+UNITS_TAKEN = {"sarif": UNITS_OF_SARIF, "rdjson": {"bytes"}}
 BASE = "https://example.com/"
 
 RULES = ("http:/h", "http:///a", "http://a..b/", "http://256/", "http://[::1/", "foo://a^b", "http://h:x/",
@@ -54,15 +55,18 @@ class Compared(Reported):
     """Documents without a base of their own and without character references: `lint` writes the same."""
 
     def same(self, name, base=BASE, profile="standard", forms=FORMATS, unit="code-points"):
-        """How many links are refused of what is named, once each format was found to be that of `lint`."""
-        columns = () if unit == "code-points" else ("--columns", unit)
-        status, links, said = self.run_on("--quiet", *columns, "--", name)
-        self.assertEqual((status, said), (0, b""))
-        words = ("--base", base, "--profile", profile, *columns)
+        """How many links are refused of what is named, once each format was found to be that of `lint`: in this unit, or in
+        bytes where the format takes no other."""
+        words = ("--base", base, "--profile", profile)
         for form in forms:
-            with self.subTest(name=name, base=base, profile=profile, form=form, unit=unit):
-                status, wanted, _ = self.run_on(*words, "--format", form, "-", program=LINT, stdin=links)
-                found = self.run_on("--quiet", "--check", *words, "--format", form, "--", name)
+            own = "bytes" if form == "rdjson" else unit
+            columns = () if own == "code-points" else ("--columns", own)
+            status, links, said = self.run_on("--quiet", *columns, "--", name)
+            self.assertEqual((status, said), (0, b""))
+            with self.subTest(name=name, base=base, profile=profile, form=form, unit=own):
+                words_of = (*words, *columns, "--format", form)
+                status, wanted, _ = self.run_on(*words_of, "-", program=LINT, stdin=links)
+                found = self.run_on("--quiet", "--check", *words_of, "--", name)
                 if found != (status, wanted, b""):
                     self.fail(difference(found[1], wanted) or "it ends with {}: {}".format(found[0], found[2]))
         return len(self.run_on("--quiet", "--check", *words, "--", name)[1].splitlines())
@@ -88,10 +92,10 @@ class Compared(Reported):
         self.assertEqual(self.same("e", forms=FORMATS[1:]), 1)
 
     def test_columns_without_a_word(self):
-        """SARIF has no word for two units: they are refused as `lint` refuses them."""
+        """SARIF has no word for two units, and reviewdog counts bytes: others are refused as `lint` refuses them."""
         self.write("a.html", page(["a b"]))
-        for unit in sorted(set(UNITS) - UNITS_OF_SARIF):
-            words = ("--format", "sarif", "--columns", unit)
+        for form, unit in ((form, unit) for form, taken in UNITS_TAKEN.items() for unit in sorted(set(UNITS) - taken)):
+            words = ("--format", form, "--columns", unit)
             for base in (BASE, "no base"):
                 status, written, said = self.run_on("--base", base, *words, "-", program=LINT)
                 self.assertEqual((status, written), (2, b""))
@@ -126,7 +130,7 @@ class Alone(Reported):
         self.write("b.html", '<a href="http:a">')
         self.write("c.html", '<base href="urn:a">\n<a href="x"><a href="#x">')
         line = ('{"column":15,"cut":false,"file":"a.html","kind":"changed","line":2,"mended":"http://a",'
-                '"message":"// has to follow this scheme","rule":"two-slashes","text":"http:a"}\n')
+                '"message":"// has to follow this scheme","offered":true,"rule":"two-slashes","text":"http:a"}\n')
         self.assertEqual(self.reported("json", "a.html"), line)
         # Against a base of another scheme it is no reference, and is read as what is written in its place.
         line = line.replace("changed", "same").replace("a.html", "b.html").replace('"line":2', '"line":1')
@@ -161,10 +165,12 @@ class Alone(Reported):
         self.write("a.html", "<a href='a&amp;b c'><a href='?a&b c'>")
         first, second = self.reported("json", "a.html").splitlines()
         self.assertEqual(first, '{"column":17,"cut":false,"file":"a.html","kind":"same","line":1,"mended":"a&b%20c",'
-                         '"message":"U+0020 SPACE may not stand in a URL","rule":"code-point","text":"a&b c"}')
+                         '"message":"U+0020 SPACE may not stand in a URL","offered":true,"rule":"code-point","text":"a&b c"}')
         self.assertEqual(json.loads(second)["column"], 34)
         first, second = self.results("a.html")
-        self.assertEqual(first["locations"][0]["physicalLocation"]["region"], {"startColumn": 17, "startLine": 1})
+        # (the space, and below a reference of five code points)
+        region = {"endColumn": 18, "startColumn": 17, "startLine": 1}
+        self.assertEqual(first["locations"][0]["physicalLocation"]["region"], region)
         self.assertEqual((first["properties"]["text"], "fixes" in first), ("a&b c", False))
         self.assertEqual(second["fixes"], [self.fix("a.html", (1, 30, 1, 36), "?a&b%20c", "same")])
         caret = self.reported("caret", "a.html").splitlines()
@@ -172,7 +178,13 @@ class Alone(Reported):
         self.write("b.xml", "<urlset><loc>http://h/?a&amp;b c</loc></urlset>")
         (found,) = self.results("b.xml")
         self.assertNotIn("fixes", found)
-        self.assertEqual(found["locations"][0]["physicalLocation"]["region"], {"startColumn": 31, "startLine": 1})
+        region = {"endColumn": 32, "startColumn": 31, "startLine": 1}
+        self.assertEqual(found["locations"][0]["physicalLocation"]["region"], region)
+        self.write("d.html", "<a href='a&#94;b'>")
+        (found,) = self.results("d.html")
+        # The wrong code point is written as five, and ends behind them.
+        region = {"endColumn": 16, "startColumn": 11, "startLine": 1}
+        self.assertEqual(found["locations"][0]["physicalLocation"]["region"], region)
         # Without the tab `&amp;` would stand there, which is read as another link.
         self.write("c.html", "<a href='a&am\tp;'>")
         self.assertEqual(json.loads(self.reported("json", "c.html"))["mended"], "a&amp;")
@@ -184,6 +196,11 @@ class Alone(Reported):
         self.assertEqual((found["line"], found["column"], found["text"], found["mended"]), (2, 11, "a\nb^", "ab%5E"))
         self.assertEqual(found["message"], "U+000A LINE FEED may not stand in a URL")
         self.assertEqual(self.results("a.html")[0]["fixes"], [self.fix("a.html", (2, 10, 3, 3), "ab%5E", "same")])
+        (found,) = json.loads(self.reported("rdjson", "a.html"))["diagnostics"]
+        suggestion = {"range": {"start": {"line": 2, "column": 10}, "end": {"line": 3, "column": 3}}, "text": "ab%5E"}
+        self.assertEqual(found["suggestions"], [suggestion])
+        where = {"start": {"line": 2, "column": 11}, "end": {"line": 2, "column": 12}}
+        self.assertEqual(found["location"], {"path": "a.html", "range": where})
         self.assertEqual(self.reported("caret", "a.html").splitlines()[1:], ["a\ufffdb^", " ^", "help: write ab%5E"])
 
     def test_names(self):
@@ -222,6 +239,11 @@ class Alone(Reported):
         self.assertEqual(run["invocations"], [{"executionSuccessful": False, "toolExecutionNotifications": [
             {"level": "error", "message": {"text": "a file can't be read, which standard error names"}}]}])
         self.assertEqual(len(ElementTree.fromstring(self.reported("checkstyle", *names).encode())), 2)
+        *suites, run = ElementTree.fromstring(self.reported("junit", *names).encode())
+        # (a document without a wrong link has a test that passes; one that isn't read to its end none)
+        tests = [(suite.get("name"), [it.tag for test in suite for it in test]) for suite in suites]
+        self.assertEqual(tests, [("a.html", []), ("b.xml", ["failure"]), ("c.html", ["failure"])])
+        self.assertEqual([it.tag for test in run for it in test], ["error"])
         self.assertEqual(self.results("missing.html"), [])
         self.assertEqual(list(ElementTree.fromstring(self.reported("checkstyle", "missing.html").encode())), [])
 
@@ -269,7 +291,8 @@ class Alone(Reported):
                     kind = {"code-points": "unicodeCodePoints", "utf16": "utf16CodeUnits"}[unit]
                     self.assertEqual(run["columnKind"], kind)
                     where = run["results"][0]["locations"][0]["physicalLocation"]["region"]
-                    self.assertEqual(where, {"startLine": 1, "startColumn": place})
+                    # (the wrong space, which takes one column in each)
+                    self.assertEqual(where, {"startLine": 1, "startColumn": place, "endColumn": place + 1})
                     fix = self.fix("a.html", (1, link, 1, end), "x\u65e5%20\U0001f600", "same")
                     self.assertEqual(run["results"][0]["fixes"], [fix])
         for unit in ("bytes", "screen"):
@@ -305,7 +328,7 @@ class Alone(Reported):
 
     def test_output_that_takes_nothing(self):
         self.write("a.html", "<a href='x'>")
-        for form in ("sarif", "checkstyle"):
+        for form in ("sarif", "checkstyle", "junit", "gitlab", "rdjson"):
             for shut in (">&-", ">/dev/full"):
                 line = '"{}" -m urlcheck.documents --check --format {} a.html {}'.format(sys.executable, form, shut)
                 ran = subprocess.run(["bash", "-c", line], cwd=self.room, capture_output=True)

@@ -106,7 +106,8 @@ static void texts(int call) {
     it.has_region = (uint32_t)number() % 2;
     it.first_column = number();
     it.end_column = number();
-    const uint64_t numbers[] = {number() % 8, number() % 6};
+    it.end = number();
+    const uint64_t numbers[] = {number() % 11, number() % 6};
     uint8_t none = 'x';
     urlcheck_written asked = written(call, &it, numbers, &none, 0);
     must(none == 'x');

@@ -149,7 +149,7 @@ class Limits(Texts):
         ):
             status, _, said = self.run_on("--quiet", *words)
             self.assertEqual((status, said), (2, "urlcheck-documents: {}\n".format(wanted)))
-        for number, reason in ((errno.EACCES, "it may not be read"), (errno.EPERM, "it may not be read"),
+        for number, reason in ((errno.EACCES, "permission denied"), (errno.EPERM, "permission denied"),
                                (errno.EIO, os.strerror(errno.EIO)), (errno.EFBIG, "the file may not get larger")):
             self.assertEqual(reason_of(OSError(number, os.strerror(number))), reason)
         with open(os.path.join(TOP, "docs", "ERRORS.md"), encoding="utf-8") as page:

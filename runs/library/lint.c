@@ -137,6 +137,9 @@ static void report(const uint8_t *text, size_t length, uint64_t line, int *is_fi
         return;
     }
     it.violation.column = column(it.text, it.length, it.violation.place);
+    it.violation.end = it.violation.column;
+    if (it.violation.rule < URLCHECK_LINE_NO_UTF8 && it.violation.place < code_points(it.text, it.length))
+        it.violation.end = column(it.text, it.length, it.violation.place + 1);
     say(&it);
     if (format == URLCHECK_GNU) see_message(&it);
     *is_first = 0;

@@ -59,7 +59,7 @@ static uint32_t diagnostic(uint32_t format, uint8_t *out, size_t room) {
     urlcheck_violation it = {0};
     it.rule = URLCHECK_CODE_POINT;
     it.place = 13;
-    it.line = it.column = it.first_column = it.end_column = 1;
+    it.line = it.column = it.end = it.first_column = it.end_column = 1;
     it.kind = URLCHECK_CHANGED;
     it.has_region = 1;
     const uint8_t *wrong = (const uint8_t *)WRONG, *base = (const uint8_t *)BASE;
@@ -100,6 +100,20 @@ static uint32_t call(int kind, uint8_t *out, size_t room) {
         return outcome == URLCHECK_DONE ? verdict : outcome;
     }
     case 14: return urlcheck_next_refused(text, length, 0, URLCHECK_STANDARD).found.verdict;
+    case 15: return urlcheck_resolve_record(text, length, URLCHECK_WIDE, out, room).found.verdict;
+    case 16: {
+        const uint64_t offsets[] = {0, sizeof TEXT - 1};
+        uint8_t verdict = URLCHECK_DONE;
+        uint32_t outcome = urlcheck_resolve_many(text, length, offsets, 1, URLCHECK_STANDARD, &verdict, NULL, NULL,
+                                                 NULL, out, room)
+                               .outcome;
+        return outcome == URLCHECK_DONE ? verdict : outcome;
+    }
+    case 17: return diagnostic(URLCHECK_JUNIT, out, room);
+    case 18: return diagnostic(URLCHECK_GITLAB, out, room);
+    case 19: return diagnostic(URLCHECK_RDJSON, out, room);
+    case 20: return urlcheck_report_file_begin(URLCHECK_JUNIT, base, base_length, out, room).found.verdict;
+    case 21: return urlcheck_report_begin(URLCHECK_RDJSON, URLCHECK_BYTES, out, room).found.verdict;
     default:
         return urlcheck_mend_against(mendable, mendable_length, base, base_length, URLCHECK_WIDE, out, room)
             .found.verdict;
@@ -110,8 +124,8 @@ static uint32_t call(int kind, uint8_t *out, size_t room) {
 static uint32_t wanted(int kind) {
     if (kind < 4) return URLCHECK_VALID;
     if (kind < 6) return URLCHECK_REFUSED;
-    if (kind == 6 || kind == 13 || kind == 14) return URLCHECK_VALID;
-    return kind < 13 ? URLCHECK_DONE : URLCHECK_MENDED;
+    if (kind == 6 || (kind >= 13 && kind <= 16)) return URLCHECK_VALID;
+    return kind < 22 ? URLCHECK_DONE : URLCHECK_MENDED;
 }
 
 static void refuse_each(int kind) {
@@ -220,7 +234,7 @@ static void judge_100_mb(void) {
 }
 
 int main(void) {
-    for (int kind = 0; kind < 16; kind++) refuse_each(kind);
+    for (int kind = 0; kind < 23; kind++) refuse_each(kind);
     list_faults();
     judge_100_mb();
     return failed;

@@ -367,7 +367,7 @@ class Asked(Texts):
 
     def test_in_each_format(self):
         self.write("a.html", "<img src=''>")
-        for name in "gnu caret json github sarif checkstyle".split():
+        for name in "gnu caret json github sarif checkstyle junit gitlab rdjson".split():
             status, out, said = self.run_on("-q", "--check", "--format", name, "a.html")
             self.assertEqual((status, said), (1, ""))
             self.assertIn("empty", out)

@@ -182,13 +182,13 @@ class Words(Texts):
     def test_wrong_names(self):
         """A name that there isn't is told as by `urlcheck`, with the nearest one and all that there are."""
         self.write("a.html", "<a href='x y'>")
-        formats = "the formats: gnu caret json github sarif checkstyle"
+        formats = "the formats: gnu caret json github sarif checkstyle junit gitlab rdjson"
         units = "the column units: code-points bytes utf16 screen"
         profiles, kinds = "the profiles: standard wide parser", "the kinds: html xml markdown rst notebook epub css json-feed"
         for words, wanted, names in (
             (["--check", "--format", "sarfi"], "no format is named 'sarfi'; the nearest is sarif", formats),
             (["--check", "--format=JSON"], "no format is named 'JSON'; the nearest is json", formats),
-            (["--check", "--format", "junit"], "no format is named 'junit'", formats),
+            (["--check", "--format", "html"], "no format is named 'html'", formats),
             (["--check", "--format="], "no format is named ''", formats),
             (["--format", "xml"], "no format is named 'xml'", formats),
             (["--columns", "utf-16"], "no column unit is named 'utf-16'; the nearest is utf16", units),

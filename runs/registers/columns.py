@@ -104,6 +104,12 @@ class Lists(Compared):
         self.assertEqual(tuple(urlcheck.check_many(texts)), one_by_one(texts))
         self.assertEqual(tuple(urlcheck.mend_many(texts)), mended(texts))
 
+    def test_texts_that_grow(self):
+        """The texts of URLs that are three times as long as what denotes them, so that a second call has to write them."""
+        texts = ["http://h/" + number * "\u00e9" for number in (5000, 0, 7000)] + [None, "http://h/ "]
+        wanted = ["http://h/" + number * "%C3%A9" for number in (5000, 0, 7000)] + [None, None]
+        self.assertEqual(urlcheck.resolve_many(texts), wanted)
+
     def test_a_text_of_100_mb(self):
         text = "http://h/" + 100_000_000 * "a"
         found = urlcheck.check_many([text, text + " "])

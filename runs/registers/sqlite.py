@@ -129,9 +129,9 @@ class Registers(unittest.TestCase):
     def test_messages(self):
         """As `urlcheck lint` says them; in a text of more than 4096 bytes faults but the first one are said by their rules."""
         self.assertEqual(self.one("SELECT url_message('http://a_b/'), url_message('http://a_b/', NULL, 'wide')"),
-                         ("U+005F LOW LINE may not stand in a domain", None))
+                         ("U+005F LOW LINE may not stand in a domain; --profile wide takes it", None))
         self.assertEqual(self.one("SELECT url_message('http://u@h/', 'http://h/')"),
-                         "a URL string has no credentials: no user name, password or @ before its host")
+                         "a URL string has no credentials: no user name, password or @ before its host; leave them out")
         for length, said in ((4096, "U+005E CIRCUMFLEX ACCENT"), (4097, "this code point")):
             text = "http://h/".ljust(length - 1, "a") + "^"
             found = self.one("SELECT f.message, c.message, url_message(?1) FROM url_faults(?1) f, url_check(?1) c", text)
