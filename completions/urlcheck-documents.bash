@@ -7,7 +7,7 @@ _urlcheck_documents() {
     elif [[ $word == --*=* ]]; then previous=${word%%=*} option=$previous= word=${word#*=}; fi
     case $previous in
         --profile) words='standard wide parser' ;;
-        --format) words='gnu caret json github sarif checkstyle' ;;
+        --format) words='gnu caret json github sarif checkstyle junit gitlab rdjson' ;;
         --columns) words='code-points bytes utf16 screen' ;;
         --type) words='html xml markdown rst notebook epub css json-feed' ;;
         --ignore) takes_files=yes ;;

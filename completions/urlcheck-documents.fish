@@ -1,6 +1,6 @@
 # Completions of urlcheck-documents for fish.
 complete -c urlcheck-documents -l check -d 'Judge the links, and report those that are refused'
-complete -c urlcheck-documents -l format -x -a 'gnu caret json github sarif checkstyle' -d 'How --check reports them'
+complete -c urlcheck-documents -l format -x -a 'gnu caret json github sarif checkstyle junit gitlab rdjson' -d 'How --check reports them'
 complete -c urlcheck-documents -l columns -x -a 'code-points bytes utf16 screen' -d 'What columns count'
 complete -c urlcheck-documents -l base -x -d 'What references are relative to where their document names no base'
 complete -c urlcheck-documents -l profile -x -a 'standard wide parser' -d 'The profile to judge by'

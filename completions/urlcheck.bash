@@ -14,7 +14,7 @@ _urlcheck() {
         check:--profile) words='standard wide parser' is_value=yes ;;
         lint:--base) words='' is_value=yes ;;
         lint:--profile) words='standard wide parser' is_value=yes ;;
-        lint:--format) words='gnu caret json github sarif checkstyle' is_value=yes ;;
+        lint:--format) words='gnu caret json github sarif checkstyle junit gitlab rdjson' is_value=yes ;;
         lint:--columns) words='code-points bytes utf16 screen' is_value=yes ;;
         lint:--stdin-name) words='' is_value=yes ;;
         links:--base) words='' is_value=yes ;;
