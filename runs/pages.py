@@ -13,7 +13,7 @@ import subprocess
 import sys
 import tempfile
 
-README_LINES = 180
+README_LINES = 100
 FIRST_SCREEN = 32
 HEADLINE = (
     "where the checker says yes to a string, alone or against a base, the Standard's parser started on it runs to its"
@@ -234,7 +234,7 @@ def check_notice(top, wrong):
 def check_readme(top, text, wrong):
     lines = text.rstrip("\n").split("\n")
     if len(lines) > README_LINES:
-        wrong.append("README.md: {} lines, and not {}".format(len(lines), README_LINES))
+        wrong.append("README.md: {} lines, and at most {} are wanted".format(len(lines), README_LINES))
     version = (top / "VERSION").read_text(encoding="utf-8").strip()
     if "Version {},".format(version) not in text:
         wrong.append("README.md: it doesn't name the version of VERSION, {}".format(version))

@@ -56,6 +56,7 @@ spoiled() {
     fi
 }
 spoiled 'another output' 'urlcheck check ' "runs/pages.py commands $program" docs/PROFILES.md 's/^refused 22 percent$/refused 21 percent/'
+spoiled 'a long README' 'lines, and at most' 'runs/pages.py texts' README.md '$a \\nA line more.'
 spoiled 'a link to nowhere' 'a link to docs/COMMAND.md' 'runs/pages.py texts' README.md 's/(docs\/COMMANDS.md)/(docs\/COMMAND.md)/'
 spoiled 'an anchor to nowhere' 'no heading makes' 'runs/pages.py texts' docs/COMMANDS.md 's/(#vectors)/(#vector)/'
 spoiled 'a path to nowhere' 'librarian' 'runs/pages.py texts' docs/TRUST.md 's/`runs\/library.sh`/`runs\/librarian.sh`/'
