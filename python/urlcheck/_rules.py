@@ -1,9 +1,10 @@
 """What each rule asks, and where that stands: those of the URL Standard, and those of the formats of documents, by which no
 text is judged that stands alone."""
 
-from typing import Dict, NamedTuple
+from typing import Dict, NamedTuple, Optional
 
 from . import RULES, MendKind, explain
+from ._report import pages
 from ._source import Asks
 
 
@@ -17,6 +18,8 @@ class Rule(NamedTuple):
     """What it asks, in a sentence."""
     url: str
     """Where that stands."""
+    page: Optional[str] = None
+    """Its page among those of the project. A rule of a format has none."""
 
 
 EMPTY = "empty"
@@ -48,7 +51,7 @@ def rule_of(name: str) -> Rule:
     if name in OF_FORMATS:
         return OF_FORMATS[name]
     explained = explain(name)
-    return Rule(name, explained.sentence, explained.asks, explained.url)
+    return Rule(name, explained.sentence, explained.asks, explained.url, pages()[name].page)
 
 
 NAMES = (*RULES, *OF_FORMATS)

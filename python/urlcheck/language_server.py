@@ -416,8 +416,9 @@ def _span(range: Range) -> Json:
 
 
 def _diagnostic(found: Mistake, severity: int) -> Json:
+    rule = rule_of(found.rule)
     said = _said(found.range, severity, found.rule, found.message)
-    said["codeDescription"] = {"href": rule_of(found.rule).url}
+    said["codeDescription"] = {"href": rule.page or rule.url}
     return said
 
 

@@ -4,7 +4,9 @@ should send. The package is on PYTHONPATH."""
 import importlib.util
 import json
 import os
+import pathlib
 import random
+import re
 import subprocess
 import sys
 import tempfile
@@ -13,6 +15,9 @@ import unittest
 
 from urlcheck._editing import LinePlaces, Text, lines_of
 
+TOP = pathlib.Path(__file__).resolve().parent.parent.parent
+ADDRESSED = TOP / "crates" / "uv_report" / "src" / "page.rt"
+"""Where the address of the site is written, of which the server has no copy."""
 PROGRAM = [sys.executable, "-m", "urlcheck.language_server"]
 LINK = "[x](http://h/a^b)"
 
@@ -228,6 +233,24 @@ class Served(unittest.TestCase):
         self.assertEqual([it["newText"] for it in every["edit"]["changes"][uri]], ["b%5E", "d%5E"])
         client.tell("textDocument/didClose", {"textDocument": {"uri": uri}})
         self.assertEqual(client.diagnostics(uri), [])
+        self.assertEqual(client.end(), 0)
+
+    def test_pages_of_the_rules(self):
+        """A diagnostic leads to the page of its rule, and by a rule of a format to where that is written."""
+        (site,) = re.findall(r'^pub\(crate\) const ADDRESS: &str = "(.*)";$', ADDRESSED.read_text(encoding="utf-8"), re.M)
+        client = self.start()
+        lists = "x\nhttp:a\nhttps:///a\nhttp://a_b/\nhttp://256/\nhttp://[1]/\nfoo://a b/\nhttp://h:x/\nhttp://h:65536/\n"
+        lists += "http://h//a\nfile://h/C:/\nurn:a b\nhttp://h/%z\n"
+        rules = ["no-scheme", "two-slashes", "host-missing", "host-domain", "host-number", "host-ipv6", "host-code-point",
+                 "port-digit", "port-range", "first-segment-empty", "drive-after-host", "code-point", "percent"]
+        found = client.open("file:///nowhere/a.links", lists)
+        self.assertEqual([it["code"] for it in found], rules)
+        for it in found:
+            self.assertEqual(it["codeDescription"], {"href": "{}/docs/rules/{}.html".format(site, it["code"])})
+            self.assertTrue((TOP / "docs" / "rules" / (it["code"] + ".md")).exists())
+        (found,) = client.open("file:///nowhere/b.html", "<img src=''>")
+        self.assertEqual(found["code"], "empty")
+        self.assertTrue(found["codeDescription"]["href"].startswith("https://html.spec.whatwg.org/multipage/urls-and-fetching.html#"))
         self.assertEqual(client.end(), 0)
 
     def test_what_is_not_offered(self):

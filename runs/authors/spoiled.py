@@ -32,6 +32,7 @@ class Spoiled(NamedTuple):
 SERVER = ("pylsp_jsonrpc", "markdown_it", "docutils", "tinycss2")
 PLACES = ("server.py", "Served.test_kinds_and_places")
 CHANGES = ("server.py", "Served.test_changes_actions_and_hover")
+PAGES = ("server.py", "Served.test_pages_of_the_rules")
 SPHINX = ("builds.py", "Sphinx.test_each_link_at_its_place")
 
 COPIES = (
@@ -53,6 +54,8 @@ COPIES = (
             ("server.py", "Served.test_large_texts_and_many_changes"), SERVER),
     Spoiled("a change of a range is put at the line's end", "_editing.py", "self._lines[first][:before] + written",
             "self._lines[first] + written", ("server.py", "Texts.test_changes"), SERVER),
+    Spoiled("a diagnostic leads to the standard, and not to its rule's page", "language_server.py", "rule.page or rule.url", "rule.url",
+            PAGES, SERVER),
     Spoiled("a message of nonsense ends the server", "_rpc.py", "except (ValueError, RecursionError):", "except KeyError:", ("server.py", "Served.test_nonsense"), SERVER),
     Spoiled("a literal is sought from the first line on", "_literal.py", "start = source.offset(min(max(line, 1), ",
             "start = source.offset(min(1, ", SPHINX, ("sphinx",)),
