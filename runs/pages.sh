@@ -16,10 +16,11 @@ python3 "$top/runs/pages.py" texts || failed=1
 python3 "$top/runs/pages.py" commands "$program" || failed=1
 python3 "$top/runs/prose.py" || failed=1
 python3 "$top/bench/figures.py" || failed=1
-for picture in profiles:docs/profiles.py speed:bench/plot.sh; do
+for picture in profiles:docs/profiles.py speed:bench/plot.sh 'speed-short:bench/plot.sh --short'; do
+    read -ra words <<<"${picture#*:}"
     case $picture in
-        *.py) python3 "$top/${picture#*:}" ;;
-        *) bash "$top/${picture#*:}" ;;
+        *.py) python3 "$top/${words[0]}" ;;
+        *) bash "$top/${words[0]}" "${words[@]:1}" ;;
     esac >"$room/drawn.svg" || true
     [ -s "$room/drawn.svg" ] && cmp -s "$room/drawn.svg" "$top/docs/${picture%:*}.svg" ||
         { echo "FAILED: docs/${picture%:*}.svg is old; ${picture#*:} draws it anew, on standard output"; failed=1; }
