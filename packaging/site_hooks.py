@@ -1,6 +1,7 @@
 """What ./build-site adds to the pages of the site: a link from each to its source, which stands beside it as a text."""
 
 import posixpath
+import re
 import shutil
 from pathlib import Path
 from typing import Any
@@ -15,6 +16,16 @@ TITLE, OWN_TITLE = 'title="Edit this page"', 'title="The source of this page"'
 def source_of(path: str) -> str:
     """Where the source of a page stands in the site."""
     return f"{SOURCES}/{path}.txt"
+
+
+def on_page_markdown(markdown: str, page: Any, config: Any, files: Any) -> str:
+    """Writes a `|` in the code of a table without its backslash, which this reader of Markdown would show."""
+    lines = markdown.split("\n")
+    return "\n".join(re.sub("`[^`]*`", _without_backslash, it) if it.startswith("|") else it for it in lines)
+
+
+def _without_backslash(code: "re.Match[str]") -> str:
+    return code[0].replace("\\|", "|")
 
 
 def on_page_context(context: Any, page: Any, config: Any, nav: Any) -> Any:

@@ -1,13 +1,17 @@
 """The site that ./build-site has made.
 
-    site.py links SITE                  each link leads to a file, and to an anchor of it; nothing is loaded from elsewhere
-    site.py browser SITE [PICTURES]     in a headless Chromium: two widths, light and dark, the search, no error
+    site.py links SITE                  each link leads to a file, and to an anchor of it; nothing is loaded from elsewhere;
+                                        no table shows a backslash before a `|`
+    site.py looks SITE NAME..           these pages in a headless Chromium, in two widths, in light and dark: they fit the
+                                        width, each text has a contrast of 4.5, and there is no error
+    site.py browser SITE [PICTURES]     the same of some pages of each kind, and the search
 
 Where a folder PICTURES is given, a picture of each page that is opened is written there. It ends with 1 where something
 is wrong.
 """
 
 import html.parser
+import itertools
 import pathlib
 import sys
 import time
@@ -16,18 +20,28 @@ import urllib.parse
 # What a page loads: the tag, and the attribute that names it. (Other tags have links, which a reader follows.)
 LOADED = {("script", "src"), ("img", "src"), ("iframe", "src"), ("source", "src")}
 STYLES = ("stylesheet", "icon", "preload")
+BROWSER = pathlib.Path(__file__).resolve().parent.parent / "browser"
 WIDTHS = (320, 1280)
-PAGES = ("index", "docs/START", "docs/COMMANDS", "docs/guides/sphinx", "docs/PROFILES", "docs/FORMATS")
+PAGES = ("index", "docs/START", "docs/COMMANDS", "docs/guides/sphinx", "docs/rules/host-domain", "docs/PROFILES", "docs/FORMATS")
 
 
 class Links(html.parser.HTMLParser):
-    """The links of a page, what it loads, and its anchors."""
+    """The links of a page, what it loads, its anchors, and what the cells of its tables show."""
 
     def __init__(self):
         super().__init__()
-        self.links, self.loaded, self.anchors = [], [], set()
+        self.links, self.loaded, self.anchors, self.cells = [], [], set(), []
+        self.is_in_cell = False
+
+    def handle_data(self, data):
+        if self.is_in_cell:
+            self.cells.append(data)
+
+    def handle_endtag(self, tag):
+        self.is_in_cell = self.is_in_cell and tag != "td"
 
     def handle_starttag(self, tag, attributes):
+        self.is_in_cell = self.is_in_cell or tag == "td"
         said = dict(attributes)
         self.anchors.update(said[name] for name in ("id", "name") if said.get(name))
         for name in ("href", "src"):
@@ -53,6 +67,7 @@ def check_links(site):
         if "try" not in file.relative_to(site).parts:
             pages[file] = read(file)
     for file, page in pages.items():
+        wrong += ["{}: a table shows '{}'".format(file.relative_to(site), it) for it in page.cells if "\\|" in it]
         for target in page.links + page.loaded:
             parts = urllib.parse.urlsplit(target)
             if parts.scheme or parts.netloc:
@@ -73,7 +88,7 @@ def check_links(site):
     return wrong, "{} pages, {} links".format(len(pages), count)
 
 
-def check_page(browser, name, width, scheme, wrong):
+def check_page(browser, contrast, name, width, scheme, wrong):
     where = "{} at {} pixels, {}".format(name, width, scheme)
     wide, room, colours = browser.execute_script(
         "return [document.documentElement.scrollWidth, innerWidth, document.body.dataset.mdColorScheme]"
@@ -82,6 +97,9 @@ def check_page(browser, name, width, scheme, wrong):
         wrong.append("{}: it is {} pixels wide".format(where, wide))
     if colours != ("slate" if scheme == "dark" else "default"):
         wrong.append("{}: its colours are {}".format(where, colours))
+    poor = browser.execute_script(contrast)
+    if poor:
+        wrong.append("{}: little contrast: {}".format(where, [" ".join(it.split()) for it in poor[:3]]))
     for line in browser.get_log("browser"):
         wrong.append("{}: {}".format(where, line["message"]))
 
@@ -103,27 +121,34 @@ def check_search(browser, address, wrong):
         wrong.append("the search for 'first segment' finds {}".format(found))
 
 
-def check_browser(site, pictures):
-    sys.path.insert(0, str(pathlib.Path(__file__).resolve().parent.parent / "browser"))
+def check_looks(browser, shown_as, address, names, pictures):
+    """These pages in both widths and colours: what is wrong, and how many were looked at."""
+    contrast = (BROWSER / "contrast.js").read_text(encoding="utf-8")
+    wrong, count = [], 0
+    for width, scheme, name in itertools.product(WIDTHS, ("light", "dark"), names):
+        shown_as(browser, width, 900, scheme)
+        browser.get(address + name + ".html")
+        # (the colours that were chosen are kept, also where nobody chose them)
+        browser.execute_script("localStorage.clear()")
+        browser.refresh()
+        time.sleep(0.3)
+        check_page(browser, contrast, name, width, scheme, wrong)
+        count += 1
+        if pictures:
+            picture = "{}-{}-{}.png".format(name.replace("/", "-"), width, scheme)
+            browser.save_screenshot(str(pictures / picture))
+    return wrong, count
+
+
+def check_browser(site, names, pictures, is_searched):
+    sys.path.insert(0, str(BROWSER))
     from driver import chromium, served, shown_as
 
-    wrong, count = [], 0
     address = served({"site": str(site)}) + "site/"
     with chromium() as browser:
-        for width in WIDTHS:
-            for scheme in ("light", "dark"):
-                for name in PAGES:
-                    shown_as(browser, width, 900, scheme)
-                    browser.get(address + name + ".html")
-                    # (the colours that were chosen are kept, also where nobody chose them)
-                    browser.execute_script("localStorage.clear()")
-                    browser.refresh()
-                    time.sleep(0.3)
-                    check_page(browser, name, width, scheme, wrong)
-                    count += 1
-                    if pictures:
-                        picture = "{}-{}-{}.png".format(name.replace("/", "-"), width, scheme)
-                        browser.save_screenshot(str(pictures / picture))
+        wrong, count = check_looks(browser, shown_as, address, names, pictures)
+    if not is_searched:
+        return wrong, "{} pages in a browser".format(count)
     # (a browser that has left pages while they were loaded may not load what the search needs)
     with chromium() as browser:
         check_search(browser, address, wrong)
@@ -136,7 +161,9 @@ def main():
         wrong, what = check_links(pathlib.Path(words[1]).resolve())
     elif words[:1] == ["browser"] and len(words) in (2, 3):
         pictures = pathlib.Path(words[2]) if len(words) == 3 else None
-        wrong, what = check_browser(pathlib.Path(words[1]).resolve(), pictures)
+        wrong, what = check_browser(pathlib.Path(words[1]).resolve(), PAGES, pictures, True)
+    elif words[:1] == ["looks"] and len(words) > 2:
+        wrong, what = check_browser(pathlib.Path(words[1]).resolve(), words[2:], None, False)
     else:
         sys.exit(__doc__)
     for line in wrong:
