@@ -36,7 +36,8 @@ expect 1 "$first$bytes" 'urlcheck: 5 lines, 2 refused\n' lint --base=http://b/ -
 printf 'http://a%%2Db/\nhttp://1.2.3/\nurn:a b\nfile://\nhttp://0x1/\n' >"$room/parser.txt"
 number='parser.txt:5:8: error: the host that begins here ends in a number, and is no IPv4 address [host-number]\n'
 expect 1 "$number" 'urlcheck: 5 lines, 1 refused\n' lint --profile parser parser.txt
-expect 1 "parser.txt:1:8: error: U+0025 PERCENT SIGN may not stand in a domain [host-domain]\n${number//:5:/:2:}\
+expect 1 "parser.txt:1:8: error: U+0025 PERCENT SIGN may not stand in a domain; --profile parser takes it [host-domain]\n\
+${number//:5:/:2:}\
 parser.txt:3:6: error: U+0020 SPACE may not stand in a URL [code-point]\n\
 parser.txt:4:8: error: a host has to stand here [host-missing]\n$number" \
     'urlcheck: 5 lines, 5 refused\n' lint --wide parser.txt
@@ -239,7 +240,7 @@ http://http://x
 note: the same URL, written validly, is http://http:/.//x
 meant.txt:3:3: error: U+005C REVERSE SOLIDUS may not stand in a URL; this looks like a path of Windows, whose URL begins \
 with file:/// [code-point]
-C:\\Users\\x
+C:\\\\Users\\\\x
   ^
 note: the same text, percent-encoded, is C:%5CUsers%5Cx
 meant.txt:4:21: error: U+007B LEFT CURLY BRACKET may not stand in a URL$template
@@ -620,4 +621,4 @@ if has prlimit 1; then
         fail "lint of a million lines: it ends with $(tail -n 1 "$room/out")"
 fi
 rm -f "$room/million" "$room"/hostile.* "$room"/none.*
-all_cases 262
+all_cases 265
