@@ -109,7 +109,8 @@ static void diagnostics(void) {
           "a.md:3:15: error: U+0020 SPACE may not stand in a URL [code-point]\n");
     gives(diagnostic(URLCHECK_JSON, &it, "a.md", TEXT, MENDED),
           "{\"column\":15,\"cut\":false,\"file\":\"a.md\",\"kind\":\"same\",\"line\":3,\"mended\":\"http://h/a%20b\","
-          "\"message\":\"U+0020 SPACE may not stand in a URL\",\"rule\":\"code-point\",\"text\":\"http://h/a b\"}\n");
+          "\"message\":\"U+0020 SPACE may not stand in a URL\",\"offered\":true,\"rule\":\"code-point\","
+          "\"text\":\"http://h/a b\"}\n");
     urlcheck_written sarif = diagnostic(URLCHECK_SARIF, &it, "a.md", TEXT, MENDED);
     out[sarif.length] = 0;
     expect(strstr((char *)out, "\"deletedRegion\":{\"endColumn\":17,\"startColumn\":5,\"startLine\":3}") != NULL,
