@@ -1,9 +1,9 @@
 # Completions of urlcheck-documents for fish.
-complete -c urlcheck-documents -l check -d 'Judge the links, and report those that are refused'
+complete -c urlcheck-documents -l check -d 'Check the links, and report those that are refused'
 complete -c urlcheck-documents -l format -x -a 'gnu caret json github sarif checkstyle junit gitlab rdjson' -d 'How --check reports them'
 complete -c urlcheck-documents -l columns -x -a 'code-points bytes utf16 screen' -d 'What columns count'
 complete -c urlcheck-documents -l base -x -d 'What references are relative to where their document names no base'
-complete -c urlcheck-documents -l profile -x -a 'standard wide parser' -d 'The profile to judge by'
+complete -c urlcheck-documents -l profile -x -a 'standard wide parser' -d 'The profile to check by'
 complete -c urlcheck-documents -l type -x -a 'html xml markdown rst notebook epub css json-feed' -d 'The kind of all documents'
 complete -c urlcheck-documents -l ignore -r -d 'A file with regular expressions of links that are meant as they are'
 complete -c urlcheck-documents -l exclude -x -d 'A pattern of what is left out of a folder, by its name or its path below that folder'

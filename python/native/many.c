@@ -319,7 +319,7 @@ static int judge_list(state *state, PyObject *list, PyObject *missing, const ask
     }
     free(piece->data);
     free(piece);
-    if (done < count && !PyErr_Occurred()) PyErr_SetString(PyExc_RuntimeError, "the list changed while it was judged");
+    if (done < count && !PyErr_Occurred()) PyErr_SetString(PyExc_RuntimeError, "the list changed while it was checked");
     return done == count;
 }
 
@@ -386,7 +386,7 @@ static int make_list(state *state, PyObject *list, PyObject *missing, const aske
     free(made.data);
     free(piece->data);
     free(piece);
-    if (done < count && !PyErr_Occurred()) PyErr_SetString(PyExc_RuntimeError, "the list changed while it was judged");
+    if (done < count && !PyErr_Occurred()) PyErr_SetString(PyExc_RuntimeError, "the list changed while it was checked");
     return done == count;
 }
 

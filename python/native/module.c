@@ -58,7 +58,7 @@ static int read_held(state *state, PyObject *base, asked *asked) {
     if (length != sizeof asked->held) return 0;
     if (asked->profile != URLCHECK_STANDARD && asked->profile != asked->held.profile) {
         name = PyObject_GetAttrString(state->profiles[asked->held.profile % PROFILE_COUNT], "name");
-        if (name) PyErr_Format(PyExc_ValueError, "the base is judged by another profile: %U", name);
+        if (name) PyErr_Format(PyExc_ValueError, "the base was checked by another profile: %U", name);
         Py_XDECREF(name);
         return 0;
     }

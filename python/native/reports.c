@@ -51,7 +51,7 @@ static int is_given(urlcheck_finding found) {
         [URLCHECK_NO_RULE] = "no rule has this number",
         [URLCHECK_NO_KIND] = "no kind of mended text has this number",
         [URLCHECK_NO_COMPLETION] = "a report has no such end",
-        [URLCHECK_NO_PLACE] = "the place is behind the end of the text",
+        [URLCHECK_NO_PLACE] = "the place is after the end of the text",
         [URLCHECK_NO_COLUMN] = "a line or a column isn't from 1 to 4294967295",
     };
     const char *reason = NULL;

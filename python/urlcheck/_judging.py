@@ -190,7 +190,7 @@ class Judging:
             why = "takes more than {} seconds of processor time".format(MOST_SECONDS)
         elif why is None:
             why = "needs more than {} MiB of memory".format(MOST_MEMORY >> 20)
-        return Seen([], [Remark(((0, 0), (0, 0)), "can't be judged: " + why, True)])
+        return Seen([], [Remark(((0, 0), (0, 0)), "can't be checked: " + why, True)])
 
     def end(self) -> None:
         """Ends the process, if there is one."""

@@ -82,7 +82,7 @@ def _meant(name: str, error: OSError) -> str:
     ``urlcheck``."""
     if _URL.match(name):
         return ", and no URL is fetched"
-    return "; --check judges the links" if name in _COMMANDS and error.errno == errno.ENOENT else ""
+    return "; --check checks the links" if name in _COMMANDS and error.errno == errno.ENOENT else ""
 
 
 def _placed(places: Places, offset: int, reason: str, inner: str = "") -> Fault:
@@ -164,7 +164,7 @@ class Document:
             if name != "-" and not os.path.exists(name):
                 read_document(name)
             says = "it has no name that says its kind" if self.name == "-" else "its name's end says no kind"
-            more = "; urlcheck lint judges a list of links" if is_list(name) else ""
+            more = "; urlcheck lint checks a list of links" if is_list(name) else ""
             raise Unread(says + ": give --type html, xml, markdown or another kind" + more)
         if self._judge is None and _CONTROL.search(self.name):
             raise Unread("its name has a control, which no located line can hold")

@@ -63,7 +63,7 @@ _MOST_JOBS = 256
 _ABOUT = """\
 Prints the links of HTML, XML, Markdown, reStructuredText, notebooks, books and
 feeds as lines FILE:LINE:COLUMN:LINK, which 'urlcheck lint --located -' reads;
-with --check, judges how they are written. Nothing is fetched."""
+with --check, checks how they are written. Nothing is fetched."""
 
 _NOTES = """\
 A folder stands for all documents in it whose names end in
@@ -72,7 +72,7 @@ Folders in it that begin with . are left out, and node_modules. The
 configuration is .urlcheck.toml, or [tool.urlcheck] of pyproject.toml, in the
 folder of a document or above it.
 
-A reference is judged against the base that its document names, else against
+A reference is checked against the base that its document names, else against
 --base, else against {}. A link is left out where a comment
 on the line before it is 'urlcheck: ignore'.
 
@@ -178,13 +178,13 @@ def _parser() -> Parser:
     )
     add = parser.add_argument
     add("files", nargs="*", metavar="FILE", help="a document, a folder of documents, or - for standard input")
-    add("--check", action="store_true", help="judge the links, and report those that are refused")
+    add("--check", action="store_true", help="check the links, and report those that are refused")
     helped = "how --check reports them: {}; without it gnu, as compilers do"
     add("--format", metavar="FORMAT", help=helped.format(listed(list(FORMATS))))
     helped = "what columns count: {}; without it code-points"
     add("--columns", metavar="UNIT", help=helped.format(listed(list(UNITS))))
     add("--base", metavar="URL", help="what references are relative to where their document names no base")
-    helped = "the profile to judge by: {}; without it standard"
+    helped = "the profile to check by: {}; without it standard"
     add("--profile", metavar="PROFILE", help=helped.format(listed(_PROFILES)))
     helped = "the kind of all documents: {}; without it by their names"
     add("--type", dest="kind", metavar="KIND", help=helped.format(listed(_KINDS)))

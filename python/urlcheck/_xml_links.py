@@ -174,7 +174,7 @@ class _Reader:
 
     def _start(self, name: str, attributes: List[str]) -> None:
         if len(self._bases) > MOST_DEPTH:
-            raise self.broken("more than {} elements stand within one another".format(MOST_DEPTH))
+            raise self.broken("more than {} elements are within one another".format(MOST_DEPTH))
         element = _split(name)
         if len(self._bases) == 1:
             self.parser.ProcessingInstructionHandler = None

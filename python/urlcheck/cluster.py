@@ -291,7 +291,7 @@ def main(given: Optional[List[str]] = None) -> int:
     report.end()
     for part in report.unjudged:
         words_of = (part.span.file, part.span.start, part.span.end, part.why)
-        print("urlcheck.cluster: {}: not judged: the lines that begin from byte {} to {}: {}".format(*words_of), file=sys.stderr)
+        print("urlcheck.cluster: {}: not checked: the lines that begin from byte {} to {}: {}".format(*words_of), file=sys.stderr)
     return 3 if report.unjudged else 1 if report.bad else 0
 
 

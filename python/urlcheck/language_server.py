@@ -296,7 +296,7 @@ class Server(MethodDispatcher):  # type: ignore[misc]
         try:
             seen = self._judging.judge(asked, is_superseded)
         except OSError as error:
-            seen = Seen([], [Remark(((0, 0), (0, 0)), "can't be judged: {}".format(error.strerror), True)])
+            seen = Seen([], [Remark(((0, 0), (0, 0)), "can't be checked: {}".format(error.strerror), True)])
         return seen and seen._replace(remarks=seen.remarks + remarks)
 
     def _publish(self, uri: str, diagnostics: List[Json], number: Optional[int]) -> None:

@@ -329,7 +329,7 @@ class Served(unittest.TestCase):
         """A text that takes all memory ends the process that judges, and the next text is judged by another."""
         client = self.start()
         (found,) = client.open("file:///nowhere/a.md", "[a](<b c>)\n\n" * 400_000)
-        self.assertIn("can't be judged: ", found["message"])
+        self.assertIn("can't be checked: ", found["message"])
         self.assertEqual(len(client.open("file:///nowhere/b.md", LINK)), 1)
         self.assertEqual(client.end(), 0)
 

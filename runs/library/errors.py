@@ -95,8 +95,8 @@ class Errors(unittest.TestCase):
         self.assertEqual(urlcheck.message("x^", urlcheck.faults("x^", "a:/")[0], urlcheck.Profile.PARSER)[:6], "U+005E")
         for words, error, why in (
             ((b"x", refused), TypeError, "a text is a str, not bytes"),
-            (("http:", refused), ValueError, "the place is behind the end of the text"),
-            (("x", urlcheck.Fault("percent", -1)), ValueError, "the place is behind the end of the text"),
+            (("http:", refused), ValueError, "the place is after the end of the text"),
+            (("x", urlcheck.Fault("percent", -1)), ValueError, "the place is after the end of the text"),
             (("x", urlcheck.Fault("no-utf8", 0)), KeyError, "no-utf8"),
             (("x", urlcheck.Fault("percent", 0), 3), ValueError, "no profile has the number 3"),
             (("x", urlcheck.Fault("percent", 0), "wide"), TypeError, "a profile is a urlcheck.Profile, not str"),
@@ -111,7 +111,7 @@ class Errors(unittest.TestCase):
                               ("utf16", (1, 2, 3, 4, 6, 7, 8)), ("screen", (1, 2, 2, 4, 6, 9, 10))):
             self.assertEqual(tuple(urlcheck.column(text, place, unit) for place in range(len(text) + 1)), columns)
         self.assertEqual(urlcheck.column("x\t", 2, "screen", 8), 17)
-        for words, why in ((("x", 2), "the place is behind the end"), (("x", -1), "the place is behind the end"),
+        for words, why in ((("x", 2), "the place is after the end"), (("x", -1), "the place is after the end"),
                            (("x", 0, "utf-16"), "no column unit is named 'utf-16': there are code-points, bytes, "),
                            (("x", 0, "bytes", 0), "isn't from 1 to 4294967295"),
                            (("x", 0, "bytes", 1 << 32), "isn't from 1 to 4294967295")):

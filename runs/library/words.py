@@ -212,14 +212,14 @@ class Words(Texts):
     def test_what_is_meant_by_a_name(self):
         """A command of `urlcheck` that is no file, and a list of links, are told of."""
         self.write("a.html", "<a href='x y'>")
-        missing, more = "{}: can't be read: there is no such file", "; --check judges the links"
+        missing, more = "{}: can't be read: there is no such file", "; --check checks the links"
         for name, wanted in (("check", missing + more), ("lint", missing + more), ("mend", missing),
                              ("./check", missing), ("check.html", missing)):
             status, out, said = self.run_on("-q", name, "a.html")
             wanted = "urlcheck-documents: {}\n".format(wanted.format(name))
             self.assertEqual((status, out, said), (2, "a.html:1:10:x y\n", wanted))
         no_kind = "{}: its name's end says no kind: give --type html, xml, markdown or another kind"
-        more = "; urlcheck lint judges a list of links"
+        more = "; urlcheck lint checks a list of links"
         for name, wanted in (
             ("l.txt", no_kind + more), ("l.csv", no_kind + more), ("l.TSV", no_kind + more), ("l.text", no_kind),
             ("a.b.json", no_kind + more), ("x.links", no_kind + more), ("txt.d", no_kind), ("check", no_kind),

@@ -125,8 +125,8 @@ class Clusters(unittest.TestCase):
             path = self.write(word, (before + "http://h/" + word + "\n" + before).encode())
             status, out, said = self.run_on(path, "--span", "200000", "--tries", "1", "--patience", "60")
             self.assertEqual(status, 3, said)
-            self.assertRegex(said, "{}: not judged: the lines that begin from byte [0-9]+ to [0-9]+: ".format(path))
-            (line,) = [it for it in said.splitlines() if "not judged" in it]
+            self.assertRegex(said, "{}: not checked: the lines that begin from byte [0-9]+ to [0-9]+: ".format(path))
+            (line,) = [it for it in said.splitlines() if "not checked" in it]
             start, end = map(int, line.split("from byte ")[1].split(":")[0].split(" to "))
             self.assertLessEqual(end - start, 65_536)
             with open(path, "rb") as file:
