@@ -269,7 +269,7 @@ export class Room {
     this.look()
     const verdict = this.word(VERDICT)
     if (verdict === MEMORY) this.stopForMemory()
-    if (verdict === NO_PLACE) throw new RangeError('the place is behind the end of the text')
+    if (verdict === NO_PLACE) throw new RangeError('the place is after the end of the text')
     if (verdict === NO_COLUMN) throw new RangeError('a column is above 4294967295')
     if (verdict !== DONE) throw new Error(`urlcheck.wasm answers ${verdict}`)
     return this.out(this.word(WRITTEN_LENGTH))

@@ -16,13 +16,13 @@ export function profileNumber(profile) {
 }
 
 /**
- * Stops where a string, say, or a base stands in the place of the options: what it says would be passed over.
+ * Stops where a string, say, or a base is in the place of the options: what it says would be passed over.
  * @param {unknown} options
  */
 export function stopUnlessOptions(options) {
   if (options == null) return
   if (typeof options !== 'object') throw new TypeError('the options are no object, such as { base: text, profile: name }')
-  if (options instanceof HeldBase) throw new TypeError('a base stands in the place of the options: write { base }')
+  if (options instanceof HeldBase) throw new TypeError('a base is in the place of the options: write { base }')
 }
 
 /**
@@ -40,5 +40,5 @@ export function readingOf(options) {
   const { text, profile: name } = /** @type {Base} */ (base)
   const number = profileNumber(name)
   if (options?.profile === undefined || profile === number) return { base: text, held, profile: number }
-  throw new TypeError(`the base is judged by the ${name} profile, and the text by another`)
+  throw new TypeError(`the base was checked by the ${name} profile, and another one is given for the text`)
 }

@@ -86,7 +86,7 @@ export class Report {
    * @param {Diagnostic} told
    * @returns {string}
    * @throws {TypeError} where a text has a lone surrogate, or no rule, kind or profile has the name
-   * @throws {RangeError} where the place is behind the end of the text, or the line or a column isn't from 1 to
+   * @throws {RangeError} where the place is after the end of the text, or the line or a column isn't from 1 to
    *   4294967295; or there is no memory for it
    */
   diagnostic({ file, line, column = 1, text, rule, place, profile, mended }) {

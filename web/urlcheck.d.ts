@@ -77,7 +77,7 @@ export interface Checker {
    * @param violation such as a fault or a refusal
    * @param options by whose profile the text was judged
    * @throws {TypeError} where a text is no string or has a lone surrogate, or no rule or profile has the name
-   * @throws {RangeError} where the place is behind the end of the text, or there is no memory
+   * @throws {RangeError} where the place is after the end of the text, or there is no memory
    */
   message(text: string, violation: Violation, options?: Options): string
 
@@ -214,7 +214,7 @@ export interface Report {
   /**
    * What is reported of a violation.
    * @throws {TypeError} where a text has a lone surrogate, or no rule, kind or profile has the name
-   * @throws {RangeError} where the place is behind the end of the text, the line or a column isn't from 1 to
+   * @throws {RangeError} where the place is after the end of the text, the line or a column isn't from 1 to
    *   4294967295, or there is no memory
    */
   diagnostic(told: Diagnostic): string

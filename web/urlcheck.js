@@ -223,7 +223,7 @@ class Checker {
    * @param {Options} [options] by whose profile it was judged
    * @returns {string}
    * @throws {TypeError} where a text is no string or has a lone surrogate, or no rule or profile has the name
-   * @throws {RangeError} where the place is behind the end of the text, or there is no memory for the sentence
+   * @throws {RangeError} where the place is after the end of the text, or there is no memory for the sentence
    */
   message(text, { rule, place }, options) {
     const room = this.#room

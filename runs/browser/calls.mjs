@@ -280,7 +280,7 @@ const tests = {
     assert.equal(urlcheck.message('http://h/\u{1f600} ', refused), 'U+0020 SPACE may not stand in a URL')
     assert.notEqual(urlcheck.message('http://a_b/', { rule: 'host-domain', place: 7 }), urlcheck.explain('host-domain').sentence)
     assert.equal(urlcheck.message('', { rule: 'line-too-long', place: 0 }), 'this line has more than 65536 bytes')
-    assert.throws(() => urlcheck.message('a', { rule: 'percent', place: 2 }), { name: 'RangeError', message: /behind the end/ })
+    assert.throws(() => urlcheck.message('a', { rule: 'percent', place: 2 }), { name: 'RangeError', message: /after the end/ })
     for (const place of [-1, 0.5, NaN, '0', undefined, 2 ** 32]) {
       assert.throws(() => urlcheck.message('a', { rule: 'percent', place }), { name: 'RangeError', message: /no whole number/ })
     }

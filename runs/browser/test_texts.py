@@ -187,7 +187,7 @@ class Texts(PageCase):
             "field.dispatchEvent(new Event('input', { bubbles: true }))"
         )
         word, rest = self.page.verdict()
-        self.assertEqual(word, "Not judged")
+        self.assertEqual(word, "Not checked")
         self.assertIn("lone surrogate", rest)
         self.drop_hostile_files()
         # (an error of a broken image, if one were made, comes before this script's end)
@@ -224,7 +224,7 @@ class Texts(PageCase):
         for _ in range(3):
             page.fill("text", "http://h/" + "é" * 1_000_000)
             word, rest = page.verdict()
-            self.assertEqual(word, "Not judged")
+            self.assertEqual(word, "Not checked")
             self.assertIn("out of memory", rest)
             page.fill("text", "http://h/\u00e9")
             self.assertEqual(page.verdict()[0], "Valid")

@@ -15,7 +15,7 @@ const ADDRESS_PAUSE = 250
 
 const PROFILES = {
   standard: 'The URL Standard’s valid URL strings.',
-  wide: 'Also _ and hyphens wherever they stand in domains, and any segments behind an authority.',
+  wide: 'Also _ and hyphens anywhere in domains, and any segments after an authority.',
   parser: 'Each text that the Standard’s parser takes without a validation error, and no other.'
 }
 

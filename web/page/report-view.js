@@ -68,7 +68,7 @@ export class ReportView {
   }
 
   build(note) {
-    this.line = element('p', { class: 'verdict busy', role: 'status' }, 'Judging …')
+    this.line = element('p', { class: 'verdict busy', role: 'status' }, 'Checking …')
     this.progress = element('progress', { max: '1', value: '0', 'aria-label': 'Progress' })
     this.stop = button('Stop', () => this.ask('stop'), { class: 'button' })
     this.running = element('div', { class: 'running' }, this.progress, this.stop)
@@ -139,7 +139,7 @@ export class ReportView {
   showFailure({ message, base }) {
     this.running.remove()
     if (!base) {
-      this.say('bad', 'Not judged', message)
+      this.say('bad', 'Not checked', message)
       return
     }
     const sentence = this.urlcheck.message(this.base, base, { profile: this.profile })

@@ -56,7 +56,7 @@ function browsersUrl(text, base) {
 /** The verdict in a line. What is wrong stands below it, by each rule. */
 function verdictLine(said) {
   if (said.kind === 'valid') return ['good', 'Valid', 'a valid URL string']
-  if (said.kind === 'unjudged') return ['bad', 'Not judged', said.message]
+  if (said.kind === 'unjudged') return ['bad', 'Not checked', said.message]
   const where = `at place ${counted(said.faults[0].place)}`
   if (said.kind === 'base') return ['bad', 'Base refused', where]
   const more = said.faults.length - 1
