@@ -1,7 +1,10 @@
 //! Diagnostics as a report of GitLab on the quality of code, which is written issue by issue.
-ghost use Rattle.std.specs.Prelude.{◌≡◌, ◌++◌, IfOk, OnOk, string_bytes};
+ghost use Rattle.std.specs.Prelude.{◌≡◌, ◌++◌, IfOk, OnOk, codes, string_bytes};
+ghost use Rattle.serde_json.specs.Data.{member, no_members, number, object, string, unsigned};
 ghost use Rattle.serde_json.specs.View.{view};
+ghost use Rattle.uv_report.specs.Fingerprint as prints;
 ghost use Rattle.uv_report.specs.Gitlab as spec;
+ghost use Rattle.uv_report.specs.Message as reported;
 
 use crate::diagnostic::Diagnostic;
 use crate::fingerprint::place_fingerprint;
@@ -45,18 +48,48 @@ fn push_issue(
 fn issue(alloc: Global, diagnostic: &Diagnostic<'_>) -> Result<Value, AllocError>
     ensures { IfOk result (λ value. view value ≡ spec.issue_value diagnostic.now) }
 {
+    json!(in alloc; {
+        "check_name": diagnostic.violation.name(),
+        "description": description(alloc, diagnostic)?,
+        "fingerprint": fingerprint(alloc, diagnostic)?,
+        "location": location(alloc, diagnostic)?,
+        "severity": "major"
+    })
+}
+
+// What is reported.
+fn description(alloc: Global, diagnostic: &Diagnostic<'_>) -> Result<Value, AllocError>
+    ensures { IfOk result (λ value. view value ≡ string (reported.message diagnostic.now.profile
+        diagnostic.now.text.now diagnostic.now.violation)) }
+{
     let description = message(
         alloc,
         diagnostic.profile,
         diagnostic.text,
         diagnostic.violation,
     )?;
+    Value::try_from_str(alloc, description.as_str())
+}
+
+// What tells the issue from another.
+fn fingerprint(alloc: Global, diagnostic: &Diagnostic<'_>) -> Result<Value, AllocError>
+    ensures { IfOk result (λ value. view value ≡ string (prints.place_fingerprint diagnostic.now)) }
+{
     let fingerprint = place_fingerprint(alloc, diagnostic)?;
-    json!(in alloc; {
-        "check_name": diagnostic.violation.name(),
-        "description": description.as_str(),
-        "fingerprint": fingerprint.as_str(),
-        "location": {"lines": {"begin": diagnostic.line}, "path": diagnostic.file},
-        "severity": "major"
-    })
+    Value::try_from_str(alloc, fingerprint.as_str())
+}
+
+// The file, and the line in it.
+fn location(alloc: Global, diagnostic: &Diagnostic<'_>) -> Result<Value, AllocError>
+    ensures { IfOk result (λ value. view value ≡ spec.location_value diagnostic.now) }
+{
+    json!(in alloc; {"lines": lines(alloc, diagnostic.line)?, "path": diagnostic.file})
+}
+
+// The line.
+fn lines(alloc: Global, line: u64) -> Result<Value, AllocError>
+    ensures { IfOk result (λ value. view value
+        ≡ object (member (codes "begin") (number (unsigned line)) no_members)) }
+{
+    json!(in alloc; {"begin": line})
 }

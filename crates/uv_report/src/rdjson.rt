@@ -1,10 +1,11 @@
 //! Diagnostics as a document of reviewdog, which is written diagnostic by diagnostic.
 ghost use Rattle.std.specs.Prelude.{◌≡◌, ◌++◌, IfOk, None, OnOk, Some, string_bytes};
+ghost use Rattle.serde_json.specs.Data.{string};
 ghost use Rattle.serde_json.specs.View.{view};
 ghost use Rattle.serde_json.specs.Written.{compact_text};
 ghost use Rattle.uv_report.specs.Message as reported;
 ghost use Rattle.uv_report.specs.Rdjson as spec;
-ghost use Rattle.uv_report.specs.Sarif.{offered_in};
+ghost use Rattle.uv_report.specs.Sarif.{offered_in, single};
 
 use crate::diagnostic::Diagnostic;
 use crate::intention::is_offered;
@@ -105,11 +106,10 @@ fn plain_text(alloc: Global, diagnostic: &Diagnostic<'_>) -> Result<String, Allo
 fn plain(alloc: Global, diagnostic: &Diagnostic<'_>) -> Result<Value, AllocError>
     ensures { IfOk result (λ value. view value ≡ spec.rdjson_with diagnostic.now None) }
 {
-    let message = said(alloc, diagnostic)?;
     json!(in alloc; {
         "code": code(alloc, diagnostic.violation)?,
         "location": location(alloc, diagnostic)?,
-        "message": message.as_str(),
+        "message": said(alloc, diagnostic)?,
         "severity": "ERROR"
     })
 }
@@ -122,27 +122,27 @@ fn suggesting(
 ) -> Result<Value, AllocError>
     ensures { IfOk result (λ value. view value ≡ spec.rdjson_with diagnostic.now (Some mended.entry)) }
 {
-    let message = said(alloc, diagnostic)?;
     json!(in alloc; {
         "code": code(alloc, diagnostic.violation)?,
         "location": location(alloc, diagnostic)?,
-        "message": message.as_str(),
+        "message": said(alloc, diagnostic)?,
         "severity": "ERROR",
-        "suggestions": [suggestion(alloc, diagnostic.line, mended)?]
+        "suggestions": suggestions(alloc, diagnostic.line, mended)?
     })
 }
 
 // What is reported.
-fn said(alloc: Global, diagnostic: &Diagnostic<'_>) -> Result<String, AllocError>
-    ensures { IfOk result (λ said. string_bytes said ≡ reported.message diagnostic.now.profile
-        diagnostic.now.text.now diagnostic.now.violation) }
+fn said(alloc: Global, diagnostic: &Diagnostic<'_>) -> Result<Value, AllocError>
+    ensures { IfOk result (λ value. view value ≡ string (reported.message diagnostic.now.profile
+        diagnostic.now.text.now diagnostic.now.violation)) }
 {
-    message(
+    let said = message(
         alloc,
         diagnostic.profile,
         diagnostic.text,
         diagnostic.violation,
-    )
+    )?;
+    Value::try_from_str(alloc, said.as_str())
 }
 
 // The rule, and its page.
@@ -163,6 +163,13 @@ fn location(alloc: Global, diagnostic: &Diagnostic<'_>) -> Result<Value, AllocEr
     })
 }
 
+// The only suggestion: a mended text in place of all of the text, which stands in the line with this number.
+fn suggestions(alloc: Global, line: u64, mended: Mended<'_>) -> Result<Value, AllocError>
+    ensures { IfOk result (λ value. view value ≡ single (spec.suggestion_value line mended.entry)) }
+{
+    json!(in alloc; [suggestion(alloc, line, mended)?])
+}
+
 // A mended text in place of all of the text, which stands in the line with this number.
 fn suggestion(alloc: Global, line: u64, mended: Mended<'_>) -> Result<Value, AllocError>
     ensures { IfOk result (λ value. view value ≡ spec.suggestion_value line mended.entry) }
@@ -178,7 +185,14 @@ fn range(alloc: Global, line: u64, start: u64, end: u64) -> Result<Value, AllocE
     ensures { IfOk result (λ value. view value ≡ spec.range_value line start end) }
 {
     json!(in alloc; {
-        "end": {"column": end, "line": line},
-        "start": {"column": start, "line": line}
+        "end": position(alloc, line, end)?,
+        "start": position(alloc, line, start)?
     })
+}
+
+// A column of a line.
+fn position(alloc: Global, line: u64, column: u64) -> Result<Value, AllocError>
+    ensures { IfOk result (λ value. view value ≡ spec.position_value line column) }
+{
+    json!(in alloc; {"column": column, "line": line})
 }

@@ -1,9 +1,10 @@
 //! Diagnostics as a document of SARIF 2.1.0, which is written result by result.
 ghost use Rattle.std.specs.Prelude.{◌≡◌, ◌++◌, IfOk, OnOk, Some, codes, flat_map, string_bytes};
-ghost use Rattle.serde_json.specs.Data.{boolean};
+ghost use Rattle.serde_json.specs.Data.{boolean, string};
 ghost use Rattle.serde_json.specs.View.{view};
 ghost use Rattle.serde_json.specs.Written.{compact_text};
 ghost use Rattle.uv_report.specs.Fingerprint.{text_fingerprint};
+ghost use Rattle.uv_report.specs.Page as pages;
 ghost use Rattle.uv_report.specs.Quoted.{quoted};
 ghost use Rattle.uv_report.specs.Sarif as spec;
 
@@ -123,28 +124,41 @@ fn push_next_rule(alloc: Global, text: &mut String, rule: Rule) -> Result<(), Al
 }
 
 // Pushes what the document says of a violation's rule.
-#[tactic(auto, unfolding(crate::specs::Sarif::rule_text))]
 fn push_rule(alloc: Global, text: &mut String, violation: LineViolation) -> Result<(), AllocError>
     ensures { OnOk result (string_bytes text.new ≡ string_bytes text.old ++ spec.rule_text violation) }
 {
-    let rule = rule_object(alloc, violation)?.to_string(alloc)?;
-    text.push_str(rule.as_str())?;
-    Ok(())
+    let rule = rule_text(alloc, violation)?;
+    text.push_str(rule.as_str())
+}
+
+// What the document says of it.
+#[tactic(auto, unfolding(crate::specs::Sarif::rule_text))]
+fn rule_text(alloc: Global, violation: LineViolation) -> Result<String, AllocError>
+    ensures { IfOk result (λ text. string_bytes text ≡ spec.rule_text violation) }
+{
+    rule_object(alloc, violation)?.to_string(alloc)
 }
 
 // A rule, with what is wrong where it is violated, what it asks, its page, and where it stands in the URL Standard.
 fn rule_object(alloc: Global, violation: LineViolation) -> Result<Value, AllocError>
     ensures { IfOk result (λ value. view value ≡ spec.rule_value violation) }
 {
-    let page = rule_page(alloc, violation)?;
     json!(in alloc; {
         "fullDescription": worded(alloc, violation.help())?,
         "help": worded(alloc, violation.help())?,
-        "helpUri": page.as_str(),
+        "helpUri": page(alloc, violation)?,
         "id": violation.name(),
         "properties": section(alloc, violation)?,
         "shortDescription": worded(alloc, violation.sentence())?
     })
+}
+
+// The address of its page.
+fn page(alloc: Global, violation: LineViolation) -> Result<Value, AllocError>
+    ensures { IfOk result (λ value. view value ≡ string (pages.rule_page violation)) }
+{
+    let page = rule_page(alloc, violation)?;
+    Value::try_from_str(alloc, page.as_str())
 }
 
 // An object with a text alone.
