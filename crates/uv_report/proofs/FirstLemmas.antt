@@ -1,18 +1,44 @@
 -- What stands before and behind the first element that passes, by where that is.
 use Rattle.std.proofs.Common.{◌≡◌, ◌≤◌, ◌+◌, ◌==◌, ℕ, Bool, true, false, List, [], length, take, nat_lt, Option, Some}
-use Rattle.std.proofs.Common.{None, ap, arith, refl, if◌then◌else◌, sym, take_all}
+use Rattle.std.proofs.Common.{None, ap, arith, refl, if◌then◌else◌, sym, take_all, ◌∷◌, ◌⊎◌, drop, find, inl, inr, suc, zero}
+use Rattle.std.proofs.lemmas.Bool.{cases_Bool}
 use Rattle.std.proofs.lemmas.List.{drop_all}
 use Rattle.std.specs.List.{after_first, before_first, position_or_len}
 
 -- the place where there is one
-place_of : (there : Bool) (n place : ℕ) → Some place ≡ (if there then Some n else None) → place ≡ n
+pub place_of : (there : Bool) (n place : ℕ) → Some place ≡ (if there then Some n else None) → place ≡ n
 place_of true n place is = ap (λ (o : Option ℕ). elim o [ None ↦ n | Some k ↦ k ]) is
 place_of false n place is = cc
 
 -- there is none
-not_there : (there : Bool) (n : ℕ) → (if there then Some n else None) ≡ None → there ≡ false
+pub not_there : (there : Bool) (n : ℕ) → (if there then Some n else None) ≡ None → there ≡ false
 not_there true n is = cc
 not_there false n is = refl
+
+-- up to the first one that passes, and where none does from anywhere, the same is the first
+pub same_first : (p : ℕ → Bool) (count : ℕ) (text : List ℕ)
+    → (count ≤ position_or_len p text) ⊎ (length text ≤ position_or_len p text)
+    → find p (drop count text) ≡ find p text
+same_first p zero text within = refl
+same_first p (suc n) [] within = refl
+same_first p (suc n) (c ∷ text) within = elim (cases_Bool (p c)) [
+  | inl passes ↦
+      let none : (suc n ≤ 0) ⊎ (suc (length text) ≤ 0) = rw passes at within in
+      absurd (nowhere none)
+  | inr other ↦
+      let further : (suc n ≤ 1 + position_or_len p text) ⊎ (suc (length text) ≤ 1 + position_or_len p text) =
+      rw other at within in
+      rw other (same_first p n text (behind further))
+]
+  where
+    nowhere : (suc n ≤ 0) ⊎ (suc (length text) ≤ 0) → ⊥
+    nowhere (inl few) = omega (arith, few)
+    nowhere (inr few) = omega (arith, few)
+
+    behind : (suc n ≤ 1 + position_or_len p text) ⊎ (suc (length text) ≤ 1 + position_or_len p text)
+        → (n ≤ position_or_len p text) ⊎ (length text ≤ position_or_len p text)
+    behind (inl few) = inl (omega (arith, few))
+    behind (inr few) = inr (omega (arith, few))
 
 -- before the place that a search gives
 pub before_found : (p : ℕ → Bool) (text : List ℕ) (place : ℕ)

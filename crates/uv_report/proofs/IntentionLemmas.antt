@@ -1,15 +1,15 @@
 -- A piece stands in a text where the library's search finds it, and a text without its first `/`.
 use Rattle.std.proofs.Common.{◌≡◌, ◌∙◌, ℕ, Bool, true, false, ◌||◌, ◌==◌, List, [], ◌∷◌, ◌++◌, ◌↔◌, ap, refl, sym, drop, inl, inr, length}
-use Rattle.std.proofs.Common.{Option, Some, None, ne_eqb}
+use Rattle.std.proofs.Common.{Option, Some, None, arith, ne_eqb, not}
 use Rattle.std.specs.Prelude.{nat_eq, ◌≢◌, MatchOption}
 use Rattle.std.specs.Bool.{Decides}
 use Rattle.std.specs.Borrow.{Bor}
-use Rattle.std.specs.List.{starts_with}
+use Rattle.std.specs.List.{list_any, starts_with}
 use Rattle.std.specs.Str.Iter.{HasSubslice}
-use Rattle.std.proofs.lemmas.Bool.{cases_eq, or_cases, or_left, or_right}
-use Rattle.std.proofs.lemmas.Bool.Decides.{Decides-eqb, same_from_decides}
+use Rattle.std.proofs.lemmas.Bool.{cases_Bool, cases_eq, false≢true, or_cases, or_left, or_right}
+use Rattle.std.proofs.lemmas.Bool.Decides.{Decides-eqb, nat_tests, same_from_decides}
 use Rattle.std.proofs.lemmas.Slice.Eq.{starts_is}
-use Rattle.uv_report.specs.Intention.{has_piece, without_slash}
+use Rattle.uv_report.specs.Intention.{has_piece, lacks_start, without_slash}
 
 -- a text begins with a piece
 begins_with : (text piece : List ℕ) → starts_with nat_eq text piece ≡ true → text ≡ piece ++ drop (length piece) text
@@ -47,6 +47,26 @@ piece_found piece text (before, behind, split) = ap (has_piece piece) split ∙ 
 pub found_is : (piece text : List ℕ) (found : Bool) → ((found ≡ true) ↔ HasSubslice text piece) → found ≡ has_piece piece text
 found_is piece text found is =
     same_from_decides found (has_piece piece text) (is.0, is.1) (piece_stands piece text, piece_found piece text)
+
+-- a text that lacks the first byte of a piece has no such piece
+any_behind : (p : ℕ → Bool) (before behind : List ℕ) → list_any p behind ≡ true → list_any p (before ++ behind) ≡ true
+any_behind p [] behind is = is
+any_behind p (b ∷ before) behind is = or_right (p b) (list_any p (before ++ behind)) (any_behind p before behind is)
+
+pub piece_lacks : (piece text : List ℕ) → lacks_start text piece ≡ true → has_piece piece text ≡ false
+piece_lacks [] text lacks = absurd (false≢true lacks)
+piece_lacks (first ∷ rest) text lacks = elim (cases_Bool (has_piece (first ∷ rest) text)) [
+  | inl there ↦
+      let (before, behind, split) = piece_stands (first ∷ rest) text there in
+      let is_first : ℕ → Bool = λ b. b == first in
+      let same : (first == first) ≡ true = grind (arith, nat_tests) in
+      let found : list_any is_first text ≡ true = ap (list_any is_first) split
+      ∙ any_behind is_first before ((first ∷ rest) ++ behind)
+      (or_left (first == first) (list_any is_first (rest ++ behind)) same) in
+      let none : not true ≡ true = sym (ap not found) ∙ lacks in
+      absurd (false≢true none)
+  | inr other ↦ other
+]
 
 -- what follows a `/`, or all where there is none
 pub without_slash-is : (text : List ℕ) (rest : Bor (List ℕ)) → text ≡ 0x2F ∷ rest.now → rest.now ≡ without_slash text

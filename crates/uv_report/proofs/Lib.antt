@@ -9,8 +9,10 @@ mod NumberLemmas
 mod PlainLemmas
 mod PlaceLemmas
 mod PointLemmas
+mod PrintableLemmas
 mod QuotedLemmas
 mod RowsLemmas
 mod RuleTextLemmas
 mod SarifLemmas
+mod SeenLemmas
 mod UriLemmas

@@ -3,7 +3,7 @@
 use Rattle.std.specs.Prelude.{ℕ, Bool, true, false, not, ◌&&◌, ◌||◌, ◌==◌, nat_eq, List, [], ◌∷◌, ◌++◌, codes}
 use Rattle.std.specs.Prelude.{if◌then◌else◌, is_none, Option, Some, None}
 use Rattle.std.specs.Char.{is_ascii_alphabetic}
-use Rattle.std.specs.List.{after_first, before_first, starts_with}
+use Rattle.std.specs.List.{after_first, before_first, list_any, starts_with}
 use Rattle.std.specs.Str.{chars}
 use Rattle.uv_model.specs.declared.rule.Rule.{Rule}
 use Rattle.uv_model.specs.declared.rule.Rule.TheVariants.{DriveAfterHost, FirstSegmentEmpty}
@@ -21,6 +21,11 @@ use Rattle.uv_report.specs.declared.intention.Intention.TheVariants.{Template, W
 abbrev pub has_piece : List ℕ → List ℕ → Bool
 has_piece piece [] = starts_with nat_eq [] piece
 has_piece piece (b ∷ rest) = starts_with nat_eq (b ∷ rest) piece || has_piece piece rest
+
+-- the first byte of a piece doesn't stand in a text
+abbrev pub lacks_start : List ℕ → List ℕ → Bool
+lacks_start text [] = false
+lacks_start text (first ∷ rest) = not (list_any (λ b. b == first) text)
 
 -- a mark stands in it of what a program writes another text for: in Jinja, Liquid, Go and Mustache, in shells and
 -- JavaScript, in ERB and JSP, and in printf

@@ -4,6 +4,7 @@ pub mod LocatedFault
 pub mod LineViolation
 pub mod Page
 pub mod Escapes
+pub mod Printable
 pub mod Column
 pub mod ColumnCounter
 pub mod CodePoint
@@ -14,6 +15,8 @@ pub mod Intention
 pub mod Start
 pub mod Message
 pub mod Window
+pub mod SeenText
+pub mod Found
 pub mod Format
 pub mod Gnu
 pub mod Caret

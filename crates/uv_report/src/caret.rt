@@ -2,19 +2,28 @@
 ghost use Rattle.std.specs.Prelude.{◌≡◌, ◌++◌, OnOk, replicate, string_bytes, take};
 ghost use Rattle.std.specs.List.{flat_map};
 ghost use Rattle.std.specs.Str.{chars};
+ghost use Rattle.uv_report.specs.Escapes.{shown_text};
+ghost use Rattle.uv_report.specs.Found.{told};
+ghost use Rattle.uv_report.specs.Window.{window};
 ghost use Rattle.uv_report.specs.Caret.{below, caret_lines, caret_text, help_line, help_text, help_words, named_as};
 ghost use Rattle.uv_report.specs.Caret.{padding, shown_lines, shows_line, window_lines};
 
 use crate::column::shown_width;
-use crate::diagnostic::Diagnostic;
-use crate::escapes::{Escapes, push_escaped};
+use crate::escapes::push_shown as push_shown_text;
+use crate::found::Found;
 use crate::gnu::push_gnu;
 use crate::intention::is_offered;
 use crate::line_violation::LineViolation;
 use crate::mended::Mended;
-use crate::window::{window, window_place};
+use crate::printable::is_printable_text;
+use crate::seen_text::SeenText;
+use crate::window::cut_out;
 use std::alloc::{AllocError, Global};
 use uv_model::MendKind;
+
+// Spaces, in one piece.
+const SPACES: &str =
+    "                                                                                                ";
 
 /// Pushes the line of `gnu`, what is shown of the line that it is about and the line of the caret where a text is
 /// carried, and where there is a mended text `help: write TEXT`, or a note that names one that isn't offered.
@@ -22,9 +31,9 @@ use uv_model::MendKind;
 pub(crate) fn push_caret(
     alloc: Global,
     text: &mut String,
-    diagnostic: &Diagnostic<'_>,
+    diagnostic: &Found<'_>,
 ) -> Result<(), AllocError>
-    ensures { OnOk result (string_bytes text.new ≡ string_bytes text.old ++ caret_text diagnostic.now) }
+    ensures { OnOk result (string_bytes text.new ≡ string_bytes text.old ++ caret_text (told diagnostic.now)) }
 {
     push_gnu(alloc, text, diagnostic)?;
     push_shown(alloc, text, diagnostic.text, diagnostic.violation)?;
@@ -42,7 +51,7 @@ pub(crate) fn push_caret(
 fn push_shown(
     alloc: Global,
     text: &mut String,
-    line: &str,
+    line: &SeenText<'_>,
     violation: LineViolation,
 ) -> Result<(), AllocError>
     ensures { OnOk result (string_bytes text.new ≡ string_bytes text.old ++ shown_lines violation line.now) }
@@ -54,31 +63,40 @@ fn push_shown(
 }
 
 // Whether the text that is wrong is carried: one that is refused, also an empty one, or else what isn't empty.
-fn shows_line(line: &str, violation: LineViolation) -> bool
+fn shows_line(line: &SeenText<'_>, violation: LineViolation) -> bool
     ensures { result ≡ shows_line violation line.now }
 {
     match violation {
         LineViolation::Refused(_) => true,
         LineViolation::NotUtf8(_) | LineViolation::TooLong | LineViolation::NotLocated(_) => {
-            !line.is_empty()
+            !line.as_str().is_empty()
         }
     }
 }
 
-// Pushes what is shown of a line, and a caret below one of the line's places.
-#[tactic(auto, unfolding(crate::specs::Caret::window_lines))]
-fn push_window(alloc: Global, text: &mut String, line: &str, place: usize) -> Result<(), AllocError>
+// Pushes what is shown of a line, and a caret below one of the line's places. A line that is shown whole isn't copied.
+#[tactic(auto, unfolding(crate::specs::Caret::window_lines, crate::specs::Window::window, crate::specs::Window::window_place))]
+fn push_window(
+    alloc: Global,
+    text: &mut String,
+    line: &SeenText<'_>,
+    place: usize,
+) -> Result<(), AllocError>
     ensures { OnOk result (string_bytes text.new ≡ string_bytes text.old ++ window_lines line.now place) }
 {
-    let shown = window(alloc, line, place)?;
-    push_lines(text, shown.as_str(), window_place(line, place))
+    if line.is_longer_than_window() {
+        let shown = cut_out(alloc, line, place.saturating_sub(99))?;
+        push_lines(text, shown.as_str(), place.min(100))
+    } else {
+        push_lines(text, line.as_str(), place)
+    }
 }
 
 // Pushes what to write in place of a line of which this place is reported, where there is such a text.
 fn push_help(
     alloc: Global,
     text: &mut String,
-    line: &str,
+    line: &SeenText<'_>,
     place: usize,
     mended: Option<Mended<'_>>,
 ) -> Result<(), AllocError>
@@ -126,11 +144,28 @@ fn push_help_line(
 ) -> Result<(), AllocError>
     ensures { OnOk result (string_bytes text.new ≡ string_bytes text.old ++ help_line words.now place mended.now) }
 {
-    let shown = window(alloc, mended, place)?;
     text.push_str(words)?;
-    push_escaped(text, shown.as_str(), Escapes::Shown)?;
+    push_part(alloc, text, &SeenText::new(mended), place)?;
     text.push_str("\n")?;
     Ok(())
+}
+
+// Pushes what is shown of a text around a place.
+#[tactic(auto, unfolding(crate::specs::Window::window))]
+fn push_part(
+    alloc: Global,
+    text: &mut String,
+    source: &SeenText<'_>,
+    place: usize,
+) -> Result<(), AllocError>
+    ensures { OnOk result (string_bytes text.new ≡ string_bytes text.old ++ shown_text (window source.now place)) }
+{
+    if source.is_longer_than_window() {
+        let shown = cut_out(alloc, source, place.saturating_sub(99))?;
+        push_shown_text(text, shown.as_str())
+    } else {
+        push_shown_text(text, source.as_str())
+    }
 }
 
 // Pushes a line, and a caret below one of its places.
@@ -138,15 +173,25 @@ fn push_help_line(
 fn push_lines(text: &mut String, line: &str, place: usize) -> Result<(), AllocError>
     ensures { OnOk result (string_bytes text.new ≡ string_bytes text.old ++ caret_lines line.now place) }
 {
-    push_escaped(text, line, Escapes::Shown)?;
+    push_shown_text(text, line)?;
     text.push_str("\n")?;
     push_padding(text, line, place)?;
     text.push_str("^\n")?;
     Ok(())
 }
 
-// Pushes what stands below the code points of a line before a place.
+// Pushes what stands below the code points of a line before a place: below printable ASCII as many spaces.
 fn push_padding(text: &mut String, line: &str, place: usize) -> Result<(), AllocError>
+    ensures { OnOk result (string_bytes text.new ≡ string_bytes text.old ++ padding (take place (chars line.now))) }
+{
+    match line.split_at_checked(place) {
+        Some((front, _)) if is_printable_text(front.as_bytes()) => push_spaces(text, place),
+        _ => push_each_below(text, line, place),
+    }
+}
+
+// The same code point by code point.
+fn push_each_below(text: &mut String, line: &str, place: usize) -> Result<(), AllocError>
     ensures { OnOk result (string_bytes text.new ≡ string_bytes text.old ++ padding (take place (chars line.now))) }
 {
     for c in line.chars().take(place) {
@@ -166,8 +211,18 @@ fn push_below(text: &mut String, c: char) -> Result<(), AllocError>
     }
 }
 
-// Pushes so many spaces.
+// Pushes so many spaces, mostly in one piece.
 fn push_spaces(text: &mut String, count: usize) -> Result<(), AllocError>
+    ensures { OnOk result (string_bytes text.new ≡ string_bytes text.old ++ replicate count 32) }
+{
+    match SPACES.split_at_checked(count) {
+        Some((spaces, _)) => text.push_str(spaces),
+        None => push_each_space(text, count),
+    }
+}
+
+// The same space by space.
+fn push_each_space(text: &mut String, count: usize) -> Result<(), AllocError>
     ensures { OnOk result (string_bytes text.new ≡ string_bytes text.old ++ replicate count 32) }
 {
     for _column in 0..count {

@@ -1,12 +1,14 @@
 //! Diagnostics as a document of Checkstyle, in XML.
 ghost use Rattle.std.specs.Prelude.{◌≡◌, ◌++◌, OnOk, string_bytes};
+ghost use Rattle.uv_report.specs.Found.{told};
 ghost use Rattle.uv_report.specs.Checkstyle.{checkstyle_text, error_place, error_text, file_begin};
 
-use crate::diagnostic::Diagnostic;
 use crate::escapes::{Escapes, push_escaped};
+use crate::found::Found;
 use crate::gnu::push_number;
 use crate::line_violation::LineViolation;
 use crate::message::push_escaped_message;
+use crate::seen_text::SeenText;
 use std::alloc::{AllocError, Global};
 use uv_model::Profile;
 
@@ -26,9 +28,9 @@ pub(crate) fn push_checkstyle_file(text: &mut String, file: &str) -> Result<(), 
 pub(crate) fn push_checkstyle(
     alloc: Global,
     text: &mut String,
-    diagnostic: &Diagnostic<'_>,
+    diagnostic: &Found<'_>,
 ) -> Result<(), AllocError>
-    ensures { OnOk result (string_bytes text.new ≡ string_bytes text.old ++ checkstyle_text diagnostic.now) }
+    ensures { OnOk result (string_bytes text.new ≡ string_bytes text.old ++ checkstyle_text (told diagnostic.now)) }
 {
     push_place(text, diagnostic)?;
     push_message(
@@ -43,8 +45,8 @@ pub(crate) fn push_checkstyle(
 
 // Pushes the element's name, the line and the column.
 #[tactic(auto, unfolding(crate::specs::Checkstyle::error_place))]
-fn push_place(text: &mut String, diagnostic: &Diagnostic<'_>) -> Result<(), AllocError>
-    ensures { OnOk result (string_bytes text.new ≡ string_bytes text.old ++ error_place diagnostic.now) }
+fn push_place(text: &mut String, diagnostic: &Found<'_>) -> Result<(), AllocError>
+    ensures { OnOk result (string_bytes text.new ≡ string_bytes text.old ++ error_place (told diagnostic.now)) }
 {
     text.push_str("<error line=\"")?;
     push_number(text, diagnostic.line)?;
@@ -60,7 +62,7 @@ fn push_message(
     alloc: Global,
     text: &mut String,
     profile: Profile,
-    line: &str,
+    line: &SeenText<'_>,
     violation: LineViolation,
 ) -> Result<(), AllocError>
     ensures { OnOk result (string_bytes text.new ≡ string_bytes text.old ++ error_text profile line.now violation) }

@@ -12,7 +12,7 @@ ghost use Rattle.uv_report.specs.Domain as spec;
 use crate::code_point::push_point;
 use crate::drive::{IN_PLACE_OF_A_HOST, is_file_link};
 use crate::ipv6::ends_authority;
-use crate::window::rest_at;
+use crate::seen_text::SeenText;
 use std::alloc::{AllocError, Global};
 use uv_model::{Profile, Rule, is_domain_mark, is_drive_letter};
 
@@ -81,14 +81,14 @@ pub(crate) fn push_domain_sentence(
     alloc: Global,
     text: &mut String,
     profile: Profile,
-    line: &str,
+    line: &SeenText<'_>,
     place: usize,
 ) -> Result<(), AllocError>
     ensures { OnOk result (string_bytes text.new
         ≡ string_bytes text.old ++ spec.host_message profile line.now place) }
 {
     let host = host_at(line, place);
-    if is_file_link(line) && is_drive_letter(host) {
+    if is_file_link(line.as_str()) && is_drive_letter(host) {
         return text.push_str(IN_PLACE_OF_A_HOST);
     }
     push_host_sentence(alloc, text, profile, host)
@@ -228,10 +228,10 @@ fn is_permitted(profile: Profile, byte: u8) -> bool
 }
 
 // The host that begins at a place of a line.
-fn host_at(line: &str, place: usize) -> &[u8]
+fn host_at<'t>(line: &SeenText<'t>, place: usize) -> &'t [u8]
     ensures { result.now ≡ spec.host_text line.now place }
 {
-    before_end(is_file_link(line), rest_at(line, place).as_bytes())
+    before_end(is_file_link(line.as_str()), line.rest_at(place).as_bytes())
 }
 
 // What stands before the end of a host, of a `file` link or another one.

@@ -4,6 +4,7 @@ ghost use Rattle.std.specs.Option.{option_copied};
 ghost use Rattle.uv_report.specs.Escapes as spec;
 ghost use Rattle.uv_report.specs.Escapes.{escape, escaped, shown_text};
 
+use crate::printable::is_printable_text;
 use std::alloc::AllocError;
 
 /// Which code points may not stand as they are, and what stands in their place.
@@ -24,7 +25,11 @@ pub(crate) enum Escapes {
 pub fn push_shown(text: &mut String, source: &str) -> Result<(), AllocError>
     ensures { OnOk result (string_bytes text.new ≡ string_bytes text.old ++ shown_text source.now) }
 {
-    push_escaped(text, source, Escapes::Shown)
+    if is_printable_text(source.as_bytes()) {
+        text.push_str(source)
+    } else {
+        push_escaped(text, source, Escapes::Shown)
+    }
 }
 
 /// Pushes a text with its escapes. Where an allocation fails, a prefix of it was pushed.

@@ -1,13 +1,15 @@
 //! What tells one diagnostic from another, in any run: by what is wrong with which text, or also by where that stands.
 ghost use Rattle.std.specs.Prelude.{◌≡◌, ◌++◌, IfOk, OnOk, string_bytes};
+ghost use Rattle.uv_report.specs.Found.{told};
 ghost use Rattle.uv_report.specs.Fingerprint as spec;
 ghost use Rattle.uv_report.specs.Window.{carried};
 
-use crate::diagnostic::Diagnostic;
+use crate::found::Found;
 use crate::gnu::push_number;
 use crate::line_violation::LineViolation;
 use crate::quoted::push_quoted;
-use crate::window::{is_cut, window};
+use crate::seen_text::SeenText;
+use crate::window::window;
 use sha2::{Digest, Sha256};
 use std::alloc::{AllocError, Global};
 
@@ -16,7 +18,7 @@ use std::alloc::{AllocError, Global};
 pub(crate) fn text_fingerprint(
     alloc: Global,
     violation: LineViolation,
-    text: &str,
+    text: &SeenText<'_>,
 ) -> Result<String, AllocError>
     ensures { IfOk result (λ digits. string_bytes digits ≡ spec.text_fingerprint violation text.now) }
 {
@@ -27,11 +29,8 @@ pub(crate) fn text_fingerprint(
 
 /// The fingerprint of a diagnostic: the same, and the file, the line and the column. Two diagnostics of one report have
 /// the same one only where they say the same of one place of a file.
-pub(crate) fn place_fingerprint(
-    alloc: Global,
-    diagnostic: &Diagnostic<'_>,
-) -> Result<String, AllocError>
-    ensures { IfOk result (λ digits. string_bytes digits ≡ spec.place_fingerprint diagnostic.now) }
+pub(crate) fn place_fingerprint(alloc: Global, diagnostic: &Found<'_>) -> Result<String, AllocError>
+    ensures { IfOk result (λ digits. string_bytes digits ≡ spec.place_fingerprint (told diagnostic.now)) }
 {
     let mut key = String::new(alloc);
     push_place_key(alloc, &mut key, diagnostic)?;
@@ -51,7 +50,7 @@ fn push_text_key(
     alloc: Global,
     key: &mut String,
     violation: LineViolation,
-    text: &str,
+    text: &SeenText<'_>,
 ) -> Result<(), AllocError>
     ensures { OnOk result (string_bytes key.new ≡ string_bytes key.old ++ spec.text_key violation text.now) }
 {
@@ -68,27 +67,23 @@ fn push_text_key(
 pub(crate) fn push_carried(
     alloc: Global,
     text: &mut String,
-    line: &str,
+    line: &SeenText<'_>,
     place: usize,
 ) -> Result<(), AllocError>
     ensures { OnOk result (string_bytes text.new ≡ string_bytes text.old ++ carried line.now place) }
 {
-    if is_cut(line) {
+    if line.is_cut() {
         let shown = window(alloc, line, place)?;
         text.push_str(shown.as_str())
     } else {
-        text.push_str(line)
+        text.push_str(line.as_str())
     }
 }
 
 // Pushes what a fingerprint says of a diagnostic.
 #[tactic(auto, unfolding(crate::specs::Fingerprint::place_key))]
-fn push_place_key(
-    alloc: Global,
-    key: &mut String,
-    diagnostic: &Diagnostic<'_>,
-) -> Result<(), AllocError>
-    ensures { OnOk result (string_bytes key.new ≡ string_bytes key.old ++ spec.place_key diagnostic.now) }
+fn push_place_key(alloc: Global, key: &mut String, diagnostic: &Found<'_>) -> Result<(), AllocError>
+    ensures { OnOk result (string_bytes key.new ≡ string_bytes key.old ++ spec.place_key (told diagnostic.now)) }
 {
     push_number(key, diagnostic.line)?;
     key.push_str("\n")?;

@@ -1,12 +1,14 @@
 //! Diagnostics as workflow commands of GitHub.
 ghost use Rattle.std.specs.Prelude.{◌≡◌, ◌++◌, OnOk, string_bytes};
+ghost use Rattle.uv_report.specs.Found.{told};
 ghost use Rattle.uv_report.specs.Github.{command_place, command_text, github_text};
 
-use crate::diagnostic::Diagnostic;
 use crate::escapes::{Escapes, push_escaped};
+use crate::found::Found;
 use crate::gnu::push_number;
 use crate::line_violation::LineViolation;
 use crate::message::push_escaped_message;
+use crate::seen_text::SeenText;
 use std::alloc::{AllocError, Global};
 use uv_model::Profile;
 
@@ -15,9 +17,9 @@ use uv_model::Profile;
 pub(crate) fn push_github(
     alloc: Global,
     text: &mut String,
-    diagnostic: &Diagnostic<'_>,
+    diagnostic: &Found<'_>,
 ) -> Result<(), AllocError>
-    ensures { OnOk result (string_bytes text.new ≡ string_bytes text.old ++ github_text diagnostic.now) }
+    ensures { OnOk result (string_bytes text.new ≡ string_bytes text.old ++ github_text (told diagnostic.now)) }
 {
     push_place(text, diagnostic)?;
     push_message(
@@ -32,8 +34,8 @@ pub(crate) fn push_github(
 
 // Pushes the command's name, the file, the line and the column.
 #[tactic(auto, unfolding(crate::specs::Github::command_place))]
-fn push_place(text: &mut String, diagnostic: &Diagnostic<'_>) -> Result<(), AllocError>
-    ensures { OnOk result (string_bytes text.new ≡ string_bytes text.old ++ command_place diagnostic.now) }
+fn push_place(text: &mut String, diagnostic: &Found<'_>) -> Result<(), AllocError>
+    ensures { OnOk result (string_bytes text.new ≡ string_bytes text.old ++ command_place (told diagnostic.now)) }
 {
     text.push_str("::error file=")?;
     push_escaped(text, diagnostic.file, Escapes::Property)?;
@@ -50,7 +52,7 @@ fn push_message(
     alloc: Global,
     text: &mut String,
     profile: Profile,
-    line: &str,
+    line: &SeenText<'_>,
     violation: LineViolation,
 ) -> Result<(), AllocError>
     ensures { OnOk result (string_bytes text.new ≡ string_bytes text.old ++ command_text profile line.now violation) }

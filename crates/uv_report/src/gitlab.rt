@@ -2,12 +2,13 @@
 ghost use Rattle.std.specs.Prelude.{◌≡◌, ◌++◌, IfOk, OnOk, codes, string_bytes};
 ghost use Rattle.serde_json.specs.Data.{member, no_members, number, object, string, unsigned};
 ghost use Rattle.serde_json.specs.View.{view};
+ghost use Rattle.uv_report.specs.Found.{told};
 ghost use Rattle.uv_report.specs.Fingerprint as prints;
 ghost use Rattle.uv_report.specs.Gitlab as spec;
 ghost use Rattle.uv_report.specs.Message as reported;
 
-use crate::diagnostic::Diagnostic;
 use crate::fingerprint::place_fingerprint;
+use crate::found::Found;
 use crate::message::message;
 use crate::sarif::separator;
 use serde_json::{Value, json};
@@ -18,11 +19,11 @@ use std::alloc::{AllocError, Global};
 pub(crate) fn push_gitlab(
     alloc: Global,
     text: &mut String,
-    diagnostic: &Diagnostic<'_>,
+    diagnostic: &Found<'_>,
     is_first: bool,
 ) -> Result<(), AllocError>
     ensures { OnOk result (string_bytes text.new
-        ≡ string_bytes text.old ++ spec.gitlab_text is_first diagnostic.now) }
+        ≡ string_bytes text.old ++ spec.gitlab_text is_first (told diagnostic.now)) }
 {
     text.push_str(separator(is_first))?;
     push_issue(alloc, text, diagnostic)?;
@@ -32,12 +33,8 @@ pub(crate) fn push_gitlab(
 
 // Pushes the issue of a diagnostic.
 #[tactic(auto, unfolding(crate::specs::Gitlab::issue_text))]
-fn push_issue(
-    alloc: Global,
-    text: &mut String,
-    diagnostic: &Diagnostic<'_>,
-) -> Result<(), AllocError>
-    ensures { OnOk result (string_bytes text.new ≡ string_bytes text.old ++ spec.issue_text diagnostic.now) }
+fn push_issue(alloc: Global, text: &mut String, diagnostic: &Found<'_>) -> Result<(), AllocError>
+    ensures { OnOk result (string_bytes text.new ≡ string_bytes text.old ++ spec.issue_text (told diagnostic.now)) }
 {
     let issue = issue(alloc, diagnostic)?.to_string(alloc)?;
     text.push_str(issue.as_str())?;
@@ -45,8 +42,8 @@ fn push_issue(
 }
 
 // The issue of a diagnostic.
-fn issue(alloc: Global, diagnostic: &Diagnostic<'_>) -> Result<Value, AllocError>
-    ensures { IfOk result (λ value. view value ≡ spec.issue_value diagnostic.now) }
+fn issue(alloc: Global, diagnostic: &Found<'_>) -> Result<Value, AllocError>
+    ensures { IfOk result (λ value. view value ≡ spec.issue_value (told diagnostic.now)) }
 {
     json!(in alloc; {
         "check_name": diagnostic.violation.name(),
@@ -58,7 +55,7 @@ fn issue(alloc: Global, diagnostic: &Diagnostic<'_>) -> Result<Value, AllocError
 }
 
 // What is reported.
-fn description(alloc: Global, diagnostic: &Diagnostic<'_>) -> Result<Value, AllocError>
+fn description(alloc: Global, diagnostic: &Found<'_>) -> Result<Value, AllocError>
     ensures { IfOk result (λ value. view value ≡ string (reported.message diagnostic.now.profile
         diagnostic.now.text.now diagnostic.now.violation)) }
 {
@@ -72,16 +69,16 @@ fn description(alloc: Global, diagnostic: &Diagnostic<'_>) -> Result<Value, Allo
 }
 
 // What tells the issue from another.
-fn fingerprint(alloc: Global, diagnostic: &Diagnostic<'_>) -> Result<Value, AllocError>
-    ensures { IfOk result (λ value. view value ≡ string (prints.place_fingerprint diagnostic.now)) }
+fn fingerprint(alloc: Global, diagnostic: &Found<'_>) -> Result<Value, AllocError>
+    ensures { IfOk result (λ value. view value ≡ string (prints.place_fingerprint (told diagnostic.now))) }
 {
     let fingerprint = place_fingerprint(alloc, diagnostic)?;
     Value::try_from_str(alloc, fingerprint.as_str())
 }
 
 // The file, and the line in it.
-fn location(alloc: Global, diagnostic: &Diagnostic<'_>) -> Result<Value, AllocError>
-    ensures { IfOk result (λ value. view value ≡ spec.location_value diagnostic.now) }
+fn location(alloc: Global, diagnostic: &Found<'_>) -> Result<Value, AllocError>
+    ensures { IfOk result (λ value. view value ≡ spec.location_value (told diagnostic.now)) }
 {
     json!(in alloc; {"lines": lines(alloc, diagnostic.line)?, "path": diagnostic.file})
 }

@@ -1,11 +1,13 @@
 //! Diagnostics as compilers write them.
 ghost use Rattle.std.specs.Prelude.{◌≡◌, ◌++◌, ◌+◌, ◌<◌, OnOk, decimal, string_bytes};
+ghost use Rattle.uv_report.specs.Found.{told};
 ghost use Rattle.uv_report.specs.Gnu.{gnu_position, gnu_text, gnu_words};
 
-use crate::diagnostic::Diagnostic;
-use crate::escapes::{Escapes, push_escaped};
+use crate::escapes::push_shown;
+use crate::found::Found;
 use crate::line_violation::LineViolation;
-use crate::message::push_message;
+use crate::message::push_seen_message;
+use crate::seen_text::SeenText;
 use itoa::Buffer;
 use std::alloc::{AllocError, Global};
 use uv_model::Profile;
@@ -15,9 +17,9 @@ use uv_model::Profile;
 pub(crate) fn push_gnu(
     alloc: Global,
     text: &mut String,
-    diagnostic: &Diagnostic<'_>,
+    diagnostic: &Found<'_>,
 ) -> Result<(), AllocError>
-    ensures { OnOk result (string_bytes text.new ≡ string_bytes text.old ++ gnu_text diagnostic.now) }
+    ensures { OnOk result (string_bytes text.new ≡ string_bytes text.old ++ gnu_text (told diagnostic.now)) }
 {
     push_position(text, diagnostic)?;
     push_words(
@@ -32,10 +34,10 @@ pub(crate) fn push_gnu(
 
 // Pushes the file's name, the line and the column.
 #[tactic(auto, unfolding(crate::specs::Gnu::gnu_position))]
-fn push_position(text: &mut String, diagnostic: &Diagnostic<'_>) -> Result<(), AllocError>
-    ensures { OnOk result (string_bytes text.new ≡ string_bytes text.old ++ gnu_position diagnostic.now) }
+fn push_position(text: &mut String, diagnostic: &Found<'_>) -> Result<(), AllocError>
+    ensures { OnOk result (string_bytes text.new ≡ string_bytes text.old ++ gnu_position (told diagnostic.now)) }
 {
-    push_escaped(text, diagnostic.file, Escapes::Shown)?;
+    push_shown(text, diagnostic.file)?;
     text.push_str(":")?;
     push_number(text, diagnostic.line)?;
     text.push_str(":")?;
@@ -49,13 +51,13 @@ fn push_words(
     alloc: Global,
     text: &mut String,
     profile: Profile,
-    line: &str,
+    line: &SeenText<'_>,
     violation: LineViolation,
 ) -> Result<(), AllocError>
     ensures { OnOk result (string_bytes text.new ≡ string_bytes text.old ++ gnu_words profile line.now violation) }
 {
     text.push_str(": error: ")?;
-    push_message(alloc, text, profile, line, violation)?;
+    push_seen_message(alloc, text, profile, line, violation)?;
     text.push_str(" [")?;
     text.push_str(violation.name())?;
     text.push_str("]\n")?;

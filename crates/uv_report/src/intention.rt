@@ -7,6 +7,7 @@ ghost use Rattle.uv_report.specs.Intention as spec;
 
 use crate::drive::{before_colon, behind_scheme};
 use crate::ipv6::behind_slash;
+use crate::seen_text::SeenText;
 use std::alloc::AllocError;
 use uv_model::{Class, Rule, class_of};
 
@@ -41,29 +42,40 @@ impl Intention {
 
 /// What a refused text shows that its author meant, where that is something else than the text that it is mended to. A
 /// mended text is to be offered where this is `None`.
-#[tactic(auto, unfolding(crate::specs::Intention::intention))]
 pub fn intention_of(text: &str, mended: &str) -> Option<Intention>
     ensures { result ≡ spec.intention text.now mended.now }
 {
-    match shown_intention(text) {
+    seen_intention(&SeenText::new(text), mended)
+}
+
+// The same of a text that was seen.
+#[tactic(auto, unfolding(crate::specs::Intention::intention))]
+fn seen_intention(text: &SeenText<'_>, mended: &str) -> Option<Intention>
+    ensures { result ≡ spec.intention text.now mended.now }
+{
+    match text.shown_intention() {
         Some(shown) => Some(shown),
-        None => joined_slashes(text, mended),
+        None => joined_slashes(text.as_str(), mended),
     }
 }
 
 /// Whether a mended text is to be offered: nothing shows that something else was meant.
-pub(crate) fn is_offered(text: &str, mended: &str) -> bool
+pub(crate) fn is_offered(text: &SeenText<'_>, mended: &str) -> bool
     ensures { result ≡ spec.is_offered text.now mended.now }
 {
-    intention_of(text, mended).is_none()
+    seen_intention(text, mended).is_none()
 }
 
 /// Pushes what a text that violates a rule shows of its author's intention, if it shows something.
 #[tactic(auto, unfolding(crate::specs::Intention::meant_note))]
-pub(crate) fn push_meant_note(text: &mut String, line: &str, rule: Rule) -> Result<(), AllocError>
+pub(crate) fn push_meant_note(
+    text: &mut String,
+    line: &SeenText<'_>,
+    rule: Rule,
+) -> Result<(), AllocError>
     ensures { OnOk result (string_bytes text.new ≡ string_bytes text.old ++ spec.meant_note line.now rule) }
 {
-    text.push_str(note_by(shown_intention(line), rule))
+    text.push_str(note_by(line.shown_intention(), rule))
 }
 
 // What is said of a text that shows this alone, and violates a rule.
@@ -80,9 +92,9 @@ fn note_by(shown: Option<Intention>, rule: Rule) -> &'static str
     }
 }
 
-// What a text shows alone.
+/// What a text shows alone.
 #[tactic(auto, unfolding(crate::specs::Intention::shown_intention))]
-fn shown_intention(text: &str) -> Option<Intention>
+pub(crate) fn shown_intention(text: &str) -> Option<Intention>
     ensures { result ≡ spec.shown_intention text.now }
 {
     if is_template(text) {
@@ -119,11 +131,25 @@ fn is_template(text: &str) -> bool
         || has_piece(text, "%s")
 }
 
-// Whether a piece stands in a text.
+// Whether a piece stands in a text. Most texts lack its first byte, which is sooner seen.
 fn has_piece(text: &str, piece: &str) -> bool
     ensures { result ≡ spec.has_piece piece.now text.now }
 {
-    text.contains(piece)
+    if lacks_start(text.as_bytes(), piece.as_bytes()) {
+        false
+    } else {
+        text.contains(piece)
+    }
+}
+
+// Whether the first byte of a piece doesn't stand in a text.
+fn lacks_start(text: &[u8], piece: &[u8]) -> bool
+    ensures { result ≡ spec.lacks_start text.now piece.now }
+{
+    match piece {
+        [first, ..] => !text.contains(first),
+        [] => false,
+    }
 }
 
 // Whether a text begins with a drive letter, `:` and `\`, or with the `\\` before the name of a server.

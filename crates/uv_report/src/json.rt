@@ -3,6 +3,7 @@ ghost use Rattle.std.specs.Prelude.{◌≡◌, ◌++◌, OnOk, codes, decimal, s
 ghost use Rattle.serde_json.specs.Data.{boolean};
 ghost use Rattle.serde_json.specs.Written.{compact_text};
 ghost use Rattle.uv_model.specs.MendKindName.{kind_name};
+ghost use Rattle.uv_report.specs.Found.{told};
 ghost use Rattle.uv_report.specs.Json.{cut_member, json_text, json_value, line_member, mended_member, offered_member};
 ghost use Rattle.uv_report.specs.Json.{told_members};
 ghost use Rattle.uv_report.specs.LineViolation.{violation_place};
@@ -10,13 +11,14 @@ ghost use Rattle.uv_report.specs.Message as reported;
 ghost use Rattle.uv_report.specs.Quoted.{quoted};
 ghost use Rattle.uv_report.specs.Window as shown;
 
-use crate::diagnostic::Diagnostic;
+use crate::found::Found;
 use crate::gnu::push_number;
 use crate::intention::is_offered;
 use crate::line_violation::LineViolation;
 use crate::quoted::{push_quoted, push_quoted_message};
 use crate::rule_texts::rule_member;
-use crate::window::{is_cut, window};
+use crate::seen_text::SeenText;
+use crate::window::window;
 use std::alloc::{AllocError, Global};
 use uv_model::{MendKind, Profile};
 
@@ -25,9 +27,9 @@ use uv_model::{MendKind, Profile};
 pub(crate) fn push_json(
     alloc: Global,
     text: &mut String,
-    diagnostic: &Diagnostic<'_>,
+    diagnostic: &Found<'_>,
 ) -> Result<(), AllocError>
-    ensures { OnOk result (string_bytes text.new ≡ string_bytes text.old ++ json_text diagnostic.now) }
+    ensures { OnOk result (string_bytes text.new ≡ string_bytes text.old ++ json_text (told diagnostic.now)) }
 {
     push_object(alloc, text, diagnostic)?;
     text.push('\n')?;
@@ -35,13 +37,9 @@ pub(crate) fn push_json(
 }
 
 // Pushes the object of a diagnostic, member by member. Its texts are escaped by JSON alone.
-fn push_object(
-    alloc: Global,
-    text: &mut String,
-    diagnostic: &Diagnostic<'_>,
-) -> Result<(), AllocError>
+fn push_object(alloc: Global, text: &mut String, diagnostic: &Found<'_>) -> Result<(), AllocError>
     ensures { OnOk result (string_bytes text.new
-        ≡ string_bytes text.old ++ compact_text (json_value diagnostic.now)) }
+        ≡ string_bytes text.old ++ compact_text (json_value (told diagnostic.now))) }
 {
     push_number_member(text, "{\"column\":", diagnostic.column)?;
     push_file(alloc, text, diagnostic)?;
@@ -86,18 +84,14 @@ pub(crate) fn push_text_member(
 }
 
 // Pushes whether a window of the link alone is carried, and the name of the file.
-fn push_file(
-    alloc: Global,
-    text: &mut String,
-    diagnostic: &Diagnostic<'_>,
-) -> Result<(), AllocError>
+fn push_file(alloc: Global, text: &mut String, diagnostic: &Found<'_>) -> Result<(), AllocError>
     ensures { OnOk result (string_bytes text.new ≡ string_bytes text.old
         ++ (cut_member (shown.is_cut diagnostic.now.text.now) ++ quoted diagnostic.now.file.now)) }
 {
     push_text_member(
         alloc,
         text,
-        cut_member(is_cut(diagnostic.text)),
+        cut_member(diagnostic.text.is_cut()),
         diagnostic.file,
     )
 }
@@ -114,7 +108,7 @@ fn cut_member(cut: bool) -> &'static str
 }
 
 // Pushes how a mended text stands to the refused one, where there is a mended text, and the number of the line.
-fn push_line(text: &mut String, diagnostic: &Diagnostic<'_>) -> Result<(), AllocError>
+fn push_line(text: &mut String, diagnostic: &Found<'_>) -> Result<(), AllocError>
     ensures { OnOk result (string_bytes text.new ≡ string_bytes text.old
         ++ (line_member diagnostic.now.mended ++ decimal diagnostic.now.line)) }
 {
@@ -123,7 +117,7 @@ fn push_line(text: &mut String, diagnostic: &Diagnostic<'_>) -> Result<(), Alloc
 
 // The member that says how a mended text stands to the refused one, where there is a mended text, up to the number of
 // the line.
-fn line_member(diagnostic: &Diagnostic<'_>) -> &'static str
+fn line_member(diagnostic: &Found<'_>) -> &'static str
     ensures { result.now ≡ line_member diagnostic.now.mended }
 {
     match diagnostic.mended {
@@ -145,12 +139,8 @@ fn kind_text(kind: MendKind) -> &'static str
 
 // Pushes the mended text, where there is one, what is reported of the line, and whether the mended text is offered.
 #[tactic(auto, unfolding(crate::specs::Json::told_members))]
-fn push_told(
-    alloc: Global,
-    text: &mut String,
-    diagnostic: &Diagnostic<'_>,
-) -> Result<(), AllocError>
-    ensures { OnOk result (string_bytes text.new ≡ string_bytes text.old ++ told_members diagnostic.now) }
+fn push_told(alloc: Global, text: &mut String, diagnostic: &Found<'_>) -> Result<(), AllocError>
+    ensures { OnOk result (string_bytes text.new ≡ string_bytes text.old ++ told_members (told diagnostic.now)) }
 {
     push_mended(alloc, text, diagnostic)?;
     push_message_member(
@@ -166,7 +156,7 @@ fn push_told(
 }
 
 // The member of whether a mended text is offered, where there is one.
-fn offered_member(diagnostic: &Diagnostic<'_>) -> &'static str
+fn offered_member(diagnostic: &Found<'_>) -> &'static str
     ensures { result.now ≡ offered_member diagnostic.now.text.now diagnostic.now.mended }
 {
     match diagnostic.mended {
@@ -187,11 +177,7 @@ fn offered_text(offered: bool) -> &'static str
 }
 
 // Pushes the mended text, where there is one.
-fn push_mended(
-    alloc: Global,
-    text: &mut String,
-    diagnostic: &Diagnostic<'_>,
-) -> Result<(), AllocError>
+fn push_mended(alloc: Global, text: &mut String, diagnostic: &Found<'_>) -> Result<(), AllocError>
     ensures { OnOk result (string_bytes text.new ≡ string_bytes text.old ++ mended_member diagnostic.now.mended) }
 {
     match diagnostic.mended {
@@ -206,7 +192,7 @@ pub(crate) fn push_message_member(
     text: &mut String,
     before: &str,
     profile: Profile,
-    line: &str,
+    line: &SeenText<'_>,
     violation: LineViolation,
 ) -> Result<(), AllocError>
     ensures { OnOk result (string_bytes text.new
@@ -223,16 +209,16 @@ pub(crate) fn push_link(
     alloc: Global,
     text: &mut String,
     before: &str,
-    line: &str,
+    line: &SeenText<'_>,
     violation: LineViolation,
 ) -> Result<(), AllocError>
     ensures { OnOk result (string_bytes text.new ≡ string_bytes text.old
         ++ (before.now ++ quoted (shown.carried line.now (violation_place violation)))) }
 {
-    if is_cut(line) {
+    if line.is_cut() {
         push_window(alloc, text, before, line, violation.place())
     } else {
-        push_text_member(alloc, text, before, line)
+        push_text_member(alloc, text, before, line.as_str())
     }
 }
 
@@ -241,7 +227,7 @@ fn push_window(
     alloc: Global,
     text: &mut String,
     before: &str,
-    line: &str,
+    line: &SeenText<'_>,
     place: usize,
 ) -> Result<(), AllocError>
     ensures { OnOk result (string_bytes text.new

@@ -1,17 +1,19 @@
 //! Diagnostics as a document of JUnit, in XML.
 ghost use Rattle.std.specs.Prelude.{◌≡◌, ◌++◌, OnOk, string_bytes};
+ghost use Rattle.uv_report.specs.Found.{told};
 ghost use Rattle.uv_report.specs.declared.escapes.Escapes.TheVariants.{Attribute};
 ghost use Rattle.uv_report.specs.Escapes.{escaped};
 ghost use Rattle.uv_report.specs.Junit as spec;
 ghost use Rattle.uv_report.specs.Window.{carried};
 
 use crate::completion::Completion;
-use crate::diagnostic::Diagnostic;
 use crate::escapes::{Escapes, push_escaped};
 use crate::fingerprint::push_carried;
+use crate::found::Found;
 use crate::gnu::push_number;
 use crate::line_violation::LineViolation;
 use crate::message::push_escaped_message;
+use crate::seen_text::SeenText;
 use std::alloc::{AllocError, Global};
 use uv_model::Profile;
 
@@ -59,9 +61,9 @@ pub(crate) fn push_junit_file(text: &mut String, file: &str) -> Result<(), Alloc
 pub(crate) fn push_junit(
     alloc: Global,
     text: &mut String,
-    diagnostic: &Diagnostic<'_>,
+    diagnostic: &Found<'_>,
 ) -> Result<(), AllocError>
-    ensures { OnOk result (string_bytes text.new ≡ string_bytes text.old ++ spec.junit_text diagnostic.now) }
+    ensures { OnOk result (string_bytes text.new ≡ string_bytes text.old ++ spec.junit_text (told diagnostic.now)) }
 {
     push_case(text, diagnostic)?;
     push_failure(
@@ -76,8 +78,8 @@ pub(crate) fn push_junit(
 
 // Pushes the start tag of the test.
 #[tactic(auto, unfolding(crate::specs::Junit::case_begin))]
-fn push_case(text: &mut String, diagnostic: &Diagnostic<'_>) -> Result<(), AllocError>
-    ensures { OnOk result (string_bytes text.new ≡ string_bytes text.old ++ spec.case_begin diagnostic.now) }
+fn push_case(text: &mut String, diagnostic: &Found<'_>) -> Result<(), AllocError>
+    ensures { OnOk result (string_bytes text.new ≡ string_bytes text.old ++ spec.case_begin (told diagnostic.now)) }
 {
     text.push_str("<testcase classname=\"")?;
     push_escaped(text, diagnostic.file, Escapes::Attribute)?;
@@ -97,7 +99,7 @@ fn push_failure(
     alloc: Global,
     text: &mut String,
     profile: Profile,
-    line: &str,
+    line: &SeenText<'_>,
     violation: LineViolation,
 ) -> Result<(), AllocError>
     ensures { OnOk result (string_bytes text.new ≡ string_bytes text.old ++ spec.failure profile line.now violation) }
@@ -113,7 +115,12 @@ fn push_failure(
 }
 
 // Pushes what is carried of the text that is wrong.
-fn push_link(alloc: Global, text: &mut String, line: &str, place: usize) -> Result<(), AllocError>
+fn push_link(
+    alloc: Global,
+    text: &mut String,
+    line: &SeenText<'_>,
+    place: usize,
+) -> Result<(), AllocError>
     ensures { OnOk result (string_bytes text.new
         ≡ string_bytes text.old ++ escaped Attribute (carried line.now place)) }
 {

@@ -15,6 +15,7 @@ mod escapes;
 mod explanation;
 mod fingerprint;
 mod format;
+mod found;
 mod github;
 mod gitlab;
 mod gnu;
@@ -29,11 +30,13 @@ mod mended;
 mod message;
 mod page;
 mod plain;
+mod printable;
 mod quoted;
 mod rdjson;
 mod report;
 mod rule_texts;
 mod sarif;
+mod seen_text;
 mod start;
 mod uri;
 mod window;
@@ -51,5 +54,7 @@ pub use located_fault::LocatedFault;
 pub use mended::Mended;
 pub use message::push_message;
 pub use report::{
-    end_of, push_begin, push_diagnostic, push_file_begin, push_file_end, put_diagnostic,
+    end_of, push_begin, push_diagnostic, push_file_begin, push_file_end, push_seen_diagnostic,
+    put_diagnostic, put_seen_diagnostic,
 };
+pub use seen_text::SeenText;

@@ -1,7 +1,8 @@
 //! What is reported of a line: a sentence that names the code point at the place, where the rule is about one, that
 //! says why a host is no valid domain or a line not located, or that a URL string has no credentials, and an IPv6
 //! address brackets.
-ghost use Rattle.std.specs.Prelude.{◌≡◌, ◌++◌, IfOk, OnOk, codes, option_copied, string_bytes};
+ghost use Rattle.std.specs.Prelude.{◌≡◌, ◌≤◌, ◌++◌, ℕ, IfOk, OnOk, codes, drop, find, option_copied, string_bytes};
+ghost use Rattle.std.specs.Str.{chars};
 ghost use Rattle.uv_report.specs.CodePoint.{point_text};
 ghost use Rattle.uv_report.specs.Escapes.{escaped};
 ghost use Rattle.uv_report.specs.Message as spec;
@@ -11,10 +12,10 @@ use crate::domain::push_domain_sentence;
 use crate::drive::push_drive_note;
 use crate::escapes::{Escapes, push_escaped};
 use crate::intention::push_meant_note;
-use crate::ipv6::{has_bare_ipv6, has_zone};
+use crate::ipv6::has_zone;
 use crate::line_violation::LineViolation;
+use crate::seen_text::SeenText;
 use crate::start::push_start_sentence;
-use crate::window::{point_at, rest_at};
 use std::alloc::{AllocError, Global};
 use uv_model::{Profile, Refusal, Rule};
 
@@ -29,14 +30,14 @@ const BARE_IPV6: &str = "a host that is an IPv6 address stands in brackets";
 pub(crate) fn message(
     alloc: Global,
     profile: Profile,
-    line: &str,
+    line: &SeenText<'_>,
     violation: LineViolation,
 ) -> Result<String, AllocError>
     ensures { IfOk result (λ text. string_bytes text ≡ spec.message profile line.now violation) }
 {
     // Room for most sentences.
     let mut text = String::with_capacity(alloc, 100)?;
-    push_message(alloc, &mut text, profile, line, violation)?;
+    push_seen_message(alloc, &mut text, profile, line, violation)?;
     Ok(text)
 }
 
@@ -46,6 +47,19 @@ pub fn push_message(
     text: &mut String,
     profile: Profile,
     line: &str,
+    violation: LineViolation,
+) -> Result<(), AllocError>
+    ensures { OnOk result (string_bytes text.new ≡ string_bytes text.old ++ spec.message profile line.now violation) }
+{
+    push_seen_message(alloc, text, profile, &SeenText::new(line), violation)
+}
+
+/// Pushes what is reported of a line that was seen, and is judged by a profile.
+pub(crate) fn push_seen_message(
+    alloc: Global,
+    text: &mut String,
+    profile: Profile,
+    line: &SeenText<'_>,
     violation: LineViolation,
 ) -> Result<(), AllocError>
     ensures { OnOk result (string_bytes text.new ≡ string_bytes text.old ++ spec.message profile line.now violation) }
@@ -62,7 +76,7 @@ pub(crate) fn push_escaped_message(
     alloc: Global,
     text: &mut String,
     profile: Profile,
-    line: &str,
+    line: &SeenText<'_>,
     violation: LineViolation,
     escapes: Escapes,
 ) -> Result<(), AllocError>
@@ -78,7 +92,7 @@ fn push_refusal(
     alloc: Global,
     text: &mut String,
     profile: Profile,
-    line: &str,
+    line: &SeenText<'_>,
     refusal: Refusal,
 ) -> Result<(), AllocError>
     ensures { OnOk result (string_bytes text.new
@@ -94,16 +108,16 @@ fn push_refusal_sentence(
     alloc: Global,
     text: &mut String,
     profile: Profile,
-    line: &str,
+    line: &SeenText<'_>,
     refusal: Refusal,
 ) -> Result<(), AllocError>
     ensures { OnOk result (string_bytes text.new
         ≡ string_bytes text.old ++ spec.refusal_sentence profile line.now refusal) }
 {
-    if is_of_authority(refusal.rule) && has_credentials(line, refusal.place) {
+    if is_of_authority(refusal.rule) && line.has_credentials(refusal.place) {
         return text.push_str(CREDENTIALS);
     }
-    if is_of_authority(refusal.rule) && has_bare_ipv6(line) {
+    if is_of_authority(refusal.rule) && line.has_bare_ipv6() {
         return text.push_str(BARE_IPV6);
     }
     push_rule_message(alloc, text, profile, line, refusal)
@@ -114,18 +128,18 @@ fn push_rule_message(
     alloc: Global,
     text: &mut String,
     profile: Profile,
-    line: &str,
+    line: &SeenText<'_>,
     refusal: Refusal,
 ) -> Result<(), AllocError>
     ensures { OnOk result (string_bytes text.new
         ≡ string_bytes text.old ++ spec.rule_message profile line.now refusal.place refusal.rule) }
 {
     match refusal.rule {
-        Rule::NoScheme => push_start_sentence(alloc, text, line, point_at(line, refusal.place)),
+        Rule::NoScheme => push_start_sentence(alloc, text, line, line.point_at(refusal.place)),
         Rule::HostDomain => push_domain_sentence(alloc, text, profile, line, refusal.place),
-        Rule::HostIpv6 => text.push_str(ipv6_sentence(line)),
+        Rule::HostIpv6 => text.push_str(ipv6_sentence(line.as_str())),
         Rule::CodePoint => push_unit_sentence(alloc, text, line, refusal.place),
-        _ => push_point_sentence(alloc, text, refusal.rule, point_at(line, refusal.place)),
+        _ => push_point_sentence(alloc, text, refusal.rule, line.point_at(refusal.place)),
     }
 }
 
@@ -144,14 +158,14 @@ fn ipv6_sentence(line: &str) -> &'static str
 fn push_unit_sentence(
     alloc: Global,
     text: &mut String,
-    line: &str,
+    line: &SeenText<'_>,
     place: usize,
 ) -> Result<(), AllocError>
     ensures { OnOk result (string_bytes text.new
         ≡ string_bytes text.old ++ spec.unit_sentence line.now place) }
 {
-    push_point_sentence(alloc, text, Rule::CodePoint, point_at(line, place))?;
-    push_drive_note(text, line, place)
+    push_point_sentence(alloc, text, Rule::CodePoint, line.point_at(place))?;
+    push_drive_note(text, line.as_str(), place)
 }
 
 // Pushes what is said of a code point that violates a rule, where the rule is about one, else the rule's sentence.
@@ -201,21 +215,32 @@ fn is_of_authority(rule: Rule) -> bool
     }
 }
 
-// Whether an `@` follows from a place of a host or a port on, before the authority's end.
-fn has_credentials(line: &str, place: usize) -> bool
-    ensures { result ≡ spec.has_credentials line.now place }
+/// Whether an `@` follows in a text, before the authority's end.
+pub(crate) fn has_credentials_in(text: &str) -> bool
+    ensures { result ≡ spec.is_at_sign (find spec.ends_part (chars text.now)) }
 {
-    match part_end(line, place) {
+    match part_end(text) {
         Some(end) => end == '@',
         None => false,
     }
 }
 
-// The first code point from a place on that ends credentials or an authority.
-fn part_end(line: &str, place: usize) -> Option<char>
-    ensures { result ≡ spec.part_end line.now place }
+// The first code point of a text that ends credentials or an authority.
+fn part_end(text: &str) -> Option<char>
+    ensures { result ≡ find spec.ends_part (chars text.now) }
 {
-    rest_at(line, place).chars().find(|c| ends_part(*c))
+    text.chars().find(|c| ends_part(*c))
+}
+
+/// For how many code points further on the same one is the first.
+pub(crate) fn part_length(text: &str) -> usize
+    ensures { (count : ℕ) → count ≤ result
+        → find spec.ends_part (drop count (chars text.now)) ≡ find spec.ends_part (chars text.now) }
+{
+    match text.chars().position(|c| ends_part(c)) {
+        Some(place) => place,
+        None => usize::MAX,
+    }
 }
 
 // Whether a code point ends credentials or an authority.

@@ -5,8 +5,9 @@ ghost use Rattle.uv_report.specs.Message as reported;
 ghost use Rattle.uv_report.specs.Quoted.{is_plain, quoted};
 
 use crate::line_violation::LineViolation;
-use crate::message::{message, push_message};
+use crate::message::{message, push_seen_message};
 use crate::plain::is_plain_text;
+use crate::seen_text::SeenText;
 use serde_json::Value;
 use std::alloc::{AllocError, Global};
 use uv_model::Profile;
@@ -28,7 +29,7 @@ pub(crate) fn push_quoted_message(
     alloc: Global,
     text: &mut String,
     profile: Profile,
-    line: &str,
+    line: &SeenText<'_>,
     violation: LineViolation,
 ) -> Result<(), AllocError>
     ensures { OnOk result (string_bytes text.new
@@ -48,7 +49,7 @@ fn push_bare_message(
     alloc: Global,
     text: &mut String,
     profile: Profile,
-    line: &str,
+    line: &SeenText<'_>,
     violation: LineViolation,
 ) -> Result<bool, AllocError>
     ensures text { IfOk result (λ plain. string_bytes text.new
@@ -57,7 +58,7 @@ fn push_bare_message(
 {
     text.push('"')?;
     let start = text.as_str().len();
-    push_message(alloc, text, profile, line, violation)?;
+    push_seen_message(alloc, text, profile, line, violation)?;
     let (_, said) = text.as_bytes().split_at(start);
     Ok(is_plain_text(said))
 }
@@ -67,7 +68,7 @@ fn push_value_message(
     alloc: Global,
     text: &mut String,
     profile: Profile,
-    line: &str,
+    line: &SeenText<'_>,
     violation: LineViolation,
 ) -> Result<(), AllocError>
     ensures { OnOk result (string_bytes text.new

@@ -3,11 +3,12 @@ ghost use Rattle.std.specs.Prelude.{◌≡◌, ◌++◌, IfOk, None, OnOk, Some,
 ghost use Rattle.serde_json.specs.Data.{string};
 ghost use Rattle.serde_json.specs.View.{view};
 ghost use Rattle.serde_json.specs.Written.{compact_text};
+ghost use Rattle.uv_report.specs.Found.{told};
 ghost use Rattle.uv_report.specs.Message as reported;
 ghost use Rattle.uv_report.specs.Rdjson as spec;
 ghost use Rattle.uv_report.specs.Sarif.{offered_in, single};
 
-use crate::diagnostic::Diagnostic;
+use crate::found::Found;
 use crate::intention::is_offered;
 use crate::line_violation::LineViolation;
 use crate::mended::Mended;
@@ -32,11 +33,11 @@ pub(crate) fn push_rdjson_begin(text: &mut String) -> Result<(), AllocError>
 pub(crate) fn push_rdjson(
     alloc: Global,
     text: &mut String,
-    diagnostic: &Diagnostic<'_>,
+    diagnostic: &Found<'_>,
     is_first: bool,
 ) -> Result<(), AllocError>
     ensures { OnOk result (string_bytes text.new
-        ≡ string_bytes text.old ++ spec.rdjson_text is_first diagnostic.now) }
+        ≡ string_bytes text.old ++ spec.rdjson_text is_first (told diagnostic.now)) }
 {
     text.push_str(separator(is_first))?;
     push_object(alloc, text, diagnostic)?;
@@ -45,12 +46,8 @@ pub(crate) fn push_rdjson(
 }
 
 // Pushes the object of a diagnostic.
-fn push_object(
-    alloc: Global,
-    text: &mut String,
-    diagnostic: &Diagnostic<'_>,
-) -> Result<(), AllocError>
-    ensures { OnOk result (string_bytes text.new ≡ string_bytes text.old ++ spec.object_text diagnostic.now) }
+fn push_object(alloc: Global, text: &mut String, diagnostic: &Found<'_>) -> Result<(), AllocError>
+    ensures { OnOk result (string_bytes text.new ≡ string_bytes text.old ++ spec.object_text (told diagnostic.now)) }
 {
     let object = object_text(alloc, diagnostic)?;
     text.push_str(object.as_str())
@@ -58,8 +55,8 @@ fn push_object(
 
 // The text of the object, with a suggestion where a mended text is offered.
 #[tactic(auto, unfolding(crate::specs::Rdjson::object_text))]
-fn object_text(alloc: Global, diagnostic: &Diagnostic<'_>) -> Result<String, AllocError>
-    ensures { IfOk result (λ text. string_bytes text ≡ spec.object_text diagnostic.now) }
+fn object_text(alloc: Global, diagnostic: &Found<'_>) -> Result<String, AllocError>
+    ensures { IfOk result (λ text. string_bytes text ≡ spec.object_text (told diagnostic.now)) }
 {
     match diagnostic.mended {
         Some(mended) => mended_text(alloc, diagnostic, mended),
@@ -70,11 +67,11 @@ fn object_text(alloc: Global, diagnostic: &Diagnostic<'_>) -> Result<String, All
 // The same where there is a mended text.
 fn mended_text(
     alloc: Global,
-    diagnostic: &Diagnostic<'_>,
+    diagnostic: &Found<'_>,
     mended: Mended<'_>,
 ) -> Result<String, AllocError>
     ensures { IfOk result (λ text. string_bytes text
-        ≡ compact_text (spec.rdjson_with diagnostic.now (offered_in diagnostic.now.text.now (Some mended.entry)))) }
+        ≡ compact_text (spec.rdjson_with (told diagnostic.now) (offered_in diagnostic.now.text.now (Some mended.entry)))) }
 {
     if is_offered(diagnostic.text, mended.text) {
         suggesting_text(alloc, diagnostic, mended)
@@ -86,25 +83,25 @@ fn mended_text(
 // The text of the object that suggests a mended text.
 fn suggesting_text(
     alloc: Global,
-    diagnostic: &Diagnostic<'_>,
+    diagnostic: &Found<'_>,
     mended: Mended<'_>,
 ) -> Result<String, AllocError>
     ensures { IfOk result (λ text. string_bytes text
-        ≡ compact_text (spec.rdjson_with diagnostic.now (Some mended.entry))) }
+        ≡ compact_text (spec.rdjson_with (told diagnostic.now) (Some mended.entry))) }
 {
     suggesting(alloc, diagnostic, mended)?.to_string(alloc)
 }
 
 // The text of the object without a suggestion.
-fn plain_text(alloc: Global, diagnostic: &Diagnostic<'_>) -> Result<String, AllocError>
-    ensures { IfOk result (λ text. string_bytes text ≡ compact_text (spec.rdjson_with diagnostic.now None)) }
+fn plain_text(alloc: Global, diagnostic: &Found<'_>) -> Result<String, AllocError>
+    ensures { IfOk result (λ text. string_bytes text ≡ compact_text (spec.rdjson_with (told diagnostic.now) None)) }
 {
     plain(alloc, diagnostic)?.to_string(alloc)
 }
 
 // The object without a suggestion.
-fn plain(alloc: Global, diagnostic: &Diagnostic<'_>) -> Result<Value, AllocError>
-    ensures { IfOk result (λ value. view value ≡ spec.rdjson_with diagnostic.now None) }
+fn plain(alloc: Global, diagnostic: &Found<'_>) -> Result<Value, AllocError>
+    ensures { IfOk result (λ value. view value ≡ spec.rdjson_with (told diagnostic.now) None) }
 {
     json!(in alloc; {
         "code": code(alloc, diagnostic.violation)?,
@@ -117,10 +114,10 @@ fn plain(alloc: Global, diagnostic: &Diagnostic<'_>) -> Result<Value, AllocError
 // The object that suggests a mended text.
 fn suggesting(
     alloc: Global,
-    diagnostic: &Diagnostic<'_>,
+    diagnostic: &Found<'_>,
     mended: Mended<'_>,
 ) -> Result<Value, AllocError>
-    ensures { IfOk result (λ value. view value ≡ spec.rdjson_with diagnostic.now (Some mended.entry)) }
+    ensures { IfOk result (λ value. view value ≡ spec.rdjson_with (told diagnostic.now) (Some mended.entry)) }
 {
     json!(in alloc; {
         "code": code(alloc, diagnostic.violation)?,
@@ -132,7 +129,7 @@ fn suggesting(
 }
 
 // What is reported.
-fn said(alloc: Global, diagnostic: &Diagnostic<'_>) -> Result<Value, AllocError>
+fn said(alloc: Global, diagnostic: &Found<'_>) -> Result<Value, AllocError>
     ensures { IfOk result (λ value. view value ≡ string (reported.message diagnostic.now.profile
         diagnostic.now.text.now diagnostic.now.violation)) }
 {
@@ -154,8 +151,8 @@ fn code(alloc: Global, violation: LineViolation) -> Result<Value, AllocError>
 }
 
 // The file, and what is wrong in it.
-fn location(alloc: Global, diagnostic: &Diagnostic<'_>) -> Result<Value, AllocError>
-    ensures { IfOk result (λ value. view value ≡ spec.location_value diagnostic.now) }
+fn location(alloc: Global, diagnostic: &Found<'_>) -> Result<Value, AllocError>
+    ensures { IfOk result (λ value. view value ≡ spec.location_value (told diagnostic.now)) }
 {
     json!(in alloc; {
         "path": diagnostic.file,

@@ -1,6 +1,7 @@
 //! Reports in any format. A report is a beginning, then for each file its own beginning, its diagnostics and its end,
 //! and then an end.
 ghost use Rattle.std.specs.Prelude.{◌≡◌, ◌++◌, [], IfOk, OnErr, OnOk, string_bytes};
+ghost use Rattle.uv_report.specs.Found.{told};
 ghost use Rattle.uv_report.specs.Report.{begin_text, diagnostic_text, end_text, file_begin_text, file_end_text};
 
 use crate::caret::push_caret;
@@ -9,6 +10,7 @@ use crate::column::Columns;
 use crate::completion::Completion;
 use crate::diagnostic::Diagnostic;
 use crate::format::Format;
+use crate::found::Found;
 use crate::github::push_github;
 use crate::gitlab::push_gitlab;
 use crate::gnu::push_gnu;
@@ -16,6 +18,7 @@ use crate::json::push_json;
 use crate::junit::{JUNIT_BEGIN, junit_end, push_junit, push_junit_file};
 use crate::rdjson::{push_rdjson, push_rdjson_begin};
 use crate::sarif::{push_sarif, push_sarif_begin, sarif_end};
+use crate::seen_text::SeenText;
 use std::alloc::{AllocError, Global};
 
 /// Pushes what a report begins with. In SARIF that says what columns count, where SARIF has a word for it. Where an
@@ -101,8 +104,27 @@ pub fn push_diagnostic(
         ≡ string_bytes text.old ++ diagnostic_text format is_first diagnostic.now) }
     ensures err { OnErr result (string_bytes text.new ≡ string_bytes text.old) }
 {
+    let seen = SeenText::new(diagnostic.text);
+    push_seen_diagnostic(alloc, text, format, diagnostic, &seen, is_first)
+}
+
+/// The same of a diagnostic whose text was seen. Several diagnostics on one text take no more time than the text and what
+/// is written of it, where they come in the order of their places, and the text is led to each place before.
+pub fn push_seen_diagnostic(
+    alloc: Global,
+    text: &mut String,
+    format: Format,
+    diagnostic: &Diagnostic<'_>,
+    seen: &SeenText<'_>,
+    is_first: bool,
+) -> Result<(), AllocError>
+    requires { seen.now ≡ diagnostic.now.text.now }
+    ensures ok { OnOk result (string_bytes text.new
+        ≡ string_bytes text.old ++ diagnostic_text format is_first diagnostic.now) }
+    ensures err { OnErr result (string_bytes text.new ≡ string_bytes text.old) }
+{
     let mut reported = String::new(alloc);
-    put_diagnostic(alloc, &mut reported, format, diagnostic, is_first)?;
+    put_seen_diagnostic(alloc, &mut reported, format, diagnostic, seen, is_first)?;
     text.push_str(reported.as_str())
 }
 
@@ -118,8 +140,25 @@ pub fn put_diagnostic(
     ensures ok { OnOk result (string_bytes text.new ≡ diagnostic_text format is_first diagnostic.now) }
     ensures err { OnErr result (string_bytes text.new ≡ []) }
 {
+    let seen = SeenText::new(diagnostic.text);
+    put_seen_diagnostic(alloc, text, format, diagnostic, &seen, is_first)
+}
+
+/// The same of a diagnostic whose text was seen, as `push_seen_diagnostic` takes it.
+pub fn put_seen_diagnostic(
+    alloc: Global,
+    text: &mut String,
+    format: Format,
+    diagnostic: &Diagnostic<'_>,
+    seen: &SeenText<'_>,
+    is_first: bool,
+) -> Result<(), AllocError>
+    requires { seen.now ≡ diagnostic.now.text.now }
+    ensures ok { OnOk result (string_bytes text.new ≡ diagnostic_text format is_first diagnostic.now) }
+    ensures err { OnErr result (string_bytes text.new ≡ []) }
+{
     text.clear();
-    match push_piecewise(alloc, text, format, diagnostic, is_first) {
+    match push_seen(alloc, text, format, diagnostic, seen, is_first) {
         Ok(()) => Ok(()),
         Err(AllocError) => {
             text.clear();
@@ -128,16 +167,42 @@ pub fn put_diagnostic(
     }
 }
 
+// Pushes a diagnostic whose text was seen. Where an allocation fails, a beginning of it was pushed.
+fn push_seen(
+    alloc: Global,
+    text: &mut String,
+    format: Format,
+    diagnostic: &Diagnostic<'_>,
+    seen: &SeenText<'_>,
+    is_first: bool,
+) -> Result<(), AllocError>
+    requires { seen.now ≡ diagnostic.now.text.now }
+    ensures { OnOk result (string_bytes text.new
+        ≡ string_bytes text.old ++ diagnostic_text format is_first diagnostic.now) }
+{
+    let found = Found {
+        file: diagnostic.file,
+        line: diagnostic.line,
+        column: diagnostic.column,
+        end: diagnostic.end,
+        profile: diagnostic.profile,
+        violation: diagnostic.violation,
+        text: seen,
+        mended: diagnostic.mended,
+    };
+    push_piecewise(alloc, text, format, &found, is_first)
+}
+
 // Pushes a diagnostic piece by piece. Where an allocation fails, a beginning of it was pushed.
 fn push_piecewise(
     alloc: Global,
     text: &mut String,
     format: Format,
-    diagnostic: &Diagnostic<'_>,
+    diagnostic: &Found<'_>,
     is_first: bool,
 ) -> Result<(), AllocError>
     ensures { OnOk result (string_bytes text.new
-        ≡ string_bytes text.old ++ diagnostic_text format is_first diagnostic.now) }
+        ≡ string_bytes text.old ++ diagnostic_text format is_first (told diagnostic.now)) }
 {
     // Room for most diagnostics: what grows piece by piece is moved at many of them.
     text.reserve(1_000)?;

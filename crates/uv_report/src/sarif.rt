@@ -3,6 +3,7 @@ ghost use Rattle.std.specs.Prelude.{◌≡◌, ◌++◌, IfOk, OnOk, Some, codes
 ghost use Rattle.serde_json.specs.Data.{boolean, string};
 ghost use Rattle.serde_json.specs.View.{view};
 ghost use Rattle.serde_json.specs.Written.{compact_text};
+ghost use Rattle.uv_report.specs.Found.{told};
 ghost use Rattle.uv_report.specs.Fingerprint.{text_fingerprint};
 ghost use Rattle.uv_report.specs.Page as pages;
 ghost use Rattle.uv_report.specs.Quoted.{quoted};
@@ -10,8 +11,8 @@ ghost use Rattle.uv_report.specs.Sarif as spec;
 
 use crate::column::Columns;
 use crate::completion::Completion;
-use crate::diagnostic::Diagnostic;
 use crate::fingerprint::text_fingerprint;
+use crate::found::Found;
 use crate::intention::is_offered;
 use crate::json::{push_link, push_message_member, push_number_member, push_text_member};
 use crate::line_violation::LineViolation;
@@ -20,7 +21,6 @@ use crate::mended::Mended;
 use crate::page::{ADDRESS, rule_page};
 use crate::rule_texts::result_end;
 use crate::uri::push_uri_path;
-use crate::window::is_cut;
 use serde_json::{Value, json};
 use std::alloc::{AllocError, Global};
 use uv_model::{MendKind, Refusal, Rule};
@@ -180,11 +180,11 @@ fn section(alloc: Global, violation: LineViolation) -> Result<Value, AllocError>
 pub(crate) fn push_sarif(
     alloc: Global,
     text: &mut String,
-    diagnostic: &Diagnostic<'_>,
+    diagnostic: &Found<'_>,
     is_first: bool,
 ) -> Result<(), AllocError>
     ensures { OnOk result (string_bytes text.new
-        ≡ string_bytes text.old ++ spec.sarif_text is_first diagnostic.now) }
+        ≡ string_bytes text.old ++ spec.sarif_text is_first (told diagnostic.now)) }
 {
     push_result(alloc, text, diagnostic, is_first)?;
     text.push('\n')?;
@@ -196,11 +196,11 @@ pub(crate) fn push_sarif(
 fn push_result(
     alloc: Global,
     text: &mut String,
-    diagnostic: &Diagnostic<'_>,
+    diagnostic: &Found<'_>,
     is_first: bool,
 ) -> Result<(), AllocError>
     ensures { OnOk result (string_bytes text.new ≡ string_bytes text.old
-        ++ (spec.separator is_first ++ compact_text (spec.result_value diagnostic.now))) }
+        ++ (spec.separator is_first ++ compact_text (spec.result_value (told diagnostic.now)))) }
 {
     push_result_begin(alloc, text, diagnostic, is_first)?;
     push_uri_path(text, diagnostic.file)?;
@@ -217,7 +217,7 @@ fn push_result(
     push_link(
         alloc,
         text,
-        cut_begin(is_cut(diagnostic.text)),
+        cut_begin(diagnostic.text.is_cut()),
         diagnostic.text,
         diagnostic.violation,
     )?;
@@ -226,8 +226,8 @@ fn push_result(
 }
 
 // Pushes between which columns of which line a diagnostic is.
-fn push_region(text: &mut String, diagnostic: &Diagnostic<'_>) -> Result<(), AllocError>
-    ensures { OnOk result (string_bytes text.new ≡ string_bytes text.old ++ spec.region_pieces diagnostic.now) }
+fn push_region(text: &mut String, diagnostic: &Found<'_>) -> Result<(), AllocError>
+    ensures { OnOk result (string_bytes text.new ≡ string_bytes text.old ++ spec.region_pieces (told diagnostic.now)) }
 {
     push_number_member(text, "\"},\"region\":{\"endColumn\":", diagnostic.end)?;
     push_number_member(text, ",\"startColumn\":", diagnostic.column)?;
@@ -239,7 +239,7 @@ fn push_region(text: &mut String, diagnostic: &Diagnostic<'_>) -> Result<(), All
 fn push_fingerprint(
     alloc: Global,
     text: &mut String,
-    diagnostic: &Diagnostic<'_>,
+    diagnostic: &Found<'_>,
 ) -> Result<(), AllocError>
     ensures { OnOk result (string_bytes text.new ≡ string_bytes text.old
         ++ (codes "},\"partialFingerprints\":{\"urlcheckText/v1\":"
@@ -266,11 +266,11 @@ pub(crate) fn separator(is_first: bool) -> &'static str
 fn push_result_begin(
     alloc: Global,
     text: &mut String,
-    diagnostic: &Diagnostic<'_>,
+    diagnostic: &Found<'_>,
     is_first: bool,
 ) -> Result<(), AllocError>
     ensures { OnOk result (string_bytes text.new ≡ string_bytes text.old ++ (spec.separator is_first
-        ++ (spec.result_begin diagnostic.now (spec.offered_in diagnostic.now.text.now diagnostic.now.mended)
+        ++ (spec.result_begin (told diagnostic.now) (spec.offered_in diagnostic.now.text.now diagnostic.now.mended)
         ++ spec.location_begin))) }
 {
     match diagnostic.mended {
@@ -296,12 +296,12 @@ fn location_begin(is_first: bool) -> &'static str
 fn push_fix(
     alloc: Global,
     text: &mut String,
-    diagnostic: &Diagnostic<'_>,
+    diagnostic: &Found<'_>,
     is_first: bool,
     mended: Mended<'_>,
 ) -> Result<(), AllocError>
     ensures { OnOk result (string_bytes text.new ≡ string_bytes text.old ++ (spec.separator is_first
-        ++ (spec.result_begin diagnostic.now (Some mended.entry) ++ spec.location_begin))) }
+        ++ (spec.result_begin (told diagnostic.now) (Some mended.entry) ++ spec.location_begin))) }
 {
     text.push_str(fix_begin(is_first))?;
     push_uri_path(text, diagnostic.file)?;

@@ -10,7 +10,7 @@ ghost use Rattle.uv_report.specs.Start as spec;
 use crate::code_point::{is_unseen, push_point};
 use crate::intention::{before_slash, is_link_scheme, starts_with_slash, starts_with_slashes};
 use crate::ipv6::{before_end, behind_slash};
-use crate::window::{point_at, rest_at};
+use crate::seen_text::SeenText;
 use std::alloc::{AllocError, Global};
 use uv_model::Rule;
 
@@ -19,25 +19,30 @@ use uv_model::Rule;
 pub(crate) fn push_start_sentence(
     alloc: Global,
     text: &mut String,
-    line: &str,
+    line: &SeenText<'_>,
     first: Option<char>,
 ) -> Result<(), AllocError>
     ensures { OnOk result (string_bytes text.new ≡ string_bytes text.old ++ spec.start_sentence line.now first) }
 {
     match first {
         Some(c) => push_first(alloc, text, line, c),
-        None => push_missing(text, line),
+        None => push_missing(text, line.as_str()),
     }
 }
 
 // The same of a text that begins with a code point.
-fn push_first(alloc: Global, text: &mut String, line: &str, c: char) -> Result<(), AllocError>
+fn push_first(
+    alloc: Global,
+    text: &mut String,
+    line: &SeenText<'_>,
+    c: char,
+) -> Result<(), AllocError>
     ensures { OnOk result (string_bytes text.new ≡ string_bytes text.old ++ spec.first_sentence line.now c) }
 {
     if is_stray(line, c) {
         push_stray(alloc, text, c)
     } else {
-        push_missing(text, line)
+        push_missing(text, line.as_str())
     }
 }
 
@@ -79,7 +84,7 @@ fn missing_note(line: &str) -> &'static str
 }
 
 // Whether a code point stands before the scheme, if it is the first one.
-fn is_stray(line: &str, c: char) -> bool
+fn is_stray(line: &SeenText<'_>, c: char) -> bool
     ensures { result ≡ spec.is_stray line.now c }
 {
     is_unseen(c) || (opens_quotation(c) && has_scheme_at(line, 1))
@@ -101,10 +106,10 @@ fn opens_quotation(c: char) -> bool
 }
 
 // Whether a scheme and its `:` stand at a place.
-fn has_scheme_at(line: &str, place: usize) -> bool
+fn has_scheme_at(line: &SeenText<'_>, place: usize) -> bool
     ensures { result ≡ spec.has_scheme_at line.now place }
 {
-    is_letter(point_at(line, place)) && is_colon(scheme_end(line, place))
+    is_letter(line.point_at(place)) && is_colon(scheme_end(line, place))
 }
 
 // Whether an ASCII letter stands there.
@@ -128,10 +133,10 @@ fn is_colon(point: Option<char>) -> bool
 }
 
 // The first code point from a place on that may not stand in a scheme.
-fn scheme_end(line: &str, place: usize) -> Option<char>
+fn scheme_end(line: &SeenText<'_>, place: usize) -> Option<char>
     ensures { result ≡ spec.scheme_end line.now place }
 {
-    rest_at(line, place)
+    line.rest_at(place)
         .chars()
         .find(|c| !is_scheme_code_point(*c))
 }

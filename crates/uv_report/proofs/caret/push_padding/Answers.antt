@@ -1,14 +1,18 @@
--- At the end of the loop the padding stands below the code points before the place.
-use Rattle.std.proofs.Common.{◌++◌, flat_map, string_bytes, sym, ap, ◌∙◌, map-id}
-use Rattle.std.proofs.lemmas.Iterator.{YieldsList-from_chars, YieldsList-from_take}
-use Rattle.std.proofs.lemmas.Iterator.Consumers.{YieldsList-end}
-use Rattle.uv_report.specs.Caret.{below}
+-- Below printable ASCII stand spaces.
+use Rattle.std.proofs.Common.{◌≡◌, ◌++◌, ◌∙◌, OnOk, ap, length, string_bytes, subst, sym, take, true}
+use Rattle.std.specs.List.{list_all}
+use Rattle.uv_report.specs.Printable.{is_printable}
+use Rattle.uv_report.proofs.PrintableLemmas.{front_padding}
 use Rattle.uv_report.proofs.caret.push_padding.Goals as goal
 
-pub returns : goal.returns
-returns c =
-    let end = YieldsList-end
-    (YieldsList-from_take c.args.place (YieldsList-from_chars c.args.line.now c.utf8.line cc) cc) c.loop-c.yielded _
-    c.loop-c.yielded_by _ _ c.in-None.is c.next.ensures.steps in
-    c.loop-c.invariant
-    ∙ ap (λ cs. string_bytes c.args.text.now ++ flat_map below cs) (sym (map-id c.loop-c.yielded) ∙ end.0)
+pub returns-in-Some : goal.returns-in-Some
+returns-in-Some c =
+    let line = c.args.line.now in
+    let place = c.args.place in
+    let front = c.in-Some.ensures.front in
+    let printable : list_all is_printable (take place line) ≡ true =
+    ap (list_all is_printable) (sym (c.as_bytes.ensures.value ∙ front)) ∙ sym c.if-is_printable_text.ensures in
+    subst (λ spaces. OnOk c.push_spaces.result (string_bytes c.push_spaces.new.text
+    ≡ string_bytes c.args.text.now ++ spaces))
+    (sym (front_padding line place (ap length (sym front) ∙ c.in-Some.ensures.front_len) printable))
+    c.push_spaces.ensures

@@ -1,5 +1,6 @@
 -- The pieces of the object.
 use Rattle.std.proofs.Common.{◌∙◌, ◌++◌, ap, string_bytes}
+use Rattle.uv_report.specs.Found.{told}
 use Rattle.uv_report.specs.LineViolation.{violation_place}
 use Rattle.uv_report.specs.Quoted.{quoted}
 use Rattle.uv_report.specs.Window.{carried}
@@ -11,7 +12,7 @@ pub returns : goal.returns
 unfolding lib.Utf8.encode
 returns c =
     let start = string_bytes c.args.text.now in
-    let diagnostic = c.args.diagnostic.now in
+    let diagnostic = told c.args.diagnostic.now in
     let link = quoted (carried diagnostic.text.now (violation_place diagnostic.violation)) in
     let linked = c.in_ok-push_link.ensures ∙ ap (λ before. string_bytes c.push_told.new.text ++ (before ++ link)) c.rule_member.ensures in
     six_pieces start _ _ _ _ _ _ c.in_ok-push_number_member.ensures c.in_ok-push_file.ensures

@@ -1,5 +1,5 @@
--- The first code point that passes, of those from the place on.
-use Rattle.std.proofs.Common.{ap, find, rules, sym, tests, ◌∙◌}
+-- The first code point that passes.
+use Rattle.std.proofs.Common.{rules, sym, tests, ◌∙◌}
 use Rattle.std.proofs.lemmas.Iterator.{YieldsList-from_chars}
 use Rattle.std.proofs.lemmas.Iterator.Adapters.{option_map_id}
 use Rattle.std.proofs.lemmas.Iterator.Search.{find_from_yields_List}
@@ -10,6 +10,5 @@ pub returns : goal.returns
 returns c =
     sym (option_map_id c.find.result)
     ∙ find_from_yields_List ends_part _ _ c.find.result c.find.ensures.ran
-    (YieldsList-from_chars c.rest_at.result.now c.rest_at.utf8 cc)
+    (YieldsList-from_chars c.args.text.now c.utf8.text cc)
     (λ x b q k. search (rules, tests))
-    ∙ ap (find ends_part) c.rest_at.ensures

@@ -1,5 +1,6 @@
 use Rattle.std.proofs.Common.{rules, ◌≡◌, IfOk, None, Some, string_bytes, if◌then◌else◌, subst}
 use Rattle.serde_json.specs.Written.{compact_text}
+use Rattle.uv_report.specs.Found.{told}
 use Rattle.uv_report.specs.Rdjson as spec
 use Rattle.uv_report.proofs.rdjson.mended_text.Goals as goal
 
@@ -7,5 +8,5 @@ use Rattle.uv_report.proofs.rdjson.mended_text.Goals as goal
 pub returns-then-is_offered : goal.returns-then-is_offered
 returns-then-is_offered c =
     subst (λ offered. IfOk c.suggesting_text.result (λ text. string_bytes text
-    ≡ compact_text (spec.rdjson_with c.args.diagnostic.now (if offered then Some c.args.mended else None))))
+    ≡ compact_text (spec.rdjson_with (told c.args.diagnostic.now) (if offered then Some c.args.mended else None))))
     c.if-is_offered.ensures c.suggesting_text.ensures

@@ -1,5 +1,6 @@
 -- The pieces of the fix.
 use Rattle.std.proofs.Common.{◌∙◌, ◌++◌, ap, string_bytes}
+use Rattle.uv_report.specs.Found.{told}
 use Rattle.uv_report.specs.Sarif.{separator}
 use Rattle.uv_report.proofs.SarifLemmas.{fix_pieces}
 use Rattle.uv_report.proofs.PieceLemmas.{seven_pieces}
@@ -13,4 +14,4 @@ returns c =
     c.in_ok-push_number_member.ensures c.in_ok-push_number_member-2.ensures c.in_ok-push_number_member-3.ensures
     c.in_ok-push_text_member.ensures c.in_ok-push_str-2.ensures.bytes
     ∙ ap (λ pieces. start ++ pieces)
-    (fix_pieces c.args.diagnostic.now c.args.mended (separator c.args.is_first) c.fix_end.result.now c.fix_end.ensures)
+    (fix_pieces (told c.args.diagnostic.now) c.args.mended (separator c.args.is_first) c.fix_end.result.now c.fix_end.ensures)

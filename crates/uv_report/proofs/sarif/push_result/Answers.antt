@@ -2,6 +2,7 @@
 use Rattle.std.proofs.Common.{List, ℕ, ◌∙◌, ◌++◌, ap, codes, string_bytes}
 use Rattle.serde_json.specs.Data.{boolean}
 use Rattle.serde_json.specs.Written.{compact_text}
+use Rattle.uv_report.specs.Found.{told}
 use Rattle.uv_report.specs.LineViolation.{violation_place}
 use Rattle.uv_report.specs.Quoted.{quoted}
 use Rattle.uv_report.specs.Sarif.{offered_in, separator}
@@ -13,7 +14,7 @@ use Rattle.uv_report.proofs.sarif.push_result.Goals as goal
 pub returns : goal.returns
 returns c =
     let start = string_bytes c.args.text.now in
-    let diagnostic = c.args.diagnostic.now in
+    let diagnostic = told c.args.diagnostic.now in
     let link = quoted (carried diagnostic.text.now (violation_place diagnostic.violation)) in
     let begin : List ℕ = codes "},\"properties\":{\"cut\":" in
     let cut = c.cut_begin.ensures

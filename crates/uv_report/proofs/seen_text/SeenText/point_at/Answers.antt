@@ -2,14 +2,14 @@
 use Rattle.std.proofs.Common.{◌∙◌, ap, sym, slice_get}
 use Rattle.std.specs.Str.{chars}
 use Rattle.uv_report.proofs.PlaceLemmas.{slice_get_first}
-use Rattle.uv_report.proofs.window.point_at.Goals as goal
+use Rattle.uv_report.proofs.seen_text.SeenText.point_at.Goals as goal
 
 pub returns-in-Some : goal.returns-in-Some
 returns-in-Some c =
     ap (λ cs. slice_get cs 0) (sym c.in-Some.ensures ∙ c.rest_at.ensures)
-    ∙ slice_get_first (chars c.args.line.now) c.args.place
+    ∙ slice_get_first (chars c.args.self.now) c.args.place
 
 pub returns-in-None : goal.returns-in-None
 returns-in-None c =
     ap (λ cs. slice_get cs 0) (sym c.in-None.ensures ∙ c.rest_at.ensures)
-    ∙ slice_get_first (chars c.args.line.now) c.args.place
+    ∙ slice_get_first (chars c.args.self.now) c.args.place

@@ -2,7 +2,7 @@
 use Rattle.std.proofs.Common.{◌∙◌, ap, sym, length, subst}
 use Rattle.std.specs.Str.{IsAscii, chars}
 use Rattle.uv_report.proofs.PlaceLemmas.{chars_behind_ascii}
-use Rattle.uv_report.proofs.window.rest_at.Goals as goal
+use Rattle.uv_report.proofs.window.rest_in.Goals as goal
 
 pub returns-in-Some : goal.returns-in-Some
 returns-in-Some c =

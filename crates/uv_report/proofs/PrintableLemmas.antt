@@ -1,0 +1,92 @@
+-- Printable ASCII is shown as it is, and takes a column of a screen for each byte.
+use Rattle.std.proofs.Common.{◌≡◌, ◌∙◌, ◌==◌, ℕ, zero, suc, ◌<◌, true, false, List, [], ◌∷◌, ◌++◌, Some, ap, arith}
+use Rattle.std.proofs.Common.{codes, drop, encode_utf8, flat_map, if◌then◌else◌, length, refl, replicate, take}
+use Rattle.std.proofs.Common.{take_at, unwrap_or}
+use Rattle.std.specs.List.{list_all}
+use Rattle.std.specs.Str.{IsAscii, chars}
+use Rattle.std.proofs.lemmas.Bool.{and_parts}
+use Rattle.std.proofs.lemmas.Bool.Decides.{nat_tests}
+use Rattle.std.proofs.lemmas.Str.{chars-IsAscii, encode_ascii}
+use Rattle.std.proofs.lemmas.Str.Ascii.{IsAscii-cons, IsAscii-nil}
+use Rattle.unicode_width.specs.Width.{char_width}
+use Rattle.uv_report.specs.declared.escapes.Escapes.TheVariants.{Shown}
+use Rattle.uv_report.specs.Caret.{below, padding}
+use Rattle.uv_report.specs.Column.{shown_width}
+use Rattle.uv_report.specs.Escapes.{escape, escaped, is_hidden, replacement, shown_text}
+use Rattle.uv_report.specs.Printable.{is_printable}
+use Rattle.uv_report.proofs.PlaceLemmas.{chars_of_ascii}
+
+-- ---- a byte
+
+small : (c : ℕ) → is_printable c ≡ true → c < 128
+small c is = grind (arith, nat_tests)
+
+seen : (c : ℕ) → is_printable c ≡ true → is_hidden c ≡ false
+seen c is = grind (arith, nat_tests)
+
+narrow : (c : ℕ) → is_printable c ≡ true → char_width false c ≡ Some 1
+unfolding char_width
+narrow c is = grind (arith, nat_tests)
+
+-- it is shown as it is
+stays : (c : ℕ) → is_printable c ≡ true → escape Shown c ≡ c ∷ []
+stays c is =
+    ap (λ hidden. if hidden then replacement else encode_utf8 c) (seen c is) ∙ encode_ascii c (small c is)
+
+-- a space stands below it
+space_below : (c : ℕ) → is_printable c ≡ true → below c ≡ 32 ∷ []
+space_below c is =
+    let no_tab : (c == 9) ≡ false = grind (arith, nat_tests) in
+    let tab : List ℕ = codes "\t" in
+    ap (λ is_tab. if is_tab then tab else replicate (shown_width c) 32) no_tab
+    ∙ ap (λ hidden. replicate (unwrap_or (char_width false (if hidden then 0xFFFD else c)) 0) 32) (seen c is)
+    ∙ ap (λ width. replicate (unwrap_or width 0) 32) (narrow c is)
+
+-- ---- a text
+
+pub ascii : (text : List ℕ) → list_all is_printable text ≡ true → IsAscii text
+ascii [] are = IsAscii-nil
+ascii (b ∷ rest) are =
+    let parts = and_parts (is_printable b) (list_all is_printable rest) are in
+    IsAscii-cons b rest (small b parts.0) (ascii rest parts.1)
+
+each_stays : (text : List ℕ) → list_all is_printable text ≡ true → flat_map (escape Shown) text ≡ text
+each_stays [] are = refl
+each_stays (b ∷ rest) are =
+    let parts = and_parts (is_printable b) (list_all is_printable rest) are in
+    λ i. stays b parts.0 i ++ each_stays rest parts.1 i
+
+-- it is shown as it is
+pub shown_whole : (text : List ℕ) → list_all is_printable text ≡ true → shown_text text ≡ text
+unfolding escaped
+shown_whole text are = ap (flat_map (escape Shown)) (chars-IsAscii text (ascii text are)) ∙ each_stays text are
+
+spaces_below : (text : List ℕ) → list_all is_printable text ≡ true → padding text ≡ replicate (length text) 32
+spaces_below [] are = refl
+spaces_below (b ∷ rest) are =
+    let parts = and_parts (is_printable b) (list_all is_printable rest) are in
+    λ i. space_below b parts.0 i ++ spaces_below rest parts.1 i
+
+-- as many spaces stand below its front
+pub front_padding : (line : List ℕ) (place : ℕ) → length (take place line) ≡ place
+    → list_all is_printable (take place line) ≡ true → padding (take place (chars line)) ≡ replicate place 32
+front_padding line place long are =
+    let front = take place line in
+    ap (λ t. padding (take place t)) (chars_of_ascii line place (ascii front are))
+    ∙ ap padding (take_at front (chars (drop place line)) place long)
+    ∙ spaces_below front are ∙ ap (λ n. replicate n 32) long
+
+-- so many spaces
+abbrev spaces : ℕ → List ℕ
+spaces count = replicate count 32
+
+-- the front of spaces
+pub front_of_spaces : (count all : ℕ) → length (take count (spaces all)) ≡ count
+    → take count (spaces all) ≡ spaces count
+front_of_spaces zero all long = refl
+front_of_spaces (suc n) zero long =
+    let none : 0 ≡ suc n = long in
+    absurd (omega (arith, none))
+front_of_spaces (suc n) (suc m) long =
+    let next : suc (length (take n (spaces m))) ≡ suc n = long in
+    ap (λ t. 32 ∷ t) (front_of_spaces n m (omega (arith, next)))
