@@ -30,7 +30,7 @@ _urlcheck() {
                 links) words='--base --profile --wide --help -h' ;;
                 mend) words='--base --profile --wide --only --quiet -q --help -h' ;;
                 vectors) words='--help -h' ;;
-                explain) words='no-scheme opaque-base two-slashes host-missing host-domain host-number host-ipv6 host-code-point port-digit port-range first-segment-empty drive-after-host code-point percent not-utf8 line-too-long not-located --help -h' ;;
+                explain) words='no-scheme opaque-base two-slashes host-missing host-domain host-number host-ipv6 host-code-point port-digit port-range first-segment-empty drive-after-host code-point percent not-utf8 line-too-long not-located --url --help -h' ;;
                 help) words='check lint links mend vectors explain help' ;;
             esac ;;
     esac

@@ -242,6 +242,7 @@ of_others 'check and lint' mend --all x
 of_others 'lint and mend' check -q x
 of_others 'lint and mend' vectors --quiet
 of_others 'check, lint, links and mend' explain --base x
+of_others explain check --url x
 expect 2 '' "urlcheck: unexpected argument '--format' found\n${of_one}\
 urlcheck: --format is an option of lint\nwords\n" check --all --format json x
 # (before the command it is told where it stands; the usage of all names the file of the program)
@@ -283,6 +284,7 @@ nearest_is --columns lint --colums bytes links.txt
 nearest_is --stdin-name lint --stdin-nam=n -
 nearest_is --only mend --onyl same
 nearest_is --all lint --alll links.txt
+nearest_is --url explain --ulr percent
 # (so is one that abbreviates just one of them: by its first letter, and by further ones in their order)
 nearest_is --format lint --fmt gnu links.txt
 nearest_is --format lint -f gnu links.txt
@@ -310,7 +312,7 @@ expect 2 '' "urlcheck: unexpected argument '--bse' found\n$usage$no_file\nwords\
 
 # Each option of the help is one of the commands that have it in their help, and of no other: as vectors says, which has none.
 count=$((count + 1))
-for command in check lint links mend; do
+for command in check lint links mend explain; do
     "$program" help $command | sed -n '/^Options:$/,/^$/p' | grep -o -e '--[a-z0-9-]*' -e '-[a-z],' | tr -d , |
         grep -vx -e --help -e -h | sed "s/$/ $command/"
 done | awk '!seen[$0]++' | sort -s -k 1,1 | awk '$1 != option { option = $1; printf "%s%s %s", (NR > 1 ? "\n" : ""), $1, $2; next }
@@ -417,4 +419,4 @@ expect 0 'valid\nscheme file\nhost domain h\nsegment C:\nsegment x\n' '' check -
 expect 0 'valid\nscheme urn\nopaque a b\nfragment f\n' '' check --profile parser --base 'urn:a b' '#f'
 expect 2 '' "$(no_base 5 code-point 'U+0020 SPACE may not stand in a URL')" check --wide --base 'urn:a b' '#f'
 expect 2 '' "$(no_base 7 host-number 'the host that begins here ends in a number, and is no IPv4 address')" check --profile parser --base http://256/ x
-all_cases 297
+all_cases 299

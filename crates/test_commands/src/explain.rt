@@ -1,11 +1,12 @@
-//! Explanations of rules: that of one rule, the name of none, and each failed write. runs/explain.cases.sh has all
-//! rules.
+//! Explanations of rules: that of one rule, the name of none, and each failed write, of pages too. runs/explain.cases.sh
+//! has all rules.
 
 use std::alloc::Global;
 use std::test::Fail;
 use uv_cli::{ExplainEnd, run_explain};
 use uv_model::{DeviceFault, ScriptSink, Sink, ToWriter};
 use uv_vectors::CliFault;
+use uv_words::Told;
 
 const HOST_MISSING: &str = "rule host-missing
 means a host has to stand here
@@ -28,7 +29,7 @@ fn only(alloc: Global, name: &str) -> Result<Vec<String>, Fail> {
 fn explains_a_rule(rt: HostRuntime) -> Result<(), Fail> {
     let mut out = ToWriter::new(Vec::new(rt.alloc()));
     let names = only(rt.alloc(), "host-missing")?;
-    let end = run_explain(rt.alloc(), names.as_slice(), &mut out)?;
+    let end = run_explain(rt.alloc(), names.as_slice(), Told::Explanation, &mut out)?;
     assert!(rt; end == ExplainEnd::Explained);
     assert!(rt; out.into_writer().as_slice() == HOST_MISSING.as_bytes());
     Ok(())
@@ -40,7 +41,7 @@ fn knows_no_other_names(rt: HostRuntime) -> Result<(), Fail> {
     let mut out = ToWriter::new(Vec::new(rt.alloc()));
     let mut names = only(rt.alloc(), "host-missing")?;
     names.push("Percent".to_string(rt.alloc())?)?;
-    let end = run_explain(rt.alloc(), names.as_slice(), &mut out)?;
+    let end = run_explain(rt.alloc(), names.as_slice(), Told::Page, &mut out)?;
     assert!(rt; end == ExplainEnd::Unknown);
     assert!(rt; out.into_writer().is_empty());
     Ok(())
@@ -50,7 +51,7 @@ fn knows_no_other_names(rt: HostRuntime) -> Result<(), Fail> {
 fn fails_behind(alloc: Global, writes: &[Result<usize, DeviceFault>]) -> Result<bool, Fail> {
     let mut out = ScriptSink::new(alloc, HOST_MISSING.len(), writes)?;
     let names = only(alloc, "host-missing")?;
-    let answer = run_explain(alloc, names.as_slice(), &mut out);
+    let answer = run_explain(alloc, names.as_slice(), Told::Explanation, &mut out);
     Ok(
         answer == Err(CliFault::Write)
             && out.failures() == 1

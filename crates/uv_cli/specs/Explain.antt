@@ -1,5 +1,5 @@
 -- What an explanation of a rule says: the rule, what it asks, its section of the URL Standard, a text that is refused
--- by it, what its author may have meant, and that text mended.
+-- by it, what its author may have meant, and that text mended. And what the command writes: explanations, or the pages.
 use Rattle.std.specs.Prelude.{◌≡◌, ℕ, Bool, List, [], ◌∷◌, ◌++◌, codes, filter_map, Option, Some, None}
 use Rattle.std.specs.Prelude.{is_some, map, option_map, take, if◌then◌else◌}
 use Rattle.std.specs.List.{join_by, list_all}
@@ -12,7 +12,10 @@ use Rattle.uv_report.specs.declared.line_violation.LineViolation.{LineViolation}
 use Rattle.uv_report.specs.LineViolation.{violation_help, violation_name, violation_sentence, named_violation}
 use Rattle.uv_cli.specs.declared.explain.ExplainEnd.{ExplainEnd}
 use Rattle.uv_cli.specs.declared.explain.ExplainEnd.TheVariants.{Explained, Unknown}
+use Rattle.uv_words.specs.declared.words.Told.{Told}
+use Rattle.uv_words.specs.declared.words.Told.TheVariants.{Explanation, Page}
 use Rattle.uv_cli.specs.CheckText.{line, line_of, refused_text}
+use Rattle.uv_cli.specs.Pages.{named_page_line, rule_page_line}
 
 -- the lines of a rule: its name, what is wrong at the place of a refusal, what the rule asks, and its section
 abbrev pub rule_lines : Rule → List ℕ
@@ -63,30 +66,50 @@ explained_name name = explained_rule name (named_rule name)
 abbrev pub is_explained : List ℕ → Bool
 is_explained name = is_some (explained_name name)
 
--- the explanations of these names, in their order, where each of them is explained
-abbrev pub explanations_of : List (List ℕ) → Option (List (List ℕ))
-explanations_of names = if list_all is_explained names then Some (filter_map explained_name names) else None
+-- what is told of a rule: its explanation, or the line of the page about it
+abbrev pub told_rule : Told → Rule → List ℕ
+told_rule Explanation rule = explanation_text rule
+told_rule Page rule = rule_page_line rule
 
--- the explanations that are asked for by these names: those of the names, and of each rule where there are none
-abbrev pub asked_explanations : List (List ℕ) → Option (List (List ℕ))
-asked_explanations [] = Some (map explanation_text rules_in_order)
-asked_explanations (name ∷ rest) = explanations_of (name ∷ rest)
+-- the same of the rule or the violation with this name, where there is one
+abbrev pub told_name : Told → List ℕ → Option (List ℕ)
+told_name Explanation name = explained_name name
+told_name Page name = named_page_line name
 
--- texts one behind the other, with an empty line between two
-abbrev pub separated : List (List ℕ) → List ℕ
-separated texts = join_by (λ text. text) (codes "\n") texts
+-- the name is that of a rule or of a violation, so that this is told of it
+abbrev pub is_told : Told → List ℕ → Bool
+is_told told name = is_some (told_name told name)
+
+-- what is told of these names, in their order, where there is something of each of them
+abbrev pub told_of : Told → List (List ℕ) → Option (List (List ℕ))
+told_of told names = if list_all (is_told told) names then Some (filter_map (told_name told) names) else None
+
+-- what is asked for by these names: what is told of them, and of each rule where there are none
+abbrev pub asked_texts : Told → List (List ℕ) → Option (List (List ℕ))
+asked_texts told [] = Some (map (told_rule told) rules_in_order)
+asked_texts told (name ∷ rest) = told_of told (name ∷ rest)
+
+-- what is between two texts: an empty line between explanations, and nothing between lines
+abbrev pub between : Told → List ℕ
+between Explanation = codes "\n"
+between Page = []
+
+-- texts one behind the other, with that between two
+abbrev pub separated : Told → List (List ℕ) → List ℕ
+separated told texts = join_by (λ text. text) (between told) texts
 
 -- what is written where these names are asked for, and nothing where one of them is the name of no rule and of no
 -- violation
-abbrev pub explained : List (List ℕ) → Option (List ℕ)
-explained names = option_map separated (asked_explanations names)
+abbrev pub explained : Told → List (List ℕ) → Option (List ℕ)
+explained told names = option_map (separated told) (asked_texts told names)
 
 -- what was asked for was written, or one of the names is that of no rule and of no violation
-abbrev pub HasExplained : List (List ℕ) → ExplainEnd → Option (List ℕ) → Option (List ℕ) → Type 0
-HasExplained rules Explained old new = (text : List ℕ) × (explained rules ≡ Some text) × Appends old new text
-HasExplained rules Unknown old new = explained rules ≡ None
+abbrev pub HasExplained : Told → List (List ℕ) → ExplainEnd → Option (List ℕ) → Option (List ℕ) → Type 0
+HasExplained told rules Explained old new =
+    (text : List ℕ) × (explained told rules ≡ Some text) × Appends old new text
+HasExplained told rules Unknown old new = explained told rules ≡ None
 
 -- a prefix of what was asked for was written
-abbrev pub HasExplainedPrefix : List (List ℕ) → Option (List ℕ) → Option (List ℕ) → Type 0
-HasExplainedPrefix rules old new =
-    (text : List ℕ) × (explained rules ≡ Some text) × ((count : ℕ) × Appends old new (take count text))
+abbrev pub HasExplainedPrefix : Told → List (List ℕ) → Option (List ℕ) → Option (List ℕ) → Type 0
+HasExplainedPrefix told rules old new =
+    (text : List ℕ) × (explained told rules ≡ Some text) × ((count : ℕ) × Appends old new (take count text))

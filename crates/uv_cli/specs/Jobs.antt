@@ -19,6 +19,7 @@ use Rattle.uv_words.specs.declared.words.FilterJob.{FilterJob}
 use Rattle.uv_words.specs.declared.words.Job.{Job}
 use Rattle.uv_words.specs.declared.words.Job.TheVariants as job
 use Rattle.uv_words.specs.declared.words.LintJob.{LintJob}
+use Rattle.uv_words.specs.declared.words.Told.{Told}
 use Rattle.uv_cli.specs.declared.check.CheckEnd.TheVariants as check
 use Rattle.uv_cli.specs.declared.explain.ExplainEnd.TheVariants as explain
 use Rattle.uv_vectors.specs.declared.fault.CliFault.TheVariants as cli
@@ -109,15 +110,16 @@ HasRunVectors bytes _ old new = ⊥
 
 -- ---- an explanation
 
--- what was written of the rules with these names, or of each rule
-abbrev pub HasRunExplain : List (List ℕ) → End → Stream → Stream → Type 0
-HasRunExplain rules end.Shown old new =
-    HasExplained rules explain.Explained old.bytes new.bytes × (new.failed ≡ old.failed)
-HasRunExplain rules end.UnknownRule old new = HasExplained rules explain.Unknown old.bytes new.bytes × (new ≡ old)
-HasRunExplain rules (end.Fault cli.Memory) old new = new ≡ old
-HasRunExplain rules (end.Fault cli.Write) old new =
-    HasExplainedPrefix rules old.bytes new.bytes × (new.failed ≡ old.failed + 1)
-HasRunExplain rules _ old new = ⊥
+-- what was written of the rules with these names, or of each rule: so much of each is told
+abbrev pub HasRunExplain : Told → List (List ℕ) → End → Stream → Stream → Type 0
+HasRunExplain told rules end.Shown old new =
+    HasExplained told rules explain.Explained old.bytes new.bytes × (new.failed ≡ old.failed)
+HasRunExplain told rules end.UnknownRule old new =
+    HasExplained told rules explain.Unknown old.bytes new.bytes × (new ≡ old)
+HasRunExplain told rules (end.Fault cli.Memory) old new = new ≡ old
+HasRunExplain told rules (end.Fault cli.Write) old new =
+    HasExplainedPrefix told rules old.bytes new.bytes × (new.failed ≡ old.failed + 1)
+HasRunExplain told rules _ old new = ⊥
 
 -- ---- a job
 
@@ -152,7 +154,7 @@ HasDone job.LintWithoutInput bytes ended input rest old new = (ended ≡ end.Wor
 HasDone job.LintUnnamed bytes ended input rest old new = (ended ≡ end.Words) × (rest ≡ input) × (new ≡ old)
 HasDone job.FilterOfText bytes ended input rest old new = (ended ≡ end.Words) × (rest ≡ input) × (new ≡ old)
 HasDone (job.Vectors file) bytes end input rest old new = HasRunVectors bytes end old new × (rest ≡ input)
-HasDone (job.Explain rules) bytes end input rest old new =
-    HasRunExplain (map string_bytes rules.items) end old new × (rest ≡ input)
+HasDone (job.Explain rules told) bytes end input rest old new =
+    HasRunExplain told (map string_bytes rules.items) end old new × (rest ≡ input)
 HasDone (job.UnknownProfile name) bytes ended input rest old new =
     (ended ≡ end.UnknownProfile) × (rest ≡ input) × (new ≡ old)

@@ -17,6 +17,7 @@ pub mod Filter
 pub mod Messages
 pub mod Names
 pub mod Options
+pub mod Pages
 pub mod Look
 pub mod Contents
 pub mod Program

@@ -126,7 +126,7 @@ unknown_of_rules rules other = []
 
 -- what is reported of a job that ended so, where it names what there is none of, or asks of a text what is for lines
 abbrev pub unknown_of_job : Job → End → List ℕ
-unknown_of_job (job.Explain rules) ended = unknown_of_rules (map string_bytes rules.items) ended
+unknown_of_job (job.Explain rules told) ended = unknown_of_rules (map string_bytes rules.items) ended
 unknown_of_job (job.Lint asked) ended = unknown_of_lint asked ended
 unknown_of_job (job.Filter asked) ended = unknown_of_filter asked ended
 unknown_of_job job.LintWithoutInput ended =

@@ -1,15 +1,18 @@
-//! The command `explain`: what rules ask, their sections of the URL Standard, and an example, of some rules or of each.
+//! The command `explain`: what rules ask, their sections of the URL Standard, and an example, of some rules or of each;
+//! or the addresses of the pages about them.
 ghost use Rattle.std.specs.Prelude.{◌≡◌, ◌++◌, ◌+◌, ◌-◌, ◌^◌, ◌<◌, IfOk, OnOk, map, option_copied, option_map};
 ghost use Rattle.std.specs.Prelude.{string_bytes};
-ghost use Rattle.uv_cli.specs.Explain.{HasExplained, HasExplainedPrefix, asked_explanations, example_lines};
-ghost use Rattle.uv_cli.specs.Explain.{explained_name, explained_violation, explanation_text, explanations_of};
-ghost use Rattle.uv_cli.specs.Explain.{mended_otherwise, rule_lines, separated, violation_lines};
+ghost use Rattle.uv_cli.specs.Explain.{HasExplained, HasExplainedPrefix, asked_texts, between, example_lines};
+ghost use Rattle.uv_cli.specs.Explain.{explained_name, explained_violation, explanation_text, mended_otherwise};
+ghost use Rattle.uv_cli.specs.Explain.{rule_lines, separated, told_name, told_of, told_rule, violation_lines};
 
+use crate::pages::{named_page_line, rule_page_line};
 use crate::report::{push_line, push_present, refused_line};
 use std::alloc::{AllocError, Global};
 use uv_model::{DeviceFault, Refusal, Rule, Sink, write_whole};
 use uv_report::{LineViolation, explain};
 use uv_vectors::CliFault;
+use uv_words::Told;
 
 /// How an explanation ends.
 #[derive(Clone, Copy, PartialEq, Eq)]
@@ -22,55 +25,61 @@ pub enum ExplainEnd {
 
 /// Writes what the rules with these names ask, where they stand, and an example of each, in the order of the names and
 /// with an empty line between two; without a name it writes this of each rule, in the order of their numbers. By the
-/// name of a violation with a line that isn't judged it writes what a line is asked.
+/// name of a violation with a line that isn't judged it writes what a line is asked. Where `told` asks for the pages, it
+/// writes of each the address of the page about it, in a line, and no more.
 ///
 /// An error of memory leaves the output as it was; an error of a write leaves a beginning of what was to be written.
 pub fn run_explain<S: Sink>(
     alloc: Global,
     rules: &[String],
+    told: Told,
     out: &mut S,
 ) -> Result<ExplainEnd, CliFault>
     requires { S.failed out.old < 2 ^ 64 - 1 }
-    ensures written { IfOk result (λ end. HasExplained (map string_bytes rules.now) end
+    ensures written { IfOk result (λ end. HasExplained told (map string_bytes rules.now) end
         (S.contents out.old) (S.contents out.new)) }
     ensures unknown { result ≡ Ok ExplainEnd.Unknown → out.new ≡ out.old }
     ensures quiet { OnOk result (S.failed out.new ≡ S.failed out.old) }
     ensures memory { result ≡ Err CliFault.Memory → out.new ≡ out.old }
     ensures prefix { result ≡ Err CliFault.Write →
-        HasExplainedPrefix (map string_bytes rules.now) (S.contents out.old) (S.contents out.new) }
+        HasExplainedPrefix told (map string_bytes rules.now) (S.contents out.old) (S.contents out.new) }
     ensures failed { result ≡ Err CliFault.Write → S.failed out.new ≡ S.failed out.old + 1 }
 {
-    let Some(texts) = asked_explanations(alloc, rules)? else {
+    let Some(texts) = asked_texts(alloc, rules, told)? else {
         return Ok(ExplainEnd::Unknown);
     };
-    let text = separated(alloc, texts.as_slice())?;
+    let text = separated(alloc, texts.as_slice(), told)?;
     match write_whole(out, text.as_bytes()) {
         Ok(()) => Ok(ExplainEnd::Explained),
         Err(DeviceFault) => Err(CliFault::Write),
     }
 }
 
-// The explanations that are asked for by these names: those of the names, where each is explained, and of each rule
-// where there are none.
-fn asked_explanations(alloc: Global, names: &[String]) -> Result<Option<Vec<String>>, AllocError>
+// What is asked for by these names: what is told of them, where it is of each, and of each rule where there are none.
+fn asked_texts(
+    alloc: Global,
+    names: &[String],
+    told: Told,
+) -> Result<Option<Vec<String>>, AllocError>
     ensures { IfOk result (λ texts. option_map (λ t. map string_bytes t.items) texts
-        ≡ asked_explanations (map string_bytes names.now)) }
+        ≡ asked_texts told (map string_bytes names.now)) }
 {
     if names.is_empty() {
-        Ok(Some(explanations(alloc, Rule::in_order().as_slice())?))
+        let rules = Rule::in_order();
+        Ok(Some(told_of_rules(alloc, rules.as_slice(), told)?))
     } else {
-        explanations_of(alloc, names)
+        told_of(alloc, names, told)
     }
 }
 
-// The explanations of names, in their order, where each is explained.
-fn explanations_of(alloc: Global, names: &[String]) -> Result<Option<Vec<String>>, AllocError>
+// What is told of names, in their order, where there is something of each.
+fn told_of(alloc: Global, names: &[String], told: Told) -> Result<Option<Vec<String>>, AllocError>
     ensures { IfOk result (λ texts. option_map (λ t. map string_bytes t.items) texts
-        ≡ explanations_of (map string_bytes names.now)) }
+        ≡ told_of told (map string_bytes names.now)) }
 {
     let mut texts = Vec::new(alloc);
     for name in names {
-        match name_text(alloc, name.as_str())? {
+        match told_name(alloc, name.as_str(), told)? {
             Some(text) => texts.push(text)?,
             None => return Ok(None),
         }
@@ -78,11 +87,31 @@ fn explanations_of(alloc: Global, names: &[String]) -> Result<Option<Vec<String>
     Ok(Some(texts))
 }
 
-// Texts one behind the other, with an empty line between two.
-fn separated(alloc: Global, texts: &[String]) -> Result<String, AllocError>
-    ensures { IfOk result (λ text. string_bytes text ≡ separated (map string_bytes texts.now)) }
+// Texts one behind the other, with an empty line between two explanations.
+fn separated(alloc: Global, texts: &[String], told: Told) -> Result<String, AllocError>
+    ensures { IfOk result (λ text. string_bytes text ≡ separated told (map string_bytes texts.now)) }
 {
-    texts.join(alloc, "\n")
+    texts.join(alloc, between(told))
+}
+
+// What is between two texts: an empty line between explanations, and nothing between lines.
+fn between(told: Told) -> &'static str
+    ensures { result.now ≡ between told }
+{
+    match told {
+        Told::Explanation => "\n",
+        Told::Page => "",
+    }
+}
+
+// What is told of the rule with a name, else of the violation, where there is one.
+fn told_name(alloc: Global, name: &str, told: Told) -> Result<Option<String>, AllocError>
+    ensures { IfOk result (λ text. option_map string_bytes text ≡ told_name told name.now) }
+{
+    match told {
+        Told::Explanation => name_text(alloc, name),
+        Told::Page => named_page_line(alloc, name),
+    }
 }
 
 // What is written of the rule with a name, else of the violation, where there is one.
@@ -117,15 +146,25 @@ fn push_violation(text: &mut String, violation: LineViolation) -> Result<(), All
     push_line(text, "asks ", violation.help())
 }
 
-// The explanations of rules.
-fn explanations(alloc: Global, rules: &[Rule]) -> Result<Vec<String>, AllocError>
-    ensures { IfOk result (λ texts. map string_bytes texts.items ≡ map explanation_text rules.now) }
+// What is told of rules.
+fn told_of_rules(alloc: Global, rules: &[Rule], told: Told) -> Result<Vec<String>, AllocError>
+    ensures { IfOk result (λ texts. map string_bytes texts.items ≡ map (told_rule told) rules.now) }
 {
     let mut texts = Vec::new(alloc);
     for rule in rules {
-        texts.push(explanation(alloc, *rule)?)?;
+        texts.push(told_rule(alloc, *rule, told)?)?;
     }
     Ok(texts)
+}
+
+// What is told of a rule.
+fn told_rule(alloc: Global, rule: Rule, told: Told) -> Result<String, AllocError>
+    ensures { IfOk result (λ text. string_bytes text ≡ told_rule told rule) }
+{
+    match told {
+        Told::Explanation => explanation(alloc, rule),
+        Told::Page => rule_page_line(alloc, rule),
+    }
 }
 
 // The explanation of a rule.

@@ -17,11 +17,12 @@ use std::alloc::Global;
 use std::fs::Files;
 use uv_model::{Extent, Profile, Sink, Source};
 use uv_vectors::run_cases;
-use uv_words::{FilterJob, Job, LintJob};
+use uv_words::{FilterJob, Job, LintJob, Told};
 
 /// Does what a job asks for: it checks the job's text, against the job's base and by the profile that the job names, or
 /// says what to write in its place, or says what is wrong with the lines of the job's files, or reports on the lines of
-/// the input, or mends them, or runs the cases of a vector file, or explains the job's rules, or each rule.
+/// the input, or mends them, or runs the cases of a vector file, or explains the job's rules, or each rule, or says
+/// where the pages about them are.
 ///
 /// The file has the bytes of the job's file, and only a run of vectors looks at it. A lint opens its files itself. The
 /// input is read only by a list, by a filter, and by a lint for a file that is named `-`, and the output isn't flushed.
@@ -59,7 +60,7 @@ pub fn run_job<R: Files + Eprint + AllocGlobal, I: Source, S: Sink>(
         Job::Filter(asked) => filter_asked(alloc, asked, input, out),
         Job::FilterOfText => End::Words,
         Job::Vectors { file: name } => vectors_run(rt, name.as_str(), file, out),
-        Job::Explain { rules } => explained(alloc, rules.as_slice(), out),
+        Job::Explain { rules, told } => explained(alloc, rules.as_slice(), *told, out),
         Job::UnknownProfile { .. } => End::UnknownProfile,
     }
 }
@@ -131,14 +132,14 @@ fn mend_text<S: Sink>(
     end_of_check(run_mend(alloc, text, base, profile, out))
 }
 
-// Explains the rules with these names, or each rule.
-fn explained<S: Sink>(alloc: Global, rules: &[String], out: &mut S) -> End
+// Tells so much of the rules with these names, or of each rule.
+fn explained<S: Sink>(alloc: Global, rules: &[String], told: Told, out: &mut S) -> End
     requires { S.failed out.old < 2 ^ 64 - 1 }
-    ensures { HasRunExplain (map string_bytes rules.now) result
+    ensures { HasRunExplain told (map string_bytes rules.now) result
         (record { bytes = S.contents out.old; failed = S.failed out.old })
         (record { bytes = S.contents out.new; failed = S.failed out.new }) }
 {
-    end_of_explanation(run_explain(alloc, rules, out))
+    end_of_explanation(run_explain(alloc, rules, told, out))
 }
 
 // Runs the cases of a vector file with this name, or reports why they aren't judged.

@@ -19,6 +19,7 @@ mod mend;
 mod messages;
 mod names;
 mod options;
+mod pages;
 pub mod program;
 mod reasons;
 mod report;

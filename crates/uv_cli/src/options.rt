@@ -86,6 +86,7 @@ fn takers(name: &str) -> &'static [&'static str]
         "--format" | "--columns" | "--located" | "--stdin-name" => &["lint"],
         "--quiet" | "-q" => &["lint", "mend"],
         "--only" => &["mend"],
+        "--url" => &["explain"],
         _ => &[],
     }
 }
@@ -110,6 +111,7 @@ fn option_names(command: &str) -> &'static [&'static str]
         ],
         "links" => &["--base", "--profile", "--wide"],
         "mend" => &["--base", "--profile", "--wide", "--only", "--quiet"],
+        "explain" => &["--url"],
         _ => &[],
     }
 }

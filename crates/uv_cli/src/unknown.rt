@@ -62,7 +62,7 @@ pub(crate) fn unknown_lines(alloc: Global, job: &Job, end: End) -> Result<String
     ensures { IfOk result (λ text. string_bytes text ≡ unknown_of_job job.now end) }
 {
     match (job, end) {
-        (Job::Explain { rules }, End::UnknownRule) => rule_lines(alloc, rules.as_slice()),
+        (Job::Explain { rules, .. }, End::UnknownRule) => rule_lines(alloc, rules.as_slice()),
         (Job::Lint(asked), _) => names_lines(alloc, asked, end),
         (Job::Filter(asked), End::UnknownKind) => kind_lines(alloc, or_empty(&asked.only)),
         (Job::LintWithoutInput, _) => message_line(alloc, OF_INPUT),

@@ -53,6 +53,7 @@ pub use line_violation::LineViolation;
 pub use located_fault::LocatedFault;
 pub use mended::Mended;
 pub use message::push_message;
+pub use page::rule_page;
 pub use report::{
     end_of, push_begin, push_diagnostic, push_file_begin, push_file_end, push_seen_diagnostic,
     put_diagnostic, put_seen_diagnostic,

@@ -8,13 +8,15 @@ use std::alloc::{AllocError, Global};
 use uv_model::Rule;
 
 /// The address of the site that `./build-site` makes, without a `/` behind it: SARIF and reviewdog name the project and
-/// the page of each rule by it. No site is published yet, so this is a name under `.example`, which nobody has (RFC
-/// 2606). Once there is one, its address has to be written here and in `specs/Page.antt`, and nowhere else.
+/// the page of each rule by it, and `explain --url` writes that page. No site is published yet, so this is a name under
+/// `.example`, which nobody has (RFC 2606). Once there is one, its address has to be written here and in
+/// `specs/Page.antt`, and nowhere else.
 pub(crate) const ADDRESS: &str = "https://yuccaeave.example/urlcheck";
 
-/// The address of the page about what is wrong with a line: of a rule of valid URL strings its own.
+/// The address of the page about what is wrong with a line: of a rule of valid URL strings its own, whatever the place
+/// of the refusal, and of what else can be wrong that of the commands.
 #[tactic(auto, unfolding(crate::specs::Page::rule_page))]
-pub(crate) fn rule_page(alloc: Global, violation: LineViolation) -> Result<String, AllocError>
+pub fn rule_page(alloc: Global, violation: LineViolation) -> Result<String, AllocError>
     ensures { IfOk result (λ page. string_bytes page ≡ spec.rule_page violation) }
 {
     let mut page = String::from_str(alloc, ADDRESS)?;

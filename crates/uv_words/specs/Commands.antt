@@ -75,9 +75,9 @@ mend_command =
 abbrev pub vectors_command : App
 vectors_command = with_rule (new_app (codes "vectors")) file_rule
 
--- `explain [RULE..]`
+-- `explain [--url] [RULE..]`
 abbrev pub explain_command : App
-explain_command = with_rule (new_app (codes "explain")) names_rule
+explain_command = with_rule (with_rule (new_app (codes "explain")) (flag_rule (codes "url"))) names_rule
 
 -- a command has to be given, and there is `--version`
 abbrev pub with_required : App → App

@@ -22,6 +22,8 @@ use Rattle.uv_words.specs.declared.words.FilterJob.{FilterJob}
 use Rattle.uv_words.specs.declared.words.Job.{Job}
 use Rattle.uv_words.specs.declared.words.Job.TheVariants as job
 use Rattle.uv_words.specs.declared.words.LintJob.{LintJob}
+use Rattle.uv_words.specs.declared.words.Told.{Told}
+use Rattle.uv_words.specs.declared.words.Told.TheVariants.{Explanation, Page}
 use Rattle.uv_words.specs.declared.words.WordsFault.{WordsFault}
 use Rattle.uv_words.specs.declared.words.WordsFault.TheVariants as fault
 
@@ -51,8 +53,8 @@ pub record FilterRequest : Type 0 where
 
 -- a command with its texts and options: of a check the text, the base, how many violations and the profile; of a list
 -- the base and the profile; of a mending the text, the base and the profile, or it is asked by what is of a filter
--- alone; of vectors the file; of an explanation the rules' names; or a profile's name that none has; or a lint is
--- asked by a name of standard input, which it doesn't read, or by an empty one
+-- alone; of vectors the file; of an explanation the rules' names, and what is told of them; or a profile's name that
+-- none has; or a lint is asked by a name of standard input, which it doesn't read, or by an empty one
 pub data Request : Type 0 where
   check : Text → Option Text → Extent → Profile → Request
   lint : LintRequest → Request
@@ -63,7 +65,7 @@ pub data Request : Type 0 where
   filter : FilterRequest → Request
   filter_of_text : Request
   vectors : Text → Request
-  explain : List Text → Request
+  explain : List Text → Told → Request
   unknown_profile : Text → Request
 
 -- the base that was given
@@ -183,11 +185,15 @@ profiled_in name rows (Some (unknown other)) = Some (unknown_profile other)
 abbrev pub rules_in : List Row → List Text
 rules_in rows = unwrap_or (all_of (codes "RULE") rows) []
 
+-- the page about each rule with `--url`, else its explanation
+abbrev pub told_in : List Row → Told
+told_in rows = if has_flag (codes "url") rows then Page else Explanation
+
 -- the request that a command's name and its entries make
 unfoldable pub request_in : Text → List Row → Option Request
 request_in name rows =
     if bytes_eq name (codes "vectors") then option_map vectors (first_of (codes "FILE") rows)
-    else (if bytes_eq name (codes "explain") then Some (explain (rules_in rows))
+    else (if bytes_eq name (codes "explain") then Some (explain (rules_in rows) (told_in rows))
     else profiled_in name rows (wanted_in rows))
 
 -- the same of the command that `clap`'s definition finds in the arguments, if it finds one
@@ -234,7 +240,7 @@ asked_by (job.Mend text base profile) = mend (string_bytes text) (text_in base) 
 asked_by (job.Filter asked) = filter (filter_by asked)
 asked_by job.FilterOfText = filter_of_text
 asked_by (job.Vectors file) = vectors (string_bytes file)
-asked_by (job.Explain rules) = explain (map string_bytes rules.items)
+asked_by (job.Explain rules told) = explain (map string_bytes rules.items) told
 asked_by (job.UnknownProfile name) = unknown_profile (string_bytes name)
 
 -- what is read of the profile that is asked for

@@ -87,14 +87,16 @@ Example:
 const EXPLAIN_NOTES: &str =
     "Prints what each RULE asks, its section of the URL Standard, and a text that it refuses.
 Without RULE it prints this of each rule.
+With --url it prints the address of the page about each one, a line each.
 
 Exit statuses:
   0  each RULE is explained, or each rule
   2  the arguments are refused, or no rule has the name
   3  out of memory, or the output failed
 
-Example:
-  urlcheck explain host-missing";
+Examples:
+  urlcheck explain host-missing
+  urlcheck explain --url host-missing";
 
 // The usage of the commands that take options. Where these are given, `clap`'s own shows them as if they had to be.
 const CHECK_USAGE: &str = "urlcheck check [--base <TEXT>] [OPTIONS] <TEXT>";
@@ -230,10 +232,9 @@ fn explain<'a>(alloc: Global) -> Result<Command<'a>, AllocError>
     ensures { IfOk result (IsApp explain_command) }
 {
     let about = "Says what a rule asks";
-    and_arg(
-        Ok(bare(alloc, "explain", about, EXPLAIN_NOTES)),
-        names(alloc),
-    )
+    let command = bare(alloc, "explain", about, EXPLAIN_NOTES);
+    let command = and_arg(Ok(command), url(alloc));
+    and_arg(command, names(alloc))
 }
 
 // An option with a value.
@@ -340,6 +341,14 @@ fn only<'a>(alloc: Global) -> Arg<'a>
 {
     let help = "same, escaped or changed; the other lines stay as they were";
     option(alloc, "only", "KIND", help)
+}
+
+fn url<'a>(alloc: Global) -> Arg<'a>
+    ensures rule { rule_of result ≡ flag_rule (codes "url") }
+    ensures local { result.global ≡ false }
+{
+    let help = "Prints the address of the page about each rule, and no explanation";
+    flag(alloc, "url", help)
 }
 
 fn files<'a>(alloc: Global) -> Arg<'a>

@@ -7,4 +7,4 @@ mod inputs;
 mod profile;
 mod words;
 
-pub use words::{FilterJob, Job, LintJob, WordsFault, read_words};
+pub use words::{FilterJob, Job, LintJob, Told, WordsFault, read_words};

@@ -5,7 +5,8 @@ ghost use Rattle.clap.specs.Words.{takes};
 ghost use Rattle.uv_words.specs.Commands.{urlcheck};
 ghost use Rattle.uv_words.specs.Words.{asked_by, asks_to_show, check_in, extent_in, has_flag, judged_in, lint_in};
 ghost use Rattle.uv_words.specs.Words.{explain, filter_by, filter_in, mend_in, rules_in};
-ghost use Rattle.uv_words.specs.Words.{request_in, request_of, vectors, wanted_in, wanted_view, IsFaultOf, IsFrom};
+ghost use Rattle.uv_words.specs.Words.{request_in, request_of, told_in, vectors, wanted_in, wanted_view, IsFaultOf};
+ghost use Rattle.uv_words.specs.Words.{IsFrom};
 
 use crate::commands::urlcheck;
 use crate::entries::{copied, copied_all, extent, has, value, values};
@@ -61,16 +62,27 @@ pub enum Job {
         /// The file's name.
         file: String,
     },
-    /// To say what rules ask.
+    /// To say what rules ask, or where the pages about them are.
     Explain {
         /// The rules' names, in order, or none where each rule is meant.
         rules: Vec<String>,
+        /// What is told of each of them.
+        told: Told,
     },
     /// To judge by a profile that there is none of.
     UnknownProfile {
         /// The name that no profile has.
         name: String,
     },
+}
+
+/// What is told of a rule.
+#[derive(Clone, Copy, Debug, PartialEq, Eq)]
+pub enum Told {
+    /// Its explanation.
+    Explanation,
+    /// The address of the page about it.
+    Page,
 }
 
 /// The files whose lines are judged, by what, and how what is wrong with them is reported.
@@ -215,13 +227,26 @@ fn vectors_in(alloc: Global, entries: &ArgMatches<'_>) -> Result<Option<Job>, Al
 // The explanation that a command's entries ask for.
 fn explain_in(alloc: Global, entries: &ArgMatches<'_>) -> Result<Option<Job>, AllocError>
     ensures { IfOk result (λ job.
-        option_map asked_by job ≡ Some (explain (rules_in (rows_of (found_of entries.now))))) }
+        option_map asked_by job ≡ Some (explain (rules_in (rows_of (found_of entries.now)))
+        (told_in (rows_of (found_of entries.now))))) }
 {
     let rules = match values(entries, "RULE") {
         Some(rules) => copied_all(alloc, rules)?,
         None => Vec::new(alloc),
     };
-    Ok(Some(Job::Explain { rules }))
+    let told = told_by(entries);
+    Ok(Some(Job::Explain { rules, told }))
+}
+
+// What a command's entries ask to be told of a rule.
+fn told_by(entries: &ArgMatches<'_>) -> Told
+    ensures { result ≡ told_in (rows_of (found_of entries.now)) }
+{
+    if has(entries, "url") {
+        Told::Page
+    } else {
+        Told::Explanation
+    }
 }
 
 // The profile that a command's entries ask for.

@@ -1,5 +1,5 @@
 -- Joined texts, as their bytes joined.
-use Rattle.std.proofs.Common.{◌≡◌, ◌++◌, ◌∙◌, ℕ, List, [], ◌∷◌, String, Global, ap, codes, flat_map, map}
+use Rattle.std.proofs.Common.{◌≡◌, ◌++◌, ◌∙◌, ℕ, List, [], ◌∷◌, String, Global, ap, flat_map, map}
 use Rattle.std.proofs.Common.{refl, string_bytes}
 use Rattle.std.proofs.lemmas.Result.{IfOk-weaker}
 use Rattle.std.specs.List.{join_by}
@@ -19,5 +19,8 @@ joined mark (text ∷ rest) = ap (λ r. string_bytes text ++ r) (each_behind mar
 
 pub returns : goal.returns
 returns c =
-    IfOk-weaker c.join.result (λ text. string_bytes text ≡ join_by string_bytes (codes "\n") c.args.texts.now)
-    _ (λ text is. is ∙ joined (codes "\n") c.args.texts.now) c.join.ensures.ok
+    let mark = c.between.result.now in
+    IfOk-weaker c.join.result (λ text. string_bytes text ≡ join_by string_bytes mark c.args.texts.now)
+    _ (λ text is.
+    is ∙ joined mark c.args.texts.now
+    ∙ ap (λ m. join_by (λ t. t) m (map string_bytes c.args.texts.now)) c.between.ensures) c.join.ensures.ok
