@@ -58,7 +58,7 @@ if grep -rlF "$room" "$at"; then fail "an installed file names the folder that i
 
 # ---- the version
 
-"$at/bin/urlcheck" --version | cmp - <(echo "urlcheck $version") || fail "the program has another version than VERSION"
+"$at/bin/urlcheck" -V | cmp - <(echo "urlcheck $version") || fail "the program has another version than VERSION"
 echo x >"$room/links"
 "$at/bin/urlcheck" lint --quiet --format sarif "$room/links" >"$room/report" || [ $? = 1 ] || fail "lint --format sarif"
 told=$(python3 -c 'import json, sys; print(json.load(sys.stdin)["runs"][0]["tool"]["driver"]["version"])' \
@@ -147,7 +147,7 @@ if python3 -m pip --version >/dev/null 2>&1; then
     cp -r "$library/python" "$room/wheel"
     install -D -m 755 "$program" "$room/wheel/bin/urlcheck"
     quietly python3 -m pip install --no-deps --no-index --target "$room/site" "$room/wheel"
-    "$room/site/bin/urlcheck" --version | cmp - <(echo "urlcheck $version") || fail "the wheel's program"
+    "$room/site/bin/urlcheck" -V | cmp - <(echo "urlcheck $version") || fail "the wheel's program"
     grep -qx 'urlcheck = urlcheck.mkdocs:Plugin' "$room"/site/*.dist-info/entry_points.txt ||
         fail "the wheel has no plugin for MkDocs"
     [ -x "$room/site/bin/urlcheck-language-server" ] || fail "the wheel has no urlcheck-language-server"

@@ -91,7 +91,7 @@ unset LD_LIBRARY_PATH PKG_CONFIG_SYSROOT_DIR PYTHONPATH
 mkdir "$room/anywhere"
 tar -C "$room/anywhere" -xzf "$room/one/urlcheck-$version-x86_64-linux.tar.gz"
 at=$room/anywhere/urlcheck-$version
-"$at/bin/urlcheck" --version | cmp - <(echo "urlcheck $version") || fail "the archive's program"
+"$at/bin/urlcheck" -V | cmp - <(echo "urlcheck $version") || fail "the archive's program"
 printf '<a href="http://x_y/">\n' >"$room/page.html"
 { "$at/bin/urlcheck-documents" --check "$room/page.html" 2>"$room/said" || [ $? = 1 ]; } | grep -q 'host-domain]$' ||
     { cat "$room/said"; fail "the archive's urlcheck-documents"; }
@@ -101,6 +101,6 @@ cc "$room/page.c" $(pkg-config --cflags --libs urlcheck) -Wl,-rpath,"$at/lib" -o
 python3 -m pip install --quiet --no-deps --no-index --target "$room/site" "$room"/one/*.whl 2>"$room/said" ||
     { cat "$room/said"; fail "pip doesn't install the wheel"; }
 PYTHONPATH=$room/site python3 "$room/page.py" | cmp - "$room/page.py.out" || fail "the program in Python by the wheel"
-"$room/site/bin/urlcheck" --version | cmp - <(echo "urlcheck $version") || fail "the wheel's program"
+"$room/site/bin/urlcheck" -V | cmp - <(echo "urlcheck $version") || fail "the wheel's program"
 PYTHONPATH=$room/site "$room/site/bin/urlcheck-documents" --version | grep -qF "$version" || fail "the wheel's other program"
 echo "release: the archive and the wheel work; version $version"

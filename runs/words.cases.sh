@@ -69,7 +69,8 @@ shows '  urlcheck links --base http://h/ < links.txt' help links
 shows '  urlcheck lint --format caret links.txt' lint --help
 shows "  urlcheck mend 'http://h/a b'" mend --help
 shows '  urlcheck vectors vectors/standard.json' help vectors
-shows "urlcheck $(cat "$(dirname "$here")/VERSION")" --version
+expect 0 "urlcheck $(cat "$(dirname "$here")/VERSION")\n" '' -V
+expect 0 "urlcheck $(cat "$(dirname "$here")/VERSION")\nUnicode 18.0, in domains\n" '' --version
 
 # The statuses of each command stand in its help, and each command that judges says what the profiles are.
 shows '  1  the text is refused' check --help
@@ -419,4 +420,4 @@ expect 0 'valid\nscheme file\nhost domain h\nsegment C:\nsegment x\n' '' check -
 expect 0 'valid\nscheme urn\nopaque a b\nfragment f\n' '' check --profile parser --base 'urn:a b' '#f'
 expect 2 '' "$(no_base 5 code-point 'U+0020 SPACE may not stand in a URL')" check --wide --base 'urn:a b' '#f'
 expect 2 '' "$(no_base 7 host-number 'the host that begins here ends in a number, and is no IPv4 address')" check --profile parser --base http://256/ x
-all_cases 299
+all_cases 300

@@ -105,13 +105,13 @@ class Compared(Reported):
     def test_documents_that_are_not_read(self):
         """Of a document that can't be read each format has what that of `lint` has of a file, and `github` a line more."""
         for form in FORMATS:
-            status, wanted, _ = self.run_on("--format", form, "missing.html", program=LINT)
+            status, wanted, _ = self.run_on("--format", form, "unread.html", program=LINT)
             if form == "github":
-                wanted += b"::error file=missing.html,title=not-read::can't be read: there is no such file\n"
+                wanted += b"::error file=unread.html,title=not-read::can't be read: there is no such file\n"
             with self.subTest(form):
-                found = self.run_on("--quiet", "--check", "--format", form, "missing.html")
+                found = self.run_on("--quiet", "--check", "--format", form, "unread.html")
                 self.assertEqual(found[:2], (status, wanted))
-                self.assertEqual((status, b"missing.html" in wanted), (2, form == "github"))
+                self.assertEqual((status, b"unread.html" in wanted), (2, form == "github"))
 
 
 def difference(found, wanted):

@@ -81,7 +81,7 @@ explain_command = with_rule (with_rule (new_app (codes "explain")) (flag_rule (c
 
 -- a command has to be given, and there is `--version`
 abbrev pub with_required : App → App
-with_required = on_top (λ s. record s { subcommand_required = true; has_version = true })
+with_required = on_top (λ s. record s { subcommand_required = true; has_version = true; has_long_version = true })
 
 -- the program's six commands
 abbrev pub urlcheck : App

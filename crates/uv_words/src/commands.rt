@@ -113,6 +113,7 @@ pub(crate) fn urlcheck<'a>(alloc: Global) -> Result<Command<'a>, AllocError>
 {
     let program = Command::new(alloc, "urlcheck")
         .version("0.3.0")
+        .long_version("0.3.0\nUnicode 18.0, in domains")
         .about("Says whether a text is a valid URL string")
         .after_help(STATUSES)
         .subcommand_required(true);
