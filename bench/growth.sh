@@ -2,10 +2,12 @@
 # Shows that the cost of a check, of all faults (`check --all`), of a mended text (`mend`) and of a line of a list
 # (`links`) grows with the text and no faster: instructions by callgrind for each shape, the reading of the same text
 # taken off. Ten times the length costs at most eleven times: a line at a hundredth, a tenth and the whole of the length
-# that it may have, all else at 10 thousand, 100 thousand and a million code points. The bytes that `lint --all` writes of
-# a line in which each code point is wrong, in each format, are held to eleven too. It fails where a figure is missing or
-# below one instruction for 32 bytes, and where an answer isn't the wanted one. It needs valgrind.
-# Usage: bench/growth.sh [--only check|faults|mend|links|written] [COUNT..]
+# that it may have, all else at 10 thousand, 100 thousand and a million code points. Eleven is also the bound of the
+# bytes that `lint --all` writes of a line in which each code point is wrong, in each format, and of what it takes of a
+# line in which every second one is wrong and the others are beyond ASCII, in each format and each unit of columns. It
+# fails where a figure is missing or below one instruction for 32 bytes, and where an answer isn't the wanted one. It
+# needs valgrind.
+# Usage: bench/growth.sh [--only check|faults|mend|links|lint|written] [COUNT..]
 set -euo pipefail
 export LC_ALL=C.UTF-8
 top=$(dirname "$(dirname "$(realpath "$0")")")
@@ -62,6 +64,8 @@ shaped() {
         bad_query_end) printf 'http://h/?'; repeated "$2" a; printf '%%4' ;;
         bad_host_end) printf 'foo://'; repeated "$2" a; printf '^' ;;
         bad_host) printf 'foo://'; repeated "$2" @ ;;
+        wrong_path) printf 'http://h/'; repeated $(($2 / 2)) é^ ;;
+        wrong_host) printf 'foo://'; repeated $(($2 / 2)) é^ ;;
         *) filled "$1" "$2" ;;
     esac
 }
@@ -102,6 +106,8 @@ wanted() {
         bad_query_end) one $((10 + count)) percent ;;
         bad_host_end) one $((6 + count)) host-code-point ;;
         bad_host) each 6 host-code-point "$count" ;;
+        wrong_path) echo "$((count / 2)) faults, each second one code-point" ;;
+        wrong_host) echo "$((count / 2)) faults, each second one host-code-point" ;;
         path+/) one 9 first-segment-empty ;;
         path+%) each 9 percent $times ;;
         'path+[') each 9 code-point $times ;;
@@ -200,22 +206,36 @@ of_links() {
     right="links 1 bad $bad"
 }
 
-# of_written SHAPE COUNT : how many bytes `lint --all` writes of the text as a line in the format, each fault once
-of_written() {
+# of_lint SHAPE COUNT : the cost of a report on all faults of the text as a line, the run over an empty list taken off
+of_lint() {
+    : >"$room/none"
+    reading=$(instructions "$room/none" "$urlcheck" lint --quiet --all --format "$format" --columns "$unit" -)
+    whole=$(instructions "$room/text" "$urlcheck" lint --quiet --all --format "$format" --columns "$unit" -)
+    reported "$1" "$2"
+}
+
+# reported SHAPE COUNT : how many faults the report tells, and how many there are
+reported() {
     local wanted rule
     wanted=$(wanted "$1" "$2")
     rule=${wanted##* }
+    local names="\"(rule|ruleId|check_name|value)\":\"$rule\"|type=\"$rule\""
+    said="$(grep -cE "\\[$rule\\]\$|$names|title=$rule::|\"urlcheck\.$rule\"" "$room/said") faults"
+    right="${wanted%% *} faults"
+}
+
+# of_written SHAPE COUNT : how many bytes `lint --all` writes of the text as a line in the format, each fault once
+of_written() {
     reading=0
     "$urlcheck" lint --quiet --all --format "$format" - <"$room/text" >"$room/said" || true
     whole=$(wc -c <"$room/said")
-    said="$(grep -cE "\\[$rule\\]\$|\"rule(Id)?\":\"$rule\"|title=$rule::|\"urlcheck\.$rule\"" "$room/said") faults"
-    right="${wanted%% *} faults"
+    reported "$1" "$2"
 }
 
 # grows WHAT SHAPE COUNT.. : the figures of a shape at each length, which grow no faster than the text
 grows() {
     local what=$1 shape=$2 count before=0 cost whole reading said right
-    printf '%-6s %-20s' "$what${format:+ $format}" "$shape"
+    printf '%-6s %-20s' "$what${format:+ $format}${unit:+ $unit}" "$shape"
     for count in "${@:3}"; do
         shaped "$shape" "$count" >"$room/text"
         "of_$what" "$shape" "$count"
@@ -245,11 +265,12 @@ done
 line_counts() {
     case $1 in
         *é | *beyond_ascii) echo 327 3270 32700 ;;
+        wrong_*) echo 436 4360 43600 ;;
         *) echo 655 6550 65500 ;;
     esac
 }
 
-format=''
+format='' unit=''
 for what in check faults mend links; do
     if [ -n "$only" ] && [ "$only" != "$what" ]; then continue; fi
     for shape in "${shapes[@]}"; do
@@ -261,6 +282,17 @@ for what in check faults mend links; do
         esac
     done
 done
+# each format by its own unit, and one by the others
+if [ -z "$only" ] || [ "$only" = lint ]; then
+    for format in gnu caret json github sarif checkstyle junit gitlab rdjson; do
+        unit=code-points
+        if [ $format = rdjson ]; then unit=bytes; fi
+        for shape in wrong_path wrong_host; do grows lint "$shape" $(line_counts "$shape"); done
+    done
+    format=gnu
+    for unit in bytes utf16 screen; do grows lint wrong_path $(line_counts wrong_path); done
+    unit=''
+fi
 if [ -z "$only" ] || [ "$only" = written ]; then
     for format in gnu caret json github sarif checkstyle junit gitlab rdjson; do
         for shape in bad_host path+% 'path+[' 'query+['; do grows written "$shape" $(line_counts "$shape"); done

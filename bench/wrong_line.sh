@@ -62,5 +62,5 @@ for format in gnu caret json github sarif checkstyle junit gitlab rdjson; do
     wrong urn: '\001'
     linted 'controls' code-point $format
 done
-[ $figures = 24 ] || { echo "FAILED: $figures figures"; exit 1; }
+[ $figures = 36 ] || { echo "FAILED: $figures figures"; exit 1; }
 exit $failed

@@ -20,8 +20,8 @@ use std::str::{from_utf8, from_utf8_unchecked};
 use uv_lines::{ReportFault, end_part};
 use uv_model::{DeviceFault, Profile, Sink};
 use uv_report::{
-    ColumnCounter, Diagnostic, LineViolation, Mended, push_diagnostic, push_file_begin,
-    push_file_end, put_diagnostic,
+    ColumnCounter, Diagnostic, LineViolation, Mended, SeenText, push_file_begin, push_file_end,
+    push_seen_diagnostic, put_seen_diagnostic,
 };
 
 /// A line, or the link of one, with the place where it stands.
@@ -106,14 +106,16 @@ impl<'l> ReportedLine<'l> {
         ensures failed { IfErr result (λ e. W.failed writer.new ≡ W.failed writer.old + failed_within e) }
     {
         let mut counter = ColumnCounter::new(setting.columns, self.start, self.text);
+        let mut seen = seen_text(self.text, violations);
         let mut is_first = is_first;
         let mut told = mended_in_place(mended, setting.columns, self.start, self.text);
         for violation in violations {
             let column = counter.column(violation.place());
             let end = counter.column_ahead(violation.end());
             let found = self.diagnostic_in(column, end, setting.profile, *violation, told);
+            seen.go_to(violation.place());
             if let Err(fault) = say_framed(
-                alloc, reported, setting, &found, is_first, text, writer,
+                alloc, reported, setting, &found, &seen, is_first, text, writer,
             ) {
                 return Err(fault);
             }
@@ -156,17 +158,30 @@ impl<'l> ReportedLine<'l> {
     }
 }
 
-// Says a diagnostic, and ends a part behind it.
+// A text of which this was found, as it is seen.
+fn seen_text<'l>(text: &'l str, violations: &[LineViolation]) -> SeenText<'l>
+    ensures { result ≡ text.entry.now }
+{
+    match violations {
+        [LineViolation::Refused(_)] => SeenText::of_refused(text),
+        [] | [_] => SeenText::new(text),
+        _ => SeenText::of_several(text),
+    }
+}
+
+// Says a diagnostic whose text was seen, and ends a part behind it.
 fn say_framed<W: Sink>(
     alloc: Global,
     reported: &mut String,
     setting: LintSetting<'_>,
     diagnostic: &Diagnostic<'_>,
+    seen: &SeenText<'_>,
     is_first: bool,
     text: &mut Vec<u8>,
     writer: &mut W,
 ) -> Result<(), ReportFault<AllocError>>
-    requires { W.failed writer.old < 2 ^ 64 - 1 }
+    requires writes { W.failed writer.old < 2 ^ 64 - 1 }
+    requires seen { seen.now ≡ diagnostic.now.text.now }
     ensures text { OnOk result (Passes (text.old.items ++ framed_text setting.entry.form setting.entry.format
         diagnostic.now.file.now (diagnostic_text setting.entry.format is_first diagnostic.now))
         (W.contents writer.old) (W.contents writer.new) text.new.items) }
@@ -176,7 +191,9 @@ fn say_framed<W: Sink>(
         (W.contents writer.old) text.new.items (W.contents writer.new)) }
     ensures failed { IfErr result (λ e. W.failed writer.new ≡ W.failed writer.old + failed_within e) }
 {
-    if let Err(AllocError) = append_framed(alloc, reported, setting, diagnostic, is_first, text) {
+    if let Err(AllocError) = append_framed(
+        alloc, reported, setting, diagnostic, seen, is_first, text,
+    ) {
         return Err(ReportFault::Reporter(AllocError));
     }
     match end_part(text, writer) {
@@ -185,43 +202,49 @@ fn say_framed<W: Sink>(
     }
 }
 
-// Appends a diagnostic whole, or nothing.
+// Appends a diagnostic whose text was seen whole, or nothing.
 fn append_framed(
     alloc: Global,
     reported: &mut String,
     setting: LintSetting<'_>,
     diagnostic: &Diagnostic<'_>,
+    seen: &SeenText<'_>,
     is_first: bool,
     text: &mut Vec<u8>,
 ) -> Result<(), AllocError>
+    requires { seen.now ≡ diagnostic.now.text.now }
     ensures text { OnOk result (text.new.items ≡ text.old.items ++ framed_text setting.entry.form
         setting.entry.format diagnostic.now.file.now
         (diagnostic_text setting.entry.format is_first diagnostic.now)) }
     ensures none { OnErr result (text.new.items ≡ text.old.items) }
 {
-    put_framed(alloc, reported, setting, diagnostic, is_first)?;
+    put_framed(alloc, reported, setting, diagnostic, seen, is_first)?;
     text.extend_from_slice(reported.as_bytes())
 }
 
-// Puts a diagnostic in the place of what stands in a text. Where lines say where their links stand, what stands round
+// Puts a diagnostic whose text was seen in the place of what stands in a text. Where lines say where their links stand, what stands round
 // the diagnostics of its file stands round it.
 fn put_framed(
     alloc: Global,
     reported: &mut String,
     setting: LintSetting<'_>,
     diagnostic: &Diagnostic<'_>,
+    seen: &SeenText<'_>,
     is_first: bool,
 ) -> Result<(), AllocError>
+    requires { seen.now ≡ diagnostic.now.text.now }
     ensures { OnOk result (string_bytes reported.new ≡ framed_text setting.entry.form setting.entry.format
         diagnostic.now.file.now (diagnostic_text setting.entry.format is_first diagnostic.now)) }
 {
     let format = setting.format;
     match setting.form {
-        LineForm::Plain => put_diagnostic(alloc, reported, format, diagnostic, is_first),
+        LineForm::Plain => {
+            put_seen_diagnostic(alloc, reported, format, diagnostic, seen, is_first)
+        }
         LineForm::Located => {
             reported.clear();
             push_file_begin(alloc, reported, format, diagnostic.file)?;
-            push_diagnostic(alloc, reported, format, diagnostic, is_first)?;
+            push_seen_diagnostic(alloc, reported, format, diagnostic, seen, is_first)?;
             push_file_end(reported, format)
         }
     }

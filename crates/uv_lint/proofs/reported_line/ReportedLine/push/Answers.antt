@@ -2,6 +2,7 @@
 use Rattle.std.proofs.Common.{◌≡◌, ◌+◌, ◌++◌, ◌∙◌, [], arith, get_or, option_map, take, take_all, refl}
 use Rattle.std.proofs.Common.{sym, ap, subst, append-nil, append_assoc}
 use Rattle.uv_model.specs.declared.rule.Rule.TheVariants.{NoScheme}
+use Rattle.uv_report.specs.declared.diagnostic.Diagnostic.{Diagnostic}
 use Rattle.uv_report.specs.declared.line_violation.LineViolation.{LineViolation}
 use Rattle.uv_report.specs.declared.line_violation.LineViolation.TheVariants.{Refused}
 use Rattle.uv_report.specs.Report.{diagnostic_text}
@@ -32,6 +33,7 @@ loop-violation-init g c =
       );
       quiet = refl;
       counter = c.new-counter.ensures;
+      seen = c.seen_text-seen.ensures;
     }
 
 pub loop-violation-preserved : goal.loop-violation-preserved
@@ -67,7 +69,12 @@ loop-violation-preserved g c =
       );
       quiet = c.in_default.ensures.quiet ∙ invariant.quiet;
       counter = c.column-column.ensures.same ∙ invariant.counter;
+      seen = c.go_to.ensures ∙ invariant.seen;
     }
+
+pub say_framed-requires-clause-seen : goal.say_framed-requires-clause-seen
+say_framed-requires-clause-seen g c =
+    c.go_to.ensures ∙ c.loop-violation.invariant.seen ∙ ap (λ (found : Diagnostic). found.text.now) (sym c.diagnostic_in-found.ensures)
 
 pub returns-in-Err-clause-fault : goal.returns-in-Err-clause-fault
 returns-in-Err-clause-fault g c =

@@ -21,4 +21,5 @@ invariant-loop-violation g l = record {
     start = l.self.start;
     text = l.self.text.now;
   };
+  seen : l.seen ≡ l.self.text.now;
 }
