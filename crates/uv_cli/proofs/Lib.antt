@@ -1,10 +1,6 @@
-mod ArgumentLemmas
 mod CheckLemmas
 mod LintLemmas
 mod ListLemmas
 mod LookLemmas
 mod MendLemmas
-mod NameLemmas
-mod OptionLemmas
 mod ProgramLemmas
-mod ReportLemmas

@@ -1,8 +1,8 @@
 -- Files that were linted: a source, and one file behind others.
-use Rattle.std.proofs.Common.{◌≡◌, ◌∙◌, ◌+◌, ◌<◌, ◌≤◌, ℕ, Bool, true, false, List, [], ◌∷◌, ◌++◌, Option, Some, None}
+use Rattle.std.proofs.Common.{◌≡◌, ◌∙◌, ◌+◌, ◌≤◌, ℕ, Bool, true, false, List, [], ◌∷◌, ◌++◌, Option, Some, None}
 use Rattle.std.proofs.Common.{Result, Ok, Err, IfErr, OnOk, String, Global, refl, sym, subst, ap, arith, inl, inr}
-use Rattle.std.proofs.Common.{is_some, length, map, take, get_or, string_bytes}
-use Rattle.std.proofs.lemmas.List.{map-append, take_all, take_more}
+use Rattle.std.proofs.Common.{is_some, length, map, take, string_bytes}
+use Rattle.std.proofs.lemmas.List.{take_all}
 use Rattle.std.specs.Borrow.{Bor}
 use Rattle.std.specs.Io.KnownBytes.{Consumes, IsAtEnd}
 use Rattle.uv_lint.specs.declared.counts.LintCounts.{LintCounts}
@@ -21,8 +21,8 @@ use Rattle.uv_cli.specs.declared.ends.End.TheVariants as end
 use Rattle.uv_vectors.specs.declared.fault.CliFault.TheVariants as cli
 use Rattle.uv_cli.specs.declared.linted.Linted.{Linted}
 use Rattle.uv_cli.specs.Stream.{Stream}
-use Rattle.uv_cli.specs.Lint.{AreNamed, FailsAsAnswered, HasLinted, HasLintedAgainst, LintsAll, LintsNamed}
-use Rattle.uv_cli.specs.Lint.{LintsNext, LintsSource, WritesPiece, most, reported_name}
+use Rattle.uv_cli.specs.Lint.{AreNamed, FailsAsAnswered, HasLinted, HasLintedAgainst, LintsAll, LintsNamed, LintsNext}
+use Rattle.uv_cli.specs.Lint.{LintsSource, WritesPiece, most, reported_name}
 use Rattle.uv_cli.specs.Linted.{is_stopped, is_writable, no_file, with_file}
 
 -- what a run over a source has done
@@ -56,15 +56,6 @@ all_more setting [] file before middle after input between rest old part new all
 )
 all_more setting (x ∷ xs) file before middle after input between rest old part new (one, read, wrote, first, all) next =
     (one, read, wrote, first, all_more setting xs file one middle after read between rest wrote part new all next)
-
--- the names of the files up to the next one
-pub files_more : (files : List (String Global)) (at : ℕ) (file : String Global)
-    → at < length files → file ≡ get_or files at file
-    → map string_bytes (take (at + 1) files) ≡ map string_bytes (take at files) ++ string_bytes file ∷ []
-files_more files at file within here =
-    let more : take (at + 1) files ≡ take at files ++ file ∷ [] =
-    take_more files at file within ∙ ap (λ f. take at files ++ f ∷ []) (sym here) in
-    ap (map string_bytes) more ∙ map-append string_bytes (take at files) (file ∷ [])
 
 -- the names of all files
 pub files_all : (files : List (String Global)) (at : ℕ) → length files ≤ at

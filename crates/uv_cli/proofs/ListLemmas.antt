@@ -6,9 +6,8 @@ use Rattle.uv_model.specs.Records.Url.{Url}
 use Rattle.uv_resolve.specs.Base.{IsBase}
 use Rattle.uv_cli.specs.declared.ends.End.{End}
 use Rattle.uv_cli.specs.declared.ends.End.TheVariants.{Valid, Refused, Shown, Words, UnknownRule, UnknownFormat}
-use Rattle.uv_cli.specs.declared.ends.End.TheVariants.{UnknownColumns, ColumnsRefused, UnknownProfile}
-use Rattle.uv_cli.specs.declared.ends.End.TheVariants.{UnknownKind, BaseRefused}
-use Rattle.uv_cli.specs.declared.ends.End.TheVariants.{Fault, Filtered, Linted, Stopped, Vectors, Unread}
+use Rattle.uv_cli.specs.declared.ends.End.TheVariants.{UnknownColumns, ColumnsRefused, UnknownProfile, UnknownKind}
+use Rattle.uv_cli.specs.declared.ends.End.TheVariants.{BaseRefused, Fault, Filtered, Linted, Stopped, Vectors, Unread}
 use Rattle.uv_vectors.specs.declared.fault.CliFault.TheVariants.{Memory, Write}
 use Rattle.uv_cli.specs.Stream.{Stream}
 use Rattle.uv_cli.specs.Jobs.{HasListed, HasListedAgainst}

@@ -18,7 +18,7 @@ use Rattle.uv_resolve.specs.Base.{IsBase, IsBaseRefused}
 use Rattle.uv_resolve.specs.Resolve.{RunsToItsRecord}
 use Rattle.uv_cli.specs.declared.check.CheckEnd.{CheckEnd}
 use Rattle.uv_cli.specs.declared.check.CheckEnd.TheVariants as check
-use Rattle.uv_cli.specs.CheckText.{check_text, faults_text, refused_text}
+use Rattle.uv_messages.specs.CheckText.{check_text, faults_text, refused_text}
 
 -- the line of a refused text's first violation, or a line for each of its violations, in their order
 abbrev pub SaysRefused : Extent → Profile → Option Url → List ℕ → List ℕ → Type 0

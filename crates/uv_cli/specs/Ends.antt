@@ -18,15 +18,14 @@ use Rattle.uv_vectors.specs.declared.fault.CliFault.{CliFault}
 use Rattle.uv_vectors.specs.declared.fault.CliFault.TheVariants as cli
 use Rattle.uv_cli.specs.declared.ends.End.{End}
 use Rattle.uv_cli.specs.declared.ends.End.TheVariants.{Valid, Refused, Shown, Words, UnknownRule, UnknownFormat}
-use Rattle.uv_cli.specs.declared.ends.End.TheVariants.{UnknownColumns, ColumnsRefused, UnknownProfile}
-use Rattle.uv_cli.specs.declared.ends.End.TheVariants.{UnknownKind, BaseRefused}
-use Rattle.uv_cli.specs.declared.ends.End.TheVariants.{Fault, Filtered, Linted, Stopped, Vectors, Unread}
+use Rattle.uv_cli.specs.declared.ends.End.TheVariants.{UnknownColumns, ColumnsRefused, UnknownProfile, UnknownKind}
+use Rattle.uv_cli.specs.declared.ends.End.TheVariants.{BaseRefused, Fault, Filtered, Linted, Stopped, Vectors, Unread}
 use Rattle.uv_vectors.specs.Ends.{vector_end}
 use Rattle.uv_vectors.specs.declared.ends.CasesEnd.{CasesEnd}
 use Rattle.uv_vectors.specs.declared.ends.VectorEnd.{VectorEnd}
 use Rattle.uv_vectors.specs.declared.ends.VectorEnd.TheVariants as vectors
-use Rattle.uv_cli.specs.declared.unread.FileFault.{FileFault}
-use Rattle.uv_cli.specs.declared.unread.FileFault.TheVariants as file
+use Rattle.uv_cli.specs.declared.vector_file.FileFault.{FileFault}
+use Rattle.uv_cli.specs.declared.vector_file.FileFault.TheVariants as file
 use Rattle.uv_filter.specs.declared.fault.FilterFault.TheVariants as filter
 use Rattle.uv_cli.specs.Filtered as spec
 use Rattle.uv_cli.specs.Filtered.{filter_status, filtered_text}

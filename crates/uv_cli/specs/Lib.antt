@@ -1,11 +1,8 @@
-pub mod Arguments
 pub mod Calls
 pub mod Check
-pub mod CheckText
 pub mod Stream
 pub mod Ends
 pub mod Explain
-pub mod FileNames
 pub mod Flushed
 pub mod Hints
 pub mod Jobs
@@ -14,13 +11,10 @@ pub mod Linted
 pub mod Mend
 pub mod Filtered
 pub mod Filter
-pub mod Messages
-pub mod Names
-pub mod Options
-pub mod Pages
 pub mod Look
 pub mod Contents
 pub mod Program
 pub mod Reasons
 pub mod Unjudged
-pub mod Unread
+pub mod Unknown
+pub mod VectorFile

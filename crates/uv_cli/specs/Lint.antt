@@ -9,7 +9,6 @@ use Rattle.std.specs.declared.io.ErrorKind.{ErrorKind}
 use Rattle.std.specs.declared.io.ErrorKind.TheVariants.{OutOfMemory}
 use Rattle.uv_model.specs.Records.Url.{Url}
 use Rattle.uv_report.specs.declared.column.Columns.{Columns}
-use Rattle.uv_report.specs.declared.column.Columns.TheVariants.{CodePoints}
 use Rattle.uv_report.specs.declared.format.Format.{Format}
 use Rattle.uv_report.specs.declared.format.Format.TheVariants.{Gnu}
 use Rattle.uv_report.specs.Column.{named_columns}
@@ -30,11 +29,11 @@ use Rattle.uv_cli.specs.declared.ends.End.{End}
 use Rattle.uv_cli.specs.declared.ends.End.TheVariants as end
 use Rattle.uv_vectors.specs.declared.fault.CliFault.TheVariants as cli
 use Rattle.uv_cli.specs.declared.linted.Linted.{Linted}
-use Rattle.uv_cli.specs.FileNames.{has_document_end}
-use Rattle.uv_cli.specs.Hints.{file_hint}
+use Rattle.uv_messages.specs.FileNames.{has_document_end}
+use Rattle.uv_messages.specs.Hints.{file_hint}
 use Rattle.uv_cli.specs.Stream.{Stream}
-use Rattle.uv_cli.specs.Unread.{unread_text}
-use Rattle.uv_cli.specs.declared.unread.Unread.{Unread}
+use Rattle.uv_messages.specs.Unread.{unread_text}
+use Rattle.uv_messages.specs.declared.unread.Unread.{Unread}
 use Rattle.uv_cli.specs.Linted.{completion_of, is_clean, is_stopped, is_writable, no_file, with_fault, with_file}
 
 -- ---- what the job asks for

@@ -1,8 +1,8 @@
 -- What is seen of the bytes that are read of a list.
-use Rattle.std.specs.Prelude.{◌≡◌, ◌++◌, ◌==◌, ℕ, Bool, true, false, List, take, if◌then◌else◌}
+use Rattle.std.specs.Prelude.{◌≡◌, ◌++◌, ◌==◌, ℕ, Bool, true, false, List, take}
 use Rattle.std.specs.List.{list_any}
-use Rattle.uv_cli.specs.declared.look.LineEnds.{LineEnds}
-use Rattle.uv_cli.specs.declared.look.LineEnds.TheVariants.{Unseen, Returns, Feeds}
+use Rattle.uv_messages.specs.declared.contents.LineEnds.{LineEnds}
+use Rattle.uv_messages.specs.declared.contents.LineEnds.TheVariants.{Unseen, Returns, Feeds}
 use Rattle.uv_cli.specs.declared.look.Look.{Look}
 
 -- what ends lines in which there is an LF, or a CR

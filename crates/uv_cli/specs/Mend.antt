@@ -14,7 +14,7 @@ use Rattle.uv_cli.specs.declared.check.CheckEnd.{CheckEnd}
 use Rattle.uv_cli.specs.declared.check.CheckEnd.TheVariants as check
 use Rattle.uv_cli.specs.declared.ends.End.{End}
 use Rattle.uv_cli.specs.declared.ends.End.TheVariants as end
-use Rattle.uv_cli.specs.CheckText.{refused_text}
+use Rattle.uv_messages.specs.CheckText.{refused_text}
 use Rattle.uv_cli.specs.Stream.{Stream}
 
 -- what is printed of an answer: its name, and below it the mended text, or the line of the refusal

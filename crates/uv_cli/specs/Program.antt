@@ -14,7 +14,7 @@ use Rattle.uv_cli.specs.Stream.{Stream}
 use Rattle.uv_cli.specs.declared.ends.End.{End}
 use Rattle.uv_cli.specs.declared.ends.End.TheVariants as end
 use Rattle.uv_cli.specs.declared.program.Ended.{Ended}
-use Rattle.uv_cli.specs.declared.unread.FileFault.{FileFault}
+use Rattle.uv_cli.specs.declared.vector_file.FileFault.{FileFault}
 
 -- ---- a job
 

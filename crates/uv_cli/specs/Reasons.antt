@@ -18,12 +18,12 @@ use Rattle.uv_report.specs.declared.line_violation.LineViolation.TheVariants.{Re
 use Rattle.uv_vectors.specs.declared.fault.CliFault.TheVariants as cli
 use Rattle.uv_words.specs.declared.words.Job.{Job}
 use Rattle.uv_words.specs.declared.words.Job.TheVariants as job
-use Rattle.uv_cli.specs.Unread.{unread_text}
+use Rattle.uv_messages.specs.Unread.{unread_text}
 use Rattle.uv_cli.specs.declared.ends.End.{End}
 use Rattle.uv_cli.specs.declared.ends.End.TheVariants as end
 use Rattle.uv_cli.specs.declared.reasons.FailedStream.{FailedStream}
 use Rattle.uv_cli.specs.declared.reasons.FailedStream.TheVariants.{Input, Output}
-use Rattle.uv_cli.specs.declared.unread.Unread.{Unread}
+use Rattle.uv_messages.specs.declared.unread.Unread.{Unread}
 
 -- ---- streams
 

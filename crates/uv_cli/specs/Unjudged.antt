@@ -10,7 +10,7 @@ use Rattle.uv_vectors.specs.declared.ends.CasesEnd.TheVariants as ends
 use Rattle.uv_vectors.specs.declared.json_fault.FilePlace.{FilePlace}
 use Rattle.uv_vectors.specs.declared.json_fault.JsonFault.{JsonFault}
 use Rattle.uv_vectors.specs.declared.json_fault.JsonFault.TheVariants.{NotUtf8, CutShort, Unreadable}
-use Rattle.uv_cli.specs.Unread.{name_text}
+use Rattle.uv_messages.specs.Unread.{name_text}
 
 -- ---- a file that is no JSON
 

@@ -1,14 +1,12 @@
 //! The check of one text, alone or against a base, with the first of its violations or with all of them.
-ghost use Rattle.std.specs.Prelude.{◌≡◌, ◌+◌, ◌-◌, ◌^◌, ◌<◌, ℕ, List, Option, Some, None, IfOk, OnOk, OnErr, chars};
-ghost use Rattle.std.specs.Prelude.{option_copied, string_bytes, take};
-ghost use Rattle.std.specs.Io.KnownBytes.{Appends};
+ghost use Rattle.std.specs.Prelude.{◌≡◌, ◌+◌, ◌-◌, ◌^◌, ◌<◌, Option, IfOk, OnOk, chars, option_copied, string_bytes};
 ghost use Rattle.uv_cli.specs.Check.{HasWritten, HasWrittenPrefix, RunsAgainst, Says, SaysRefused, WritesPrefix};
 ghost use Rattle.uv_cli.specs.Check.{WritesWhole};
 ghost use Rattle.uv_grammar.specs.Verdict.{IsRefused};
 
-use crate::report::{check_lines, fault_lines, refused_line};
 use std::alloc::{AllocError, Global};
 use uv_grammar::faults;
+use uv_messages::report::{check_lines, fault_lines, refused_line};
 use uv_model::{DeviceFault, Extent, Profile, Record, Refusal, Sink, write_whole};
 use uv_resolve::{ResolveFault, resolve, resolve_base};
 use uv_vectors::CliFault;

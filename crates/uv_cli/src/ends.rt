@@ -8,7 +8,7 @@ use crate::check::CheckEnd;
 use crate::explain::ExplainEnd;
 use crate::filtered::Filtered;
 use crate::linted::Linted;
-use crate::unread::FileFault;
+use crate::vector_file::FileFault;
 use std::alloc::{AllocError, Global};
 use uv_filter::FilterFault;
 use uv_links::{Counts, LinkFault};

@@ -1,12 +1,10 @@
 //! The commands of the program `urlcheck`, over any input and output.
 #![tactic(auto)]
 
-mod arguments;
 mod check;
 mod contents;
 mod ends;
 mod explain;
-mod file_names;
 mod filter;
 mod filtered;
 mod hints;
@@ -16,17 +14,11 @@ mod lint;
 mod linted;
 mod look;
 mod mend;
-mod messages;
-mod names;
-mod options;
-mod pages;
 pub mod program;
 mod reasons;
-mod report;
-mod units;
 mod unjudged;
 mod unknown;
-mod unread;
+mod vector_file;
 mod watched;
 
 pub use check::{CheckEnd, run_check, run_faults};

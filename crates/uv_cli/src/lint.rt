@@ -2,32 +2,33 @@
 ghost use Rattle.std.specs.Prelude.{◌≡◌, ◌++◌, ◌-◌, ◌^◌, ◌<◌, ◌⊎◌, IfOk, map, option_copied, string_bytes, true};
 ghost use Rattle.uv_lint.specs.LineViolations.{file_setting};
 ghost use Rattle.uv_report.specs.Report.{begin_text};
-ghost use Rattle.uv_cli.specs.Hints.{file_hint};
+ghost use Rattle.uv_messages.specs.Hints.{file_hint};
 ghost use Rattle.uv_cli.specs.Lint.{HasLinted, HasLintedAgainst, LintsAll, LintsNamed, LintsNext, LintsNothing};
-ghost use Rattle.uv_cli.specs.Lint.{LintsOpened, IsUnopened, IsWhyUnopened, WritesPiece, columns_of};
-ghost use Rattle.uv_cli.specs.Lint.{failed_read_text, form_of, format_of, input_name, is_input, reported_name};
+ghost use Rattle.uv_cli.specs.Lint.{LintsOpened, IsUnopened, IsWhyUnopened, WritesPiece, columns_of, failed_read_text};
+ghost use Rattle.uv_cli.specs.Lint.{form_of, format_of, input_name, is_input, reported_name};
 ghost use Rattle.uv_cli.specs.Linted.{is_stopped, is_writable};
-ghost use Rattle.uv_cli.specs.Unread.{unread_of, unread_text};
+ghost use Rattle.uv_messages.specs.Unread.{unread_of, unread_text};
 
-use crate::arguments::said_of;
-use crate::contents::{Content, content_hint, found_content};
+use crate::contents::found_content;
 use crate::ends::End;
-use crate::file_names::has_document_end;
-use crate::hints::file_hint;
 use crate::linted::Linted;
-use crate::messages::{message_line, say};
-use crate::unread::{Unread, unread_line};
 use crate::watched::WatchedReader;
 use std::alloc::{AllocError, Global};
 use std::fs;
 use std::fs::Files;
 use std::io::ErrorKind;
 use uv_lint::{LineForm, LintCounts, LintFault, LintSetting, run_lint};
+use uv_messages::contents::{Content, content_hint};
+use uv_messages::file_names::has_document_end;
+use uv_messages::hints::file_hint;
+use uv_messages::messages::{message_line, say};
+use uv_messages::unread::{Unread, unread_line};
 use uv_model::{DeviceFault, FromReader, Record, Sink, Source, write_whole};
 use uv_report::{Columns, Format, end_of, push_begin};
 use uv_resolve::{ResolveFault, resolve_base};
 use uv_vectors::CliFault;
 use uv_words::LintJob;
+use uv_words::arguments::said_of;
 
 // Nothing was counted.
 const NONE_COUNTED: LintCounts = LintCounts {

@@ -1,25 +1,14 @@
 //! What is seen of the bytes that are read of a list: the first of them, and what ends its lines.
 ghost use Rattle.std.specs.Prelude.{◌≡◌, ◌++◌, ◌-◌, ◌==◌, [], length, take};
 ghost use Rattle.std.specs.List.{list_any};
-ghost use Rattle.uv_cli.specs.Contents.{content_of};
+ghost use Rattle.uv_messages.specs.Contents.{content_of};
 ghost use Rattle.uv_cli.specs.Look.{Sees, SeesMore, ends_behind};
 
-use crate::contents::{Content, content_of};
 use arrayvec::ArrayVec;
+use uv_messages::contents::{Content, LineEnds, content_of};
 
 // How many bytes are kept.
 const KEPT: usize = 256;
-
-/// What ends the lines of a list, as far as it was read.
-#[derive(Clone, Copy, PartialEq, Eq)]
-pub(crate) enum LineEnds {
-    /// Nothing does yet.
-    Unseen,
-    /// CR does, and LF nowhere.
-    Returns,
-    /// LF does.
-    Feeds,
-}
 
 /// What is seen of the bytes that were read of a list.
 #[derive(Drop)]

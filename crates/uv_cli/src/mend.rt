@@ -6,9 +6,9 @@ ghost use Rattle.uv_cli.specs.Mend.{HasWrittenMending, HasWrittenMendingPrefix, 
 ghost use Rattle.uv_cli.specs.Mend.{WritesMendingPrefix, mending_text};
 
 use crate::check::CheckEnd;
-use crate::report::refused_line;
 use std::alloc::{AllocError, Global};
 use uv_mend::{MendKind, Mending, mend};
+use uv_messages::report::refused_line;
 use uv_model::{DeviceFault, Profile, Record, Refusal, Sink, write_whole};
 use uv_resolve::{ResolveFault, resolve_base};
 use uv_vectors::CliFault;

@@ -7,26 +7,28 @@ ghost use Rattle.uv_cli.specs.Ends.{status_of};
 ghost use Rattle.uv_cli.specs.Flushed.{ended_after, open_end};
 ghost use Rattle.uv_cli.specs.Program.{HasAnswered, HasEndedJob, HasFile, HasRun, HasShown, IsStatus};
 
-use crate::arguments::{OwnArguments, refused, words_of};
 use crate::contents::input_hint;
 use crate::ends::{
     End, end_after_output, end_without_file, end_without_job, fixed_line, numbered_line, status,
 };
-use crate::hints::{job_hint, near_hint, words_hint};
+use crate::hints::job_hint;
 use crate::jobs::run_job;
-use crate::messages::{message_line, message_lines, say};
-use crate::options::unknown_option;
 use crate::reasons::{base_of, profile_of, report_reasons};
 use crate::unknown::unknown_lines;
-use crate::unread::{FileFault, read_vector_file, report_unread};
+use crate::vector_file::{FileFault, read_vector_file};
 use crate::watched::{WatchedReader, WatchedWriter};
 use std::alloc::{AllocError, Global};
 use std::fs::Files;
 use std::io;
 use std::io::{ErrorKind, Write};
 use std::rt::Env;
+use uv_messages::hints::{near_hint, words_hint};
+use uv_messages::messages::{message_line, message_lines, say};
+use uv_messages::options::unknown_option;
+use uv_messages::unread::report_unread;
 use uv_model::{FromReader, Profile, Source, ToWriter};
 use uv_vectors::CliFault;
+use uv_words::arguments::{OwnArguments, refused, words_of};
 use uv_words::{Job, WordsFault, read_words};
 
 // What is said of arguments that `clap` takes, and that ask for nothing.

@@ -1,17 +1,17 @@
 //! Why the program ends so, where its last line doesn't say it: what is reported on standard error before that line.
 ghost use Rattle.std.specs.Prelude.{◌≡◌, ◌++◌, IfOk, OnOk, string_bytes};
-ghost use Rattle.uv_cli.specs.Reasons.{base_of, base_reason, base_text, failed_stream};
-ghost use Rattle.uv_cli.specs.Reasons.{input_text, profile_of, reason_text, reasons_text, unwritten_text, write_reason};
-ghost use Rattle.uv_cli.specs.Unread.{unread_of};
+ghost use Rattle.uv_cli.specs.Reasons.{base_of, base_reason, base_text, failed_stream, input_text, profile_of};
+ghost use Rattle.uv_cli.specs.Reasons.{reason_text, reasons_text, unwritten_text, write_reason};
+ghost use Rattle.uv_messages.specs.Unread.{unread_of};
 
 use crate::ends::End;
-use crate::messages::say;
-use crate::unread::{Unread, unread_line};
 use std::alloc::{AllocError, Global};
 use std::io::ErrorKind;
 use uv_filter::FilterFault;
 use uv_links::LinkFault;
 use uv_lint::LintFault;
+use uv_messages::messages::say;
+use uv_messages::unread::{Unread, unread_line};
 use uv_model::{Profile, Refusal, Rule};
 use uv_report::{LineViolation, push_message};
 use uv_vectors::CliFault;

@@ -4,10 +4,10 @@ ghost use Rattle.uv_vectors.specs.Views.{fault_view};
 ghost use Rattle.uv_cli.specs.Unjudged.{case_reason, case_text, fault_place, json_reason, json_text, key_text};
 ghost use Rattle.uv_cli.specs.Unjudged.{place_text, unjudged_text, unknown_key_text};
 
-use crate::messages::say;
-use crate::unread::push_name;
 use std::alloc::{AllocError, Global};
 use std::fmt::InlineText;
+use uv_messages::messages::say;
+use uv_messages::unread::push_name;
 use uv_report::push_shown;
 use uv_vectors::{CaseFault, CasesEnd, FilePlace, JsonFault};
 

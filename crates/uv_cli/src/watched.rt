@@ -4,12 +4,12 @@ ghost use Rattle.std.specs.Prelude.{◌≡◌, [], MatchResult, false, is_ok, ta
 ghost use Rattle.std.specs.Io.{ReadsAtMost, WritesAtMost};
 ghost use Rattle.std.specs.Io.KnownBytes.{Keeps, ReadConsumes, WriteAppends};
 ghost use Rattle.uv_cli.specs.Calls.{fault_after};
-ghost use Rattle.uv_cli.specs.Contents.{content_of};
+ghost use Rattle.uv_messages.specs.Contents.{content_of};
 ghost use Rattle.uv_cli.specs.Look.{Sees, SeesMore};
 
-use crate::contents::Content;
 use crate::look::Look;
 use std::io::{self, ErrorKind, Read, Write};
+use uv_messages::contents::Content;
 
 /// A reader, with the kind of its last error, if a read of it has failed, and with what is seen of the bytes that were
 /// read.

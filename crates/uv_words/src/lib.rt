@@ -1,6 +1,7 @@
 //! The arguments of the command line.
 #![tactic(auto)]
 
+pub mod arguments;
 mod commands;
 mod entries;
 mod inputs;

@@ -1,6 +1,6 @@
 -- On a valid text the parser is silent.
 use Rattle.std.proofs.Common.{ap, ◌∙◌}
-use Rattle.uv_cli.specs.CheckText.{check_text}
+use Rattle.uv_messages.specs.CheckText.{check_text}
 use Rattle.uv_cli.proofs.check.say.Goals as goal
 
 pub returns-in_ok-check_lines-in-Ok : goal.returns-in_ok-check_lines-in-Ok

@@ -1,0 +1,11 @@
+-- The name that none has, and the names that there are.
+use Rattle.std.proofs.Common.{◌∙◌, ap, codes, map, None}
+use Rattle.uv_messages.specs.Names.{unit_names}
+use Rattle.uv_messages.proofs.NameLemmas.{unknown_with}
+use Rattle.uv_messages.proofs.units.unknown_unit_lines.Goals as goal
+
+pub returns : goal.returns
+returns c =
+    unknown_with c.lines.result (codes "column unit") (codes "column units") (map (λ n. n.now) c.as_slice.result.now)
+    (unit_names None) c.args.name.now
+    (ap (map (λ n. n.now)) c.as_slice.ensures.value ∙ c.in_ok-names.ensures) c.lines.ensures
