@@ -6,3 +6,8 @@ mod RunLemmas
 mod SettledLemmas
 mod WebLinkLemmas
 mod StayLemmas
+mod StepLemmas
+mod EncodedLemmas
+mod PassedOver
+mod StaysPrepared
+mod ReadPrepared

@@ -1,5 +1,5 @@
 -- Texts without the controls and spaces at their end.
-use Rattle.std.proofs.Common.{◌≡◌, ℕ, true, false, List, [], ◌∷◌, ◌++◌, reverse, refl, sym, ap, ◌∙◌}
+use Rattle.std.proofs.Common.{◌≡◌, ℕ, true, false, List, [], ◌∷◌, ◌++◌, reverse, refl, subst, sym, ap, ◌∙◌}
 use Rattle.std.proofs.lemmas.List.{reverse-append, reverse-reverse}
 use Rattle.uv_mend.specs.Prepared.{before_controls, behind_controls, is_control_or_space}
 
@@ -30,3 +30,12 @@ before_controls-other text c isnt =
   where
     behind : (c : ℕ) (rest : List ℕ) → is_control_or_space c ≡ false → behind_controls (c ∷ rest) ≡ c ∷ rest
     behind c rest isnt = rw isnt refl
+
+-- what holds of no code points, and of more by one at the end, holds of each text
+pub from_ends : (P : List ℕ → Type 0) → P [] → ((front : List ℕ) (c : ℕ) → P front → P (front ++ c ∷ []))
+    → (text : List ℕ) → P text
+from_ends P none more text = subst P (reverse-reverse text) (turned (reverse text))
+  where
+    turned : (list : List ℕ) → P (reverse list)
+    turned [] = none
+    turned (c ∷ rest) = subst P (sym (reverse-append (c ∷ []) rest)) (more (reverse rest) c (turned rest))

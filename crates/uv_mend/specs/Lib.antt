@@ -11,4 +11,5 @@ pub mod Hosts
 pub mod Edits
 pub mod Repairs
 pub mod Kinds
+pub mod Readings
 pub mod Mending
