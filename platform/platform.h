@@ -1,7 +1,7 @@
 /*
  * What the proved program asks of a system for which the toolchain has no archives, and what is assumed of each. A shim
- * gives these functions: wasi.c and wasi_heap.c all of them. For Linux on ARM the toolchain compiles the program itself, and
- * asks for the allocator and the arguments alone.
+ * gives these functions: posix.c with heap.c, or wasi.c with wasi_heap.c, and beside both arguments.c. For Linux on ARM the
+ * toolchain compiles the program itself, and asks for the allocator and the arguments alone.
  *
  * The proofs assume of them what the toolchain's contracts say of C's functions of these names on Linux. Flags and errors
  * have Linux's numbers. Each number is 64 bits wide, so that no calling convention has a word in how it is extended.
@@ -71,6 +71,7 @@ enum {
     ERROR_AGAIN = 11,
     ERROR_NOMEM = 12,
     ERROR_ACCES = 13,
+    ERROR_BUSY = 16,
     ERROR_EXIST = 17,
     ERROR_NOTDIR = 20,
     ERROR_ISDIR = 21,
@@ -83,7 +84,9 @@ enum {
     ERROR_ROFS = 30,
     ERROR_PIPE = 32,
     ERROR_NAMETOOLONG = 36,
-    ERROR_LOOP = 40
+    ERROR_LOOP = 40,
+    ERROR_TIMEDOUT = 110,
+    ERROR_STALE = 116
 };
 
 #endif

@@ -3,10 +3,10 @@
 #
 #     runs/platforms.sh PROGRAM TARGET
 #
-# TARGET is aarch64, Linux on ARM, under qemu; or node, the program for Node. What runs: the cases of runs/, the checksums of all
-# that commands say of 20,000 hostile texts and of the vectors, and little memory. For node it is also the types of its host,
-# the cases of runs/platforms/host, and spoiled copies of the host, which have to fail. What the system lacks is counted and
-# named, and what isn't installed here is left out, with a line.
+# TARGET is aarch64 or riscv64, Linux on ARM or on RISC-V, under qemu; or node, the program for Node. What runs: the cases of
+# runs/ and of runs/platforms/host, the checksums of all that commands say of 20,000 hostile texts and of the vectors, little
+# memory, and spoiled copies of the shim or the host, which have to fail. For node it is also the types of its host. What the
+# system lacks is counted and named, and what isn't installed here is left out, with a line.
 #
 # Words of the environment: BUILT is a folder that platform/build wrote, to be taken as it is; CASES has the names of the files
 # of cases that are run, else all are; and QUICK leaves out little memory and the spoiled copies.
@@ -22,6 +22,10 @@ case $target in
     aarch64)
         build=aarch64 runner='qemu-aarch64 -0 urlcheck' binary=urlcheck-static lacks=prlimit
         tools=(qemu-aarch64 aarch64-linux-gnu-gcc)
+        ;;
+    riscv64)
+        build=riscv64 runner='qemu-riscv64 -0 urlcheck' binary=urlcheck-static lacks=prlimit
+        tools=(qemu-riscv64 riscv64-linux-gnu-gcc)
         ;;
     node) build=wasi runner=node binary=program.mjs lacks='prlimit closed_streams' tools=(node wasm-opt) ;;
     *) echo 'usage: runs/platforms.sh PROGRAM TARGET' >&2; exit 2 ;;
@@ -57,11 +61,9 @@ if [ "$target" = node ] && command -v tsc >/dev/null; then
     echo "$part: the types of program.mjs"
 fi
 
-if [ "$target" = node ]; then
-    CASES=host bash "$top/runs/all.sh" "$program" "$here/host" >"$room/said" || { cat "$room/said"; exit 1; }
-    CASES=host bash "$top/runs/all.sh" "$other" "$here/host" >"$room/said" || { cat "$room/said"; exit 1; }
-    echo "$part: the cases of a host"
-fi
+CASES=host bash "$top/runs/all.sh" "$program" "$here/host" >"$room/said" || { cat "$room/said"; exit 1; }
+CASES=host bash "$top/runs/all.sh" "$other" "$here/host" >"$room/said" || { cat "$room/said"; exit 1; }
+echo "$part: the cases of a host"
 
 # ---- the cases, as many files side by side as there are processors
 
@@ -125,15 +127,11 @@ if [ -n "${QUICK:-}" ]; then
     exit 0
 fi
 
-# ---- spoiled copies of the host of node
+# ---- spoiled copies of the shim, and of the host of node
 
 count=0
-# spoiled WHAT RUN SED : with this edit of program.mjs this run of the cases of a host fails, and the program still starts
-spoiled() {
-    rm -rf "$room/spoiled"
-    cp -r "$built" "$room/spoiled"
-    sed -i "$3" "$room/spoiled/program.mjs"
-    ! cmp -s "$room/spoiled/program.mjs" "$built/program.mjs" || { echo "FAILED: $part: $1: the edit changes nothing"; exit 1; }
+# is_found WHAT RUN : this run of the cases of a host fails by the program of $room/spoiled, which still starts
+is_found() {
     named_program "$room/spoiled" "$room/spoiled.program"
     "$room/spoiled.program/urlcheck" --version | cmp - <("$program" --version)
     if CASES=host timeout $limit bash "$top/runs/all.sh" "$room/spoiled.program/urlcheck" "$here/host" >"$room/said" 2>&1 ||
@@ -144,20 +142,59 @@ spoiled() {
     fi
     count=$((count + 1))
 }
-if [ "$target" = node ]; then
-    spoiled 'bytes that are judged as U+FFFD' 'check http://h/.*: status 0, and not 2' \
-        's/if (own !== null) return own/return texts.map(text => Buffer.from(text))/'
-    spoiled 'a read of a byte less' 'lint ' 's/return \(readSync(.*)\)$/return Math.max(0, \1 - 1)/'
-    spoiled 'a missing file that is another error' 'lint missing: on standard error' 's/ENOENT: 44/ENOENT: IO/'
-    spoiled 'a broken pipe that is an error of the device' 'check to a closed pipe: ' 's/EPIPE: 64/EPIPE: IO/'
-    echo "$part: $count spoiled copies of the host are found"
-fi
+
+# edited WHAT FOLDER FILE SED : edits a file of a folder, which is one of platform/
+edited() {
+    sed -i "$4" "$2/$3"
+    ! cmp -s "$2/$3" "$top/platform/$3" || { echo "FAILED: $part: $1: the edit changes nothing"; exit 1; }
+}
+
+# spoiled WHAT RUN SED : with this edit of program.mjs that run is found to fail
+spoiled() {
+    rm -rf "$room/spoiled"
+    cp -r "$built" "$room/spoiled"
+    edited "$1" "$room/spoiled" program.mjs "$3"
+    is_found "$1" "$2"
+}
+
+# spoiled_shim WHAT RUN FILE SED : with this edit of a file of the shim that run is found to fail
+spoiled_shim() {
+    rm -rf "$room/spoiled" "$room/shims"
+    cp -r "$top/platform" "$room/shims"
+    edited "$1" "$room/shims" "$3" "$4"
+    SHIMS=$room/shims built_into "$room/spoiled"
+    is_found "$1" "$2"
+}
+case $target in
+    node)
+        spoiled 'bytes that are judged as U+FFFD' 'check http://h/.*: status 0, and not 2' \
+            's/if (own !== null) return own/return texts.map(text => Buffer.from(text))/'
+        spoiled 'a read of a byte less' 'lint ' 's/return \(readSync(.*)\)$/return Math.max(0, \1 - 1)/'
+        spoiled 'a missing file that is another error' 'lint missing: on standard error' 's/ENOENT: 44/ENOENT: IO/'
+        spoiled 'a broken pipe that is an error of the device' 'check to a closed pipe: ' 's/EPIPE: 64/EPIPE: IO/'
+        ;;
+    riscv64)
+        spoiled_shim 'a read of a byte less' 'lint ' posix.c 's/return answered(\(read(.*)\));/int64_t count = answered(\1); return count - (count > 0);/'
+        spoiled_shim 'a missing file that is another error' 'lint missing: on standard error' posix.c \
+            's/{ENOENT, ERROR_NOENT}/{ENOENT, ERROR_IO}/'
+        spoiled_shim 'a broken pipe that is an error of the device' 'check to a closed pipe: ' posix.c \
+            's/{EPIPE, ERROR_PIPE}/{EPIPE, ERROR_IO}/'
+        spoiled_shim 'a broken pipe that ends the program' 'check to a closed pipe: ' posix.c 's/return signal(.*;/return 0;/'
+        ;;
+    aarch64)
+        spoiled_shim 'a missing file that is another error' 'lint missing: on standard error' kit.c \
+            's/return errno;/return errno == ENOENT ? EIO : errno;/'
+        spoiled_shim 'bytes without their first bit' 'check http://h/' arguments.c 's/(uint8_t)word\[length\]/word[length] \& 0x7f/'
+        ;;
+esac
+echo "$part: $count spoiled copies are found"
 
 # ---- little memory: the allocator of the shim refuses, by a word of the environment, or the engine, by a limit in the module
 
 if [ "$target" = node ]; then
     cp -r "$built" "$room/little"
 else
+    rm -rf "$room/shims"
     cp -r "$top/platform" "$room/shims"
     mv "$room/shims/heap.c" "$room/shims/heap_of_c.c"
     cp "$here/budget.c" "$room/shims/heap.c"

@@ -1,0 +1,29 @@
+# Sourced at the top of the repository, behind packaging/builds.sh, by what builds for another machine. `here` is this folder,
+# `shims` the one with the C, and of the target `target` is its name, `triple` that of LLVM, and `cross` how the names of its
+# compiler and binutils begin.
+
+# kept_if_newer FILE SOURCE.. : whether the file stands, and no source is newer
+kept_if_newer() {
+    local source
+    [ -e "$1" ] || return 1
+    for source in "${@:2}"; do if [ "$source" -nt "$1" ]; then return 1; fi; done
+}
+
+# lowered KIT CRATE WORD.. : the object for the target of the crate's module, which takes long, and so is kept. The words are
+# more of clang's.
+lowered() {
+    local module=crates/$2/out/x86-64.bc kept=crates/$2/out/$target.o
+    packaging/build-module "$2" "$module"
+    kept_if_newer "$kept" "$module" "$here/lower" "$here/calls.ll" "$here/machines.sh" ||
+        "$here/lower" "$1" "$module" "$triple" "$kept" "${@:3}"
+    echo "$kept"
+}
+
+# The words of clang for RISC-V: what each such Linux has, as Debian's ports take it, with code that stands anywhere.
+riscv64=(-march=rv64gc -mabi=lp64d -fPIC)
+
+# linux_object NAME FILE : the C of that name, as an object file for a Linux
+linux_object() {
+    "${cross}gcc" -std=c11 -O2 -Wall -Wextra -Wconversion -Werror -fPIC -ffunction-sections -I "$here" \
+        -c "$shims/$1.c" -o "$2"
+}
