@@ -26,7 +26,7 @@ build_of() {
 # glibc_of FILE.. : the oldest version of glibc that has all that the files ask for
 glibc_of() {
     local versions
-    versions=$(objdump -T "$@" | grep -o 'GLIBC_[0-9.]*' | sed 's/GLIBC_//' | sort -Vu)
+    versions=$(${OBJDUMP:-objdump} -T "$@" | grep -o 'GLIBC_[0-9.]*' | sed 's/GLIBC_//' | sort -Vu)
     [ -n "$versions" ] || { echo "urlcheck: $* names no version of glibc" >&2; return 1; }
     tail -n 1 <<<"$versions"
 }

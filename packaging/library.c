@@ -1,22 +1,19 @@
 /*
  * The exports of the library. Each hands its call to the proved function of the same name, in the build that this
- * processor runs: plain x86-64, or x86-64-v2. A null pointer becomes one to nothing, so that it may stand for no bytes.
+ * processor runs: plain x86-64, or x86-64-v2; with ONE_BUILD, for another machine, in the one that there is. A null pointer
+ * becomes one to nothing, so that it may stand for no bytes.
  */
+#ifndef ONE_BUILD
 #include "processor.h"
+#endif
 #include "urlcheck.h"
 
 #define EXPORT __attribute__((visibility("default")))
 
-/*
- * The functions of one build. A function that returns an answer is handed the place of it first, and returns that place
- * (System V ABI for x86-64, section 3.2.3). The two that are called most are declared so: a call at the end is then a
- * jump, which compilers don't make of a call that returns a struct.
- */
+/* The functions of one build, but for the two that are called most. */
 #define DECLARE(build)                                                                                                 \
-    urlcheck_answer *urlcheck_check_##build(urlcheck_answer *, const uint8_t *, size_t, uint32_t);                     \
     urlcheck_answer urlcheck_check_against_##build(const uint8_t *, size_t, const uint8_t *, size_t, uint32_t);        \
     urlcheck_base urlcheck_prepare_##build(const uint8_t *, size_t, uint32_t);                                         \
-    urlcheck_answer *urlcheck_check_with_##build(urlcheck_answer *, const uint8_t *, size_t, const urlcheck_base *);   \
     urlcheck_bool urlcheck_is_valid_##build(const uint8_t *, size_t, uint32_t);                                        \
     urlcheck_bool urlcheck_is_valid_with_##build(const uint8_t *, size_t, const urlcheck_base *);                      \
     urlcheck_fault_count urlcheck_faults_with_##build(const uint8_t *, size_t, const urlcheck_base *,                  \
@@ -69,8 +66,29 @@
     size_t urlcheck_explain_##build(uint32_t, uint32_t, uint8_t *, size_t);                                            \
     size_t urlcheck_example_place_##build(uint32_t)
 
+#ifdef ONE_BUILD
+
+DECLARE(proved);
+urlcheck_answer urlcheck_check_proved(const uint8_t *, size_t, uint32_t);
+urlcheck_answer urlcheck_check_with_proved(const uint8_t *, size_t, const urlcheck_base *);
+
+#define CALL(name, ...) name##_proved(__VA_ARGS__)
+
+#else
+
+/*
+ * A function that returns an answer is handed the place of it first, and returns that place (System V ABI for x86-64,
+ * section 3.2.3). The two that are called most are declared so: a call at the end is then a jump, which compilers don't make
+ * of a call that returns a struct.
+ */
+#define DECLARE_PLACED(build)                                                                                          \
+    urlcheck_answer *urlcheck_check_##build(urlcheck_answer *, const uint8_t *, size_t, uint32_t);                     \
+    urlcheck_answer *urlcheck_check_with_##build(urlcheck_answer *, const uint8_t *, size_t, const urlcheck_base *)
+
 DECLARE(x86_64);
 DECLARE(x86_64_v2);
+DECLARE_PLACED(x86_64);
+DECLARE_PLACED(x86_64_v2);
 
 /* Whether the build for x86-64-v2 answers. A call before that is known gets the plain build, which says the same. */
 static int is_newer;
@@ -91,6 +109,8 @@ static __attribute__((constructor)) void ask(void) {
 #define CALL(name, ...)                                                                                                \
     (__atomic_load_n(&is_newer, __ATOMIC_RELAXED) ? name##_x86_64_v2(__VA_ARGS__) : name##_x86_64(__VA_ARGS__))
 
+#endif
+
 /* What is pointed to in the place of null: of length 0, so it is neither read nor written. */
 static uint8_t no_bytes[1];
 static urlcheck_fault no_faults[1];
@@ -100,6 +120,18 @@ static const uint8_t *read_from(const uint8_t *bytes) { return bytes ? bytes : n
 static uint8_t *written_to(uint8_t *bytes) { return bytes ? bytes : no_bytes; }
 static const urlcheck_base *held_in(const urlcheck_base *base) { return base ? base : &no_base; }
 static urlcheck_fault *listed_in(urlcheck_fault *faults) { return faults ? faults : no_faults; }
+
+#ifdef ONE_BUILD
+
+EXPORT urlcheck_answer urlcheck_check(const uint8_t *text, size_t length, uint32_t profile) {
+    return CALL(urlcheck_check, read_from(text), length, profile);
+}
+
+EXPORT urlcheck_answer urlcheck_check_with(const uint8_t *text, size_t length, const urlcheck_base *base) {
+    return CALL(urlcheck_check_with, read_from(text), length, held_in(base));
+}
+
+#else
 
 /*
  * The functions that are called most take a branch for a null pointer, as few calls hand one over. A function of its own
@@ -129,6 +161,13 @@ urlcheck_answer *check(urlcheck_answer *answer, const uint8_t *text, size_t leng
     return __atomic_load_n(&check_here, __ATOMIC_RELAXED)(answer, text, length, profile);
 }
 
+urlcheck_answer *check_with(urlcheck_answer *answer, const uint8_t *text, size_t length, const urlcheck_base *base) {
+    if (!text || !base) return check_with_null(answer, text, length, base);
+    return __atomic_load_n(&check_with_here, __ATOMIC_RELAXED)(answer, text, length, base);
+}
+
+#endif
+
 EXPORT urlcheck_answer urlcheck_check_against(const uint8_t *text, size_t length, const uint8_t *base,
                                               size_t base_length, uint32_t profile) {
     return CALL(urlcheck_check_against, read_from(text), length, read_from(base), base_length, profile);
@@ -136,11 +175,6 @@ EXPORT urlcheck_answer urlcheck_check_against(const uint8_t *text, size_t length
 
 EXPORT urlcheck_base urlcheck_prepare(const uint8_t *base, size_t length, uint32_t profile) {
     return CALL(urlcheck_prepare, read_from(base), length, profile);
-}
-
-urlcheck_answer *check_with(urlcheck_answer *answer, const uint8_t *text, size_t length, const urlcheck_base *base) {
-    if (!text || !base) return check_with_null(answer, text, length, base);
-    return __atomic_load_n(&check_with_here, __ATOMIC_RELAXED)(answer, text, length, base);
 }
 
 EXPORT urlcheck_bool urlcheck_is_valid(const uint8_t *text, size_t length, uint32_t profile) {

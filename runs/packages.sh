@@ -190,7 +190,7 @@ if ./install --other 2>"$room/said"; then fail "another option is taken"; fi
 # ---- the scripts: what they say of themselves, no other option, and paths of the folder that they are called in
 
 for script in install make-manual build-library build-packages build-page build-program packaging/{build-both,build-crate,build-module,pack-page} \
-    platform/{build,lower}; do
+    platform/{build,build-library,lower}; do
     ./$script --help >"$room/help" || fail "$script --help"
     grep -q "^[./]*$script" "$room/help" || fail "$script --help says: $(cat "$room/help")"
     if ./$script --other >"$room/help" 2>"$room/said" || ! grep -q "^usage: [./]*$script" "$room/said"; then

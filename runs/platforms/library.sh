@@ -1,0 +1,107 @@
+#!/usr/bin/env bash
+# Runs the library for C of another Linux, as runs/library.sh runs the one for x86-64, and compares with the program given as the
+# first argument:
+#
+#     runs/platforms/library.sh PROGRAM TARGET
+#
+# TARGET is aarch64 or riscv64, under qemu. The C programs of runs/library are compiled for it: every file of vectors by the
+# static library and by the shared one, the calls for many texts, reports, four threads, each allocation refused in turn, a
+# million faults, and a text of 100 MB. A spoiled copy of the shim has to fail. What isn't installed here is left out, with a
+# line. BUILT, of the environment, is a folder that platform/build-library wrote, to be taken as it is.
+. "$(dirname "$(dirname "$(realpath "$0")")")/start.sh"
+target=${2:?which system}
+part="platforms: the library for $target"
+case $target in
+    aarch64 | riscv64) cross=$target-linux-gnu- qemu=qemu-$target root=/usr/$target-linux-gnu ;;
+    *) echo 'usage: runs/platforms/library.sh PROGRAM TARGET' >&2; exit 2 ;;
+esac
+needs "$part" "$qemu" "${cross}gcc" python3
+cd "$top/runs/library"
+export PYTHONDONTWRITEBYTECODE=1
+
+fail() {
+    echo "FAILED: $part: $*"
+    exit 1
+}
+
+# library_into FOLDER : the library of this system
+library_into() {
+    "$top/platform/build-library" "$target" "$1" >"$room/said" 2>&1 || { cat "$room/said"; fail "it isn't built"; }
+}
+
+built=${BUILT:-$room/built}
+[ -n "${BUILT:-}" ] || library_into "$built"
+built=$(realpath "$built")
+archive=$built/lib/liburlcheck.a shared=$built/lib/liburlcheck.so
+
+# ---- its names
+
+for seen in "$("${cross}nm" -g --defined-only "$archive")" "$("${cross}nm" -D --defined-only "$shared")"; do
+    if grep -E ' [B-Z] ' <<<"$seen" | grep -qv ' urlcheck_'; then fail 'another name is visible'; fi
+done
+awk '/^URLCHECK_/ { node = $1 } /^ *urlcheck_[a-z_0-9]*;$/ { print substr($1, 1, length($1) - 1) "@@" node }' \
+    "$top/packaging/library.map" | sort >"$room/wanted"
+"${cross}nm" -D --defined-only --with-symbol-versions "$shared" | awk '$2 != "A" { print $3 }' | sort >"$room/found"
+diff "$room/wanted" "$room/found" || fail 'it exports other names than packaging/library.map'
+"${cross}objdump" -p "$shared" | grep -q 'SONAME *liburlcheck\.so\.0$' || fail 'it has another SONAME'
+
+# ---- programs in C
+
+# compiled NAME WORD.. : the program of that name, of the archive, or of what the words say
+compiled() {
+    "${cross}gcc" -std=c99 -D_XOPEN_SOURCE=600 -Wall -Wextra -Werror -O2 -I "$built/include" "$1.c" "${@:2}" -o "$room/$1"
+}
+
+# run NAME WORD.. : it here; where it isn't static, over the shared library
+run() { "$qemu" -L "$root" -E LD_LIBRARY_PATH="$built/lib:$root/lib" "$room/$1" "${@:2}"; }
+
+python3 cases.py pack "$room/cases" "$top"/vectors/*.json
+python3 ../lengths.py vectors "$room/lengths.json"
+python3 cases.py pack "$room/lengths" "$room/lengths.json"
+for way in static shared; do
+    case $way in
+        static) compiled answers -static "$archive" ;;
+        shared) compiled answers "$shared" ;;
+    esac
+    run answers "$room/cases" >"$room/said"
+    python3 cases.py compare "$program" "$room/said" "$top"/vectors/*.json
+    echo "$part: the answers of the $way library on $(wc -l <"$room/said") cases"
+done
+run answers "$room/cases" places >"$room/said"
+python3 cases.py places "$room/said" "$top"/vectors/*.json
+run answers "$room/lengths" places >"$room/said"
+python3 cases.py places "$room/said" "$room/lengths.json"
+run answers "$room/cases" mended >"$room/said"
+python3 cases.py mended "$program" "$room/said" "$top"/vectors/*.json
+
+python3 lines.py "$top"/vectors/*.json >"$room/lines"
+for name in batches calls lint; do compiled $name -static "$archive"; done
+run batches "$room/lines"
+run calls
+reports=0
+# (each format with the unit that it takes first)
+for format in 0-gnu 1-caret 2-json 3-github 4-sarif 5-checkstyle 6-junit 7-gitlab 8-rdjson; do
+    unit=0
+    [ $format != 8-rdjson ] || unit=1
+    "$program" lint --quiet --format "${format#*-}" --columns "$([ $unit = 0 ] && echo code-points || echo bytes)" "$room/lines" \
+        >"$room/wanted" || [ $? = 1 ]
+    run lint "$room/lines" "$room/lines" "${format%-*}" $unit | cmp - "$room/wanted"
+    reports=$((reports + 1))
+done
+echo "$part: $reports reports as \`lint\` writes them"
+
+compiled threads -static "$archive" -lpthread
+run threads
+compiled memory -static "$archive" -Wl,--wrap=malloc,--wrap=realloc,--wrap=free
+run memory
+echo "$part: places, mended texts, calls for many texts, threads, and each allocation refused"
+
+# ---- a spoiled copy of the shim
+
+cp -r "$top/platform" "$room/shims"
+sed -i 's/(attempt){block != NULL,/(attempt){1,/' "$room/shims/heap.c"
+! cmp -s "$room/shims/heap.c" "$top/platform/heap.c" || fail 'the edit changes nothing'
+SHIMS=$room/shims library_into "$room/spoiled"
+compiled memory -static "$room/spoiled/lib/liburlcheck.a" -Wl,--wrap=malloc,--wrap=realloc,--wrap=free
+if run memory >"$room/said" 2>&1; then fail "a refusal that isn't told isn't found"; fi
+echo "$part: a spoiled copy is found"
