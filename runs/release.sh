@@ -2,11 +2,12 @@
 # What ./build-packages hands out: two builds in two folders give the same bytes, lintian says nothing of the packages,
 # installed in a root of their own the program, the manual page and the programs of docs/guides work, also on an old
 # processor, all vectors pass by the program and by the libraries, the extensions work in SQLite and in a server of
-# PostgreSQL, and removed nothing is left. A release asks for it, and no gate: it needs root's rights, `rt`, `cc`, `dpkg`,
-# `lintian`, `man`, `pip`, `pkg-config`, `python3`, `qemu-x86_64`, `sqlite3`, PostgreSQL, and what `./build-packages` needs.
+# PostgreSQL, and removed nothing is left. What is for Linux on ARM and on RISC-V works in an emulator. A release asks for it,
+# and no gate: it needs root's rights, `rt`, `cc`, `dpkg`, `lintian`, `man`, `pip`, `pkg-config`, `python3`, `qemu-user`,
+# `sqlite3`, PostgreSQL, and what `./build-packages` needs.
 set -euo pipefail
 cd "$(dirname "$(realpath "$0")")/.."
-for tool in cc cmp dpkg dpkg-deb lintian man objcopy pg_config pkg-config python3 qemu-x86_64 rt sqlite3 wasm-opt; do
+for tool in cc cmp dpkg dpkg-deb lintian man objcopy pg_config pkg-config python3 qemu-{x86_64,aarch64,riscv64} rt sqlite3 wasm-opt; do
     command -v $tool >/dev/null || { echo "release: $tool is missing" >&2; exit 70; }
 done
 room=$(mktemp -d)
@@ -24,7 +25,9 @@ fail() {
 git ls-files -z | xargs -0 cp --parents -t "$(mkdir -p "$room/other" && echo "$room/other")"
 for crate in urlcheck urlcheck_c; do
     mkdir -p "$room/other/crates/$crate/out"
+    # (the modules first: what is made of one is newer)
     cp crates/$crate/out/x86-64* "$room/other/crates/$crate/out/"
+    cp crates/$crate/out/{aarch64,riscv64}.* "$room/other/crates/$crate/out/"
 done
 cp -r --parents crates/*/out/rlib "$room/other"
 "$room/other/build-packages" "$room/two"
@@ -41,7 +44,7 @@ echo "release: lintian is silent"
 root=$room/root
 mkdir -p "$root"/var/lib/dpkg/{info,updates,triggers} "$root/var/log"
 : >"$root/var/lib/dpkg/status"
-dpkg --root="$root" --force-depends --force-script-chrootless -i "$room"/one/*.deb >"$room/said" 2>&1 ||
+dpkg --root="$root" --force-depends --force-script-chrootless -i "$room"/one/*_amd64.deb >"$room/said" 2>&1 ||
     { cat "$room/said"; fail "dpkg doesn't install the packages"; }
 urlcheck=$root/usr/bin/urlcheck
 libraries=$root/usr/lib/x86_64-linux-gnu
@@ -98,9 +101,16 @@ printf '<a href="http://x_y/">\n' >"$room/page.html"
 export PKG_CONFIG_PATH=$at/lib/pkgconfig
 cc "$room/page.c" $(pkg-config --cflags --libs urlcheck) -Wl,-rpath,"$at/lib" -o "$room/page"
 { "$room/page" || [ $? = 1 ]; } | cmp - "$room/page.c.out" || fail "the program in C by the archive"
-python3 -m pip install --quiet --no-deps --no-index --target "$room/site" "$room"/one/*.whl 2>"$room/said" ||
+python3 -m pip install --quiet --no-deps --no-index --target "$room/site" "$room"/one/*_x86_64.whl 2>"$room/said" ||
     { cat "$room/said"; fail "pip doesn't install the wheel"; }
 PYTHONPATH=$room/site python3 "$room/page.py" | cmp - "$room/page.py.out" || fail "the program in Python by the wheel"
 "$room/site/bin/urlcheck" -V | cmp - <(echo "urlcheck $version") || fail "the wheel's program"
 PYTHONPATH=$room/site "$room/site/bin/urlcheck-documents" --version | grep -qF "$version" || fail "the wheel's other program"
 echo "release: the archive and the wheel work; version $version"
+
+# ---- the other machines
+
+unset PKG_CONFIG_PATH
+for machine in aarch64 riscv64; do
+    bash runs/platforms/packaged.sh "$room/one" $machine "$at/bin/urlcheck"
+done
