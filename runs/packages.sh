@@ -2,8 +2,9 @@
 # Installs the program given as the first argument, and the library, into a folder: what is installed there, that the
 # programs of docs/guides build and run by it, that each file names the one version, what the shared library
 # exports, that the header is taken by each standard of C and C++, that an old processor runs the library, and that
-# nothing is left once it is removed. What isn't installed on the machine is left out, and a line says so. LIBRARY may
-# name a folder that ./build-library wrote.
+# nothing is left once it is removed. Then the package for JavaScript, as npm installs it: `npx urlcheck` is the program. What
+# isn't installed on the machine is left out, and a line says so. LIBRARY and PAGE may name folders that ./build-library and
+# ./build-page wrote.
 . "$(dirname "$(realpath "$0")")/start.sh"
 cd "$top"
 needs packages cc gcc objcopy pkg-config python3
@@ -186,6 +187,73 @@ left=$(find "$root" -mindepth 1)
 [ -z "$left" ] || fail "what is left once it is removed: $left"
 if ./install --uninstall $prefix 2>"$room/said"; then fail "what isn't installed is removed"; fi
 if ./install --other 2>"$room/said"; then fail "another option is taken"; fi
+
+# ---- the package for JavaScript, whose program `npx` runs
+
+# What a run over the folder of a user looks like: its status, and its words.
+npx_runs='0 --version
+0 check http://h/a?q
+1 check http://x_y/
+1 lint links.txt
+2 lint --quiet --format sarif links.txt missing
+1 lint --located --format caret located.txt
+0 explain host-domain
+2 check'
+
+# is_program FOLDER : whether `npx urlcheck` there says what the program says, and ends as it does
+is_program() {
+    local status words ended wanted
+    while read -r status words; do
+        ended=0 wanted=0
+        (cd "$1" && "$program" $words) >"$room/wanted" 2>"$room/wanted.err" || wanted=$?
+        (cd "$1" && npx --offline --no -- urlcheck $words) >"$room/found" 2>"$room/found.err" || ended=$?
+        [ "$wanted" = "$status" ] || fail "$words: status $wanted, and not $status"
+        [ "$ended" = "$status" ] && cmp -s "$room/wanted" "$room/found" && cmp -s "$room/wanted.err" "$room/found.err" ||
+            { echo "npx urlcheck $words: status $ended, and not $status"; return 1; }
+    done <<<"$npx_runs"
+}
+
+# installed_by_npm FILE.tgz : a user's folder with the package of the file, without a registry
+installed_by_npm() {
+    rm -rf "$room/user"
+    mkdir "$room/user"
+    cp "$1" "$room/user/package.tgz"
+    printf 'http://h/\n\nhttp://h/a b\n\303\251\n' >"$room/user/links.txt"
+    printf 'a.html:3:9:http://x_y/\n' >"$room/user/located.txt"
+    (cd "$room/user" && quietly npm install --offline --no-audit --no-fund ./package.tgz)
+}
+
+# spoiled_package WHAT SED FILE : a package whose FILE this edit has changed isn't the program
+spoiled_package() {
+    rm -rf "$room/package"
+    tar -C "$room" -xzf "$package"
+    LC_ALL=C sed -i "$2" "$room/package/$3"
+    ! cmp -s "$room/package/$3" "$page/$3" || fail "the package: $1: the edit changes nothing"
+    tar -C "$room" -czf "$room/spoiled.tgz" package
+    installed_by_npm "$room/spoiled.tgz"
+    if is_program "$room/user" >"$room/said"; then fail "the package: $1 isn't found"; fi
+}
+
+lacks=
+for tool in node npm npx wasm-opt; do command -v "$tool" >/dev/null || lacks=$tool; done
+[ -n "$lacks" ] || [ "$(node -p 'process.versions.node.split(".")[0] >= 18')" = true ] || lacks='node from version 18 on'
+if [ -n "$lacks" ]; then
+    echo "packages: the package for JavaScript is left out, since $lacks isn't installed"
+else
+    page=${PAGE:-$room/page}
+    [ -n "${PAGE:-}" ] || quietly ./build-page "$page"
+    packaging/pack-page "$page" "$room/packed"
+    cp -r "$page" "$room/later"
+    packaging/pack-page "$room/later" "$room/packed.again"
+    diff -r "$room/packed" "$room/packed.again" || fail "the package for JavaScript has other bytes the second time"
+    package=$room/packed/urlcheck-$version.tgz
+    installed_by_npm "$package"
+    is_program "$room/user" || fail "the program of the package for JavaScript"
+    spoiled_package 'another file in place of the program' 's/"program\.mjs" }/"urlcheck.js" }/' package.json
+    spoiled_package 'a status that is lost' 's/exit(status)/exit(0)/' program.mjs
+    spoiled_package 'another word in a sentence' 's/may not stand in a URL/may now stand in a URL/' program.wasm
+    echo "packages: npx urlcheck is the program, in $(wc -l <<<"$npx_runs") runs under $(node --version); 3 spoiled packages are found"
+fi
 
 # ---- the scripts: what they say of themselves, no other option, and paths of the folder that they are called in
 
