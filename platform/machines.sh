@@ -22,6 +22,18 @@ lowered() {
 # The words of clang for RISC-V: what each such Linux has, as Debian's ports take it, with code that stands anywhere.
 riscv64=(-march=rv64gc -mabi=lp64d -fPIC)
 
+# The words of clang for Windows: each processor for x86-64.
+windows=(-march=x86-64)
+
+# windows_object NAME FILE : the C of that name, as an object file for Windows
+windows_object() {
+    "${cross}gcc" -std=c11 -O2 -Wall -Wextra -Wconversion -Wshadow -Werror -ffunction-sections -I "$here" \
+        -c "$shims/$1.c" -o "$2"
+}
+
+# How a program or a library for Windows is linked: its code may stand anywhere, no data is run, and no date is in it.
+windows_link=(-static -Wl,--gc-sections -Wl,--nxcompat -Wl,--dynamicbase -Wl,--high-entropy-va -Wl,--no-insert-timestamp -s)
+
 # linux_object NAME FILE : the C of that name, as an object file for a Linux
 linux_object() {
     "${cross}gcc" -std=c11 -O2 -Wall -Wextra -Wconversion -Werror -fPIC -ffunction-sections -I "$here" \

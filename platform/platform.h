@@ -1,7 +1,8 @@
 /*
  * What the proved program asks of a system for which the toolchain has no archives, and what is assumed of each. A shim
- * gives these functions: posix.c with heap.c, or wasi.c with wasi_heap.c, and beside both arguments.c. For Linux on ARM the
- * toolchain compiles the program itself, and asks for the allocator and the arguments alone.
+ * gives these functions: posix.c with heap.c, windows.c and windows_words.c with it, or wasi.c with wasi_heap.c, and beside
+ * each arguments.c. For Linux on ARM the toolchain compiles the program itself, and asks for the allocator and the
+ * arguments alone.
  *
  * The proofs assume of them what the toolchain's contracts say of C's functions of these names on Linux. Flags and errors
  * have Linux's numbers. Each number is 64 bits wide, so that no calling convention has a word in how it is extended.

@@ -39,17 +39,27 @@ ends_with() {
     if ! printf '%b' "$stderr" | cmp -s - "$room/err"; then fail "$what: on standard error: $(cat "$room/err")"; fi
 }
 
+# lacks WHAT : whether the system lacks it
+lacks() {
+    case " ${LACKS:-} " in *" $1 "*) ;; *) return 1 ;; esac
+}
+
 # has WHAT RUNS : whether the system has what the next RUNS runs need. Else they are left out, and counted by what they need.
 declare -A left_out=()
 has() {
-    case " ${LACKS:-} " in
-        *" $1 "*) ;;
-        *) return 0 ;;
-    esac
+    lacks "$1" || return 0
     count=$((count + $2))
     left_out[$1]=$((${left_out[$1]:-0} + $2))
     return 1
 }
+
+# is_posix NAME : whether POSIX alone has files of this name. Windows has none with these code points, or a space at the end.
+is_posix() {
+    case $1 in *' ' | *[:*?\\\<\>\"]* | *[[:cntrl:]]*) ;; *) return 1 ;; esac
+}
+
+# has_file NAME : whether the system has files of this name. Else a run is left out.
+has_file() { ! is_posix "$1" || has posix_names 1; }
 
 # no_base PLACE RULE SENTENCE : what is said on standard error of a base that this rule refuses
 no_base() { printf '%s' "urlcheck: the base is refused at place $1: $3\\nbase refused $1 $2\\n"; }

@@ -84,8 +84,10 @@ cmp -s "$room/list" "$room/out" || fail "mend of gzip: it wrote $(cat "$room/out
 (printf '\x1f'; sleep 0.1; printf '\x8b\n') | "$program" links >"$room/out" 2>"$room/err"
 ends_with 1 $? "urlcheck: standard input $gzip: gzip -dc FILE | urlcheck links\\n" 'links, of a mark in two pieces'
 printf '\x1f\x8b\n' >"$room/"$'a\e'
-(cd "$room" && "$program" lint -q $'a\e') >"$room/out" 2>"$room/err"
-ends_with 1 $? "urlcheck: a\\0357\\0277\\0275 $gzip: gzip -dc FILE | urlcheck lint -\\n" 'lint, of a name with a control'
+if has_file $'a\e'; then
+    (cd "$room" && "$program" lint -q $'a\e') >"$room/out" 2>"$room/err"
+    ends_with 1 $? "urlcheck: a\\0357\\0277\\0275 $gzip: gzip -dc FILE | urlcheck lint -\\n" 'lint, of a name with a control'
+fi
 # The hint's own command hands the lines over.
 printf 'http://h/\nhttp://h/a b\n' | gzip >"$room/list"
 (cd "$room" && gzip -dc list | "$program" lint -q -) >"$room/out" 2>"$room/err"

@@ -295,6 +295,7 @@ rm -f "$room/wanted" "$room/twice" "$room/right"
 # on_third FORMAT NAME LINE STDOUT WORD.. : a lint in this format of a file with this name and third line says so
 on_third() {
     local format=$1 name=$2 stdout=$4
+    has_file "$name" || return 0
     printf 'urn:a\nurn:a\n%b\n' "$3" >"$room/$name"
     shift 4
     expect 1 "$stdout" '' lint --quiet --format "$format" "$@" -- "$name"

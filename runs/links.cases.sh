@@ -140,8 +140,10 @@ printf 'urn:a\n' >"$room/list"
 ends_with 3 $? "${no_space}write\\n" 'links to a full device'
 (sleep 0.3; "$program" links <"$room/list" 2>"$room/err"; echo $? >"$room/status") | true
 ends_with 3 "$(cat "$room/status")" '' 'links to a closed pipe'
-"$program" links <"$room" >"$room/out" 2>"$room/err"
-ends_with 3 $? "${from_folder}read\\n" 'links from a folder'
+if has folder_input 1; then
+    "$program" links <"$room" >"$room/out" 2>"$room/err"
+    ends_with 3 $? "${from_folder}read\\n" 'links from a folder'
+fi
 
 # A list of 100,000 lines, whose report is made a second time here: five kinds of line, each with its known answer.
 awk 'BEGIN {

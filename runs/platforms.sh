@@ -3,10 +3,11 @@
 #
 #     runs/platforms.sh PROGRAM TARGET
 #
-# TARGET is aarch64 or riscv64, Linux on ARM or on RISC-V, under qemu; or node, the program for Node. What runs: the cases of
-# runs/ and of runs/platforms/host, the checksums of all that commands say of 20,000 hostile texts and of the vectors, little
-# memory, and spoiled copies of the shim or the host, which have to fail. For node it is also the types of its host. What the
-# system lacks is counted and named, and what isn't installed here is left out, with a line.
+# TARGET is aarch64 or riscv64, Linux on ARM or on RISC-V, under qemu; windows, under Wine; or node, the program for Node. What
+# runs: the cases of runs/ and of runs/platforms/host, the checksums of all that commands say of 20,000 hostile texts and of
+# the vectors, little memory, and spoiled copies of the shim or the host, which have to fail. For node it is also the types of
+# its host, and for windows the cases of runs/platforms/windows. What the system lacks is counted and named, and what isn't
+# installed here is left out, with a line.
 #
 # Words of the environment: BUILT is a folder that platform/build wrote, to be taken as it is; CASES has the names of the files
 # of cases that are run, else all are; and QUICK leaves out little memory and the spoiled copies.
@@ -27,11 +28,16 @@ case $target in
         build=riscv64 runner='qemu-riscv64 -0 urlcheck' binary=urlcheck-static lacks=prlimit
         tools=(qemu-riscv64 riscv64-linux-gnu-gcc)
         ;;
+    windows)
+        build=windows runner=wine binary=urlcheck.exe tools=(wine wineserver x86_64-w64-mingw32-gcc)
+        lacks='prlimit byte_arguments posix_names posix_paths file_modes folder_input long_command_lines'
+        ;;
     node) build=wasi runner=node binary=program.mjs lacks='prlimit closed_streams' tools=(node wasm-opt) ;;
     *) echo 'usage: runs/platforms.sh PROGRAM TARGET' >&2; exit 2 ;;
 esac
 needs "$part" "${tools[@]}"
 chmod 755 "$room"
+[ "$target" != windows ] || . "$here/windows.sh"
 
 # ---- what is built
 
@@ -62,8 +68,13 @@ if [ "$target" = node ] && command -v tsc >/dev/null; then
 fi
 
 CASES=host bash "$top/runs/all.sh" "$program" "$here/host" >"$room/said" || { cat "$room/said"; exit 1; }
-CASES=host bash "$top/runs/all.sh" "$other" "$here/host" >"$room/said" || { cat "$room/said"; exit 1; }
+CASES=host LACKS=$lacks bash "$top/runs/all.sh" "$other" "$here/host" >"$room/said" || { cat "$room/said"; exit 1; }
 echo "$part: the cases of a host"
+
+if [ "$target" = windows ]; then
+    cases_on_windows "$built" windows || { cat "$room/said"; exit 1; }
+    echo "$part: the cases of Windows"
+fi
 
 # ---- the cases, as many files side by side as there are processors
 
@@ -181,6 +192,7 @@ case $target in
             's/{EPIPE, ERROR_PIPE}/{EPIPE, ERROR_IO}/'
         spoiled_shim 'a broken pipe that ends the program' 'check to a closed pipe: ' posix.c 's/return signal(.*;/return 0;/'
         ;;
+    windows) spoiled_windows ;;
     aarch64)
         spoiled_shim 'a missing file that is another error' 'lint missing: on standard error' kit.c \
             's/return errno;/return errno == ENOENT ? EIO : errno;/'
@@ -236,5 +248,6 @@ awk 'BEGIN { for (n = 0; n < 60000; n++) printf "a"; printf "\n" }' >"$room/name
 walks lint -
 walks mend
 walks links
-walks check "http://h/$(cat "$room/name")"
+# (a line of arguments has 32,767 units on Windows)
+walks check "http://h/$(head -c 30000 "$room/name")"
 echo "$part: four commands in little memory: refused, and whole"

@@ -151,7 +151,9 @@ expect 2 '' "urlcheck: vectors.json: line 1, column 129: $unreadable\\nvectors n
 
 # The name of the file is shown as a terminal may have it.
 printf '[' >"$room/$(printf 'a\033b')"
-expect 2 '' "urlcheck: a\\0357\\0277\\0275b: line 1, column 2: $cut\\nvectors not json\\n" vectors "$(printf 'a\033b')"
+if has_file $'a\eb'; then
+    expect 2 '' "urlcheck: a\\0357\\0277\\0275b: line 1, column 2: $cut\\nvectors not json\\n" vectors "$(printf 'a\033b')"
+fi
 rm -f "$room/$(printf 'a\033b')"
 
 # JSON texts that are no array.
@@ -180,30 +182,37 @@ expect 1 "$(seq 1000 1000 100000 | sed 's/^/fail /; s/$/\\n/' | tr -d '\n')vecto
 expect 3 '' "urlcheck: missing.json: can't be read: there is no such file\\nread\\n" vectors missing.json
 expect 3 '' "urlcheck: .: can't be read: it is a folder\\nread\\n" vectors .
 expect 3 '' "urlcheck: '': can't be read: there is no such file\\nread\\n" vectors ''
-expect 3 '' "urlcheck: vectors.json/x: can't be read: a part of its path is no folder\\nread\\n" \
-    vectors vectors.json/x
-expect 3 '' "urlcheck: /proc/self/mem: can't be read\\nread\\n" vectors /proc/self/mem
+if has posix_paths 1; then
+    expect 3 '' "urlcheck: vectors.json/x: can't be read: a part of its path is no folder\\nread\\n" \
+        vectors vectors.json/x
+fi
+if has proc 1; then expect 3 '' "urlcheck: /proc/self/mem: can't be read\\nread\\n" vectors /proc/self/mem; fi
 
 # The file is opened by the very name that was given, and the system follows `..`.
 for name in 'two  words ' ' leads' 'a%20b' 'a:b' 'a#b' 'a\b' Upper "$(printf 'n%.0s' {1..255})" $'\u00e9\u4e2d' $'ends\n' \
     "$(printf './%.0s' {1..2000})long"; do
+    has_file "$name" || continue
     printf '[]' >"$room/$name"
     expect 0 'vectors 0 pass 0 fail 0\n' '' vectors -- "$name"
     rm -f -- "$room/$name"
 done
-expect 3 '' "urlcheck: vectors.json/: can't be read: a part of its path is no folder\\nread\\n" vectors vectors.json/
-expect 3 '' "urlcheck: missing/../vectors.json: can't be read: there is no such file\\nread\\n" \
-    vectors missing/../vectors.json
+if has posix_paths 2; then
+    expect 3 '' "urlcheck: vectors.json/: can't be read: a part of its path is no folder\\nread\\n" vectors vectors.json/
+    expect 3 '' "urlcheck: missing/../vectors.json: can't be read: there is no such file\\nread\\n" \
+        vectors missing/../vectors.json
+fi
 
 # A file that may not be read. Root may read every file, so root runs the program as nobody.
-chmod 755 "$room"
-cp "$program" "$room/program"
-chmod 000 "$room/vectors.json"
-as_nobody=()
-if [ "$(id -u)" = 0 ]; then as_nobody=(setpriv --reuid=65534 --regid=65534 --clear-groups); fi
-(cd "$room" && "${as_nobody[@]}" ./program vectors vectors.json) >"$room/out" 2>"$room/err"
-ends_with 3 $? "urlcheck: vectors.json: can't be read: permission denied\\nread\\n" 'vectors, of a file that may not be read'
-rm -f "$room/vectors.json"
+if has file_modes 1; then
+    chmod 755 "$room"
+    cp "$program" "$room/program"
+    chmod 000 "$room/vectors.json"
+    as_nobody=()
+    if [ "$(id -u)" = 0 ]; then as_nobody=(setpriv --reuid=65534 --regid=65534 --clear-groups); fi
+    (cd "$room" && "${as_nobody[@]}" ./program vectors vectors.json) >"$room/out" 2>"$room/err"
+    ends_with 3 $? "urlcheck: vectors.json: can't be read: permission denied\\nread\\n" 'vectors, of a file that may not be read'
+    rm -f "$room/vectors.json"
+fi
 
 # The output can't be written.
 vector_file '[]'
