@@ -55,7 +55,7 @@ found=$(OBJDUMP=${cross}objdump glibc_of "$room/site/urlcheck/_native.abi3.so")
 cp "$packages/$name-$target-linux" "$room/alone"
 chmod 755 "$room/alone"
 for file in root/usr/bin/urlcheck "$name/bin/urlcheck" site/bin/urlcheck alone; do
-    "${emulated[@]}" "$room/$file" --version | cmp - <(echo "urlcheck $version") || fail "$file"
+    "${emulated[@]}" "$room/$file" -V | cmp - <(echo "urlcheck $version") || fail "$file"
     "${emulated[@]}" "$room/$file" vectors vectors/parser.json | grep -q ' fail 0$' || fail "$file vectors"
 done
 gzip -dc "$room/root/usr/share/man/man1/urlcheck.1.gz" | cmp - man/urlcheck.1 || fail 'the manual page'
