@@ -287,7 +287,12 @@ if [ -z "$only" ] || [ "$only" = lint ]; then
     for format in gnu caret json github sarif checkstyle junit gitlab rdjson; do
         unit=code-points
         if [ $format = rdjson ]; then unit=bytes; fi
-        for shape in wrong_path wrong_host; do grows lint "$shape" $(line_counts "$shape"); done
+        for shape in wrong_path wrong_host; do
+            read -ra lengths <<<"$(line_counts "$shape")"
+            # (its fingerprints are of the whole of the shortest line, and of a window of the longer ones)
+            if [ $format = sarif ]; then lengths=("${lengths[@]:1}"); fi
+            grows lint "$shape" "${lengths[@]}"
+        done
     done
     format=gnu
     for unit in bytes utf16 screen; do grows lint wrong_path $(line_counts wrong_path); done
