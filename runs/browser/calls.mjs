@@ -185,7 +185,7 @@ const tests = {
       for (const call of CALLS) assert.throws(() => urlcheck[call]('urn:a', options), wrong)
     }
     for (const call of [...CALLS, 'base']) {
-      assert.throws(() => urlcheck[call]('urn:a', held), { name: 'TypeError', message: /^a base stands in the place/ })
+      assert.throws(() => urlcheck[call]('urn:a', held), { name: 'TypeError', message: /^a base is in the place/ })
     }
     assert.throws(() => urlcheck.base('urn:a', { profile: 'Wide' }), TypeError)
     for (const call of CALLS) {
