@@ -1,5 +1,5 @@
 /*
- * Hands bytes of any kind to the calls for many texts and for reports, for libFuzzer. By hand, with `./build-library`:
+ * Hands bytes of any kind to the calls for many texts, for records and for reports, for libFuzzer. By hand, with `./build-library`:
  *
  *   clang -g -O1 -fsanitize=fuzzer,address,undefined -I include runs/library/fuzz.c library/lib/liburlcheck.a -o fuzz
  *   ./fuzz -runs=1000000 -max_len=256
@@ -156,6 +156,60 @@ static void held(void) {
     must(made.kind == wanted.kind && memcmp(one, other, sizeof one) == 0);
 }
 
+/* The parts of a record lie one after the other in its text. */
+static void in_order(const urlcheck_spans *parts, size_t length) {
+    const urlcheck_span *const all[] = {&parts->scheme, &parts->host, &parts->port, &parts->path, &parts->query, &parts->fragment};
+    size_t end = 0;
+    for (int i = 0; i < 6; i++) {
+        if (!all[i]->present) continue;
+        must(all[i]->start >= end && all[i]->start <= length && all[i]->length <= length - all[i]->start);
+        end = all[i]->start + all[i]->length;
+    }
+}
+
+static void records(void) {
+    uint8_t one[2048], other[2048];
+    uint32_t profile = (uint32_t)number() % 4;
+    size_t half = left / 2;
+    const uint8_t *text = input + half;
+    memset(one, 7, sizeof one);
+    memset(other, 7, sizeof other);
+    urlcheck_record placed = urlcheck_resolve_record_against(text, half, input, half, profile, one, sizeof one);
+    urlcheck_resolved wanted = urlcheck_resolve_against(text, half, input, half, profile, other, sizeof other);
+    must(memcmp(&placed.found, &wanted.found, sizeof placed.found) == 0 && placed.length == wanted.length);
+    must(memcmp(one, other, sizeof one) == 0);
+    in_order(&placed.parts, placed.length);
+    must((placed.parts.host.present == 1) == (placed.host != 0) && placed.host <= URLCHECK_EMPTY_HOST);
+    urlcheck_base base = urlcheck_prepare(input, half, profile);
+    urlcheck_record with = urlcheck_resolve_record_with(text, half, &base, input, half, other, sizeof other);
+    must(memcmp(&with.found, &placed.found, sizeof with.found) == 0 && with.length == placed.length);
+    must(with.parts.path.start == placed.parts.path.start && with.host == placed.host && memcmp(one, other, sizeof one) == 0);
+    urlcheck_record alone = urlcheck_resolve_record(text, half, profile, one, 0);
+    must(alone.length == urlcheck_resolve(text, half, profile, one, 0).length && memcmp(one, other, sizeof one) == 0);
+}
+
+static void resolved_many(void) {
+    uint64_t offsets[5], ends[5];
+    uint8_t verdicts[4], none = 'x', one[2048];
+    for (int i = 0; i < 5; i++) offsets[i] = number();
+    uint32_t profile = (uint32_t)number() % 3;
+    urlcheck_batch asked = urlcheck_resolve_many(input, left, offsets, 4, profile, verdicts, NULL, NULL, ends, &none, 0);
+    must(none == 'x');
+    if (asked.outcome != URLCHECK_DONE) return;
+    uint8_t *out = malloc(asked.length + 1);
+    must(out != NULL);
+    out[asked.length] = 0xFF;
+    urlcheck_batch made = urlcheck_resolve_many(input, left, offsets, 4, profile, NULL, NULL, NULL, NULL, out, asked.length);
+    must(made.length == asked.length && made.valid == asked.valid && out[asked.length] == 0xFF);
+    for (int i = 0; i < 4; i++) {
+        urlcheck_resolved found =
+            urlcheck_resolve(input + offsets[i], offsets[i + 1] - offsets[i], profile, one, sizeof one);
+        must(found.found.verdict == verdicts[i] && found.length == ends[i + 1] - ends[i] && found.length <= sizeof one);
+        must(memcmp(one, out + ends[i], found.length) == 0);
+    }
+    free(out);
+}
+
 static void names(void) {
     uint32_t first = (uint32_t)number(), second = (uint32_t)number();
     uint8_t out[128];
@@ -164,13 +218,13 @@ static void names(void) {
     must(length < sizeof out && out[length] == 0xFF);
     must(urlcheck_format_name(first, out, sizeof out) <= 10 && urlcheck_unit_name(first, out, sizeof out) <= 11);
     must(urlcheck_example_place(first) < 32);
-    must(!urlcheck_takes_unit(first, second) || (first < 6 && second < 4));
-    must(!urlcheck_shows_mended(first) || first < 6);
+    must(!urlcheck_takes_unit(first, second) || (first < 9 && second < 4));
+    must(!urlcheck_shows_mended(first) || first < 9);
 }
 
 int LLVMFuzzerTestOneInput(const uint8_t *data, size_t size) {
     if (size < 1) return 0;
-    int call = data[0] % 11;
+    int call = data[0] % 13;
     input = data + 1;
     left = size - 1;
     if (call < CALLS) texts(call);
@@ -178,6 +232,8 @@ int LLVMFuzzerTestOneInput(const uint8_t *data, size_t size) {
     else if (call == 7) lines();
     else if (call == 8) column();
     else if (call == 9) held();
+    else if (call == 10) records();
+    else if (call == 11) resolved_many();
     else names();
     return 0;
 }
