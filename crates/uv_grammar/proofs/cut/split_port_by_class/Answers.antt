@@ -1,0 +1,11 @@
+-- The host of an authority of any class but File.
+use Rattle.uv_grammar.specs.Slices.{chars_of, chars_of_option}
+use Rattle.std.specs.Str.{chars}
+use Rattle.uv_grammar.proofs.AuthorityLemmas.{splits_before_port}
+use Rattle.uv_grammar.proofs.cut.split_port_by_class.Goals as goal
+
+pub returns-in-Special : goal.returns-in-Special
+returns-in-Special c =
+    splits_before_port c.args.class (chars c.args.authority.now) (chars_of c.split_port.result.0)
+    (chars_of_option c.split_port.result.1)
+    c.in-Special.is c.split_port.ensures.host c.split_port.ensures.port
