@@ -1,13 +1,12 @@
 -- Lemmas on the violations and the values of hosts.
 use Rattle.std.proofs.Common.{◌≡◌, ◌≢◌, ℕ, List, [], ◌∷◌, Bool, true, false, refl, sym, ap, ◌∙◌, inl, inr, arith}
-use Rattle.std.proofs.Common.{Option, Some, None, eqb-true, subst}
+use Rattle.std.proofs.Common.{Option, Some, None, eqb-true}
 use Rattle.std.proofs.Math.Nat.{le_refl}
 use Rattle.std.specs.Prelude.{◌==◌, ◌↔◌, ◌⊎◌, IsTrue, length, not}
-use Rattle.std.specs.Str.{chars, IsAscii, IsUtf8}
+use Rattle.std.specs.Str.{chars, IsUtf8}
 use Rattle.std.proofs.lemmas.Str.{chars-nil, encodes-chars}
 use Rattle.std.proofs.Math.Utf8.{encodes}
 use Rattle.std.proofs.lemmas.Bool.{cases_Bool, false≢true, ne_eqb}
-use Rattle.uv_model.specs.declared.host.Host.TheVariants.{Domain}
 use Rattle.uv_model.specs.declared.profile.Profile.{Profile}
 use Rattle.uv_model.specs.declared.profile.Profile.TheVariants.{Standard, Wide, Parser}
 use Rattle.uv_model.specs.declared.rule.Rule.{Rule}
@@ -18,11 +17,9 @@ use Rattle.uv_model.specs.declared.scheme.Class.TheVariants.{Special, File, Othe
 use Rattle.uv_host.specs.OpaqueHosts.{IsOpaqueHostOrEmpty}
 use Rattle.uv_model.specs.Hosts.Address.{IsBracketedIpv6}
 use Rattle.uv_model.specs.Violations.Violation.{HostContentViolation, HostViolation, HostTextViolation}
-use Rattle.uv_model.specs.Violations.Violation.{HostPartViolation, LacksHost}
-use Rattle.uv_model.specs.Cut.{Cut, ends_at_host}
-use Rattle.uv_model.specs.Setting.{Setting}
+use Rattle.uv_model.specs.Violations.Violation.{LacksHost}
 use Rattle.uv_model.specs.Hosts.OpaqueHost.{starts_with_bracket}
-use Rattle.uv_model.specs.Hosts.Domain.{HasNoForm, IsDomain, IsNumberText, has_permitted}
+use Rattle.uv_model.specs.Hosts.Domain.{HasNoForm, IsNumberText, has_permitted}
 use Rattle.uv_model.specs.Hosts.Numbers.{IsIpv4Text}
 use Rattle.uv_model.specs.Hosts.StoppedHost.{is_stopped}
 use Rattle.uv_model.specs.Ascii.{percent_sign}
@@ -31,10 +28,7 @@ use Rattle.uv_model.specs.Violations.Refusal.{IsLeast}
 use Rattle.uv_model.specs.Violations.Rule.{rule_number}
 use Rattle.uv_model.specs.Valid.{without_localhost}
 use Rattle.uv_model.proofs.Hosts.FileHosts.{file_host_fits}
-use Rattle.uv_model.proofs.Hosts.DomainLemmas.{IsAscii-form}
-use Rattle.uv_model.proofs.Hosts.ParserForms.{wide_host_not_stopped}
-use Rattle.uv_model.proofs.Texts.AsciiLemmas.{chars-from_IsAscii}
-use Rattle.uv_model.proofs.Violations.FaultlessHosts.{empty_host_faultless, host_not_empty, host_text_faultless}
+use Rattle.uv_model.proofs.Violations.FaultlessHosts.{empty_host_faultless, host_text_faultless}
 use Rattle.uv_model.proofs.Violations.RefusalLemmas.{IsLeast-like}
 use Rattle.uv_grammar.specs.declared.judged.Judged.{Judged}
 use Rattle.uv_grammar.specs.declared.judged.Judged.TheVariants.{Valid, Refused}
@@ -43,14 +37,12 @@ use Rattle.uv_grammar.specs.PartsHost.{FitsPartsHost, IsPartsHostText, IsUnstopp
 use Rattle.uv_grammar.specs.HostValues.{AtStart, FitsHost, FitsSomeHost, NameViolation}
 use Rattle.uv_grammar.specs.Judged.{IsJudged}
 use Rattle.uv_grammar.specs.NoMemory.{HostTakesNoMemory, IsPlainDomain, MakesNoForm}
-use Rattle.uv_grammar.specs.PartValues.{FitsHostPart}
-use Rattle.uv_grammar.specs.Scanned.{IsPlainHost}
 use Rattle.uv_host.specs.Domains.{is_plain_name}
 use Rattle.uv_model.specs.Hosts.Address.{IsIpv4}
 use Rattle.uv_model.specs.Violations.Violation.{ShouldBeDomain}
 use Rattle.uv_model.specs.WrittenProfiles.{IsWritten}
 use Rattle.uv_model.proofs.Violations.UnitViolationLemmas.{nothing_at}
-use Rattle.uv_model.proofs.Violations.ViolationsExcludeParts.{host_there, special_host_faultless}
+use Rattle.uv_model.proofs.Violations.ViolationsExcludeParts.{host_there}
 
 -- ---- the empty host
 
@@ -247,44 +239,6 @@ pub text_answer : (profile : Profile) (class : Class) (last : Bool) (text : List
     (Valid host)
 text_answer profile class last text host free is =
     ((free, is), λ place rule h. host_text_faultless profile class last text (as_host host) free is rule h.0)
-
--- the parser doesn't stop at a domain of the wide profile
-pub domain_not_stopped : (profile : Profile) (class : Class) (last : Bool) (text form : List ℕ)
-    → IsDomain Wide text form → is_stopped profile class last text ≡ false
-domain_not_stopped Standard class last text form is = refl
-domain_not_stopped Wide class last text form is = refl
-domain_not_stopped Parser class last text form is = wide_host_not_stopped class last text (Domain form) is
-
--- a domain has a code point
-pub domain_not_empty : (text form : List ℕ) → IsDomain Wide text form → text ≢ []
-domain_not_empty text form is = host_not_empty Wide text (Domain form) is
-
--- a domain that is its own form is ASCII
-own_text_ascii : (text : List ℕ) → IsDomain Wide text text → IsAscii text
-own_text_ascii text is = IsAscii-form Wide text text is.0
-
--- so its bytes are its code points
-pub own_bytes : (bytes : List ℕ) → IsUtf8 bytes → IsDomain Wide (chars bytes) (chars bytes) → chars bytes ≡ bytes
-own_bytes bytes utf8 is = chars-from_IsAscii bytes utf8 (own_text_ascii (chars bytes) is)
-
-pub own_ascii : (bytes : List ℕ) → IsUtf8 bytes → IsDomain Wide (chars bytes) (chars bytes) → IsAscii bytes
-own_ascii bytes utf8 is = subst IsAscii (own_bytes bytes utf8 is) (own_text_ascii (chars bytes) is)
-
--- the host of a cut that is known to be plain is valid
-pub plain_judged : (setting : Setting) (cut : Cut) (text : List ℕ) (host : PartsHost)
-    → cut.host_text ≡ Some text → IsPlainHost setting.profile setting.class (Some text) → as_host host ≡ Domain text
-    → IsJudged (FitsPartsHost (FitsHostPart setting cut)) (HostPartViolation setting cut) (Valid (Some host))
-plain_judged setting cut text host same plain is_host =
-    let last = ends_at_host cut in
-    let some = domain_not_empty text text plain.2 in
-    let free = domain_not_stopped setting.profile Special last text text plain.2 in
-    let special : setting.class ≡ Special = plain.0 in (
-      rw (is_host, same, special) (inl (some, (free, plain.1))),
-      λ place rule h.
-          let k = rw (same, special) at h in
-          special_host_faultless setting.profile last text cut.port_text cut.path_text some
-          (host_text_faultless setting.profile Special last text (Domain text) free plain.1) k.inner rule k.holds,
-    )
 
 -- the answer of a file URL
 pub file_answer : (profile : Profile) (last : Bool) (text : List ℕ) (host file_host : PartsHost)

@@ -1,6 +1,7 @@
 pub mod AuthorityLemmas
 pub mod BuiltLemmas
 pub mod EndLemmas
+pub mod FileLinkLemmas
 pub mod HostLemmas
 pub mod KindLemmas
 pub mod MarkSplitLemmas
@@ -12,7 +13,7 @@ pub mod PlainLinkLemmas
 pub mod PortLemmas
 pub mod ScanLemmas
 pub mod SpacedPathLemmas
-pub mod ScannedLemmas
+pub mod SpecialLinkLemmas
 pub mod SearchLemmas
 pub mod SchemeEndLemmas
 pub mod SegmentLemmas

@@ -1,168 +1,289 @@
--- A link of plain parts is cut into them, and is valid with them by each profile and against any base.
-use Rattle.std.proofs.Common.{◌≡◌, ◌==◌, ℕ, true, false, List, [], ◌∷◌, ◌++◌, Option, Some, None, refl, sym, ap}
-use Rattle.std.proofs.Common.{◌∙◌, subst, inl, inr, append_assoc}
-use Rattle.std.specs.Char.{is_ascii_digit}
+-- A link of plain parts is valid with them, and a text with a plain start is judged by what stands behind that.
+use Rattle.std.proofs.Common.{◌≡◌, ◌≢◌, ℕ, Bool, true, false, ◌==◌, List, [], ◌∷◌, ◌++◌, Option, Some, None, refl, sym, ap}
+use Rattle.std.proofs.Common.{◌∙◌, ◌<◌, ◌^◌, ◌||◌, length, subst, inl, arith, append_assoc}
 use Rattle.std.specs.List.{list_all}
-use Rattle.std.specs.Str.{chars}
+use Rattle.std.specs.Str.{chars, IsUtf8}
+use Rattle.std.proofs.lemmas.Bool.{false≢true}
+use Rattle.std.proofs.lemmas.Bool.Decides.{nat_tests}
 use Rattle.std.proofs.lemmas.List.Sums.{list_all-from_AllPass}
-use Rattle.std.proofs.lemmas.Option.{none-some}
-use Rattle.std.proofs.lemmas.Str.{chars-IsAscii}
+use Rattle.std.proofs.lemmas.Str.{chars-IsAscii, chars-nil}
 use Rattle.uv_model.specs.declared.host.Host.TheVariants.{Domain}
 use Rattle.uv_model.specs.declared.profile.Profile.{Profile}
-use Rattle.uv_model.specs.declared.profile.Profile.TheVariants.{Wide}
-use Rattle.uv_model.specs.declared.rule.Rule.{Rule}
-use Rattle.uv_model.specs.declared.rule.Rule.TheVariants.{NoScheme, OpaqueBase, TwoSlashes, FirstSegmentEmpty}
-use Rattle.uv_model.specs.declared.rule.Rule.TheVariants.{DriveAfterHost}
+use Rattle.uv_model.specs.declared.profile.Profile.TheVariants.{Standard, Wide, Parser}
+use Rattle.uv_model.specs.declared.rule.Refusal.{Refusal}
 use Rattle.uv_model.specs.declared.scheme.Class.TheVariants.{Special}
-use Rattle.uv_model.specs.Ascii.{colon, number_sign, question_mark, slash}
-use Rattle.uv_model.specs.Cut.{Cut, IsCut, IsHostCut, ends_at_host}
+use Rattle.uv_model.specs.Ascii.{slash, question_mark, number_sign}
+use Rattle.uv_model.specs.Valid.{MayBePortText}
+use Rattle.uv_model.specs.Hosts.StoppedHost.{is_stopped}
+use Rattle.uv_model.specs.Violations.Refusal.{IsLeast}
+use Rattle.uv_model.specs.Violations.Violation.{HostPartViolation, HostViolation, PortPartViolation}
+use Rattle.uv_model.specs.Cut.{IsCut, ends_at_host}
 use Rattle.uv_model.specs.Hosts.Domain.{IsDomain, is_form_code_point}
 use Rattle.uv_model.specs.Parts.{written_behind}
-use Rattle.uv_model.specs.Path.{is_without}
+use Rattle.uv_model.specs.Path.{is_without, starts_with_slash}
 use Rattle.uv_model.specs.Records.Url.{Url}
-use Rattle.uv_model.specs.Scheme.{default_port}
 use Rattle.uv_model.specs.Setting.{Setting, setting_of}
-use Rattle.uv_model.specs.Valid.{MayBePortText}
-use Rattle.uv_model.specs.Violations.Violation.{IsStarted, PathStartViolation}
-use Rattle.uv_model.proofs.Cuts.HostCutLemmas.{IsHostWord, is_without-passes, word_passes}
 use Rattle.uv_model.proofs.Hosts.DomainLemmas.{IsAscii-form}
-use Rattle.uv_model.proofs.Texts.MarkLemmas.{is_without-append, is_without-more}
-use Rattle.uv_model.proofs.Violations.ViolationsExcludeParts.{one_slash_start}
+use Rattle.uv_model.proofs.Cuts.HostCutLemmas.{IsHostWord, word_passes}
+use Rattle.uv_model.proofs.Texts.MarkLemmas.{is_without-cons, is_without-parts}
+use Rattle.uv_model.proofs.Hosts.ParserForms.{wide_host_not_stopped}
+use Rattle.uv_model.proofs.Violations.FaultlessHosts.{host_text_faultless, port_faultless}
 use Rattle.uv_grammar.specs.Built.{built}
-use Rattle.uv_grammar.specs.PartValues.{FitsHostPart, FitsPortPart}
-use Rattle.uv_grammar.specs.PartViolations.{BehindAuthority}
-use Rattle.uv_grammar.specs.PlainLinks.{IsPlainCut, IsPlainLink, IsPortCut}
-use Rattle.uv_grammar.specs.Slices.{chars_of, chars_of_option}
-use Rattle.uv_grammar.specs.Verdict.{IsAccepted, IsValidity}
+use Rattle.uv_grammar.specs.PartViolations.{BehindAuthority, IsCountable}
+use Rattle.uv_grammar.specs.PartValues.{FitsHostPart}
 use Rattle.uv_grammar.specs.declared.plain_links.PlainCut.{PlainCut}
-use Rattle.uv_grammar.proofs.HostLemmas.{domain_not_empty, domain_not_stopped}
-use Rattle.uv_grammar.proofs.ScannedLemmas.{texts, texts_are_cut, units_marks, units_silent}
-use Rattle.uv_grammar.proofs.VerdictLemmas.{accepted}
+use Rattle.uv_grammar.specs.PlainLinks.{IsPlainCut, IsPlainLink, IsStartCut}
+use Rattle.uv_grammar.specs.PlainLinks.{begins_behind}
+use Rattle.uv_grammar.specs.Slices.{chars_of, chars_of_option}
+use Rattle.uv_grammar.proofs.SpecialLinkLemmas.{IsBehindCut, IsSpecialLink, link_cut, link_judged, link_port}
+use Rattle.uv_grammar.proofs.SpecialLinkLemmas.{parts_are_cut, special_class, special_started, word_cut}
+use Rattle.uv_grammar.specs.Verdict.{IsAccepted, IsRefused, IsValidity}
+use Rattle.uv_grammar.proofs.VerdictLemmas.{accepted, countable, refused_behind}
+use Rattle.uv_text.proofs.SplitsLemmas.{chars-ascii_first}
+use Rattle.uv_model.proofs.Violations.ViolationsExcludeParts.{special_host_faultless}
 
--- the text of a domain that is its own form
+-- the name of a domain that is its own form
+form_each : (name form : List ℕ) → IsDomain Wide name form → list_all (is_form_code_point Wide) form ≡ true
+form_each name form is = list_all-from_AllPass (is_form_code_point Wide) form is.0.letters
+
+-- the text of a domain
 name_word : (name form : List ℕ) → name ≡ form → IsDomain Wide name form → IsHostWord name
 name_word name form own is =
     word_passes (is_form_code_point Wide) refl refl refl refl refl name
-    (ap (list_all (is_form_code_point Wide)) own ∙ list_all-from_AllPass (is_form_code_point Wide) form is.0.letters)
+    (ap (list_all (is_form_code_point Wide)) own ∙ form_each name form is)
 
 own_form : (name form : List ℕ) → IsDomain Wide name form → chars form ≡ name → name ≡ form
 own_form name form is same = sym same ∙ chars-IsAscii form (IsAscii-form Wide name form is.0)
 
--- a port lacks a mark that is neither `:` nor a digit
-port_lacks : (mark : ℕ) (port_text : Option (List ℕ)) → (colon == mark) ≡ false → is_ascii_digit mark ≡ false
-    → MayBePortText port_text → is_without mark (written_behind colon port_text) ≡ true
-port_lacks mark None other fails valid = refl
-port_lacks mark (Some text) other fails valid =
-    is_without-more mark colon text other (is_without-passes is_ascii_digit mark text fails valid.digits)
+-- a plain link is a link of a special scheme
+plain_link : (profile : Profile) (base : Option Url) (text : List ℕ) (scheme : Option (List ℕ)) (name form : List ℕ)
+    (port_text : Option (List ℕ)) (port : Option ℕ) (path : List ℕ) (query fragment : Option (List ℕ)) → name ≡ form
+    → IsPlainLink profile base text scheme name form port_text port path query fragment
+    → IsSpecialLink base text scheme name port_text port path query fragment
+plain_link profile base text scheme name form port_text port path query fragment own l = record {
+  behind = l.behind;
+  rest = l.rest;
+  after = l.after;
+  special = l.special;
+  host_cut = word_cut l.behind name l.rest l.named.joined (name_word name form own l.named.wide);
+  port_cut = l.port_cut;
+  units = l.units;
+}
 
-module _ (text scheme name form : List ℕ) (port_text : Option (List ℕ)) (port : Option ℕ) (path : List ℕ)
-    (query fragment : Option (List ℕ)) (same : chars form ≡ name)
-    (l : IsPlainLink text scheme name form port_text port path query fragment) where
-  -- the cut of the link
-  abbrev cut : Cut
-  cut = texts (Some scheme) (Some name) port_text path query fragment
+-- a domain has a code point
+some_name : (name form : List ℕ) → name ≡ form → IsDomain Wide name form → name ≢ []
+some_name name form own is none =
+    let lengths = is.0.lengths in
+    false≢true (rw (sym own ∙ none) at lengths)
 
-  own : name ≡ form
-  own = own_form name form (l.named.domain Wide) same
+-- the parser doesn't stop at it
+plain_not_stopped : (profile : Profile) (last : Bool) (name form : List ℕ) → IsDomain Wide name form
+    → is_stopped profile Special last name ≡ false
+plain_not_stopped Standard last name form is = refl
+plain_not_stopped Wide last name form is = refl
+plain_not_stopped Parser last name form is = wide_host_not_stopped Special last name (Domain form) is
 
-  word : IsHostWord name
-  word = name_word name form own (l.named.domain Wide)
+plain_host : (setting : Setting) (scheme : Option (List ℕ)) (name form : List ℕ) (port_text : Option (List ℕ)) (path : List ℕ)
+    (query fragment : Option (List ℕ)) → name ≡ form
+    → setting.class ≡ Special → IsDomain Wide name form → IsDomain setting.profile name form
+    → FitsHostPart setting (link_cut scheme name port_text path query fragment) (Some (Domain form))
+plain_host setting scheme name form port_text path query fragment own special wide is =
+    let last = ends_at_host (link_cut scheme name port_text path query fragment) in
+    rw special
+    (inl (
+      some_name name form own wide,
+      (
+        plain_not_stopped setting.profile last name form wide,
+        is,
+      ),
+    ))
 
-  -- its authority lacks a mark that neither a name nor a port has
-  authority_lacks : (mark : ℕ) → (slash == mark) ≡ false → (colon == mark) ≡ false → is_ascii_digit mark ≡ false
-      → is_without mark name ≡ true
-      → is_without mark (slash ∷ slash ∷ (name ++ written_behind colon port_text)) ≡ true
-  authority_lacks mark s c d lacks =
-      let written = name ++ written_behind colon port_text in
-      is_without-more mark slash (slash ∷ written) s
-      (is_without-more mark slash written s
-      (is_without-append mark name (written_behind colon port_text) lacks (port_lacks mark port_text c d l.port_cut.valid)))
-
-  -- a plain link is cut into its texts
-  pub plain_is_cut : (base : Option Url) → IsCut base text cut
-  plain_is_cut base =
-      texts_are_cut base text (slash ∷ slash ∷ l.behind) l.after path (Some scheme) (Some name) port_text query fragment
-      (record {
-        joined = l.special.joined ∙ sym (append_assoc scheme (colon ∷ []) (slash ∷ slash ∷ l.behind));
-        scheme = l.special.named;
-      })
-      (ap (λ s. slash ∷ slash ∷ s)
-      (l.named.joined ∙ ap (λ s. name ++ s) l.port_cut.joined
-      ∙ sym (append_assoc name (written_behind colon port_text) l.after)))
-      (authority_lacks question_mark refl refl refl word.no_question_mark)
-      (authority_lacks number_sign refl refl refl word.no_number_sign)
-      (units_marks l.after path l.units.tail l.units.end query fragment l.units.path_cut.joined l.units.path_cut.units
-      l.units.query_cut l.units.fragment_cut) (
-        is_without-append slash name (written_behind colon port_text) word.no_slash
-            (port_lacks slash port_text refl refl l.port_cut.valid),
-        l.units.path_cut.slashed,
-        subst (λ k. IsHostCut k name port_text) (sym l.special.special) (word.ends port_text),
-      )
-
-  -- no rule of the start is violated
-  started : (setting : Setting) → IsStarted setting text cut
-  started setting place NoScheme h = none-some scheme (sym h.0)
-  started setting place OpaqueBase h = none-some scheme (sym h.0)
-  started setting place TwoSlashes h = none-some name (sym h.0.2)
-  started setting place _ h = absurd h
-
-  host : (setting : Setting) → setting.class ≡ Special → FitsHostPart setting cut (Some (Domain form))
-  host setting special =
-      rw special
-      (inl (
-        domain_not_empty name form (l.named.domain Wide),
-        (
-          domain_not_stopped setting.profile Special (ends_at_host cut) name form (l.named.domain Wide),
-          l.named.domain setting.profile,
-        ),
-      ))
-
-  fits_port : (setting : Setting) → setting.default_port ≡ default_port scheme → FitsPortPart setting cut port
-  fits_port setting same = of_text port_text (subst (λ d. IsPortCut d l.rest port_text port l.after) (sym same) l.port_cut)
-    where
-      of_text : (port_text : Option (List ℕ)) → IsPortCut setting.default_port l.rest port_text port l.after
-          → FitsPortPart setting (texts (Some scheme) (Some name) port_text path query fragment) port
-      of_text None is = is.given
-      of_text (Some digits) is = (is.valid, is.given)
-
-  start_silent : (setting : Setting) (place : ℕ) (rule : Rule) → setting.class ≡ Special
-      → PathStartViolation setting cut place rule → ⊥
-  start_silent setting place FirstSegmentEmpty special h = one_slash_start setting.profile path l.units.path_cut.single h.0
-  start_silent setting place DriveAfterHost special h = cc (special, h.0)
-  start_silent setting place _ special h = absurd h
-
-  silent : (setting : Setting) (place : ℕ) (rule : Rule) → setting.class ≡ Special
-      → BehindAuthority setting cut place rule → ⊥
-  silent setting place rule special (inl h) = start_silent setting h.inner rule special h.holds
-  silent setting place rule special (inr h) =
-      units_silent setting cut
-      (record {
-        of_path = l.units.path_cut.units.units;
-        of_query = l.units.query_cut.units;
-        of_fragment = l.units.fragment_cut.units;
-      }) place rule h
-
-  -- it is valid with its parts
-  pub plain_accepted : (profile : Profile) (base : Option Url)
-      → IsAccepted profile base text (built cut (Some (Domain form)) port)
-  plain_accepted profile base =
-      let setting = setting_of profile base (Some scheme) in
-      accepted profile base text cut setting (plain_is_cut base) refl (started setting)
-      (built cut (Some (Domain form)) port)
-      (record {
-        host = Some (Domain form);
-        port = port;
-        built = refl;
-        fits_host = host setting l.special.special;
-        fits_port = fits_port setting refl;
-        silent = λ place rule h. silent setting place rule l.special.special h;
-      })
+-- a plain link is valid with its parts
+pub plain_accepted : (profile : Profile) (base : Option Url) (text : List ℕ) (scheme : Option (List ℕ))
+    (name form : List ℕ) (port_text : Option (List ℕ)) (port : Option ℕ) (path : List ℕ)
+    (query fragment : Option (List ℕ))
+    → chars form ≡ name → IsPlainLink profile base text scheme name form port_text port path query fragment
+    → IsAccepted profile base text (built (link_cut scheme name port_text path query fragment) (Some
+    (Domain form)) port)
+plain_accepted profile base text scheme name form port_text port path query fragment same l =
+    let own = own_form name form l.named.wide same in
+    let cut = link_cut scheme name port_text path query fragment in
+    let setting = setting_of profile base scheme in
+    let judged = link_judged profile base text scheme name port_text port path query fragment
+    (plain_link profile base text scheme name form port_text port path query fragment own l) in
+    accepted profile base text cut setting judged.is_cut refl judged.started
+    (built cut (Some (Domain form)) port)
+    (record {
+      host = Some (Domain form);
+      port = port;
+      built = refl;
+      fits_host =
+          plain_host setting scheme name form port_text path query fragment own
+          (special_class base text scheme l.behind l.special) l.named.wide l.named.domain;
+      fits_port = judged.fits_port;
+      silent = judged.silent;
+    })
 
 -- so it is valid
-pub plain_valid : (profile : Profile) (base : Option Url) (text : List ℕ) (cut : PlainCut) → IsPlainCut text cut
-    → IsValidity profile base text true
+pub plain_valid : (profile : Profile) (base : Option Url) (text : List ℕ) (cut : PlainCut)
+    → IsPlainCut profile base text cut → IsValidity profile base text true
 plain_valid profile base text cut plain = (
   _,
-  (plain_accepted text (chars_of cut.scheme) (chars_of cut.name) cut.name.now (chars_of_option cut.port_text) cut.port
-      (chars_of cut.path_text) (chars_of_option cut.query) (chars_of_option cut.fragment) refl plain profile base).valid,
+  (plain_accepted profile base text (chars_of_option cut.scheme) (chars_of cut.name) cut.name.now
+      (chars_of_option cut.port_text) cut.port (chars_of cut.path_text) (chars_of_option cut.query)
+      (chars_of_option cut.fragment) refl plain).valid,
 )
+
+-- ---- a plain start before other parts
+
+-- bytes that begin a path, a query or a fragment are a text that does
+pub begins_chars : (bytes : List ℕ) → begins_behind bytes ≡ true → begins_behind (chars bytes) ≡ true
+begins_chars [] begins = ap begins_behind chars-nil
+begins_chars (c ∷ rest) begins =
+    let small : c < 128 = grind (arith, nat_tests) in
+    ap begins_behind (chars-ascii_first c rest small) ∙ begins
+
+-- a path that isn't empty begins with `/`, where the text that it begins does with `/`, `?` or `#`
+begins_slashed : (after path more : List ℕ) → begins_behind after ≡ true → after ≡ path ++ more
+    → is_without number_sign path ≡ true → is_without question_mark path ≡ true
+    → path ≢ [] → starts_with_slash path ≡ true
+begins_slashed after [] more begins same no_number_sign no_question_mark some = absurd (some refl)
+begins_slashed after (c ∷ rest) more begins same no_number_sign no_question_mark some =
+    let first = ap begins_behind (sym same) ∙ begins in
+    let hash = (is_without-cons number_sign c rest no_number_sign).0 in
+    let mark = (is_without-cons question_mark c rest no_question_mark).0 in
+    slash_left (c == slash) (rw (hash, mark) at first)
+  where
+    slash_left : (b : Bool) → (b || (false || false)) ≡ true → b ≡ true
+    slash_left true h = refl
+    slash_left false h = h
+
+-- the texts behind a plain start are cut at their marks
+pub behind_cut : (after prefix path : List ℕ) (query fragment : Option (List ℕ)) → begins_behind after ≡ true
+    → after ≡ prefix ++ written_behind number_sign fragment → is_without number_sign prefix ≡ true
+    → prefix ≡ path ++ written_behind question_mark query → is_without question_mark path ≡ true
+    → IsBehindCut after path query fragment
+behind_cut after prefix path query fragment begins joined no_number_sign split no_question_mark =
+    let asked = written_behind question_mark query in
+    let behind = written_behind number_sign fragment in
+    let whole : after ≡ path ++ (asked ++ behind) =
+    joined ∙ ap (λ (s : List ℕ). s ++ behind) split ∙ append_assoc path asked behind in
+    let parts = is_without-parts number_sign path asked
+    (subst (λ (s : List ℕ). is_without number_sign s ≡ true) split no_number_sign) in
+    record {
+      joined = whole;
+      no_question_mark = no_question_mark;
+      no_number_sign = parts.0;
+      none_in_query = parts.1;
+      slashed = begins_slashed after path (asked ++ behind) begins whole parts.0 no_question_mark;
+    }
+
+start_is_cut : (profile : Profile) (base : Option Url) (text : List ℕ) (scheme : Option (List ℕ))
+    (name form : List ℕ) (port_text : Option (List ℕ)) (port : Option ℕ)
+    (after path : List ℕ) (query fragment : Option (List ℕ)) → name ≡ form
+    → IsStartCut profile base text scheme name form port_text port after → IsBehindCut after path query fragment
+    → IsCut base text (link_cut scheme name port_text path query fragment)
+start_is_cut profile base text scheme name form port_text port after path query fragment own l b =
+    parts_are_cut base text scheme l.behind name l.rest port_text port after path query fragment l.special
+    (word_cut l.behind name l.rest l.named.joined (name_word name form own l.named.wide)) l.port_cut b
+
+-- its host is valid
+start_host : (setting : Setting) (scheme : Option (List ℕ)) (name form : List ℕ) (port_text : Option (List ℕ)) (path : List ℕ)
+    (query fragment : Option (List ℕ)) → name ≡ form → setting.class ≡ Special
+    → IsDomain Wide name form → IsDomain setting.profile name form
+    → IsLeast (HostPartViolation setting (link_cut scheme name port_text path query fragment)) None
+start_host setting scheme name form port_text path query fragment own special wide is place rule h =
+    let last = ends_at_host (link_cut scheme name port_text path query fragment) in
+    special_host_faultless setting.profile last name port_text path (some_name name form own wide)
+    (host_text_faultless setting.profile Special last name (Domain form)
+    (plain_not_stopped setting.profile last name form wide) is) h.inner rule
+    (subst (λ k. HostViolation setting.profile k last name port_text path h.inner rule) special h.holds)
+
+-- and so is its port
+start_port : (scheme : Option (List ℕ)) (name : List ℕ) (port_text : Option (List ℕ)) (path : List ℕ) (query fragment : Option (List ℕ))
+    → MayBePortText port_text → IsLeast (PortPartViolation (link_cut scheme name port_text path query fragment)) None
+start_port scheme name None path query fragment valid place rule h = h
+start_port scheme name (Some port_text) path query fragment valid place rule h =
+    port_faultless port_text valid h.inner rule h.holds
+
+-- a text with a plain start is refused by the least violation of what stands behind it
+pub start_refused : (profile : Profile) (base : Option Url) (text : List ℕ) (scheme : Option (List ℕ)) (name form : List ℕ)
+    (port_text : Option (List ℕ)) (port : Option ℕ) (after path : List ℕ) (query fragment : Option (List ℕ))
+    (refusal : Refusal) → chars form ≡ name → IsStartCut profile base text scheme name form port_text port after
+    → IsBehindCut after path query fragment
+    → IsLeast (BehindAuthority (setting_of profile base scheme)
+    (link_cut scheme name port_text path query fragment)) (Some refusal)
+    → IsRefused profile base text refusal
+start_refused profile base text scheme name form port_text port after path query fragment refusal same l b least =
+    let own = own_form name form l.named.wide same in
+    let setting = setting_of profile base scheme in
+    refused_behind profile base text (link_cut scheme name port_text path query fragment) setting refusal
+    (start_is_cut profile base text scheme name form port_text port after path query fragment own l b) refl
+    (special_started profile base text scheme l.behind name port_text path query fragment l.special)
+    (start_host setting scheme name form port_text path query fragment own
+    (special_class base text scheme l.behind l.special) l.named.wide l.named.domain)
+    (start_port scheme name port_text path query fragment l.port_cut.valid) least
+
+-- and is valid where there is none
+pub start_accepted : (profile : Profile) (base : Option Url) (text : List ℕ) (scheme : Option (List ℕ)) (name form : List ℕ)
+    (port_text : Option (List ℕ)) (port : Option ℕ) (after path : List ℕ) (query fragment : Option (List ℕ))
+    → chars form ≡ name → IsStartCut profile base text scheme name form port_text port after
+    → IsBehindCut after path query fragment
+    → IsLeast (BehindAuthority (setting_of profile base scheme)
+    (link_cut scheme name port_text path query fragment)) None
+    → IsAccepted profile base text (built (link_cut scheme name port_text path query fragment) (Some
+    (Domain form)) port)
+start_accepted profile base text scheme name form port_text port after path query fragment same l b silent =
+    let own = own_form name form l.named.wide same in
+    let cut = link_cut scheme name port_text path query fragment in
+    let setting = setting_of profile base scheme in
+    accepted profile base text cut setting
+    (start_is_cut profile base text scheme name form port_text port after path query fragment own l b) refl
+    (special_started profile base text scheme l.behind name port_text path query fragment l.special) (built cut (Some (Domain form)) port)
+    (record {
+      host = Some (Domain form);
+      port = port;
+      built = refl;
+      fits_host =
+          plain_host setting scheme name form port_text path query fragment own
+          (special_class base text scheme l.behind l.special) l.named.wide l.named.domain;
+      fits_port = link_port setting scheme name port_text port path query fragment l.rest after l.port_cut;
+      silent = silent;
+    })
+
+-- such a text is countable
+pub start_countable : (profile : Profile) (base : Option Url) (bytes : List ℕ) (scheme : Option (List ℕ))
+    (name form : List ℕ) (port_text : Option (List ℕ)) (port : Option ℕ)
+    (after path : List ℕ) (query fragment : Option (List ℕ)) → IsUtf8 bytes → length bytes < 2 ^ 64
+    → chars form ≡ name → IsStartCut profile base (chars bytes) scheme name form port_text port after
+    → IsBehindCut after path query fragment → IsCountable (link_cut scheme name port_text path query fragment)
+start_countable profile base bytes scheme name form port_text port after path query fragment utf8 small same l b =
+    countable bytes (link_cut scheme name port_text path query fragment) utf8 small
+    (start_is_cut profile base (chars bytes) scheme name form port_text port after path query fragment
+    (own_form name form l.named.wide same) l b).whole
+
+-- such a text is cut into its start and what follows
+pub start_cut : (profile : Profile) (base : Option Url) (text : List ℕ) (scheme : Option (List ℕ))
+    (name form : List ℕ) (port_text : Option (List ℕ)) (port : Option ℕ) (after path : List ℕ)
+    (query fragment : Option (List ℕ)) → chars form ≡ name
+    → IsStartCut profile base text scheme name form port_text port after → IsBehindCut after path query fragment
+    → IsCut base text (link_cut scheme name port_text path query fragment)
+start_cut profile base text scheme name form port_text port after path query fragment same l b =
+    start_is_cut profile base text scheme name form port_text port after path query fragment
+    (own_form name form l.named.wide same) l b
+
+-- a plain link is cut into its texts
+pub plain_is_cut : (profile : Profile) (base : Option Url) (text : List ℕ) (cut : PlainCut)
+    → IsPlainCut profile base text cut → IsCut base text (link_cut (chars_of_option cut.scheme) (chars_of cut.name)
+    (chars_of_option cut.port_text) (chars_of cut.path_text) (chars_of_option cut.query) (chars_of_option cut.fragment))
+plain_is_cut profile base text cut l =
+    let scheme = chars_of_option cut.scheme in
+    let name = chars_of cut.name in
+    let form = cut.name.now in
+    let port_text = chars_of_option cut.port_text in
+    let path = chars_of cut.path_text in
+    let query = chars_of_option cut.query in
+    let fragment = chars_of_option cut.fragment in
+    let own = own_form name form l.named.wide refl in
+    (link_judged profile base text scheme name port_text cut.port path query fragment
+    (plain_link profile base text scheme name form port_text cut.port path query fragment own l)).is_cut

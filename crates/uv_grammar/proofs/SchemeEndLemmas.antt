@@ -114,14 +114,6 @@ scheme_found text end run found =
     subst (λ (s : List ℕ). IsSchemeEnd s (Some end)) (sym split.joined)
     (subst (λ (n : ℕ). IsSchemeEnd (split.scheme ++ colon ∷ split.rest) (Some n)) (sym same) whole)
 
--- a scheme that is known by its name
-pub known_scheme : (bytes name behind : List ℕ) → bytes ≡ name ++ colon ∷ behind → is_scheme name ≡ true
-    → IsSchemeEnd bytes (Some (length name))
-known_scheme bytes name behind same is =
-    let inside : length name < length (name ++ colon ∷ behind) = simp (length-append) (omega arith) in
-    subst (λ (s : List ℕ). IsSchemeEnd s (Some (length name))) (sym same)
-    (inside, byte_behind name behind colon, ap is_scheme (take-append_seam name (colon ∷ behind)) ∙ is)
-
 -- without these there is no scheme
 pub no_scheme_found : (text : List ℕ) (end : ℕ) → end ≡ prefix_len is_scheme_code_point text
     → (starts_in is_ascii_alphabetic text && starts_in (λ c. c == colon) (drop end text)) ≡ false

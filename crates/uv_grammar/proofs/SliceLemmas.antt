@@ -1,19 +1,19 @@
 -- Lemmas on the code points of the two sides of an ASCII mark.
 use Rattle.std.proofs.Common.{◌≡◌, ℕ, ◌+◌, ◌<◌, List, [], ◌∷◌, ◌++◌, true, false, length, take, drop, refl, sym, ap}
-use Rattle.std.proofs.Common.{◌∙◌, subst, arith, get_or, inl, inr, Some, lit<, ◌≢◌, ne_eqb, add-one, suc}
+use Rattle.std.proofs.Common.{◌∙◌, subst, arith, get_or, inl, inr, Some, lit<, ◌≢◌, ne_eqb, append-nil, add-one, suc}
 use Rattle.std.specs.Prelude.{◌==◌, Option, None, MatchOption, slice_range}
 use Rattle.std.specs.Str.{chars, IsCharBoundary, IsUtf8}
 use Rattle.std.proofs.lemmas.Bool.{cases_lt}
-use Rattle.std.proofs.lemmas.Str.{chars-append, encode_ascii, encodes-chars, IsUtf8-take, IsUtf8-drop}
+use Rattle.std.proofs.lemmas.Str.{chars-nil, chars-append, encode_ascii, encodes-chars, IsUtf8-take, IsUtf8-drop}
 use Rattle.std.proofs.lemmas.Str.{IsCharBoundary-before_ascii, IsCharBoundary-after_ascii}
 use Rattle.std.specs.Borrow.{Bor}
 use Rattle.std.proofs.lemmas.List.{length-append, take-append-drop}
 use Rattle.std.proofs.Math.Utf8.{encode, encodes}
-use Rattle.std.proofs.Math.Seq.{drop-cons, take-append_seam, drop-append-add}
+use Rattle.std.proofs.Math.Seq.{drop-cons, take-append_seam, drop-append-add, drop-length}
 use Rattle.uv_model.specs.Ascii.{slash}
 use Rattle.uv_model.specs.Path.{is_without, starts_with_slash}
 use Rattle.uv_model.proofs.Texts.MarkLemmas.{is_without-cons, is_without-more, is_without-parts}
-use Rattle.uv_grammar.specs.TextSplits.{IsFirstMark}
+use Rattle.uv_grammar.specs.TextSplits.{IsFirstMark, SplitsAtSlash}
 use Rattle.uv_grammar.proofs.TestLemmas.{starts_with_slash-chars}
 use Rattle.uv_text.proofs.SplitsLemmas.{chars-ascii_first, prefix_slice}
 
@@ -104,6 +104,33 @@ no_slash_first bytes utf8 none = starts_with_slash-chars bytes utf8 ∙ first by
     first : (text : List ℕ) → ((rest : List ℕ) → text ≢ slash ∷ rest) → starts_with_slash text ≡ false
     first [] none = refl
     first (c ∷ rest) none = ne_eqb c slash (λ e. none rest (ap (λ k. k ∷ rest) e))
+
+-- the two sides of the first `/`
+pub splits_at_slash : (bytes prefix behind : List ℕ) (end : ℕ) → IsUtf8 bytes → IsFirstMark slash bytes (Some end)
+    → prefix ≡ slice_range bytes 0 end → behind ≡ drop end bytes
+    → SplitsAtSlash (chars bytes) (chars prefix) (chars behind)
+splits_at_slash bytes prefix behind end utf8 found is_prefix is_behind =
+    let before : IsUtf8 (take end bytes)
+    = IsUtf8-take bytes end utf8 (IsCharBoundary-before_ascii bytes end found.0 (rw found.1 (lit< tt))) in
+    let first : chars (drop end bytes) ≡ slash ∷ chars (drop (end + 1) bytes)
+    = ap chars (drop_at bytes end slash found.0 found.1)
+    ∙ chars-ascii_first slash (drop (end + 1) bytes) (lit< tt) in
+    rw (is_prefix, is_behind, prefix_slice) (record {
+      joined = ap chars (sym (take-append-drop end bytes)) ∙ chars-append (take end bytes) (drop end bytes) before;
+      no_slash = is_without-chars slash (take end bytes) (lit< tt) before found.2;
+      path = λ some. subst (λ (s : List ℕ). starts_with_slash s ≡ true) (sym first) refl;
+    })
+
+-- a text without `/` is a prefix alone
+pub splits_at_end : (bytes rest : List ℕ) → IsUtf8 bytes → IsFirstMark slash bytes None
+    → rest ≡ drop (length bytes) bytes → SplitsAtSlash (chars bytes) (chars bytes) (chars rest)
+splits_at_end bytes rest utf8 none empty =
+    let nothing : chars rest ≡ [] = ap chars (empty ∙ drop-length bytes) ∙ chars-nil in
+    record {
+      joined = sym (ap (λ s. chars bytes ++ s) nothing ∙ append-nil (chars bytes));
+      no_slash = is_without-chars slash bytes (lit< tt) utf8 none;
+      path = λ some. absurd (some nothing);
+    }
 
 -- what follows a `/` at the text's start
 pub behind_first_slash : (bytes : List ℕ) (rest : Option (Bor (List ℕ))) → IsUtf8 bytes

@@ -12,8 +12,8 @@ pub mod PartViolations
 pub mod PartValues
 pub mod PlainLinks
 pub mod SpacedPaths
+pub mod SpecialLinks
 pub mod Scan
-pub mod Scanned
 pub mod Slices
 pub mod TextSplits
 pub mod StartRules

@@ -16,10 +16,6 @@ abbrev pub as_host : PartsHost → Host
 as_host (Made value) = value
 as_host (Plain name) = host.Domain name
 
--- the host stands for a domain of this form
-abbrev pub IsOwnDomain : List ℕ → PartsHost → Type 0
-IsOwnDomain form value = as_host value ≡ host.Domain form
-
 -- the host that a lent host stands for
 abbrev pub referred : HostRef → Host
 referred (lent.Domain form) = host.Domain form

@@ -1,20 +1,25 @@
 -- The cuts of the links that people write, after the URL Standard, sections 3.4 and 4.3.
-use Rattle.std.specs.Prelude.{◌≡◌, ◌≢◌, ℕ, ◌≤◌, Bool, true, false, List, [], ◌∷◌, ◌++◌, length, take, drop}
+use Rattle.std.specs.Prelude.{◌≡◌, ◌≢◌, ℕ, ◌≤◌, Bool, true, false, ◌||◌, ◌==◌, List, [], ◌∷◌, ◌++◌, length, take, drop}
 use Rattle.std.specs.Prelude.{Option, Some, None}
+use Rattle.std.specs.Borrow.{Bor}
 use Rattle.std.specs.Char.{is_ascii}
 use Rattle.std.specs.List.{list_all}
 use Rattle.std.specs.Str.{chars}
 use Rattle.uv_model.specs.declared.profile.Profile.{Profile}
+use Rattle.uv_model.specs.declared.profile.Profile.TheVariants.{Wide}
 use Rattle.uv_model.specs.declared.scheme.Class.TheVariants.{Special}
 use Rattle.uv_model.specs.Ascii.{colon, number_sign, question_mark, slash}
 use Rattle.uv_model.specs.Cut.{starts_with_two_slashes}
 use Rattle.uv_model.specs.Hosts.Domain.{IsDomain}
 use Rattle.uv_model.specs.Parts.{written_behind}
 use Rattle.uv_model.specs.Path.{is_without, starts_with_slash}
+use Rattle.uv_model.specs.Records.Url.{Url, is_opaque}
 use Rattle.uv_model.specs.Scheme.{default_port, is_scheme, scheme_class}
+use Rattle.uv_model.specs.Setting.{scheme_or}
 use Rattle.uv_model.specs.Units.{is_faultless}
 use Rattle.uv_model.specs.Valid.{MayBePortText, port_given}
 use Rattle.uv_grammar.specs.declared.plain_links.PlainCut.{PlainCut}
+use Rattle.uv_grammar.specs.declared.plain_links.PlainStart.{PlainStart}
 use Rattle.uv_grammar.specs.Slices.{chars_of, chars_of_option}
 
 -- the prefix of so many bytes is ASCII
@@ -42,10 +47,33 @@ pub record IsSpecialCut (text scheme rest : List ℕ) : Type 0 where
   pub named : is_scheme scheme ≡ true
   pub special : scheme_class scheme ≡ Special
 
--- the text is a domain of this form by each profile, and a rest
-pub record IsNameCut (text name form rest : List ℕ) : Type 0 where
+-- the text is `//` and a rest, and the base has a special scheme and no opaque path
+pub record IsReferenceCut (base : Url) (text rest : List ℕ) : Type 0 where
+  pub joined : text ≡ slash ∷ slash ∷ rest
+  pub special : scheme_class base.scheme ≡ Special
+  pub segments : is_opaque base.path ≡ false
+
+-- the same where there is a base
+abbrev pub IsReferenceStart : Option Url → List ℕ → List ℕ → Type 0
+IsReferenceStart None text rest = ⊥
+IsReferenceStart (Some base) text rest = IsReferenceCut base text rest
+
+-- what stands before the host of a special URL: its scheme and `://`, or `//` against a base
+abbrev pub IsSpecialStart : Option Url → List ℕ → Option (List ℕ) → List ℕ → Type 0
+IsSpecialStart base text (Some scheme) rest = IsSpecialCut text scheme rest
+IsSpecialStart base text None rest = IsReferenceStart base text rest
+
+-- the base has this scheme, which is special, and no opaque path
+abbrev pub IsSpecialBase : Option Url → List ℕ → Type 0
+IsSpecialBase None scheme = ⊥
+IsSpecialBase (Some base) scheme =
+    (base.scheme ≡ scheme) × (scheme_class scheme ≡ Special) × (is_opaque base.path ≡ false)
+
+-- the text is by the profile a domain of this form, which it is by the wide profile too, and a rest
+pub record IsNameCut (profile : Profile) (text name form rest : List ℕ) : Type 0 where
   pub joined : text ≡ name ++ rest
-  pub domain : (profile : Profile) → IsDomain profile name form
+  pub wide : IsDomain Wide name form
+  pub domain : IsDomain profile name form
 
 -- the text is `:` and a valid port, or none, with the number that it gives beside a default port, and a rest
 pub record IsPortCut (default : Option ℕ) (text : List ℕ) (port_text : Option (List ℕ)) (port : Option ℕ)
@@ -77,6 +105,21 @@ pub record IsPartCut (mark : ℕ) (text : List ℕ) (part : Option (List ℕ)) (
   pub joined : text ≡ written_behind mark part ++ rest
   pub units : MayBeUnits part
 
+-- the texts of a special scheme or of none against a special base, a domain of the profile and a port, and what follows
+-- them
+pub record IsStartCut (profile : Profile) (base : Option Url) (text : List ℕ) (scheme : Option (List ℕ))
+    (name form : List ℕ) (port_text : Option (List ℕ)) (port : Option ℕ) (after : List ℕ) : Type 0 where
+  pub behind : List ℕ
+  pub rest : List ℕ
+  pub special : IsSpecialStart base text scheme behind
+  pub named : IsNameCut profile behind name form rest
+  pub port_cut : IsPortCut (default_port (scheme_or base scheme)) rest port_text port after
+
+-- the text begins a path behind an authority, a query or a fragment, or is empty
+abbrev pub begins_behind : List ℕ → Bool
+begins_behind [] = true
+begins_behind (c ∷ rest) = (c == slash) || ((c == question_mark) || (c == number_sign))
+
 -- the text is a path of units, `?` and a query of units or none, and `#` and a fragment of units or none
 pub record AreUnitsBehind (text path : List ℕ) (query fragment : Option (List ℕ)) : Type 0 where
   pub tail : List ℕ
@@ -85,19 +128,35 @@ pub record AreUnitsBehind (text path : List ℕ) (query fragment : Option (List 
   pub query_cut : IsPartCut question_mark tail query end
   pub fragment_cut : IsPartCut number_sign end fragment []
 
--- the texts of a plain link
-pub record IsPlainLink (text scheme name form : List ℕ) (port_text : Option (List ℕ)) (port : Option ℕ) (path : List ℕ)
+-- the texts of a plain link by the profile
+pub record IsPlainLink (profile : Profile) (base : Option Url) (text : List ℕ) (scheme : Option (List ℕ))
+    (name form : List ℕ) (port_text : Option (List ℕ)) (port : Option ℕ) (path : List ℕ)
     (query fragment : Option (List ℕ)) : Type 0 where
   pub behind : List ℕ
   pub rest : List ℕ
   pub after : List ℕ
-  pub special : IsSpecialCut text scheme behind
-  pub named : IsNameCut behind name form rest
-  pub port_cut : IsPortCut (default_port scheme) rest port_text port after
+  pub special : IsSpecialStart base text scheme behind
+  pub named : IsNameCut profile behind name form rest
+  pub port_cut : IsPortCut (default_port (scheme_or base scheme)) rest port_text port after
   pub units : AreUnitsBehind after path query fragment
 
--- the text is a plain link of these texts and this port
-abbrev pub IsPlainCut : List ℕ → PlainCut → Type 0
-IsPlainCut text cut =
-    IsPlainLink text (chars_of cut.scheme) (chars_of cut.name) cut.name.now (chars_of_option cut.port_text) cut.port
-    (chars_of cut.path_text) (chars_of_option cut.query) (chars_of_option cut.fragment)
+-- the text, against the base, is by the profile a plain link of these texts and this port
+abbrev pub IsPlainCut : Profile → Option Url → List ℕ → PlainCut → Type 0
+IsPlainCut profile base text cut =
+    IsPlainLink profile base text (chars_of_option cut.scheme) (chars_of cut.name) cut.name.now
+    (chars_of_option cut.port_text) cut.port (chars_of cut.path_text) (chars_of_option cut.query)
+    (chars_of_option cut.fragment)
+
+-- the start has this scheme, written or not, and this name, and the text behind the name begins with its port, or has
+-- none, beside the default port of the scheme
+pub record IsStartBehind (written : Option (Bor (List ℕ))) (scheme : List ℕ) (name : Bor (List ℕ)) (text : List ℕ)
+    (start : PlainStart) : Type 0 where
+  pub written_scheme : start.scheme ≡ written
+  pub same_name : start.name ≡ name
+  pub port_cut : IsPortCut (default_port scheme) text (chars_of_option start.port_text) start.port (chars start.rest)
+
+-- the text, against the base, has by the profile this plain start
+abbrev pub IsPlainStart : Profile → Option Url → List ℕ → PlainStart → Type 0
+IsPlainStart profile base text start =
+    IsStartCut profile base text (chars_of_option start.scheme) (chars_of start.name) start.name.now
+    (chars_of_option start.port_text) start.port (chars start.rest)

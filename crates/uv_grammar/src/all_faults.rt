@@ -12,7 +12,7 @@ ghost use Rattle.uv_grammar.specs.PartViolations.{IsCountable, OfFragment, OfPat
 
 use crate::authority::{judge_host_part, judge_port_part};
 use crate::bases::{Base, BaseKind};
-use crate::cut::{Cut, scan_text};
+use crate::cut::{Cut, cut_text};
 use crate::marks::beginnings::{are_digits, has_bracket};
 use crate::places::{fragment_place, host_place, path_place, port_place, query_place};
 use crate::scan::{Scan, push_scan};
@@ -59,10 +59,10 @@ fn faults_against(
 ) -> Result<Vec<Refusal>, AllocError>
     ensures { IfOk result (λ found. AreFaults profile (as_base base.entry) (chars text.now) found.items) }
 {
-    let scan = scan_text(text, base, profile);
+    let (cut, setting) = cut_text(text, base, profile);
     let mut found = Vec::new(alloc);
-    push_first_faults(alloc, &mut found, text, &scan.cut, &scan.setting)?;
-    push_held_faults(&mut found, &scan.cut, &scan.setting)?;
+    push_first_faults(alloc, &mut found, text, &cut, &setting)?;
+    push_held_faults(&mut found, &cut, &setting)?;
     Ok(found)
 }
 
@@ -117,10 +117,7 @@ fn push_host_faults(
     if is_scanned(setting.class, host_text) {
         return push_scan(found, Scan::OpaqueHost, host_place(cut), host_text);
     }
-    push_fault(
-        found,
-        judge_host_part(alloc, cut, setting, false)?.into_refusal(),
-    )
+    push_fault(found, judge_host_part(alloc, cut, setting)?.into_refusal())
 }
 
 // Whether the host is an opaque one, neither empty nor in brackets.

@@ -1,22 +1,19 @@
 //! The host and the port of a cut text.
-ghost use Rattle.std.specs.Prelude.{◌≡◌, ◌==◌, IfOk, IsOk, length, true};
+ghost use Rattle.std.specs.Prelude.{◌≡◌, ◌==◌, IfOk, IsOk, length};
 ghost use Rattle.std.specs.Str.{chars};
-ghost use Rattle.uv_model.specs.declared.profile.Profile.{Profile};
 ghost use Rattle.uv_model.specs.Cut.{ends_at_host};
-ghost use Rattle.uv_model.specs.Hosts.Domain.{IsDomain};
 ghost use Rattle.uv_model.specs.Setting.{Setting};
 ghost use Rattle.uv_model.specs.Violations.Violation.{HostPartViolation, PortPartViolation};
-ghost use Rattle.uv_grammar.specs.PartsHost.{FitsPartsHost, IsOwnDomain};
+ghost use Rattle.uv_grammar.specs.PartsHost.{FitsPartsHost};
 ghost use Rattle.uv_grammar.specs.Judged.{IsJudged};
 ghost use Rattle.uv_grammar.specs.NoMemory.{HostPartTakesNoMemory};
 ghost use Rattle.uv_grammar.specs.PartViolations.{IsCountable};
 ghost use Rattle.uv_grammar.specs.PartValues.{FitsHostPart, FitsPortPart, without_default};
-ghost use Rattle.uv_grammar.specs.Scanned.{IsPlainHost};
 
 use crate::cut::Cut;
 use crate::host::judge_host;
 use crate::judged::Judged;
-use crate::parts_host::{AsciiText, PartsHost};
+use crate::parts_host::PartsHost;
 use crate::places::{host_place, port_place, refusal_behind};
 use crate::port::judge_port;
 use crate::setting::Setting;
@@ -24,35 +21,30 @@ use crate::spaced_paths::is_followed;
 use std::alloc::{AllocError, Global};
 use uv_model::{Class, Profile};
 
-/// The host of a cut text, a refusal counted from the text's start. Nothing is asked of one that is known to be plain.
-/// The error is out of memory.
+/// The host of a cut text, a refusal counted from the text's start. The error is out of memory.
 #[inline(always)]
 pub(crate) fn judge_host_part<'t>(
     alloc: Global,
     cut: &Cut<'t>,
     setting: &Setting,
-    is_plain: bool,
 ) -> Result<Judged<Option<PartsHost<'t>>>, AllocError>
-    requires count { IsCountable cut.now }
-    requires plain { is_plain ≡ true → IsPlainHost setting.now.profile setting.now.class cut.now.host_text }
+    requires { IsCountable cut.now }
     ensures answer { IfOk result
         (IsJudged (FitsPartsHost (FitsHostPart setting.now cut.now)) (HostPartViolation setting.now cut.now)) }
     ensures memory { HostPartTakesNoMemory setting.now cut.now.host_text → IsOk result }
 {
-    judge_host_of_class(alloc, cut, setting.class, setting.profile, is_plain)
+    judge_host_of_class(alloc, cut, setting.class, setting.profile)
 }
 
-// The same by the class and the profile of the setting. It is inlined, as the texts of the cut would else be stored.
+/// The same by the class and the profile of the setting. It is inlined, as the texts of the cut would else be stored.
 #[inline(always)]
-fn judge_host_of_class<'t>(
+pub(crate) fn judge_host_of_class<'t>(
     alloc: Global,
     cut: &Cut<'t>,
     class: Class,
     profile: Profile,
-    is_plain: bool,
 ) -> Result<Judged<Option<PartsHost<'t>>>, AllocError>
-    requires count { IsCountable cut.now }
-    requires plain { is_plain ≡ true → IsPlainHost profile class cut.now.host_text }
+    requires { IsCountable cut.now }
     ensures answer { (setting : Setting) → setting.class ≡ class → setting.profile ≡ profile → IfOk result
         (IsJudged (FitsPartsHost (FitsHostPart setting cut.now)) (HostPartViolation setting cut.now)) }
     ensures memory { (setting : Setting) → setting.class ≡ class → setting.profile ≡ profile
@@ -61,9 +53,6 @@ fn judge_host_of_class<'t>(
     let Some(host_text) = cut.host_text else {
         return Ok(Judged::Valid(None));
     };
-    if is_plain {
-        return Ok(Judged::Valid(Some(plain_host(host_text))));
-    }
     match judge_host(
         alloc,
         class,
@@ -76,14 +65,6 @@ fn judge_host_of_class<'t>(
         Judged::Valid(host) => Ok(Judged::Valid(host)),
         Judged::Refused(refusal) => Ok(Judged::Refused(refusal_behind(host_place(cut), refusal))),
     }
-}
-
-// The host of a text that is a domain and its own form.
-fn plain_host(text: &str) -> PartsHost<'_>
-    requires { IsDomain Profile.Wide (chars text.now) (chars text.now) }
-    ensures { IsOwnDomain (chars text.now) result }
-{
-    PartsHost::Plain(AsciiText::of(text))
 }
 
 // Nothing of the text stands behind the host.

@@ -1,22 +1,33 @@
 //! The checker of valid URL strings.
-ghost use Rattle.std.specs.Prelude.{◌≡◌, IfOk, IsOk, None, Ok, Some, option_copied};
+ghost use Rattle.std.specs.Prelude.{◌≡◌, IfOk, IsOk, IsTrue, None, Ok, Some, option_copied, true};
 ghost use Rattle.std.specs.Str.{chars};
+ghost use Rattle.uv_model.specs.declared.profile.Profile.{Profile};
 ghost use Rattle.uv_model.specs.Records.Url.{Url};
 ghost use Rattle.uv_grammar.specs.Bases.{IsOfKind, as_base};
 ghost use Rattle.uv_grammar.specs.NoMemory.{TakesNoMemoryAgainst};
+ghost use Rattle.uv_grammar.specs.PlainLinks.{IsPlainStart, begins_behind};
+ghost use Rattle.uv_grammar.specs.SpecialLinks.{IsJudgedButHost};
 ghost use Rattle.uv_grammar.specs.Verdict.{IsVerdict};
 
-use crate::authority::{judge_host_part, judge_port_part};
+use crate::authority::{judge_host_of_class, judge_host_part, judge_port_part};
 use crate::bases::{Base, BaseKind};
 use crate::built::build;
-use crate::cut::scan_text;
+use crate::cut::{Cut, cut_text};
+use crate::file_links::file_parts;
 use crate::judged::Judged;
+use crate::marks::split_marks;
 use crate::parts::Parts;
-use crate::plain_links::{plain_cut, plain_parts};
+use crate::parts_host::{AsciiText, PartsHost};
+use crate::plain_links::{
+    PlainStart, begins_behind, may_start_otherwise, other_start, plain_cut, plain_parts,
+    plain_start, wide_start,
+};
+use crate::setting::Setting;
+use crate::special_links::{address_of, begins_with_http_or_file, is_bracketed, special_cut};
 use crate::start_rules::start_fault;
 use crate::unit_faults::fault_behind_authority;
 use std::alloc::{AllocError, Global};
-use uv_model::{Profile, Record, Refusal};
+use uv_model::{Class, Profile, Record, Refusal};
 
 /// What a text is against a base.
 #[derive(Drop)]
@@ -38,10 +49,13 @@ pub fn check<'t>(
     ensures answer { IfOk result (IsVerdict profile (option_copied base.entry) (chars text.now)) }
     ensures memory { TakesNoMemoryAgainst profile (option_copied base.entry) (chars text.now) → IsOk result }
 {
-    if let Some(cut) = plain_cut(text) {
+    let Some(start) = plain_start(text) else {
+        return check_unstarted(alloc, text, Base::whole(base), profile);
+    };
+    if let Some(cut) = plain_cut(&start) {
         return Ok(Verdict::Yes(plain_parts(text, &cut)));
     }
-    check_otherwise(alloc, text, Base::whole(base), profile)
+    check_started(alloc, text, start, Base::whole(base), profile)
 }
 
 /// The same of a text alone. A program that calls it in one place gets it there, and the parts aren't copied.
@@ -53,10 +67,13 @@ pub fn check_alone<'t>(
     ensures answer { IfOk result (IsVerdict profile None (chars text.now)) }
     ensures memory { TakesNoMemoryAgainst profile None (chars text.now) → IsOk result }
 {
-    if let Some(cut) = plain_cut(text) {
+    let Some(start) = plain_start(text) else {
+        return check_unstarted(alloc, text, None, profile);
+    };
+    if let Some(cut) = plain_cut(&start) {
         return Ok(Verdict::Yes(plain_parts(text, &cut)));
     }
-    check_otherwise(alloc, text, None, profile)
+    check_started(alloc, text, start, None, profile)
 }
 
 /// The same against every base of a kind.
@@ -70,16 +87,174 @@ pub fn check_of_kind<'t>(
     ensures memory { (url : Url) → IsOfKind url base → TakesNoMemoryAgainst profile (Some url) (chars text.now)
         → IsOk result }
 {
-    if let Some(cut) = plain_cut(text) {
+    let Some(start) = plain_start(text) else {
+        return check_unstarted(alloc, text, Some(Base::Kind(base)), profile);
+    };
+    if let Some(cut) = plain_cut(&start) {
         return Ok(Verdict::Yes(plain_parts(text, &cut)));
     }
-    check_otherwise(alloc, text, Some(Base::Kind(base)), profile)
+    check_started(alloc, text, start, Some(Base::Kind(base)), profile)
 }
 
-/// The verdict on a text that isn't known as a plain link. It is inlined, so that the place of the verdict that it asks
-/// for is filled with zeros here, and not before a link is known to be plain. (The three above begin alike: what they
-/// share would be too large to be inlined, and each verdict would be copied.)
+/// The verdict on a text with a plain start that isn't known as a plain link. It is inlined, so that the place of the
+/// verdicts that it asks for is filled with zeros here, and not before a link is known to be plain. (The three above
+/// begin alike: what they share would be too large to be inlined, and each verdict would be copied.)
 #[inline(always)]
+pub(crate) fn check_started<'t>(
+    alloc: Global,
+    text: &'t str,
+    start: PlainStart<'t>,
+    base: Option<Base<'_>>,
+    profile: Profile,
+) -> Result<Verdict<'t>, AllocError>
+    requires { IsPlainStart profile (as_base base) (chars text.now) start }
+    ensures answer { IfOk result (IsVerdict profile (as_base base.entry) (chars text.now)) }
+    ensures memory { TakesNoMemoryAgainst profile (as_base base.entry) (chars text.now) → IsOk result }
+{
+    if goes_on(start.rest.as_str(), profile) {
+        check_from(alloc, text, start, base, profile)
+    } else {
+        check_otherwise(alloc, text, base, profile)
+    }
+}
+
+/// The same of a text without a plain start.
+#[inline(always)]
+pub(crate) fn check_unstarted<'t>(
+    alloc: Global,
+    text: &'t str,
+    base: Option<Base<'_>>,
+    profile: Profile,
+) -> Result<Verdict<'t>, AllocError>
+    ensures answer { IfOk result (IsVerdict profile (as_base base.entry) (chars text.now)) }
+    ensures memory { TakesNoMemoryAgainst profile (as_base base.entry) (chars text.now) → IsOk result }
+{
+    if may_start_otherwise(text) {
+        check_other_start(alloc, text, base, profile)
+    } else {
+        check_otherwise(alloc, text, base, profile)
+    }
+}
+
+// Whether what follows a plain start is judged from there. It spares other texts a verdict that is copied once more,
+// and no verdict rests on it.
+fn goes_on(rest: &str, profile: Profile) -> bool {
+    begins_behind(rest) || goes_on_wide(rest, profile)
+}
+
+/// The verdict on a text of which the start is known to be plain. It is never inlined, as plain links would then have
+/// to keep registers free for it.
+#[inline(never)]
+pub(crate) fn check_from<'t>(
+    alloc: Global,
+    text: &'t str,
+    start: PlainStart<'t>,
+    base: Option<Base<'_>>,
+    profile: Profile,
+) -> Result<Verdict<'t>, AllocError>
+    requires { IsPlainStart profile (as_base base) (chars text.now) start }
+    ensures answer { IfOk result (IsVerdict profile (as_base base.entry) (chars text.now)) }
+    ensures memory { TakesNoMemoryAgainst profile (as_base base.entry) (chars text.now) → IsOk result }
+{
+    let rest = start.rest.as_str();
+    if begins_behind(rest) {
+        Ok(check_behind(text, &start, base, profile))
+    } else if goes_on_wide(rest, profile) {
+        check_wide(alloc, text, base)
+    } else {
+        check_otherwise(alloc, text, base, profile)
+    }
+}
+
+// Whether the profile is the wide one and a low line stands here, by which a name goes on in it alone. The low line is
+// asked for to spare other texts a second look, and no verdict rests on it.
+fn goes_on_wide(rest: &str, profile: Profile) -> bool
+    ensures { IsTrue result → profile ≡ Profile.Wide }
+{
+    match profile {
+        Profile::Wide => rest.as_bytes().first() == Some(&b'_'),
+        Profile::Standard | Profile::Parser => false,
+    }
+}
+
+// The verdict by the wide profile on a text in whose host low lines may stand. It is never inlined, as texts that are
+// refused behind a plain start would then have to keep registers free for it.
+#[inline(never)]
+fn check_wide<'t>(
+    alloc: Global,
+    text: &'t str,
+    base: Option<Base<'_>>,
+) -> Result<Verdict<'t>, AllocError>
+    ensures answer { IfOk result (IsVerdict Profile.Wide (as_base base.entry) (chars text.now)) }
+    ensures memory { TakesNoMemoryAgainst Profile.Wide (as_base base.entry) (chars text.now) → IsOk result }
+{
+    let Some(start) = wide_start(text) else {
+        return check_otherwise(alloc, text, base, Profile::Wide);
+    };
+    if let Some(cut) = plain_cut(&start) {
+        return Ok(Verdict::Yes(plain_parts(text, &cut)));
+    }
+    if begins_behind(start.rest.as_str()) {
+        Ok(check_behind(text, &start, base, Profile::Wide))
+    } else {
+        check_otherwise(alloc, text, base, Profile::Wide)
+    }
+}
+
+// The same, where a path, a query or a fragment follows, or nothing: these are judged.
+fn check_behind<'t>(
+    text: &'t str,
+    start: &PlainStart<'t>,
+    base: Option<Base<'_>>,
+    profile: Profile,
+) -> Verdict<'t>
+    requires start { IsPlainStart profile (as_base base) (chars text.now) start.now }
+    requires behind { begins_behind (chars start.now.rest) ≡ true }
+    ensures { IsVerdict profile (as_base base.entry) (chars text.now) result }
+{
+    let (path_text, query, fragment) = split_marks(start.rest.as_str());
+    let cut = Cut {
+        scheme: start.scheme,
+        host_text: Some(start.name),
+        port_text: start.port_text,
+        path_text,
+        query,
+        fragment,
+    };
+    let setting = Setting::of(base, start.scheme, profile);
+    match fault_behind_authority(&cut, &setting) {
+        Some(refusal) => Verdict::No(refusal),
+        None => {
+            let host = PartsHost::Plain(AsciiText::of(start.name));
+            Verdict::Yes(build(text, cut, Some(host), start.port))
+        }
+    }
+}
+
+/// The verdict on a text that may have a plain start without a scheme, or with a capital. It is never inlined, as other
+/// texts would then have to keep registers free for it.
+#[inline(never)]
+pub(crate) fn check_other_start<'t>(
+    alloc: Global,
+    text: &'t str,
+    base: Option<Base<'_>>,
+    profile: Profile,
+) -> Result<Verdict<'t>, AllocError>
+    ensures answer { IfOk result (IsVerdict profile (as_base base.entry) (chars text.now)) }
+    ensures memory { TakesNoMemoryAgainst profile (as_base base.entry) (chars text.now) → IsOk result }
+{
+    let Some(start) = other_start(text, base) else {
+        return check_otherwise(alloc, text, base, profile);
+    };
+    match plain_cut(&start) {
+        Some(cut) => Ok(Verdict::Yes(plain_parts(text, &cut))),
+        None => check_from(alloc, text, start, base, profile),
+    }
+}
+
+/// The verdict on any text. It is never inlined, as plain links would then have to keep registers free for it; what it
+/// calls is inlined, as each verdict would else be copied once more.
+#[inline(never)]
 pub(crate) fn check_otherwise<'t>(
     alloc: Global,
     text: &'t str,
@@ -89,14 +264,45 @@ pub(crate) fn check_otherwise<'t>(
     ensures answer { IfOk result (IsVerdict profile (as_base base.entry) (chars text.now)) }
     ensures memory { TakesNoMemoryAgainst profile (as_base base.entry) (chars text.now) → IsOk result }
 {
-    check_scanned(alloc, text, base, profile)
+    if begins_with_http_or_file(text) {
+        if let Some((cut, port)) = special_cut(text) {
+            if let Some(address) = address_of(&cut) {
+                return Ok(Verdict::Yes(build(text, cut, Some(PartsHost::Made(address)), port)));
+            }
+            if !is_bracketed(&cut) {
+                return check_host(alloc, text, cut, port, base, profile);
+            }
+        }
+        if let Some(parts) = file_parts(text) {
+            return Ok(Verdict::Yes(parts));
+        }
+    }
+    check_by_parts(alloc, text, base, profile)
 }
 
-/// The verdict on any text, which is cut in one pass and judged part by part, in the order of their places. It is never
-/// inlined, as plain links would then have to keep registers free for it; what it calls is inlined, as each verdict
-/// would else be copied once more.
-#[inline(never)]
-fn check_scanned<'t>(
+// The same of a text of which nothing but the host can be wrong: that alone is judged.
+#[inline(always)]
+fn check_host<'t>(
+    alloc: Global,
+    text: &'t str,
+    cut: Cut<'t>,
+    port: Option<u16>,
+    base: Option<Base<'_>>,
+    profile: Profile,
+) -> Result<Verdict<'t>, AllocError>
+    requires { IsJudgedButHost profile (as_base base) (chars text.now) cut port }
+    ensures answer { IfOk result (IsVerdict profile (as_base base.entry) (chars text.now)) }
+    ensures memory { TakesNoMemoryAgainst profile (as_base base.entry) (chars text.now) → IsOk result }
+{
+    match judge_host_of_class(alloc, &cut, Class::Special, profile)? {
+        Judged::Valid(host) => Ok(Verdict::Yes(build(text, cut, host, port))),
+        Judged::Refused(refusal) => refused(refusal),
+    }
+}
+
+// The same part by part, in the order of their places.
+#[inline(always)]
+fn check_by_parts<'t>(
     alloc: Global,
     text: &'t str,
     base: Option<Base<'_>>,
@@ -105,21 +311,21 @@ fn check_scanned<'t>(
     ensures answer { IfOk result (IsVerdict profile (as_base base.entry) (chars text.now)) }
     ensures memory { TakesNoMemoryAgainst profile (as_base base.entry) (chars text.now) → IsOk result }
 {
-    let scan = scan_text(text, base, profile);
-    if let Some(refusal) = start_fault(text, &scan.cut, &scan.setting) {
+    let (cut, setting) = cut_text(text, base, profile);
+    if let Some(refusal) = start_fault(text, &cut, &setting) {
         return refused(refusal);
     }
-    let host = match judge_host_part(alloc, &scan.cut, &scan.setting, scan.is_plain)? {
+    let host = match judge_host_part(alloc, &cut, &setting)? {
         Judged::Valid(host) => host,
         Judged::Refused(refusal) => return refused(refusal),
     };
-    let port = match judge_port_part(&scan.cut, &scan.setting) {
+    let port = match judge_port_part(&cut, &setting) {
         Judged::Valid(port) => port,
         Judged::Refused(refusal) => return refused(refusal),
     };
-    match fault_behind_authority(&scan.cut, &scan.setting, scan.are_units) {
+    match fault_behind_authority(&cut, &setting) {
         Some(refusal) => refused(refusal),
-        None => Ok(Verdict::Yes(build(text, scan.cut, host, port))),
+        None => Ok(Verdict::Yes(build(text, cut, host, port))),
     }
 }
 

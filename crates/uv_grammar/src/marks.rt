@@ -6,7 +6,7 @@ ghost use Rattle.uv_model.specs.Ascii.{number_sign, question_mark, slash};
 ghost use Rattle.uv_model.specs.Path.{is_without, starts_with_slash};
 ghost use Rattle.uv_model.specs.Parts.{written_behind};
 ghost use Rattle.uv_grammar.specs.Slices.{chars_of, chars_of_option};
-ghost use Rattle.uv_grammar.specs.TextSplits.{SplitsMarks};
+ghost use Rattle.uv_grammar.specs.TextSplits.{SplitsAtSlash, SplitsMarks};
 
 pub(crate) mod beginnings;
 pub(crate) mod search;
@@ -68,6 +68,16 @@ fn has_question_mark(bytes: &[u8], place: usize) -> bool
     ensures { result ≡ (slice_index bytes.now place == question_mark) }
 {
     bytes[place] == b'?'
+}
+
+/// What stands before the first `/`, and what begins with it.
+pub(crate) fn split_at_slash<'t>(text: &'t str) -> (&'t str, &'t str)
+    ensures { SplitsAtSlash (chars text.now) (chars_of result.0) (chars_of result.1) }
+{
+    match first_mark(text.as_bytes(), b'/') {
+        Some(end) => (&text[..end], &text[end..]),
+        None => (text, &text[text.len()..]),
+    }
 }
 
 /// What follows a `/` at the text's start.

@@ -9,7 +9,13 @@ ghost use Rattle.uv_grammar.specs.PartViolations.{IsCountable};
 use crate::cut::Cut;
 use crate::marks::beginnings::has_slash;
 use uv_model::Refusal;
-use uv_text::count_code_points;
+
+// How many code points the text has.
+fn count(text: &str) -> usize
+    ensures { result ≡ length (chars text.now) }
+{
+    text.chars().count()
+}
 
 /// The place behind a scheme and `:`.
 pub(crate) fn scheme_end(cut: &Cut) -> usize
@@ -17,7 +23,7 @@ pub(crate) fn scheme_end(cut: &Cut) -> usize
     ensures { result ≡ scheme_end cut.now }
 {
     match cut.scheme {
-        Some(scheme) => count_code_points(scheme) + 1,
+        Some(scheme) => count(scheme) + 1,
         None => 0,
     }
 }
@@ -50,7 +56,7 @@ pub(crate) fn port_place(cut: &Cut, host_text: &str) -> usize
     requires port { IsSome cut.now.port_text }
     ensures { result ≡ port_place (chars host_text.now) cut.now }
 {
-    host_place(cut) + (count_code_points(host_text) + 1)
+    host_place(cut) + (count(host_text) + 1)
 }
 
 /// The place of the path.
@@ -67,10 +73,8 @@ fn authority_length(cut: &Cut) -> usize
     ensures { result ≡ length (written_authority cut.now.host_text cut.now.port_text) }
 {
     match (cut.host_text, cut.port_text) {
-        (Some(host_text), Some(port_text)) => {
-            2 + count_code_points(host_text) + 1 + count_code_points(port_text)
-        }
-        (Some(host_text), None) => 2 + count_code_points(host_text),
+        (Some(host_text), Some(port_text)) => 2 + count(host_text) + 1 + count(port_text),
+        (Some(host_text), None) => 2 + count(host_text),
         (None, _) => 0,
     }
 }
@@ -81,7 +85,7 @@ pub(crate) fn query_place(cut: &Cut) -> usize
     requires query { IsSome cut.now.query }
     ensures { result ≡ query_place cut.now }
 {
-    path_place(cut) + count_code_points(cut.path_text) + 1
+    path_place(cut) + count(cut.path_text) + 1
 }
 
 /// The place of the fragment.
@@ -91,8 +95,8 @@ pub(crate) fn fragment_place(cut: &Cut) -> usize
     ensures { result ≡ fragment_place cut.now }
 {
     match cut.query {
-        Some(query) => query_place(cut) + count_code_points(query) + 1,
-        None => path_place(cut) + count_code_points(cut.path_text) + 1,
+        Some(query) => query_place(cut) + count(query) + 1,
+        None => path_place(cut) + count(cut.path_text) + 1,
     }
 }
 

@@ -1,27 +1,47 @@
 //! The links that people write, judged at one pass: a special scheme, a plain domain, a port or none, and a path, a
-//! query and a fragment of URL units. All other texts are judged by their parts.
-ghost use Rattle.std.specs.Prelude.{◌≡◌, ◌≢◌, ◌<◌, [], false, true, Option, IfSome, IsTrue};
+//! query and a fragment of URL units; against a base of a special scheme also without the scheme. Where only what
+//! stands before the path is so, that is known of the text, and all other texts are judged by their parts.
+ghost use Rattle.std.specs.Prelude.{◌≡◌, ◌≢◌, ◌<◌, [], ℕ, List, false, true, Option, IfSome, IsTrue};
 ghost use Rattle.std.specs.Str.{chars};
 ghost use Rattle.uv_model.specs.declared.profile.Profile.{Profile};
 ghost use Rattle.uv_model.specs.Cut.{starts_with_two_slashes};
 ghost use Rattle.uv_model.specs.Path.{starts_with_slash};
 ghost use Rattle.uv_model.specs.Records.Url.{Url};
-ghost use Rattle.uv_grammar.specs.PlainLinks.{AreUnitsBehind, IsPartCut, IsPathCut, IsPlainCut};
+ghost use Rattle.uv_grammar.specs.Bases.{as_base};
+ghost use Rattle.uv_grammar.specs.PlainLinks.{AreUnitsBehind, IsPartCut, IsPathCut, IsPlainCut, IsPlainStart};
+ghost use Rattle.uv_grammar.specs.PlainLinks.{IsSpecialBase, IsStartBehind, begins_behind};
 ghost use Rattle.uv_grammar.specs.Slices.{chars_of, chars_of_option};
 ghost use Rattle.uv_grammar.specs.Verdict.{IsAccepted};
 
+use crate::bases::Base;
 use crate::built::build;
 use crate::cut::Cut;
 use crate::marks::beginnings::{has_slash, has_two_slashes};
 use crate::parts::Parts;
 use crate::parts_host::{AsciiText, PartsHost};
-use crate::plain_prefixes::{begins_with, split_name, split_port, split_prefix, split_special};
+use crate::plain_prefixes::{
+    begins_upper, begins_with, split_name, split_port, split_prefix, split_slashes, split_special,
+    split_upper, split_wide_name,
+};
+use crate::setting::known_class;
+use uv_model::Class;
 use uv_text::{Tail, UnitClass, split_tail};
+
+/// The texts of the scheme, the domain and the port of a text, where they are those of a plain link, and what follows
+/// them. A reference has no scheme.
+#[derive(Drop)]
+pub(crate) struct PlainStart<'t> {
+    pub(crate) scheme: Option<&'t str>,
+    pub(crate) name: &'t str,
+    pub(crate) port_text: Option<&'t str>,
+    pub(crate) port: Option<u16>,
+    pub(crate) rest: Tail<'t>,
+}
 
 /// The texts of the parts of a plain link, and its port.
 #[derive(Clone, Copy)]
 pub(crate) struct PlainCut<'t> {
-    scheme: &'t str,
+    scheme: Option<&'t str>,
     name: &'t str,
     port_text: Option<&'t str>,
     port: Option<u16>,
@@ -30,14 +50,15 @@ pub(crate) struct PlainCut<'t> {
     fragment: Option<&'t str>,
 }
 
-/// The parts of a plain link. By each profile and against any base it is valid with these.
+/// The parts of a plain link. By its profile it is valid with these.
 #[inline(always)]
 pub(crate) fn plain_parts<'t>(text: &'t str, cut: &PlainCut<'t>) -> Parts<'t>
-    requires { IsPlainCut (chars text.now) cut.now }
-    ensures { (profile : Profile) (base : Option Url) → IsAccepted profile base (chars text.now) result }
+    requires { (profile : Profile) × (base : Option Url) × IsPlainCut profile base (chars text.now) cut.now }
+    ensures { (profile : Profile) (base : Option Url) → IsPlainCut profile base (chars text.now) cut.now
+        → IsAccepted profile base (chars text.now) result }
 {
     let texts = Cut {
-        scheme: Some(cut.scheme),
+        scheme: cut.scheme,
         host_text: Some(cut.name),
         port_text: cut.port_text,
         path_text: cut.path_text,
@@ -48,11 +69,12 @@ pub(crate) fn plain_parts<'t>(text: &'t str, cut: &PlainCut<'t>) -> Parts<'t>
     build(text, texts, Some(host), cut.port)
 }
 
-/// The texts of a plain link: a special scheme, `://`, a domain that is its own ASCII form, a port or none, and a path,
-/// a query and a fragment of URL units. They are so by each profile. Where there are none, that says nothing.
+/// The texts of a plain start: a special scheme, `://`, a domain that is its own ASCII form, and a port or none. They
+/// are so by each profile, against any base. Where there are none, that says nothing.
 #[inline(always)]
-pub(crate) fn plain_cut<'t>(text: &'t str) -> Option<PlainCut<'t>>
-    ensures { IfSome result (IsPlainCut (chars text.now)) }
+pub(crate) fn plain_start<'t>(text: &'t str) -> Option<PlainStart<'t>>
+    ensures { IfSome result (λ start. (profile : Profile) (base : Option Url)
+        → IsPlainStart profile base (chars text.now) start) }
 {
     let Some((scheme, behind)) = split_special(text) else {
         return None;
@@ -60,26 +82,120 @@ pub(crate) fn plain_cut<'t>(text: &'t str) -> Option<PlainCut<'t>>
     let Some((name, rest)) = split_name(&behind) else {
         return None;
     };
+    start_behind(Some(scheme), scheme, name, rest)
+}
+
+/// The same by the wide profile, in which low lines count as letters of a domain.
+#[inline(always)]
+pub(crate) fn wide_start<'t>(text: &'t str) -> Option<PlainStart<'t>>
+    ensures { IfSome result (λ start. (base : Option Url) → IsPlainStart Profile.Wide base (chars text.now) start) }
+{
+    let Some((scheme, behind)) = split_special(text) else {
+        return None;
+    };
+    let Some((name, rest)) = split_wide_name(&behind) else {
+        return None;
+    };
+    start_behind(Some(scheme), scheme, name, rest)
+}
+
+/// Whether a text may have another plain start: `//` without a scheme, or a scheme that begins with a capital.
+pub(crate) fn may_start_otherwise(text: &str) -> bool {
+    has_slash(text) || begins_upper(text)
+}
+
+/// Such a start, by each profile.
+#[inline(always)]
+pub(crate) fn other_start<'t>(text: &'t str, base: Option<Base<'_>>) -> Option<PlainStart<'t>>
+    ensures { IfSome result (λ start. (profile : Profile)
+        → IsPlainStart profile (as_base base.entry) (chars text.now) start) }
+{
+    if has_slash(text) {
+        reference_start(text, base)
+    } else {
+        upper_start(text)
+    }
+}
+
+// The same of a text whose scheme begins with a capital, against any base.
+fn upper_start<'t>(text: &'t str) -> Option<PlainStart<'t>>
+    ensures { IfSome result (λ start. (profile : Profile) (base : Option Url)
+        → IsPlainStart profile base (chars text.now) start) }
+{
+    let Some((scheme, behind)) = split_upper(text) else {
+        return None;
+    };
+    let Some((name, rest)) = split_name(&behind) else {
+        return None;
+    };
+    start_behind(Some(scheme), scheme, name, rest)
+}
+
+// The same of a reference, against a base of a special scheme: `//` in place of the scheme and `://`.
+fn reference_start<'t>(text: &'t str, base: Option<Base<'_>>) -> Option<PlainStart<'t>>
+    ensures { IfSome result (λ start. (profile : Profile)
+        → IsPlainStart profile (as_base base.entry) (chars text.now) start) }
+{
+    let Some(behind) = split_slashes(text) else {
+        return None;
+    };
+    let Some(scheme) = special_base(base) else {
+        return None;
+    };
+    let Some((name, rest)) = split_name(&behind) else {
+        return None;
+    };
+    start_behind(None, scheme, name, rest)
+}
+
+// The start with this name and a scheme that is written or the base's: a port follows, or none.
+#[inline(always)]
+fn start_behind<'t>(
+    written: Option<&'t str>,
+    scheme: &str,
+    name: &'t str,
+    rest: Tail<'t>,
+) -> Option<PlainStart<'t>>
+    ensures { IfSome result (IsStartBehind written.entry (chars scheme.now) name.entry (chars rest.entry)) }
+{
     let Some((port_text, port, rest)) = split_port(rest, scheme) else {
         return None;
     };
-    let Some((path_text, query, fragment)) = split_behind(&rest) else {
-        return None;
-    };
-    Some(PlainCut {
-        scheme,
+    Some(PlainStart {
+        scheme: written,
         name,
         port_text,
         port,
+        rest,
+    })
+}
+
+/// The texts of a plain link that begins so: a path, a query and a fragment of URL units follow. Where there are none,
+/// that says nothing.
+#[inline(always)]
+pub(crate) fn plain_cut<'t>(start: &PlainStart<'t>) -> Option<PlainCut<'t>>
+    ensures { IfSome result (λ cut. (profile : Profile) (base : Option Url) (text : List ℕ)
+        → IsPlainStart profile base text start.now → IsPlainCut profile base text cut) }
+{
+    let Some((path_text, query, fragment)) = split_behind(&start.rest) else {
+        return None;
+    };
+    Some(PlainCut {
+        scheme: start.scheme,
+        name: start.name,
+        port_text: start.port_text,
+        port: start.port,
         path_text,
         query,
         fragment,
     })
 }
 
-// A path, a query and a fragment of URL units, which are the whole of a text. Where there are none, that says nothing.
+/// A path, a query and a fragment of URL units, which are the whole of a text. Where there are none, that says nothing.
 #[inline(always)]
-fn split_behind<'t>(text: &Tail<'t>) -> Option<(&'t str, Option<&'t str>, Option<&'t str>)>
+pub(crate) fn split_behind<'t>(
+    text: &Tail<'t>,
+) -> Option<(&'t str, Option<&'t str>, Option<&'t str>)>
     ensures { IfSome result (λ r. AreUnitsBehind (chars text.now) (chars_of r.0) (chars_of_option r.1)
         (chars_of_option r.2)) }
 {
@@ -92,6 +208,40 @@ fn split_behind<'t>(text: &Tail<'t>) -> Option<(&'t str, Option<&'t str>, Option
         return None;
     }
     Some((path_text, query, fragment))
+}
+
+/// Whether a text is empty, or begins a path behind an authority, a query or a fragment.
+pub(crate) fn begins_behind(text: &str) -> bool
+    ensures { IsTrue result → begins_behind (chars text.now) ≡ true }
+{
+    has_behind(text.as_bytes())
+}
+
+// The same of bytes.
+fn has_behind(bytes: &[u8]) -> bool
+    ensures { result ≡ begins_behind bytes.now }
+{
+    match bytes {
+        [first, ..] => *first == b'/' || (*first == b'?' || *first == b'#'),
+        [] => true,
+    }
+}
+
+// The scheme of a base, where it is a special one and the path isn't opaque.
+fn special_base<'b>(base: Option<Base<'b>>) -> Option<&'b str>
+    ensures { IfSome result (λ scheme. IsSpecialBase (as_base base.entry) (chars_of scheme)) }
+{
+    let Some(base) = base else {
+        return None;
+    };
+    if base.has_opaque_path() {
+        return None;
+    }
+    let name = base.scheme();
+    match known_class(name) {
+        Class::Special => Some(name),
+        Class::File | Class::Other => None,
+    }
 }
 
 // A path of units, and what follows it.
@@ -118,9 +268,9 @@ fn begins_path(text: &str) -> bool
     text.is_empty() || has_slash(text)
 }
 
-/// The units behind a mark, where the text begins with it, and what follows.
+// The units behind a mark, where the text begins with it, and what follows.
 #[inline(always)]
-pub(crate) fn split_part<'t>(text: Tail<'t>, mark: u8) -> (Option<&'t str>, Tail<'t>)
+fn split_part<'t>(text: Tail<'t>, mark: u8) -> (Option<&'t str>, Tail<'t>)
     requires { mark < 128 }
     ensures { IsPartCut mark (chars text.entry) (chars_of_option result.0) (chars result.1) }
 {

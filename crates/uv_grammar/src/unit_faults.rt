@@ -4,7 +4,6 @@ ghost use Rattle.std.specs.Str.{chars};
 ghost use Rattle.uv_model.specs.Violations.Refusal.{IsLeast};
 ghost use Rattle.uv_model.specs.Violations.Violation.{PathContentViolation};
 ghost use Rattle.uv_grammar.specs.PartViolations.{BehindAuthority, IsCountable, OfFragment, OfPath, OfQuery};
-ghost use Rattle.uv_grammar.specs.Scanned.{AreUnitsIf};
 
 use crate::cut::Cut;
 use crate::places::{fragment_place, path_place, query_place, refusal_behind};
@@ -14,23 +13,14 @@ use crate::start_rules::path_start_fault;
 use uv_model::Refusal;
 use uv_text::first_fault;
 
-/// The least refusal of what stands behind the authority: the path with its start, the query and the fragment. Where
-/// these are known to be units, the path's start alone can be wrong.
+/// The least refusal of what stands behind the authority: the path with its start, the query and the fragment.
 #[inline(always)]
-pub(crate) fn fault_behind_authority(
-    cut: &Cut,
-    setting: &Setting,
-    are_units: bool,
-) -> Option<Refusal>
-    requires count { IsCountable cut.now }
-    requires units { AreUnitsIf cut.now are_units }
+pub(crate) fn fault_behind_authority(cut: &Cut, setting: &Setting) -> Option<Refusal>
+    requires { IsCountable cut.now }
     ensures { IsLeast (BehindAuthority setting.now cut.now) result }
 {
     if let Some(refusal) = path_start_fault(cut, setting) {
         return Some(refusal);
-    }
-    if are_units {
-        return None;
     }
     if let Some(refusal) = path_fault(cut, setting) {
         return Some(refusal);

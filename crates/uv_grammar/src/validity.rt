@@ -4,11 +4,12 @@ ghost use Rattle.std.specs.Str.{chars};
 ghost use Rattle.uv_model.specs.Records.Url.{Url};
 ghost use Rattle.uv_grammar.specs.Bases.{IsOfKind, as_base};
 ghost use Rattle.uv_grammar.specs.NoMemory.{TakesNoMemoryAgainst};
+ghost use Rattle.uv_grammar.specs.PlainLinks.{IsPlainStart};
 ghost use Rattle.uv_grammar.specs.Verdict.{IsValidity};
 
 use crate::bases::{Base, BaseKind};
-use crate::checker::{Verdict, check_otherwise};
-use crate::plain_links::plain_cut;
+use crate::checker::{Verdict, check_started, check_unstarted};
+use crate::plain_links::{PlainStart, plain_cut, plain_start};
 use std::alloc::{AllocError, Global};
 use uv_model::{Profile, Record};
 
@@ -23,9 +24,12 @@ pub fn is_valid(
     ensures answer { IfOk result (IsValidity profile (option_copied base.entry) (chars text.now)) }
     ensures memory { TakesNoMemoryAgainst profile (option_copied base.entry) (chars text.now) → IsOk result }
 {
-    match plain_cut(text) {
+    let Some(start) = plain_start(text) else {
+        return is_valid_otherwise(alloc, text, Base::whole(base), profile);
+    };
+    match plain_cut(&start) {
         Some(_) => Ok(true),
-        None => is_valid_otherwise(alloc, text, Base::whole(base), profile),
+        None => is_valid_from(alloc, text, start, Base::whole(base), profile),
     }
 }
 
@@ -40,13 +44,34 @@ pub fn is_valid_of_kind(
     ensures memory { (url : Url) → IsOfKind url base → TakesNoMemoryAgainst profile (Some url) (chars text.now)
         → IsOk result }
 {
-    match plain_cut(text) {
+    let Some(start) = plain_start(text) else {
+        return is_valid_otherwise(alloc, text, Some(Base::Kind(base)), profile);
+    };
+    match plain_cut(&start) {
         Some(_) => Ok(true),
-        None => is_valid_otherwise(alloc, text, Some(Base::Kind(base)), profile),
+        None => is_valid_from(alloc, text, start, Some(Base::Kind(base)), profile),
     }
 }
 
-// Whether any text is valid.
+// Whether a text of a plain start is valid.
+fn is_valid_from(
+    alloc: Global,
+    text: &str,
+    start: PlainStart<'_>,
+    base: Option<Base<'_>>,
+    profile: Profile,
+) -> Result<bool, AllocError>
+    requires { IsPlainStart profile (as_base base) (chars text.now) start }
+    ensures answer { IfOk result (IsValidity profile (as_base base.entry) (chars text.now)) }
+    ensures memory { TakesNoMemoryAgainst profile (as_base base.entry) (chars text.now) → IsOk result }
+{
+    match check_started(alloc, text, start, base, profile)? {
+        Verdict::Yes(..) => Ok(true),
+        Verdict::No(..) => Ok(false),
+    }
+}
+
+// Whether a text that doesn't begin as a plain link with a scheme is valid.
 fn is_valid_otherwise(
     alloc: Global,
     text: &str,
@@ -56,7 +81,7 @@ fn is_valid_otherwise(
     ensures answer { IfOk result (IsValidity profile (as_base base.entry) (chars text.now)) }
     ensures memory { TakesNoMemoryAgainst profile (as_base base.entry) (chars text.now) → IsOk result }
 {
-    match check_otherwise(alloc, text, base, profile)? {
+    match check_unstarted(alloc, text, base, profile)? {
         Verdict::Yes(_) => Ok(true),
         Verdict::No(_) => Ok(false),
     }

@@ -148,13 +148,9 @@ fn behind_one_beyond_ascii(text: &str) -> Option<&str>
     }
 }
 
-/// How many code points a text has: in ASCII as many as bytes.
+/// How many code points a text has.
 pub fn count_code_points(text: &str) -> usize
     ensures { result ≡ length (chars text.now) }
 {
-    if text.is_ascii() {
-        text.len()
-    } else {
-        text.chars().count()
-    }
+    text.chars().count()
 }

@@ -1,5 +1,5 @@
 //! Tests of the start of a text, and of schemes and digits.
-ghost use Rattle.std.specs.Prelude.{◌≡◌, ◌≤◌, ◌&&◌, ◌==◌, IfSome, IsTrue, Some, drop, length, true};
+ghost use Rattle.std.specs.Prelude.{◌≡◌, ◌≤◌, ◌&&◌, ◌==◌, drop, length};
 ghost use Rattle.std.specs.List.{list_all, prefix_len};
 ghost use Rattle.std.specs.Char.{is_ascii_alphabetic, is_ascii_digit};
 ghost use Rattle.std.specs.Str.{chars};
@@ -10,9 +10,8 @@ ghost use Rattle.uv_model.specs.Hosts.OpaqueHost.{starts_with_bracket};
 ghost use Rattle.uv_model.specs.Path.{starts_with_drive_segment, starts_with_slash};
 ghost use Rattle.uv_model.specs.Scheme.{is_scheme_code_point};
 ghost use Rattle.uv_text.specs.Splits.{starts_in};
-ghost use Rattle.uv_grammar.specs.TextSplits.{IsSchemeEnd, begins_behind};
+ghost use Rattle.uv_grammar.specs.TextSplits.{IsSchemeEnd};
 
-use crate::plain_prefixes::has_prefix;
 use uv_model::is_drive_letter;
 
 /// Whether the text begins with `/`.
@@ -99,50 +98,14 @@ pub(crate) fn bracket_first(bytes: &[u8]) -> bool
     }
 }
 
-/// Whether a text is empty, or begins a path behind an authority, a query or a fragment.
-pub(crate) fn begins_behind(text: &str) -> bool
-    ensures { IsTrue result → begins_behind (chars text.now) ≡ true }
-{
-    behind_first(text.as_bytes())
-}
-
-// The same of bytes.
-fn behind_first(bytes: &[u8]) -> bool
-    ensures { result ≡ begins_behind bytes.now }
-{
-    match bytes {
-        [first, ..] => *first == b'/' || (*first == b'?' || *first == b'#'),
-        [] => true,
-    }
-}
-
 /// The place of the `:` behind the URL-scheme string with which the bytes begin (URL Standard, section 4.3). The search
 /// ends at the first byte that no scheme holds, so that it doesn't go through the whole of a text without a scheme.
 pub(crate) fn scheme_end(bytes: &[u8]) -> Option<usize>
     ensures { IsSchemeEnd bytes.now result }
 {
-    if let Some(end) = known_scheme_end(bytes) {
-        return Some(end);
-    }
     let end = scheme_prefix(bytes);
     if ends_scheme(bytes, end) {
         Some(end)
-    } else {
-        None
-    }
-}
-
-// The same of the schemes that most links have, as they are mostly written.
-#[inline(always)]
-fn known_scheme_end(bytes: &[u8]) -> Option<usize>
-    ensures { IfSome result (λ end. IsSchemeEnd bytes.now (Some end)) }
-{
-    if has_prefix(bytes, b"https:") {
-        Some(5)
-    } else if has_prefix(bytes, b"http:") {
-        Some(4)
-    } else if has_prefix(bytes, b"file:") {
-        Some(4)
     } else {
         None
     }

@@ -10,18 +10,18 @@ use Rattle.uv_grammar.proofs.all_faults.faults_against.Goals as goal
 
 pub push_first_faults-requires : goal.push_first_faults-requires
 push_first_faults-requires c =
-    countable c.args.text.now c.scan_text-scan.result.cut c.utf8.text (omega arith) c.scan_text-scan.ensures.is_cut.whole
+    countable c.args.text.now c.cut_text-cut.result.0 c.utf8.text (omega arith) c.cut_text-cut.ensures.cut.whole
 
 pub push_held_faults-requires : goal.push_held_faults-requires
 push_held_faults-requires c =
-    countable c.args.text.now c.scan_text-scan.result.cut c.utf8.text (omega arith) c.scan_text-scan.ensures.is_cut.whole
+    countable c.args.text.now c.cut_text-cut.result.0 c.utf8.text (omega arith) c.cut_text-cut.ensures.cut.whole
 
 pub returns : goal.returns
 returns c =
-    all_faults c.args.profile (as_base c.args.base) (chars c.args.text.now) c.scan_text-scan.result.cut
-    c.scan_text-scan.result.setting c.push_first_faults.new.found.items c.push_held_faults.new.found.items
-    c.scan_text-scan.ensures.is_cut c.scan_text-scan.ensures.made
+    all_faults c.args.profile (as_base c.args.base) (chars c.args.text.now) c.cut_text-cut.result.0
+    c.cut_text-cut.result.1 c.push_first_faults.new.found.items c.push_held_faults.new.found.items
+    c.cut_text-cut.ensures.cut c.cut_text-cut.ensures.setting
     (subst (λ (l : List Refusal). AddsViolations
-    (FirstViolation c.scan_text-scan.result.setting (chars c.args.text.now) c.scan_text-scan.result.cut) l
+    (FirstViolation c.cut_text-cut.result.1 (chars c.args.text.now) c.cut_text-cut.result.0) l
     c.push_first_faults.new.found.items) c.new-found.ensures.items c.in_ok-push_first_faults.ensures)
     c.in_ok-push_held_faults.ensures

@@ -1,7 +1,6 @@
 -- The faults of the host are all of its violations.
 use Rattle.std.proofs.Common.{◌∙◌, ap, sym, subst, ℕ}
 use Rattle.std.specs.Str.{chars}
-use Rattle.std.proofs.lemmas.Bool.{false≢true}
 use Rattle.std.proofs.lemmas.Result.{on_ok_weaker}
 use Rattle.uv_model.specs.Violations.Violation.{Behind, HostPartViolation}
 use Rattle.uv_model.specs.Cut.{Cut}
@@ -13,9 +12,6 @@ use Rattle.uv_grammar.specs.Slices.{chars_of_option}
 use Rattle.uv_model.specs.Setting.{Setting}
 use Rattle.uv_grammar.proofs.PartFaultLemmas.{host_fault_adds, host_scan_adds, judged_least}
 use Rattle.uv_grammar.proofs.all_faults.push_host_faults.Goals as goal
-
-pub judge_host_part-requires-clause-plain : goal.judge_host_part-requires-clause-plain
-judge_host_part-requires-clause-plain c = λ known. absurd (false≢true known)
 
 pub returns-then-is_scanned : goal.returns-then-is_scanned
 returns-then-is_scanned c =

@@ -1,13 +1,7 @@
 -- The setting has its own class and its own profile.
-use Rattle.std.proofs.Common.{ap, subst, sym}
+use Rattle.std.proofs.Common.{ap, sym}
 use Rattle.uv_model.specs.Setting.{Setting}
-use Rattle.uv_grammar.specs.Scanned.{IsPlainHost}
 use Rattle.uv_grammar.proofs.authority.judge_host_part.Goals as goal
-
-pub judge_host_of_class-requires-clause-plain : goal.judge_host_of_class-requires-clause-plain
-judge_host_of_class-requires-clause-plain c = λ known.
-    subst (λ (s : Setting). IsPlainHost s.profile s.class c.args.cut.now.host_text) (sym c.setting.view_is)
-    (c.requires.plain known)
 
 pub returns-clause-answer : goal.returns-clause-answer
 returns-clause-answer c =

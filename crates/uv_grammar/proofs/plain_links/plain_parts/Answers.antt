@@ -1,5 +1,5 @@
 -- The parts of a plain link are those of its cut.
-use Rattle.std.proofs.Common.{None, refl}
+use Rattle.std.proofs.Common.{refl}
 use Rattle.std.specs.Str.{chars}
 use Rattle.uv_model.specs.declared.profile.Profile.TheVariants.{Wide}
 use Rattle.uv_model.proofs.Hosts.DomainLemmas.{IsAscii-form}
@@ -10,21 +10,16 @@ use Rattle.uv_grammar.proofs.plain_links.plain_parts.Goals as goal
 pub of-requires : goal.of-requires
 of-requires c =
     let name = c.args.cut.now.name in
-    IsAscii-form Wide (chars_of name) name.now (c.requires.named.domain Wide).0
+    IsAscii-form Wide (chars_of name) name.now c.requires.2.named.wide.0
 
 pub build-requires : goal.build-requires
 build-requires c =
-    let cut = c.args.cut.now in (
-      None,
-      plain_is_cut (chars c.args.text.now) (chars_of cut.scheme) (chars_of cut.name) cut.name.now
-          (chars_of_option cut.port_text) cut.port (chars_of cut.path_text) (chars_of_option cut.query)
-          (chars_of_option cut.fragment) refl c.requires None,
-    )
+    (c.requires.1, plain_is_cut c.requires.0 c.requires.1 (chars c.args.text.now) c.args.cut.now c.requires.2)
 
 pub returns : goal.returns
-returns c = λ profile base.
+returns c = λ profile base plain.
     let cut = c.args.cut.now in
     rw (c.build.ensures, c.of.ensures)
-    (plain_accepted (chars c.args.text.now) (chars_of cut.scheme) (chars_of cut.name) cut.name.now
+    (plain_accepted profile base (chars c.args.text.now) (chars_of_option cut.scheme) (chars_of cut.name) cut.name.now
     (chars_of_option cut.port_text) cut.port (chars_of cut.path_text) (chars_of_option cut.query)
-    (chars_of_option cut.fragment) refl c.requires profile base)
+    (chars_of_option cut.fragment) refl plain)

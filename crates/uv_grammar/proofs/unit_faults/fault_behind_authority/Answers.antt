@@ -1,17 +1,11 @@
 -- The first fault of the parts in the order of their places.
-use Rattle.std.proofs.Common.{None, Some}
+use Rattle.std.proofs.Common.{Some}
 use Rattle.uv_model.proofs.Violations.RefusedLemmas.{path_passes, path_refuses, path_start_passes, path_start_refuses}
 use Rattle.uv_model.proofs.Violations.RefusedLemmas.{query_passes, query_refuses}
-use Rattle.uv_grammar.proofs.ScannedLemmas.{units_silent}
 use Rattle.uv_grammar.proofs.unit_faults.fault_behind_authority.Goals as goal
 
 pub returns-in-Some : goal.returns-in-Some
 returns-in-Some c = path_start_refuses c.args.setting.now c.args.cut.now c.in-Some.refusal c.in-Some.ensures
-
-pub returns-then-are_units : goal.returns-then-are_units
-returns-then-are_units c =
-    path_start_passes c.args.setting.now c.args.cut.now None c.in_default.ensures
-    (λ place rule h. units_silent c.args.setting.now c.args.cut.now (c.requires.units c.if-are_units.true) place rule h)
 
 pub returns-in-Some-path_fault : goal.returns-in-Some-path_fault
 returns-in-Some-path_fault c =

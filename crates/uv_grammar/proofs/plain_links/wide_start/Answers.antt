@@ -1,0 +1,15 @@
+-- A plain start of the wide profile is so against any base.
+use Rattle.std.proofs.Common.{Some, refl}
+use Rattle.std.proofs.lemmas.Option.{IfSome_then}
+use Rattle.std.specs.Str.{chars}
+use Rattle.uv_model.specs.declared.profile.Profile.TheVariants.{Wide}
+use Rattle.uv_grammar.specs.Slices.{chars_of}
+use Rattle.uv_grammar.proofs.PlainPrefixLemmas.{start_behind}
+use Rattle.uv_grammar.proofs.plain_links.wide_start.Goals as goal
+
+pub returns : goal.returns
+returns c =
+    IfSome_then c.start_behind.result c.start_behind.ensures
+    (λ start is. λ base.
+    start_behind Wide base (chars c.args.text.now) (chars c.in-Some.behind) (chars c.in-Some-split_wide_name.rest)
+    (chars_of c.in-Some.scheme) (Some c.in-Some.scheme) c.in-Some-split_wide_name.name start c.in-Some.ensures refl c.in-Some-split_wide_name.ensures is)
