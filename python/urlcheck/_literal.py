@@ -51,6 +51,26 @@ class Literals:
                     given = at if given is None else given
         return None if given is None else (_link(source, text, given), False)
 
+    def spaced(self, path: str, text: str) -> Optional[Link]:
+        """A link that is written with spaces which its reader takes away, as it is written: where all of it is in one line,
+        and it is written in no other way. Each place is given once."""
+        source = self.source(path)
+        prefix = text.find("://") + 3
+        if source is None or prefix < 3 or len(text) > MOST_WRITTEN or _is_plain(source.text, text):
+            return None
+        rest = "[ \t]*".join(map(re.escape, text[prefix:]))
+        found = re.compile(re.escape(text[:prefix]) + "[ \t]*" + rest).search(source.text)
+        used = self._used.setdefault((path, text), set())
+        if found is None or found.start() in used:
+            return None
+        used.add(found.start())
+        return Link(found[0], found.start(), True)
+
+
+def _is_plain(text: str, link: str) -> bool:
+    """Whether a link is written somewhere as it is."""
+    return next(_plain(text, link, 0, len(text)), None) is not None
+
 
 def _link(source: Source, text: str, at: int) -> Link:
     """The link that begins there, with the pieces of one that is written otherwise."""

@@ -50,6 +50,11 @@ def links_of(source: Source) -> Tuple[List[Link], Set[int], Tuple[str, ...]]:
     links: List[Link] = []
     ignored: Set[int] = set()
     for text, line in _texts_of(tree, ignored):
+        # (docutils takes the spaces out of a link, and so makes another one of it)
+        spaced = literals.spaced("", text)
+        if spaced is not None:
+            links.append(spaced)
+            continue
         found = literals.find("", line, text)
         # (what isn't written, as what :rfc: makes, isn't the author's; a named target is used often, and written once)
         if found is not None and found[1]:

@@ -83,11 +83,16 @@ def _judge_document(app: Any, tree: Any) -> None:
         # (MyST percent-encodes what it reads, so that its nodes don't say what was written)
         read = _judge_markdown(settings, literals, path)
     for said in _links(tree, path):
+        source = literals.source(said.path)
+        # (docutils takes the spaces out of a link, and so makes another one of it)
+        spaced = literals.spaced(said.path, said.text)
+        if spaced is not None:
+            _tell(settings, said._replace(text=spaced.text), source, spaced)
+            continue
         # (only what is refused is sought)
         if settings.judge.wrong(Link(said.text, 0, False)) is None:
             continue
         found = literals.find(said.path, said.line, said.text)
-        source = literals.source(said.path)
         if found is None or source is None:
             _tell(settings, said, None, None)
         # (a substitution or a named target is used several times, and written once)

@@ -261,6 +261,15 @@ class Sphinx(Built):
         self.assertEqual(self.build("-E", "-W", "-D", "suppress_warnings=urlcheck"), (0, ""))
         self.assertEqual(self.build("-E", "-W", "-D", "urlcheck_ignore=/[%^]"), (0, ""))
 
+    def test_spaces_that_docutils_takes_away(self):
+        """A space within a line is told where it is, once; a link over two lines is read as it is meant."""
+        self.write({"conf.py": "extensions = ['urlcheck.sphinx']\nexclude_patterns = ['mst.md', 'out']\nurlcheck_columns = True\n"})
+        self.write({"index.rst": "T\n=\n\n`a <http://h/long/\npath>`_ `b <http://h/b c>`_ e_ e_\n\n.. _e: http://h/e f\n\n"
+                    "`g <http://h/gh>`_ http://h/g h\n"})
+        status, said = self.build("-E")
+        self.assertEqual((status, self.told(said)), (0, [("index.rst", 5, 23), ("index.rst", 7, 18)]), said)
+        self.assertEqual(said.count("U+0020 SPACE may not stand in a URL"), 2)
+
     def test_settings(self):
         self.write({"index.rst": "T\n=\n\n`a <http://a_b/>`_ `b <x>`_\n"})
         for given, rules in (

@@ -60,6 +60,8 @@ COPIES = (
     Spoiled("a literal is sought from the first line on", "_literal.py", "start = source.offset(min(max(line, 1), ",
             "start = source.offset(min(1, ", SPHINX, ("sphinx",)),
     Spoiled("the same place is told twice", "_literal.py", "used.add(at)", "pass", SPHINX, ("sphinx",)),
+    Spoiled("a space that docutils takes away isn't sought", "_literal.py", "used.add(found.start())", "return None",
+            ("builds.py", "Sphinx.test_spaces_that_docutils_takes_away"), ("sphinx",)),
     Spoiled("front matter isn't counted in MkDocs", "mkdocs.py", "text = source if source is not None and is_written else Source(markdown)", "text = Source(markdown)", ("builds.py", "MkDocs.test_each_link_at_its_place"), ("mkdocs",)),
 )
 

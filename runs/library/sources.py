@@ -109,8 +109,16 @@ class Rst(Texts):
 
 .. urlcheck: ignore
 `j <^>`_
-""", "4:5:http://h/ab\n4:30:http://h/c^\n4:50:http://h/d\n6:8:http://h/%4\n8:12:f^.png\n9:13:http://h/g\n13:13:h i\n")
-        self.judges("a.rst", [("4:40", SPACE), ("6:17", "percent"), ("8:13", SPACE), ("13:14", SPACE)])
+""", "4:5:http://h/a b\n4:30:http://h/c^\n4:50:http://h/d\n6:8:http://h/%4\n8:12:f^.png\n9:13:http://h/g\n13:13:h i\n")
+        self.judges("a.rst", [("4:15", SPACE), ("4:40", SPACE), ("6:17", "percent"), ("8:13", SPACE), ("13:14", SPACE)])
+
+    @has("docutils")
+    def test_spaces_that_docutils_takes_away(self):
+        """A link over two lines is read as it is meant; within a line a space is the author's."""
+        self.finds("a.rst", "`a <http://h/long/\npath>`_ and `b <http://h/b\tc d>`_ and e_ and e_.\n\n.. _e: http://h/e f\n\n"
+                   "`g <http://h/gh>`_ http://h/g h\n",
+                   "1:5:http://h/long/path\n2:17:http://h/b\tc d\n4:8:http://h/e f\n6:5:http://h/gh\n6:20:http://h/g\n")
+        self.judges("a.rst", [("2:27", SPACE), ("4:18", SPACE)])
 
     @has("docutils")
     def test_what_docutils_does_not_know(self):
