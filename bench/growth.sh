@@ -289,8 +289,8 @@ if [ -z "$only" ] || [ "$only" = lint ]; then
         if [ $format = rdjson ]; then unit=bytes; fi
         for shape in wrong_path wrong_host; do
             read -ra lengths <<<"$(line_counts "$shape")"
-            # (its fingerprints are of the whole of the shortest line, and of a window of the longer ones)
-            if [ $format = sarif ]; then lengths=("${lengths[@]:1}"); fi
+            # (these carry the whole of the shortest line, and of the longer ones a window that is longer than that)
+            case $format in json | sarif) lengths=("${lengths[@]:1}") ;; esac
             grows lint "$shape" "${lengths[@]}"
         done
     done
