@@ -19,6 +19,13 @@ fail() {
     failed=1
 }
 
+# as_nobody COMMAND.. : runs a command as a user who may not read every file, as root may
+as_nobody() {
+    local other=()
+    if [ "$(id -u)" = 0 ]; then other=(setpriv --reuid=65534 --regid=65534 --clear-groups); fi
+    "${other[@]}" "$@"
+}
+
 # expect STATUS STDOUT STDERR WORD.. : a run with these words ends so. STDOUT and STDERR are read with escapes.
 expect() {
     local status=$1 stdout=$2 stderr=$3 ended

@@ -55,40 +55,15 @@ compiled() {
 # run NAME WORD.. : it here; where it isn't static, over the shared library
 run() { "$qemu" -L "$root" -E LD_LIBRARY_PATH="$built/lib:$root/lib" "$room/$1" "${@:2}"; }
 
-python3 cases.py pack "$room/cases" "$top"/vectors/*.json
-python3 ../lengths.py vectors "$room/lengths.json"
-python3 cases.py pack "$room/lengths" "$room/lengths.json"
-for way in static shared; do
-    case $way in
-        static) compiled answers -static "$archive" ;;
-        shared) compiled answers "$shared" ;;
-    esac
-    run answers "$room/cases" >"$room/said"
-    python3 cases.py compare "$program" "$room/said" "$top"/vectors/*.json
-    echo "$part: the answers of the $way library on $(wc -l <"$room/said") cases"
-done
-run answers "$room/cases" places >"$room/said"
-python3 cases.py places "$room/said" "$top"/vectors/*.json
-run answers "$room/lengths" places >"$room/said"
-python3 cases.py places "$room/said" "$room/lengths.json"
-run answers "$room/cases" mended >"$room/said"
-python3 cases.py mended "$program" "$room/said" "$top"/vectors/*.json
-
-python3 lines.py "$top"/vectors/*.json >"$room/lines"
+. "$top/runs/platforms/programs.sh"
+prepared
+compiled answers -static "$archive"
+answers_by 'the static library'
+compiled answers "$shared"
+answers_by 'the shared library'
+places_and_mended_texts
 for name in batches calls lint; do compiled $name -static "$archive"; done
-run batches "$room/lines"
-run calls
-reports=0
-# (each format with the unit that it takes first)
-for format in 0-gnu 1-caret 2-json 3-github 4-sarif 5-checkstyle 6-junit 7-gitlab 8-rdjson; do
-    unit=0
-    [ $format != 8-rdjson ] || unit=1
-    "$program" lint --quiet --format "${format#*-}" --columns "$([ $unit = 0 ] && echo code-points || echo bytes)" "$room/lines" \
-        >"$room/wanted" || [ $? = 1 ]
-    run lint "$room/lines" "$room/lines" "${format%-*}" $unit | cmp - "$room/wanted"
-    reports=$((reports + 1))
-done
-echo "$part: $reports reports as \`lint\` writes them"
+calls_and_reports
 
 compiled threads -static "$archive" -lpthread
 run threads

@@ -29,7 +29,7 @@ fail() {
 for package in urlcheck liburlcheck0 liburlcheck-dev python3-urlcheck; do
     file=$packages/${package}_${version}_$architecture.deb
     [ "$(dpkg-deb -f "$file" Architecture)" = $architecture ] || fail "$package is for another machine"
-    dpkg -x "$file" "$room/root"
+    dpkg -x "$file" "$room/unpacked"
 done
 tar -C "$room" -xzf "$packages/$name-$target-linux.tar.gz"
 wheel=$packages/$name-cp38-abi3-manylinux_${glibc/./_}_$target.whl
@@ -44,7 +44,7 @@ while IFS= read -r file; do
     [ "$(head -c 4 "$file" | tr -d '\0')" = $'\x7fELF' ] || continue
     "${cross}readelf" -h "$file" | grep -q "Machine: *$machine\$" || fail "$file is code for another machine"
     count=$((count + 1))
-done < <(find "$room/root" "$room/$name" "$room/site" -type f)
+done < <(find "$room/unpacked" "$room/$name" "$room/site" -type f)
 [ $count = 8 ] || fail "there are $count files of code, and not 8"
 . packaging/builds.sh
 found=$(OBJDUMP=${cross}objdump glibc_of "$room/site/urlcheck/_native.abi3.so")
@@ -54,18 +54,18 @@ found=$(OBJDUMP=${cross}objdump glibc_of "$room/site/urlcheck/_native.abi3.so")
 
 cp "$packages/$name-$target-linux" "$room/alone"
 chmod 755 "$room/alone"
-for file in root/usr/bin/urlcheck "$name/bin/urlcheck" site/bin/urlcheck alone; do
+for file in unpacked/usr/bin/urlcheck "$name/bin/urlcheck" site/bin/urlcheck alone; do
     "${emulated[@]}" "$room/$file" -V | cmp - <(echo "urlcheck $version") || fail "$file"
     "${emulated[@]}" "$room/$file" vectors vectors/parser.json | grep -q ' fail 0$' || fail "$file vectors"
 done
-gzip -dc "$room/root/usr/share/man/man1/urlcheck.1.gz" | cmp - man/urlcheck.1 || fail 'the manual page'
+gzip -dc "$room/unpacked/usr/share/man/man1/urlcheck.1.gz" | cmp - man/urlcheck.1 || fail 'the manual page'
 
 # ---- the library, by the program of the guide on C
 
 python3 runs/library/programs.py "$PWD" "$room"
 export PKG_CONFIG_PATH=$room/$name/lib/pkgconfig
 "${cross}gcc" "$room/page.c" $(pkg-config --cflags --libs urlcheck) -o "$room/page"
-{ "${emulated[@]}" -E LD_LIBRARY_PATH="$room/root/usr/lib/$target-linux-gnu:/usr/$target-linux-gnu/lib" "$room/page" ||
+{ "${emulated[@]}" -E LD_LIBRARY_PATH="$room/unpacked/usr/lib/$target-linux-gnu:/usr/$target-linux-gnu/lib" "$room/page" ||
     [ $? = 1 ]; } | cmp - "$room/page.c.out" || fail 'the program in C'
 echo "$part: $count files of code; the programs and the library work"
 
@@ -75,7 +75,7 @@ if [ "$target" != aarch64 ]; then
     echo "$part: the wheel isn't tried, since Debian 12 has no Python for $target"
 elif python=$(bash runs/platforms/python.sh "$room/python"); then
     python3 runs/library/cases.py pack "$room/cases" vectors/*.json
-    own=(qemu-aarch64 -L "$room/python/root" -E PYTHONPATH="$room/site" "$python")
+    own=(qemu-aarch64 -L "$room/python/unpacked" -E PYTHONPATH="$room/site" "$python")
     "${own[@]}" "$room/page.py" | cmp - "$room/page.py.out" || fail 'the program in Python'
     "${own[@]}" runs/library/answers.py "$room/cases" >"$room/said" || fail 'the answers in Python'
     python3 runs/library/cases.py compare "$program" "$room/said" vectors/*.json

@@ -53,36 +53,15 @@ compiled() {
 # run NAME WORD.. : it here
 run() { wine "$room/$1.exe" "${@:2}"; }
 
-python3 cases.py pack "$room/cases" "$top"/vectors/*.json
-python3 ../lengths.py vectors "$room/lengths.json"
-python3 cases.py pack "$room/lengths" "$room/lengths.json"
+. "$top/runs/platforms/programs.sh"
+prepared
 for library in liburlcheck.a liburlcheck.dll.a; do
     compiled answers "$built/lib/$library"
-    run answers "$room/cases" >"$room/said"
-    python3 cases.py compare "$program" "$room/said" "$top"/vectors/*.json
-    echo "$part: the answers by $library on $(wc -l <"$room/said") cases"
+    answers_by $library
 done
-run answers "$room/cases" places >"$room/said"
-python3 cases.py places "$room/said" "$top"/vectors/*.json
-run answers "$room/lengths" places >"$room/said"
-python3 cases.py places "$room/said" "$room/lengths.json"
-run answers "$room/cases" mended >"$room/said"
-python3 cases.py mended "$program" "$room/said" "$top"/vectors/*.json
-
-python3 lines.py "$top"/vectors/*.json >"$room/lines"
+places_and_mended_texts
 for name in batches calls lint; do compiled $name "$built/lib/liburlcheck.dll.a"; done
-run batches "$room/lines"
-run calls
-reports=0
-# (each format with the unit that it takes first)
-for format in 0-gnu 1-caret 2-json 3-github 4-sarif 5-checkstyle 6-junit 7-gitlab 8-rdjson; do
-    unit=0 name=code-points
-    [ $format != 8-rdjson ] || unit=1 name=bytes
-    "$program" lint --quiet --format "${format#*-}" --columns $name "$room/lines" >"$room/wanted" || [ $? = 1 ]
-    run lint "$room/lines" "$room/lines" "${format%-*}" $unit | cmp - "$room/wanted"
-    reports=$((reports + 1))
-done
-echo "$part: $reports reports as \`lint\` writes them"
+calls_and_reports
 
 compiled threads "$built/lib/liburlcheck.dll.a"
 run threads
