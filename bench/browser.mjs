@@ -2,7 +2,7 @@
 // of them some passes over the links of standard input, one a line, and over what stands behind their authorities,
 // which is judged against a base. It fails where a call takes more than so many times what another one takes, or where
 // a valid text doesn't parse. See bench/browser.sh. Usage: node bench/browser.mjs FOLDER ROUNDS <LINKS, FOLDER being
-// one that ./build-page has made.
+// one that tools/build-page has made.
 import { readFileSync } from 'node:fs'
 import { resolve } from 'node:path'
 import { pathToFileURL } from 'node:url'

@@ -13,7 +13,7 @@ done
 room=$(mktemp -d)
 trap 'rm -rf "$room"' EXIT
 folder=${1:-}
-[ -n "$folder" ] || { folder=$room/page && "$top/build-page" "$folder" >&2; }
+[ -n "$folder" ] || { folder=$room/page && "$top/tools/build-page" "$folder" >&2; }
 python3 "$top/bench/links.py" 40000 1 2>/dev/null | awk 'length($0) == 70' >"$room/links"
 [ -s "$room/links" ] || { echo 'browser: no links'; exit 2; }
 node "$top/bench/browser.mjs" "$folder" "${2:-15}" <"$room/links"

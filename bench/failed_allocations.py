@@ -18,7 +18,7 @@ import tempfile
 FAILS = 200
 # A call makes at most so many allocations; one that stands in the record is tried with so many more than are written there.
 MOST = {"domain": 10, "check": 12, "faults": 14, "resolve": 16, "run_check": 20, "run_faults": 20, "run_links": 60,
-        "run_vectors": 50}
+        "run_cases": 50}
 MORE = 2
 ROOT = pathlib.Path(__file__).resolve().parent.parent
 RECORD = ROOT / "docs" / "ALLOCATIONS.md"
@@ -113,7 +113,7 @@ def calls():
         for profile in profiles:
             yield "run_links", profile, base, text, want
     for text, want in VECTORS:
-        yield "run_vectors", "standard", "", text, want
+        yield "run_cases", "standard", "", text, want
 
 
 def answers(lines, path):

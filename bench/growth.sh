@@ -278,7 +278,10 @@ for what in check faults mend links; do
             # a reference is judged with its base, which the driver of checks doesn't take
             check) [ -n "$(base_of "$shape")" ] || grows check "$shape" "${counts[@]}" ;;
             faults | mend) grows "$what" "$shape" "${counts[@]}" ;;
-            links) grows links "$shape" $(line_counts "$shape") ;;
+            links)
+                read -ra lengths <<<"$(line_counts "$shape")"
+                grows links "$shape" "${lengths[@]}"
+                ;;
         esac
     done
 done
@@ -295,12 +298,16 @@ if [ -z "$only" ] || [ "$only" = lint ]; then
         done
     done
     format=gnu
-    for unit in bytes utf16 screen; do grows lint wrong_path $(line_counts wrong_path); done
+    read -ra lengths <<<"$(line_counts wrong_path)"
+    for unit in bytes utf16 screen; do grows lint wrong_path "${lengths[@]}"; done
     unit=''
 fi
 if [ -z "$only" ] || [ "$only" = written ]; then
     for format in gnu caret json github sarif checkstyle junit gitlab rdjson; do
-        for shape in bad_host path+% 'path+[' 'query+['; do grows written "$shape" $(line_counts "$shape"); done
+        for shape in bad_host path+% 'path+[' 'query+['; do
+            read -ra lengths <<<"$(line_counts "$shape")"
+            grows written "$shape" "${lengths[@]}"
+        done
     done
 fi
 exit $failed

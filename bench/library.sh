@@ -2,14 +2,15 @@
 # What a call from C costs beside Ada's can_parse: the kinds of bench/kinds whose call is from_c, by bench/verdicts.sh, which
 # takes the same words and fails where it says so. A call from C judges a text alone (`urlcheck_check`), against a base that
 # both sides keep (`urlcheck_check_with`), or against a base that comes as text (`urlcheck_check_against`). It also sees
-# that the bytes are UTF-8, and lays out the places of the parts. LIBRARY may name a folder that ./build-library wrote.
+# that the bytes are UTF-8, and lays out the places of the parts. LIBRARY may name a folder that tools/build-library
+# wrote.
 # Usage: bench/library.sh [--ada FOLDER] [--by instructions|time] [--rounds ROUNDS] [--count COUNT] [--seed SEED]
 set -euo pipefail
 top=$(dirname "$(dirname "$(realpath "$0")")")
 room=$(mktemp -d)
 trap 'rm -rf "$room"' EXIT
 if [ -z "${LIBRARY:-}" ]; then
-    "$top/build-library" "$room/library" >&2
+    "$top/tools/build-library" "$room/library" >&2
     export LIBRARY=$room/library
 fi
 failed=0 measured=0

@@ -2,7 +2,7 @@
 # What the checker costs inside PostgreSQL, SQLite, DuckDB and Python, beside no check and beside the pattern that people write,
 # in processor time over the same made links, each the least of three rounds. What isn't installed is left out, with a line. It fails where a COPY with a check costs more above
 # none than a fifth of what the pattern costs, or a call from Python takes longer than is wanted of it.
-# Usage: bench/registers.sh [COUNT [SEED]]. LIBRARY may name a folder that ./build-library wrote.
+# Usage: bench/registers.sh [COUNT [SEED]]. LIBRARY may name a folder that tools/build-library wrote.
 set -euo pipefail
 top=$(dirname "$(dirname "$(realpath "$0")")")
 count=${1:-1000000} seed=${2:-1}
@@ -11,7 +11,7 @@ room=$whole/room
 mkdir "$room"
 trap 'rm -rf "$whole"' EXIT
 library=${LIBRARY:-$room/library}
-[ -n "${LIBRARY:-}" ] || "$top/build-library" "$library" >&2
+[ -n "${LIBRARY:-}" ] || "$top/tools/build-library" "$library" >&2
 export PYTHONPATH=$library/python PYTHONDONTWRITEBYTECODE=1
 failed=0
 pattern='^https?://[^\s/$.?#].[^\s]*$'
@@ -25,7 +25,7 @@ quietly() {
     "$@" >"$room/said" 2>&1 || { cat "$room/said"; fail "$*"; }
 }
 
-. "$top/runs/registers/server.sh"
+. "$top/tests/runs/registers/server.sh"
 python3 "$top/bench/links.py" "$count" "$seed" >"$room/links"
 
 # copied TABLE : the seconds of processor time that a COPY of the valid links takes
@@ -92,7 +92,7 @@ scanned() {
 }
 
 if command -v duckdb >/dev/null && [ -f /usr/include/duckdb_extension.h ]; then
-    quietly make -B -f "$top/engines/duckdb/Makefile" OUT="$room" LIBRARY="$library" RPATH="$library/lib" "$room/urlcheck.duckdb_extension"
+    quietly make -B -f "$top/bindings/engines/duckdb/Makefile" OUT="$room" LIBRARY="$library" RPATH="$library/lib" "$room/urlcheck.duckdb_extension"
     echo "DuckDB: scans of $count links in memory, on one thread"
     for expression in 'length(url)' 'url_is_valid(url)' "url_is_valid(url, 'http://h/')" 'url_host(url)' 'url_resolve(url)' \
         "CASE WHEN regexp_matches(url, '$pattern') THEN 1 END"; do
@@ -105,6 +105,6 @@ fi
 for python in python3 /usr/bin/python3; do
     "$python" -c 'import numpy, pandas' 2>/dev/null && break
 done
-quietly make -B -f "$top/engines/sqlite/Makefile" OUT="$room" LIBRARY="$library" RPATH="$library/lib" "$room/mod_urlcheck.so"
+quietly make -B -f "$top/bindings/engines/sqlite/Makefile" OUT="$room" LIBRARY="$library" RPATH="$library/lib" "$room/mod_urlcheck.so"
 "$python" "$top/bench/registers.py" "$room/links" "$room/mod_urlcheck" "$pattern" || failed=1
 exit $failed

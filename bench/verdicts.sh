@@ -13,8 +13,8 @@
 #        [--seed SEED] [--links FILE] [--store FOLDER] [--jobs JOBS]
 # A folder of Ada's sources is built; a program that was built from one is taken as it is. Without Ada, texts of seed 1
 # are compared with what it took for them when it was measured, which bench/verdicts/ada.stored has. LIBRARY may name a
-# folder that ./build-library wrote, for the calls from C. With `all` the output of each kind is stored in the folder of
-# --store too, and, where Ada was measured, its figures; so many kinds are measured side by side.
+# folder that tools/build-library wrote, for the calls from C. With `all` the output of each kind is stored in the
+# folder of --store too, and, where Ada was measured, its figures; so many kinds are measured side by side.
 set -euo pipefail
 top=$(dirname "$(dirname "$(realpath "$0")")")
 # What a call may cost beyond its bound: another compiler or the next change of the sources moves a figure a little.
@@ -49,7 +49,7 @@ fi
 # library : the folder of the library for C, which is built where none is given
 library() {
     if [ -z "${LIBRARY:-}" ]; then
-        "$top/build-library" "$room/library" >&2
+        "$top/tools/build-library" "$room/library" >&2
         LIBRARY=$room/library
     fi
     echo "$LIBRARY"

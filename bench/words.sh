@@ -1,6 +1,6 @@
 # shellcheck shell=bash
 # Sourced by the benches.
-# words NAME.. -- WORD.. : gives each variable NAME the value that stands behind its word `--NAME`
+# words NAME.. -- WORD.. : gives each variable NAME the value after its word `--NAME`
 words() {
     local names=' ' name
     while [ "$1" != -- ]; do

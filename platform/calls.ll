@@ -1,4 +1,4 @@
-; What the proved code calls, over the functions of platform.h. ./lower puts this behind the module, in place of the
+; What the proved code calls, over the functions of platform.h. ./lower puts this after the module, in place of the
 ; declarations of these names. What isn't called is dropped.
 
 ; The allocator answers a pair of words, which machines return in different ways: here it goes through a place in memory.

@@ -3,7 +3,7 @@
 
 #include "platform.h"
 
-/* Where the block of a refused call stands. */
+/* Where the block of a refused call is. */
 static char nothing;
 
 static attempt attempt_of(void *block) {

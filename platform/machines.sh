@@ -1,8 +1,8 @@
-# Sourced at the top of the repository, behind packaging/builds.sh, by what builds for another machine. `here` is this folder,
+# Sourced at the top of the repository, after tools/builds.sh, by what builds for another machine. `here` is this folder,
 # `shims` the one with the C, and of the target `target` is its name, `triple` that of LLVM, and `cross` how the names of its
 # compiler and binutils begin.
 
-# kept_if_newer FILE SOURCE.. : whether the file stands, and no source is newer
+# kept_if_newer FILE SOURCE.. : whether the file is there, and no source is newer
 kept_if_newer() {
     local source
     [ -e "$1" ] || return 1
@@ -13,14 +13,17 @@ kept_if_newer() {
 # more of clang's.
 lowered() {
     local module=crates/$2/out/x86-64.bc kept=crates/$2/out/$target.o
-    packaging/build-module "$2" "$module"
+    tools/build-module "$2" "$module"
     kept_if_newer "$kept" "$module" "$here/lower" "$here/calls.ll" "$here/machines.sh" ||
         "$here/lower" "$1" "$module" "$triple" "$kept" "${@:3}"
     echo "$kept"
 }
 
-# The words of clang for RISC-V: what each such Linux has, as Debian's ports take it, with code that stands anywhere.
+# The words of clang for RISC-V: what each such Linux has, as Debian's ports take it, with code that may be anywhere.
 riscv64=(-march=rv64gc -mabi=lp64d -fPIC)
+
+# The words of clang for WebAssembly: no instructions that copy many bytes, which older engines lack.
+webassembly=(-mno-bulk-memory -mno-bulk-memory-opt)
 
 # The words of clang for Windows: each processor for x86-64.
 windows=(-march=x86-64)
@@ -31,7 +34,7 @@ windows_object() {
         -c "$shims/$1.c" -o "$2"
 }
 
-# How a program or a library for Windows is linked: its code may stand anywhere, no data is run, and no date is in it.
+# How a program or a library for Windows is linked: its code may be anywhere, no data is run, and no date is in it.
 windows_link=(-static -Wl,--gc-sections -Wl,--nxcompat -Wl,--dynamicbase -Wl,--high-entropy-va -Wl,--no-insert-timestamp -s)
 
 # linux_object NAME FILE : the C of that name, as an object file for a Linux

@@ -47,7 +47,7 @@ int64_t platform_open(const char *path, int64_t flags, int64_t mode);
 /* 0, or -1. */
 int64_t platform_close(int64_t file);
 
-/* How many bytes were read, 0 at the end alone; or -1, and then none was. They are the file's own bytes, as they stand. */
+/* How many bytes were read, 0 at the end alone; or -1, and then none was. They are the file's own bytes, as they are. */
 int64_t platform_read(int64_t file, uint8_t *buffer, uint64_t room);
 
 /* How many bytes were written, which may be fewer than given; or -1, and then none was. */

@@ -58,7 +58,7 @@ static uint64_t length_of(const char *text) {
     return length;
 }
 
-/* Where a path begins below a folder of that name: behind the name and its slashes; or 0 where it doesn't stand there. */
+/* Where a path begins below a folder of that name: after the name and its slashes; or 0 where it isn't there. */
 static uint64_t start_below(const char *path, const char *folder, uint64_t length) {
     uint64_t same = 0;
     while (same < length && path[same] == folder[same]) same++;

@@ -11,7 +11,7 @@ typedef struct header {
     struct header *next; /* in the list of those that were given up */
 } header;
 
-_Static_assert(sizeof(header) == HEAD, "a block stands at a multiple of 16");
+_Static_assert(sizeof(header) == HEAD, "a block is at a multiple of 16");
 
 extern uint8_t __heap_base; /* where the linker ends the static data */
 static header *given_up[MOST_POWER + 1];
@@ -55,7 +55,7 @@ void platform_dealloc(void *block) {
     given_up[freed->power] = freed;
 }
 
-/* Where the block of a refused call stands. */
+/* Where the block of a refused call is. */
 static uint8_t nothing;
 
 static attempt attempt_of(void *block) {

@@ -1,9 +1,9 @@
 /*
  * See windows_words.h. Windows hands a program one line in UTF-16, and no shell there expands patterns. So of the words
- * behind `lint` and `vectors` those that are files' names are changed here, and no others:
+ * after `lint` and `vectors` those that are files' names are changed here, and no others:
  *
  *   - `\` becomes `/`. Windows takes both, a name can have neither, and reports name files with `/`, as SARIF asks for.
- *   - `*` and `?` behind the last of them are read as by Windows's own programs, and stand for the names of files.
+ *   - `*` and `?` after the last of them are read as by Windows's own programs, and stand for the names of files.
  *
  * A text that is checked is never among them: it is the word of `check` or `mend`, or the value of `--base`.
  */
@@ -147,7 +147,7 @@ typedef enum { TEXT, NAME, FILES } word_kind;
 typedef struct {
     word_kind value; /* of the next word, where it is the value of an option */
     int is_valued; /* whether it is */
-    int is_behind; /* whether it stands behind `--` */
+    int is_behind; /* whether it is after `--` */
 } word_reading;
 
 static const wchar_t *const text_options[] = {L"--base", L"--profile", L"--format", L"--columns"};

@@ -9,7 +9,7 @@ build_ada() {
     g++ -std=c++20 -O3 -march=x86-64-v2 -I"$1/include" -I"$1/src" -o "$2" "${top:?}/bench/peers/ada.cpp" "$1/src/ada.cpp"
 }
 
-# build_c LIBRARY PROGRAM : the driver of the library for C, over what ./build-library wrote
+# build_c LIBRARY PROGRAM : the driver of the library for C, over what tools/build-library wrote
 build_c() {
     gcc -std=c99 -O2 -Wall -Wextra -Werror -I "$1/include" "$top/bench/peers/library.c" "$1/lib/liburlcheck.a" -o "$2"
 }

@@ -1,0 +1,19 @@
+"""Puts DuckDB's footer of metadata after a shared object: footer.py OBJECT OUT VERSION PLATFORM. (Its layout is that of DuckDB's
+append_extension_metadata: a WebAssembly section that holds eight fields of 32 bytes, the last one first, and no signature.)"""
+
+import sys
+
+HEAD = bytes([0, 147, 4, 16]) + b"duckdb_signature" + bytes([128, 4])
+API = "v1.2.0"
+
+
+def main(module, out, version, platform):
+    fields = ("", "", "", "C_STRUCT", version, API, platform, "4")
+    with open(module, "rb") as file:
+        data = file.read()
+    with open(out, "wb") as file:
+        file.write(data + HEAD + b"".join(it.encode().ljust(32, b"\0") for it in fields) + bytes(256))
+
+
+if __name__ == "__main__":
+    main(*sys.argv[1:])

@@ -1,0 +1,188 @@
+/* The arguments of the functions: texts in the database's encoding, profiles by name, bases that are checked once. */
+#include "given.h"
+
+#include "catalog/namespace.h"
+#include "funcapi.h"
+#include "mb/pg_wchar.h"
+#include "utils/builtins.h"
+#include "utils/memutils.h"
+
+/* What is kept between the calls from one place of a statement, in fn_extra. */
+typedef struct kept {
+    uint8_t *bytes; /* those of the base */
+    size_t length;
+    urlcheck_base base;
+    TupleDesc row;
+} kept;
+
+static kept *kept_of(FmgrInfo *place) {
+    if (place->fn_extra == NULL) place->fn_extra = MemoryContextAllocZero(place->fn_mcxt, sizeof(kept));
+    return place->fn_extra;
+}
+
+/* Whether bytes mean the same in UTF-8 as in the encoding, as ASCII does in each that a server can have. */
+static bool is_plain(const char *bytes, size_t length, int encoding) {
+    if (encoding == PG_UTF8 || encoding == PG_SQL_ASCII) return true;
+    for (size_t at = 0; at < length; at++)
+        if (IS_HIGHBIT_SET(bytes[at])) return false;
+    return true;
+}
+
+#if PG_VERSION_NUM >= 140000
+/* The text in UTF-8. After the front that has a form in UTF-8 is a byte that never does, where that isn't all. */
+static given in_utf8(const char *bytes, int length, int encoding) {
+    Oid conversion = FindDefaultConversionProc(encoding, PG_UTF8);
+    size_t room = (size_t)length * MAX_CONVERSION_GROWTH + 2;
+    char *out;
+    int taken;
+    given read;
+
+    if (!OidIsValid(conversion))
+        ereport(ERROR, (errcode(ERRCODE_UNDEFINED_FUNCTION),
+                        errmsg("no default conversion to UTF8 exists for the encoding \"%s\"",
+                               pg_encoding_to_char(encoding))));
+    if (room > MaxAllocSize) room = MaxAllocSize;
+    out = palloc(room);
+    taken = pg_do_encoding_conversion_buf(conversion, encoding, PG_UTF8, (unsigned char *)bytes, length,
+                                          (unsigned char *)out, (int)room - 1, true);
+    read.bytes = (const uint8_t *)out;
+    read.length = strlen(out);
+    if (taken < length) out[read.length++] = '\xff';
+    return read;
+}
+#else
+/* The text in UTF-8, or an error where it has no form there. */
+static given in_utf8(const char *bytes, int length, int encoding) {
+    given read;
+
+    read.bytes = (const uint8_t *)pg_server_to_any(bytes, length, PG_UTF8);
+    read.length = strlen((const char *)read.bytes);
+    return read;
+}
+#endif
+
+static given given_of(text *argument) {
+    const char *bytes = VARDATA_ANY(argument);
+    int length = VARSIZE_ANY_EXHDR(argument), encoding = GetDatabaseEncoding();
+    given read = {(const uint8_t *)bytes, (size_t)length};
+
+    return is_plain(bytes, read.length, encoding) ? read : in_utf8(bytes, length, encoding);
+}
+
+text *text_of(const uint8_t *bytes, size_t length) {
+    const char *written = (const char *)bytes;
+
+    if (!is_plain(written, length, GetDatabaseEncoding())) {
+        const char *converted = pg_any_to_server(written, (int)length, PG_UTF8);
+        if (converted != written) return cstring_to_text(converted);
+    }
+    return cstring_to_text_with_len(written, (int)length);
+}
+
+text *message_text(const asked *asked, urlcheck_finding found) {
+    char message[MESSAGE_ROOM];
+    const char *said = ask_message(asked, found, message);
+
+    return text_of((const uint8_t *)said, strlen(said));
+}
+
+static uint32_t profile_of(text *argument) {
+    int number = profile_number(VARDATA_ANY(argument), VARSIZE_ANY_EXHDR(argument));
+
+    if (number < 0)
+        ereport(ERROR,
+                (errcode(ERRCODE_INVALID_PARAMETER_VALUE),
+                 errmsg("no profile has the name \"%s\"", text_to_cstring(argument)),
+                 errhint("There are the profiles " PROFILE_NAMES ".")));
+    return (uint32_t)number;
+}
+
+/* The base, checked anew where it isn't that of the last call from the same place. */
+static const urlcheck_base *held_base(kept *kept, given base, uint32_t profile, MemoryContext context) {
+    bool is_kept = kept->bytes != NULL && kept->length == base.length && kept->base.profile == profile &&
+                   memcmp(kept->bytes, base.bytes, base.length) == 0;
+
+    if (!is_kept) {
+        uint8_t *bytes = MemoryContextAlloc(context, base.length + 1);
+
+        memcpy(bytes, base.bytes, base.length);
+        if (kept->bytes != NULL) pfree(kept->bytes);
+        kept->bytes = bytes;
+        kept->length = base.length;
+        kept->base = urlcheck_prepare(bytes, base.length, profile);
+    }
+    return &kept->base;
+}
+
+bool read_asked(FunctionCallInfo fcinfo, asked *asked, bool keeps) {
+    if (PG_ARGISNULL(0)) return false;
+    memset(asked, 0, sizeof *asked);
+    asked->url = given_of(PG_GETARG_TEXT_PP(0));
+    if (PG_NARGS() > 2 && !PG_ARGISNULL(2)) asked->profile = profile_of(PG_GETARG_TEXT_PP(2));
+    if (PG_NARGS() > 1 && !PG_ARGISNULL(1)) {
+        asked->base = given_of(PG_GETARG_TEXT_PP(1));
+        if (keeps) {
+            FmgrInfo *place = fcinfo->flinfo;
+            asked->held = held_base(kept_of(place), asked->base, asked->profile, place->fn_mcxt);
+        } else {
+            asked->own = urlcheck_prepare(asked->base.bytes, asked->base.length, asked->profile);
+            asked->held = &asked->own;
+        }
+    }
+    return true;
+}
+
+TupleDesc row_type(FunctionCallInfo fcinfo) {
+    kept *kept = kept_of(fcinfo->flinfo);
+
+    if (kept->row == NULL) {
+        MemoryContext before = MemoryContextSwitchTo(fcinfo->flinfo->fn_mcxt);
+        TupleDesc row;
+
+        if (get_call_result_type(fcinfo, NULL, &row) != TYPEFUNC_COMPOSITE)
+            ereport(ERROR, (errcode(ERRCODE_FEATURE_NOT_SUPPORTED), errmsg("a row can't be returned here")));
+        kept->row = BlessTupleDesc(row);
+        MemoryContextSwitchTo(before);
+    }
+    return kept->row;
+}
+
+static void stop_for_base(const asked *asked, urlcheck_finding found) {
+    char name[NAME_ROOM], message[MESSAGE_ROOM];
+    const char *said = base_message(asked, found, message);
+    int code = found.verdict == URLCHECK_BASE_REFUSED ? ERRCODE_INVALID_PARAMETER_VALUE
+                                                      : ERRCODE_CHARACTER_NOT_IN_REPERTOIRE;
+
+    ereport(ERROR, (errcode(code), errmsg("the base is no valid URL: %s",
+                                           text_to_cstring(text_of((const uint8_t *)said, strlen(said)))),
+                    errdetail("Rule %s at place %d of the base.", rule_name(found.rule, name),
+                              sql_place(found.place))));
+}
+
+void stop_unless_judged(const asked *asked, urlcheck_finding found) {
+    switch (found.verdict) {
+        case URLCHECK_VALID:
+        case URLCHECK_REFUSED:
+        case URLCHECK_NO_UTF8:
+        case URLCHECK_MENDED: return;
+        case URLCHECK_BASE_REFUSED:
+        case URLCHECK_BASE_NO_UTF8: stop_for_base(asked, found); break;
+        case URLCHECK_MEMORY:
+            ereport(ERROR, (errcode(ERRCODE_OUT_OF_MEMORY), errmsg("out of memory"),
+                            errdetail("urlcheck got no memory for a text of %zu bytes.", asked->url.length)));
+            break;
+        default: elog(ERROR, "urlcheck answered %u", found.verdict);
+    }
+}
+
+urlcheck_answer checked(const asked *asked) {
+    urlcheck_answer answer = ask_check(asked);
+
+    stop_unless_judged(asked, answer.found);
+    return answer;
+}
+
+bool is_valid(const asked *asked) {
+    /* (the first says no also where there is no memory or no base, which the check tells apart) */
+    return ask_is_valid(asked) || checked(asked).found.verdict == URLCHECK_VALID;
+}

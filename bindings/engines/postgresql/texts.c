@@ -1,0 +1,154 @@
+/* Texts that are made of a url: that of its URL record, a valid one in its place, and the list of its faults. */
+#include "given.h"
+
+#include "access/htup_details.h"
+#include "funcapi.h"
+#include "miscadmin.h"
+#include "utils/builtins.h"
+#include "utils/memutils.h"
+
+PG_FUNCTION_INFO_V1(pg_url_resolve);
+PG_FUNCTION_INFO_V1(pg_url_mend);
+PG_FUNCTION_INFO_V1(pg_url_mend_kind);
+PG_FUNCTION_INFO_V1(pg_url_faults);
+
+/* A buffer for what most calls write, and room of its own for what is longer. */
+enum { MOST = 512 };
+
+Datum pg_url_resolve(PG_FUNCTION_ARGS) {
+    asked asked;
+    uint8_t most[MOST], *out = most;
+    urlcheck_resolved answer;
+
+    if (!read_asked(fcinfo, &asked, true)) PG_RETURN_NULL();
+    answer = ask_resolve(&asked, out, MOST);
+    stop_unless_judged(&asked, answer.found);
+    if (answer.found.verdict != URLCHECK_VALID) PG_RETURN_NULL();
+    if (answer.length > MOST) {
+        out = palloc(answer.length);
+        stop_unless_judged(&asked, ask_resolve(&asked, out, answer.length).found);
+    }
+    PG_RETURN_TEXT_P(text_of(out, answer.length));
+}
+
+urlcheck_mended mended(const asked *asked, uint8_t **out) {
+    urlcheck_mended answer;
+
+    *out = palloc(MOST);
+    answer = ask_mend(asked, *out, MOST);
+    stop_unless_judged(asked, answer.found);
+    if (answer.length > MOST) {
+        pfree(*out);
+        *out = palloc(answer.length);
+        stop_unless_judged(asked, ask_mend(asked, *out, answer.length).found);
+    }
+    return answer;
+}
+
+/* The url where it is valid, a mended text where one is given, and else NULL. */
+Datum pg_url_mend(PG_FUNCTION_ARGS) {
+    asked asked;
+    uint8_t *out;
+    urlcheck_mended answer;
+
+    if (!read_asked(fcinfo, &asked, true)) PG_RETURN_NULL();
+    if (is_valid(&asked)) PG_RETURN_TEXT_P(PG_GETARG_TEXT_PP(0));
+    answer = mended(&asked, &out);
+    if (answer.found.verdict != URLCHECK_MENDED) PG_RETURN_NULL();
+    PG_RETURN_TEXT_P(text_of(out, answer.length));
+}
+
+Datum pg_url_mend_kind(PG_FUNCTION_ARGS) {
+    asked asked;
+    uint8_t *out;
+    urlcheck_mended answer;
+
+    if (!read_asked(fcinfo, &asked, true) || is_valid(&asked)) PG_RETURN_NULL();
+    answer = mended(&asked, &out);
+    if (answer.found.verdict != URLCHECK_MENDED) PG_RETURN_NULL();
+    PG_RETURN_TEXT_P(cstring_to_text(kind_name(answer.kind)));
+}
+
+/* The faults of a url, and how many there are. A list that the memory of one value can't hold is refused. */
+static urlcheck_fault *list_faults(const asked *asked, uint64 *count) {
+    size_t room = 16;
+    urlcheck_fault *list = palloc(room * sizeof *list);
+    urlcheck_fault_count answer;
+
+    for (;;) {
+        answer = ask_faults(asked, list, room);
+        stop_unless_judged(asked, answer.found);
+        if (answer.count <= room) break;
+        room = answer.count;
+        pfree(list);
+        if (room > MaxAllocSize / sizeof *list)
+            ereport(ERROR, (errcode(ERRCODE_PROGRAM_LIMIT_EXCEEDED), errmsg("a url has %zu faults", room),
+                            errdetail("A list has at most %zu.", (size_t)MaxAllocSize / sizeof *list)));
+        list = palloc(room * sizeof *list);
+    }
+    if (answer.found.verdict == URLCHECK_NO_UTF8) {
+        list[0] = (urlcheck_fault){0, answer.found.place, answer.found.byte_place};
+        answer.count = 1;
+    }
+    *count = answer.count;
+    return list;
+}
+
+/* What the calls of one list hold. */
+typedef struct listed {
+    asked asked;
+    urlcheck_fault *faults;
+} listed;
+
+static HeapTuple fault_row(TupleDesc row, const listed *listed, uint64 number) {
+    char name[NAME_ROOM], message[MESSAGE_ROOM];
+    urlcheck_fault fault = listed->faults[number];
+    const char *said = fault_message(&listed->asked, fault, message);
+    Datum values[3];
+    bool nulls[3] = {false, false, false};
+
+    values[0] = CStringGetTextDatum(rule_name(fault.rule, name));
+    values[1] = Int32GetDatum(sql_place(fault.place));
+    values[2] = PointerGetDatum(text_of((const uint8_t *)said, strlen(said)));
+    return heap_form_tuple(row, values, nulls);
+}
+
+/* Keeps the url as long as its list, where messages read it. */
+static void keep_url(asked *asked) {
+    uint8_t *copy;
+
+    if (asked->url.length > NAMING) return;
+    copy = palloc(asked->url.length + 1);
+    memcpy(copy, asked->url.bytes, asked->url.length);
+    asked->url.bytes = copy;
+}
+
+static void begin_faults(FunctionCallInfo fcinfo, FuncCallContext *calls) {
+    MemoryContext before = MemoryContextSwitchTo(calls->multi_call_memory_ctx);
+    listed *listed = palloc0(sizeof *listed);
+    TupleDesc row;
+
+    if (get_call_result_type(fcinfo, NULL, &row) != TYPEFUNC_COMPOSITE)
+        ereport(ERROR, (errcode(ERRCODE_FEATURE_NOT_SUPPORTED), errmsg("rows can't be returned here")));
+    calls->tuple_desc = BlessTupleDesc(row);
+    calls->max_calls = 0;
+    calls->user_fctx = listed;
+    /* (the base can't be kept in fn_extra, which the calls of one list hold) */
+    if (read_asked(fcinfo, &listed->asked, false)) {
+        keep_url(&listed->asked);
+        listed->faults = list_faults(&listed->asked, &calls->max_calls);
+    }
+    MemoryContextSwitchTo(before);
+}
+
+Datum pg_url_faults(PG_FUNCTION_ARGS) {
+    FuncCallContext *calls;
+    HeapTuple row;
+
+    if (SRF_IS_FIRSTCALL()) begin_faults(fcinfo, SRF_FIRSTCALL_INIT());
+    calls = SRF_PERCALL_SETUP();
+    CHECK_FOR_INTERRUPTS();
+    if (calls->call_cntr >= calls->max_calls) SRF_RETURN_DONE(calls);
+    row = fault_row(calls->tuple_desc, calls->user_fctx, calls->call_cntr);
+    SRF_RETURN_NEXT(calls, HeapTupleGetDatum(row));
+}

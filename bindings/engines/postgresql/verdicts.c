@@ -1,0 +1,191 @@
+/* What is said of a url: whether it is valid, its first fault, its parts, and an error in place of a refusal. */
+#include "given.h"
+#include "offered.h"
+
+#include "access/htup_details.h"
+#include "funcapi.h"
+#include "mb/pg_wchar.h"
+#include "utils/builtins.h"
+
+PG_MODULE_MAGIC;
+
+PG_FUNCTION_INFO_V1(pg_url_is_valid);
+PG_FUNCTION_INFO_V1(pg_url_require);
+PG_FUNCTION_INFO_V1(pg_url_rule);
+PG_FUNCTION_INFO_V1(pg_url_place);
+PG_FUNCTION_INFO_V1(pg_url_message);
+PG_FUNCTION_INFO_V1(pg_url_scheme);
+PG_FUNCTION_INFO_V1(pg_url_host);
+PG_FUNCTION_INFO_V1(pg_url_port);
+PG_FUNCTION_INFO_V1(pg_url_path);
+PG_FUNCTION_INFO_V1(pg_url_query);
+PG_FUNCTION_INFO_V1(pg_url_fragment);
+PG_FUNCTION_INFO_V1(pg_url_check);
+PG_FUNCTION_INFO_V1(pg_urlcheck_version);
+
+Datum pg_url_is_valid(PG_FUNCTION_ARGS) {
+    asked asked;
+
+    if (!read_asked(fcinfo, &asked, true)) PG_RETURN_NULL();
+    PG_RETURN_BOOL(is_valid(&asked));
+}
+
+/* The bytes of the url around a place that an error shows, whole characters, and whether some are left out. */
+enum { SHOWN = 100, HINTED = 1000 };
+
+static char *shown_around(given url, size_t place) {
+    size_t from = place > SHOWN ? place - SHOWN : 0, to = url.length - place > SHOWN ? place + SHOWN : url.length;
+    text *part;
+
+    while (from < place && (url.bytes[from] & 0xc0) == 0x80) from++;
+    while (to > place && to < url.length && (url.bytes[to] & 0xc0) == 0x80) to--;
+    part = text_of(url.bytes + from, to - from);
+    return psprintf("%s%s%s", from > 0 ? "..." : "", text_to_cstring(part), to < url.length ? "..." : "");
+}
+
+/* What an error shows of the url: the text, or what is around the place. Bytes that are no UTF-8 end it. */
+static char *shown(given url, urlcheck_finding found) {
+    given front = {url.bytes, found.byte_place};
+
+    return shown_around(found.verdict == URLCHECK_NO_UTF8 ? front : url, found.byte_place);
+}
+
+/* What is said before a mended text: that it is a text in the url's place, where it is offered, and else what it is. */
+static const char *hint_before(const asked *asked, urlcheck_finding found, uint32_t kind, given mended) {
+    size_t room = DIAGNOSTIC_ROOM(asked->url.length + mended.length);
+
+    if (!is_offered(asked, found, kind, mended, palloc(room), room))
+        return psprintf("Something else may be meant; %s", named_as(kind));
+    return kind == URLCHECK_CHANGED ? "A valid text in its place (it may denote another URL): "
+                                    : "A valid text in its place: ";
+}
+
+/* What to write in its place, or null. (A long one wouldn't be read.) */
+static char *hint(const asked *asked, urlcheck_finding found) {
+    uint8_t *out;
+    given text;
+    urlcheck_mended answer;
+
+    if (asked->url.length > HINTED) return NULL;
+    answer = mended(asked, &out);
+    if (answer.found.verdict != URLCHECK_MENDED) return NULL;
+    text.bytes = out, text.length = answer.length;
+    return psprintf("%s%s", hint_before(asked, found, answer.kind, text), text_to_cstring(text_of(out, answer.length)));
+}
+
+static void refuse(const asked *asked, urlcheck_finding found) {
+    char name[NAME_ROOM], *advice = hint(asked, found);
+
+    ereport(ERROR, (errcode(ERRCODE_CHECK_VIOLATION),
+                    errmsg("no valid URL: %s", text_to_cstring(message_text(asked, found))),
+                    errdetail("Rule %s at place %d of \"%s\".", rule_name(found.rule, name), sql_place(found.place),
+                              shown(asked->url, found)),
+                    advice ? errhint("%s", advice) : 0));
+}
+
+/* True, or an error that says what is wrong, where, and what to write: for constraints. */
+Datum pg_url_require(PG_FUNCTION_ARGS) {
+    asked asked;
+
+    if (!read_asked(fcinfo, &asked, true)) PG_RETURN_NULL();
+    if (!is_valid(&asked)) refuse(&asked, checked(&asked).found);
+    PG_RETURN_BOOL(true);
+}
+
+/* Reads the arguments, and what is wrong with the url: false where nothing is. */
+static bool read_refused(FunctionCallInfo fcinfo, asked *asked, urlcheck_finding *found) {
+    if (!read_asked(fcinfo, asked, true) || is_valid(asked)) return false;
+    *found = checked(asked).found;
+    return true;
+}
+
+Datum pg_url_rule(PG_FUNCTION_ARGS) {
+    char name[NAME_ROOM];
+    asked asked;
+    urlcheck_finding found;
+
+    if (!read_refused(fcinfo, &asked, &found)) PG_RETURN_NULL();
+    PG_RETURN_TEXT_P(cstring_to_text(rule_name(found.rule, name)));
+}
+
+Datum pg_url_place(PG_FUNCTION_ARGS) {
+    asked asked;
+    urlcheck_finding found;
+
+    if (!read_refused(fcinfo, &asked, &found)) PG_RETURN_NULL();
+    PG_RETURN_INT32(sql_place(found.place));
+}
+
+Datum pg_url_message(PG_FUNCTION_ARGS) {
+    asked asked;
+    urlcheck_finding found;
+
+    if (!read_refused(fcinfo, &asked, &found)) PG_RETURN_NULL();
+    PG_RETURN_TEXT_P(message_text(&asked, found));
+}
+
+static Datum part(FunctionCallInfo fcinfo, int number) {
+    asked asked;
+    urlcheck_answer answer;
+    urlcheck_span span;
+
+    if (!read_asked(fcinfo, &asked, true)) PG_RETURN_NULL();
+    answer = checked(&asked);
+    span = part_of(&answer.parts, number);
+    if (!span.present) PG_RETURN_NULL();
+    PG_RETURN_TEXT_P(text_of(asked.url.bytes + span.start, span.length));
+}
+
+Datum pg_url_scheme(PG_FUNCTION_ARGS) { return part(fcinfo, 0); }
+Datum pg_url_host(PG_FUNCTION_ARGS) { return part(fcinfo, 1); }
+Datum pg_url_port(PG_FUNCTION_ARGS) { return part(fcinfo, 2); }
+Datum pg_url_path(PG_FUNCTION_ARGS) { return part(fcinfo, 3); }
+Datum pg_url_query(PG_FUNCTION_ARGS) { return part(fcinfo, 4); }
+Datum pg_url_fragment(PG_FUNCTION_ARGS) { return part(fcinfo, 5); }
+
+/* The columns of a url_answer. */
+enum { VALID, RULE, PLACE, MESSAGE, PARTS, COLUMNS = PARTS + PART_COUNT };
+
+static void put(Datum *values, bool *nulls, int column, Datum value) {
+    values[column] = value;
+    nulls[column] = false;
+}
+
+static void put_refusal(const asked *asked, urlcheck_finding found, Datum *values, bool *nulls) {
+    char name[NAME_ROOM];
+
+    put(values, nulls, RULE, CStringGetTextDatum(rule_name(found.rule, name)));
+    put(values, nulls, PLACE, Int32GetDatum(sql_place(found.place)));
+    put(values, nulls, MESSAGE, PointerGetDatum(message_text(asked, found)));
+}
+
+static void put_parts(given url, const urlcheck_spans *parts, Datum *values, bool *nulls) {
+    for (int number = 0; number < PART_COUNT; number++) {
+        urlcheck_span span = part_of(parts, number);
+        if (span.present)
+            put(values, nulls, PARTS + number, PointerGetDatum(text_of(url.bytes + span.start, span.length)));
+    }
+}
+
+Datum pg_url_check(PG_FUNCTION_ARGS) {
+    Datum values[COLUMNS] = {0};
+    bool nulls[COLUMNS];
+    asked asked;
+    urlcheck_answer answer;
+
+    if (!read_asked(fcinfo, &asked, true)) PG_RETURN_NULL();
+    answer = checked(&asked);
+    memset(nulls, true, sizeof nulls);
+    put(values, nulls, VALID, BoolGetDatum(!is_refused(answer.found)));
+    if (is_refused(answer.found))
+        put_refusal(&asked, answer.found, values, nulls);
+    else
+        put_parts(asked.url, &answer.parts, values, nulls);
+    PG_RETURN_DATUM(HeapTupleGetDatum(heap_form_tuple(row_type(fcinfo), values, nulls)));
+}
+
+Datum pg_urlcheck_version(PG_FUNCTION_ARGS) {
+    uint32_t number = urlcheck_version();
+
+    PG_RETURN_TEXT_P(cstring_to_text(psprintf("%u.%u.%u", number / 10000, number / 100 % 100, number % 100)));
+}

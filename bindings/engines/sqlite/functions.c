@@ -1,0 +1,176 @@
+/* The loadable extension for SQLite: its functions of (url [, base [, profile]]), and where it is loaded. */
+#include "given.h"
+
+SQLITE_EXTENSION_INIT1
+
+/* What a function says of a url: what is handed to each as its user data. */
+typedef enum question { IS_VALID, REQUIRE, RULE, PLACE, MESSAGE, RESOLVE, MEND, MEND_KIND, PARTS } question;
+
+/* The room that most texts fit in. */
+enum { MOST = 512 };
+
+static question asked_of(sqlite3_context *call) { return (question)(intptr_t)sqlite3_user_data(call); }
+
+/* Ends the call with an error where its text wasn't checked. */
+static int stops(sqlite3_context *call, const asked *asked, urlcheck_finding found) {
+    char *message = NULL;
+    int code = SQLITE_OK;
+
+    if (is_judged(asked, found, &message, &code)) return 0;
+    if (message) sqlite3_result_error(call, message, -1);
+    if (!message) sqlite3_result_error_nomem(call);
+    sqlite3_free(message);
+    return 1;
+}
+
+/* Reads the arguments: false where the call has ended. A base that is constant is checked once. */
+static int read_call(sqlite3_context *call, int count, sqlite3_value **values, asked *asked) {
+    const urlcheck_base *held = count > 1 ? sqlite3_get_auxdata(call, 1) : NULL;
+    reading read = read_asked(asked, values[0], count > 1 ? values[1] : NULL, count > 2 ? values[2] : NULL, held);
+    urlcheck_base *kept;
+
+    if (read == READ_NO_PROFILE) sqlite3_result_error(call, NO_PROFILE, -1);
+    if (read == READ_NO_MEMORY) sqlite3_result_error_nomem(call);
+    if (read != READ) return 0;
+    if (asked->held && !(held && held->profile == asked->profile)) {
+        kept = sqlite3_malloc(sizeof *kept);
+        if (kept) {
+            *kept = asked->own;
+            sqlite3_set_auxdata(call, 1, kept, sqlite3_free);
+        }
+    }
+    return 1;
+}
+
+static void result_part(sqlite3_context *call, given url, urlcheck_span span) {
+    if (span.present)
+        sqlite3_result_text64(call, (const char *)url.bytes + span.start, span.length, SQLITE_TRANSIENT, SQLITE_UTF8);
+}
+
+static void result_refusal(sqlite3_context *call, const asked *asked, urlcheck_finding found) {
+    char words[MESSAGE_ROOM], said[ERROR_ROOM];
+
+    switch (asked_of(call)) {
+        case IS_VALID: sqlite3_result_int(call, 0); break;
+        case REQUIRE: sqlite3_result_error(call, say_refusal(asked, found, said), -1); break;
+        case RULE: sqlite3_result_text(call, rule_name(found.rule, words), -1, SQLITE_TRANSIENT); break;
+        case PLACE: sqlite3_result_int64(call, (sqlite3_int64)found.place + 1); break;
+        case MESSAGE: sqlite3_result_text(call, ask_message(asked, found, words), -1, SQLITE_TRANSIENT); break;
+        default: break;
+    }
+}
+
+/* What is said of a url's verdict, its first fault and its parts. */
+static void say(sqlite3_context *call, int count, sqlite3_value **values) {
+    question question = asked_of(call);
+    asked asked;
+    urlcheck_answer answer;
+
+    if (!read_call(call, count, values, &asked)) return;
+    if (question < PARTS && ask_is_valid(&asked)) {
+        if (question == IS_VALID || question == REQUIRE) sqlite3_result_int(call, 1);
+        return;
+    }
+    answer = ask_check(&asked);
+    if (stops(call, &asked, answer.found)) return;
+    if (answer.found.verdict != URLCHECK_VALID)
+        result_refusal(call, &asked, answer.found);
+    else if (question >= PARTS)
+        result_part(call, asked.url, part_of(&answer.parts, question - PARTS));
+    else if (question == IS_VALID || question == REQUIRE)
+        sqlite3_result_int(call, 1);
+}
+
+/* What is written of a url, with its verdict and its length. */
+static urlcheck_finding write_text(const asked *asked, question question, uint8_t *out, size_t room, size_t *length) {
+    urlcheck_mended answer;
+
+    if (question == RESOLVE) {
+        urlcheck_resolved answer = ask_resolve(asked, out, room);
+        *length = answer.length;
+        return answer.found;
+    }
+    answer = ask_mend(asked, out, room);
+    *length = answer.length;
+    return answer.found;
+}
+
+/* Text of the URL record, or the text to write in place of the url. */
+static void make(sqlite3_context *call, int count, sqlite3_value **values) {
+    question question = asked_of(call);
+    asked asked;
+    uint8_t most[MOST], *out;
+    size_t length;
+    urlcheck_finding found;
+
+    if (!read_call(call, count, values, &asked)) return;
+    found = write_text(&asked, question, most, MOST, &length);
+    if (stops(call, &asked, found)) return;
+    if (question == MEND && found.verdict == URLCHECK_VALID) {
+        sqlite3_result_text64(call, (const char *)asked.url.bytes, asked.url.length, SQLITE_TRANSIENT, SQLITE_UTF8);
+    } else if (found.verdict != (question == MEND ? URLCHECK_MENDED : URLCHECK_VALID)) {
+        return;
+    } else if (length <= MOST) {
+        sqlite3_result_text64(call, (const char *)most, length, SQLITE_TRANSIENT, SQLITE_UTF8);
+    } else if ((out = sqlite3_malloc64(length)) == NULL) {
+        sqlite3_result_error_nomem(call);
+    } else if (stops(call, &asked, write_text(&asked, question, out, length, &length))) {
+        sqlite3_free(out);
+    } else {
+        sqlite3_result_text64(call, (const char *)out, length, sqlite3_free, SQLITE_UTF8);
+    }
+}
+
+/* How the mended text differs from the url. */
+static void say_kind(sqlite3_context *call, int count, sqlite3_value **values) {
+    asked asked;
+    urlcheck_mended answer;
+
+    if (!read_call(call, count, values, &asked)) return;
+    answer = ask_mend(&asked, NULL, 0);
+    if (!stops(call, &asked, answer.found) && answer.found.verdict == URLCHECK_MENDED)
+        sqlite3_result_text(call, kind_name(answer.kind), -1, SQLITE_STATIC);
+}
+
+static void say_version(sqlite3_context *call, int count, sqlite3_value **values) {
+    uint32_t number = urlcheck_version();
+    char *said = sqlite3_mprintf("%u.%u.%u", number / 10000, number / 100 % 100, number % 100);
+
+    (void)count;
+    (void)values;
+    if (said) sqlite3_result_text(call, said, -1, sqlite3_free);
+    if (!said) sqlite3_result_error_nomem(call);
+}
+
+typedef struct function {
+    const char *name;
+    intptr_t question;
+    void (*call)(sqlite3_context *, int, sqlite3_value **);
+} function;
+
+static const function functions[] = {
+    {"url_is_valid", IS_VALID, say},  {"url_require", REQUIRE, say},
+    {"url_rule", RULE, say},          {"url_place", PLACE, say},
+    {"url_message", MESSAGE, say},    {"url_scheme", PARTS, say},
+    {"url_host", PARTS + 1, say},     {"url_port", PARTS + 2, say},
+    {"url_path", PARTS + 3, say},     {"url_query", PARTS + 4, say},
+    {"url_fragment", PARTS + 5, say}, {"url_resolve", RESOLVE, make},
+    {"url_mend", MEND, make},         {"url_mend_kind", MEND_KIND, say_kind},
+};
+
+__attribute__((visibility("default"))) int sqlite3_modurlcheck_init(sqlite3 *database, char **message,
+                                                                     const sqlite3_api_routines *routines) {
+    const int flags = SQLITE_UTF8 | SQLITE_DETERMINISTIC | SQLITE_INNOCUOUS;
+    int code = SQLITE_OK;
+
+    SQLITE_EXTENSION_INIT2(routines);
+    (void)message;
+    for (size_t at = 0; at < 3 * (sizeof functions / sizeof *functions) && code == SQLITE_OK; at++) {
+        const function *one = &functions[at / 3];
+        code = sqlite3_create_function_v2(database, one->name, (int)(at % 3) + 1, flags, (void *)one->question,
+                                          one->call, NULL, NULL, NULL);
+    }
+    if (code == SQLITE_OK)
+        code = sqlite3_create_function_v2(database, "urlcheck_version", 0, flags, NULL, say_version, NULL, NULL, NULL);
+    return code == SQLITE_OK ? register_tables(database) : code;
+}

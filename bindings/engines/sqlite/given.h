@@ -1,0 +1,25 @@
+/* What a call gives in SQLite: a text, a base or none, and a profile, as scalar functions and tables are given them. */
+#ifndef URLCHECK_GIVEN_H
+#define URLCHECK_GIVEN_H
+
+#include <sqlite3ext.h>
+
+#include "errors.h"
+
+/* How reading the arguments ended. */
+typedef enum reading { READ, READ_NULL, READ_NO_PROFILE, READ_NO_MEMORY } reading;
+
+/*
+ * Reads the arguments, of which each may be null where it isn't given. A base that is NULL is none, a profile that is NULL
+ * the standard one. The base is checked unless `held` is what it was checked to be before, by the same profile.
+ */
+reading read_asked(asked *asked, sqlite3_value *url, sqlite3_value *base, sqlite3_value *profile,
+                   const urlcheck_base *held);
+
+/* Whether the text was checked; else how the call ends, with a message to free where it is an error of its own. */
+int is_judged(const asked *asked, urlcheck_finding found, char **message, int *code);
+
+/* Registers the tables url_check and url_faults. */
+int register_tables(sqlite3 *database);
+
+#endif

@@ -1,0 +1,354 @@
+/*
+ * Columns by the Arrow C data interface (Arrow Columnar Format, "The Arrow C data interface" and "The Arrow PyCapsule
+ * Interface"): arrays of strings are checked where they are, and answers are handed out without a copy.
+ */
+#include "native.h"
+
+#include <stdlib.h>
+#include <string.h>
+
+/* The structs of the interface, as it gives them. */
+struct ArrowSchema {
+    const char *format;
+    const char *name;
+    const char *metadata;
+    int64_t flags;
+    int64_t n_children;
+    struct ArrowSchema **children;
+    struct ArrowSchema *dictionary;
+    void (*release)(struct ArrowSchema *);
+    void *private_data;
+};
+
+struct ArrowArray {
+    int64_t length;
+    int64_t null_count;
+    int64_t offset;
+    int64_t n_buffers;
+    int64_t n_children;
+    const void **buffers;
+    struct ArrowArray **children;
+    struct ArrowArray *dictionary;
+    void (*release)(struct ArrowArray *);
+    void *private_data;
+};
+
+struct ArrowArrayStream {
+    int (*get_schema)(struct ArrowArrayStream *, struct ArrowSchema *out);
+    int (*get_next)(struct ArrowArrayStream *, struct ArrowArray *out);
+    const char *(*get_last_error)(struct ArrowArrayStream *);
+    void (*release)(struct ArrowArrayStream *);
+    void *private_data;
+};
+
+enum { NULLABLE = 2 };
+
+/* ---- what comes in */
+
+static PyObject *refuse_array(const char *why) {
+    PyErr_Format(PyExc_ValueError, "the array is broken: %s", why);
+    return NULL;
+}
+
+/* The texts of an array: false and an error where it has none. */
+static int read_texts(PyObject *schema_capsule, PyObject *array_capsule, texts *texts) {
+    const struct ArrowSchema *schema = PyCapsule_GetPointer(schema_capsule, "arrow_schema");
+    const struct ArrowArray *array = schema ? PyCapsule_GetPointer(array_capsule, "arrow_array") : NULL;
+    size_t width;
+
+    if (!array) return 0;
+    if (!schema->release || !array->release) return refuse_array("it was released before") != NULL;
+    if (schema->dictionary || !schema->format || strlen(schema->format) != 1 || !strchr("uUzZ", schema->format[0])) {
+        PyErr_Format(PyExc_TypeError, "an array of strings is wanted, not one of the Arrow format %s%s",
+                     schema->format ? schema->format : "", schema->dictionary ? " with a dictionary" : "");
+        return 0;
+    }
+    if (array->length < 0 || array->offset < 0 || array->n_buffers != 3 || !array->buffers)
+        return refuse_array("it has no length, or other buffers than strings have") != NULL;
+    texts->is_wide = schema->format[0] == 'U' || schema->format[0] == 'Z';
+    width = texts->is_wide ? 8 : 4;
+    texts->count = (size_t)array->length;
+    texts->first = (size_t)array->offset;
+    texts->present = array->null_count == 0 ? NULL : array->buffers[0];
+    texts->data = array->buffers[2];
+    if (texts->count && !array->buffers[1]) return refuse_array("it has no offsets") != NULL;
+    texts->offsets = array->buffers[1] ? (const char *)array->buffers[1] + width * texts->first : NULL;
+    return 1;
+}
+
+/* Reads (schema, array, base, profile, flag). */
+static int read_call(state *state, PyObject *args, const char *format, texts *texts, asked *asked, int *flag) {
+    PyObject *schema, *array, *base, *profile;
+
+    if (!PyArg_ParseTuple(args, format, &schema, &array, &base, &profile, flag)) return 0;
+    if (!read_texts(schema, array, texts) || !read_setting(state, base, profile, asked)) return 0;
+    return !asked->base || is_judged(state, asked->held.found);
+}
+
+/* check_arrow(schema, array, base, profile, is_all): as check_texts. */
+PyObject *native_check_arrow(PyObject *module, PyObject *args) {
+    state *state = PyModule_GetState(module);
+    PyObject *columns[3] = {NULL, NULL, NULL}, *answer = NULL;
+    findings out = {NULL, NULL, NULL};
+    asked asked = {0};
+    texts texts;
+    urlcheck_finding why;
+    size_t stopped;
+    int is_all;
+
+    if (read_call(state, args, "OOOOp:check_arrow", &texts, &asked, &is_all)
+        && (columns[0] = new_bytes(texts.count, 1, &out.verdicts))
+        && (!is_all
+            || ((columns[1] = new_bytes(texts.count, 1, &out.rules))
+                && (columns[2] = new_bytes(texts.count, 8, &out.places))))) {
+        Py_BEGIN_ALLOW_THREADS
+        stopped = judge_texts(&texts, &asked, out, &why);
+        Py_END_ALLOW_THREADS
+        if (stopped < texts.count)
+            refuse_texts(state, why, stopped);
+        else
+            answer = is_all ? PyTuple_Pack(3, columns[0], columns[1], columns[2]) : PyTuple_Pack(1, columns[0]);
+    }
+    for (int at = 0; at < 3; at++) Py_XDECREF(columns[at]);
+    drop_asked(&asked);
+    return answer;
+}
+
+/* write_arrow(schema, array, base, profile, mends): the bytes of the texts that are made, their offsets and their marks. */
+PyObject *native_write_arrow(PyObject *module, PyObject *args) {
+    state *state = PyModule_GetState(module);
+    PyObject *offsets = NULL, *marks = NULL, *data, *answer = NULL;
+    makings made = {NULL, 0, 0, NULL, NULL};
+    asked asked = {0};
+    texts texts;
+    urlcheck_finding why;
+    size_t stopped;
+    int mends;
+
+    if (read_call(state, args, "OOOOp:write_arrow", &texts, &asked, &mends)
+        && (offsets = new_bytes(texts.count + 1, 8, &made.offsets)) && (marks = new_bytes(texts.count, 1, &made.marks))) {
+        Py_BEGIN_ALLOW_THREADS
+        stopped = make_texts(&texts, &asked, mends, &made, &why);
+        Py_END_ALLOW_THREADS
+        if (stopped < texts.count) {
+            refuse_texts(state, why, stopped);
+        } else {
+            data = PyBytes_FromStringAndSize((const char *)made.data, (Py_ssize_t)made.length);
+            if (data) answer = PyTuple_Pack(3, data, offsets, marks);
+            Py_XDECREF(data);
+        }
+    }
+    free(made.data);
+    Py_XDECREF(offsets);
+    Py_XDECREF(marks);
+    drop_asked(&asked);
+    return answer;
+}
+
+/* ---- what goes out */
+
+/* The bits of a mark for each byte of a bytearray: 1 where it is the value, or where it isn't; and how many are 0. */
+PyObject *native_bits(PyObject *module, PyObject *args) {
+    PyObject *given, *made, *answer = NULL;
+    int value, is_equal;
+    Py_ssize_t ones = 0;
+    uint8_t *bits;
+
+    (void)module;
+    if (!PyArg_ParseTuple(args, "O!ip:bits", &PyByteArray_Type, &given, &value, &is_equal)) return NULL;
+    Py_ssize_t count = PyByteArray_Size(given);
+    const uint8_t *bytes = (const uint8_t *)PyByteArray_AsString(given);
+    made = new_bytes(((size_t)count + 7) / 8, 1, &bits);
+    if (!made) return NULL;
+    memset(bits, 0, ((size_t)count + 7) / 8);
+    for (Py_ssize_t at = 0; at < count; at++) {
+        uint8_t bit = (bytes[at] == value) == is_equal;
+        bits[at >> 3] |= (uint8_t)(bit << (at & 7));
+        ones += bit;
+    }
+    answer = Py_BuildValue("(On)", made, count - ones);
+    Py_DECREF(made);
+    return answer;
+}
+
+/* An array that is handed out: the objects that its buffers are of, which it holds until it is released. */
+typedef struct handed {
+    PyObject *held;
+    const void *buffers[3];
+    struct ArrowArray dictionary;
+} handed;
+
+static void release_schema(struct ArrowSchema *schema) {
+    if (schema->dictionary) {
+        if (schema->dictionary->release) schema->dictionary->release(schema->dictionary);
+        free(schema->dictionary);
+    }
+    schema->release = NULL;
+}
+
+static void release_array(struct ArrowArray *array) {
+    handed *handed = array->private_data;
+    PyGILState_STATE lock;
+
+    if (array->dictionary && array->dictionary->release) array->dictionary->release(array->dictionary);
+    lock = PyGILState_Ensure();
+    Py_XDECREF(handed->held);
+    PyGILState_Release(lock);
+    free(handed);
+    array->release = NULL;
+}
+
+static void drop_schema(PyObject *capsule) {
+    struct ArrowSchema *schema = PyCapsule_GetPointer(capsule, "arrow_schema");
+
+    if (schema && schema->release) schema->release(schema);
+    free(schema);
+}
+
+static void drop_array(PyObject *capsule) {
+    struct ArrowArray *array = PyCapsule_GetPointer(capsule, "arrow_array");
+
+    if (array && array->release) array->release(array);
+    free(array);
+}
+
+/* The format as a text that is in the program. */
+static const char *format_of(const char *given) {
+    static const char *const formats[] = {"b", "c", "l", "U"};
+
+    for (size_t at = 0; at < sizeof formats / sizeof *formats; at++)
+        if (strcmp(given, formats[at]) == 0) return formats[at];
+    PyErr_SetString(PyExc_ValueError, "no format that is handed out");
+    return NULL;
+}
+
+/* The bytes of an object of type bytes or bytearray. None has none. */
+static int read_buffer(PyObject *given, const void **bytes) {
+    *bytes = NULL;
+    if (PyBytes_Check(given)) *bytes = PyBytes_AsString(given);
+    if (PyByteArray_Check(given)) *bytes = PyByteArray_AsString(given);
+    return 1;
+}
+
+/* Fills an array and its schema of (format, length, missing, buffers, dictionary): false and an error. */
+static int fill(PyObject *column, struct ArrowSchema *schema, struct ArrowArray *array) {
+    const char *format;
+    Py_ssize_t length, missing;
+    PyObject *buffers, *dictionary;
+    handed *handed;
+
+    if (!PyArg_ParseTuple(column, "snnO!O:export", &format, &length, &missing, &PyTuple_Type, &buffers, &dictionary)
+        || !(format = format_of(format)))
+        return 0;
+    handed = calloc(1, sizeof *handed);
+    if (!handed) return PyErr_NoMemory() != NULL;
+    for (Py_ssize_t at = 0; at < PyTuple_Size(buffers) && at < 3; at++)
+        read_buffer(PyTuple_GetItem(buffers, at), &handed->buffers[at]);
+    array->length = length, array->null_count = missing, array->n_buffers = PyTuple_Size(buffers);
+    array->buffers = handed->buffers;
+    schema->format = format, schema->name = "", schema->flags = NULLABLE;
+    if (PyTuple_Check(dictionary)) {
+        schema->dictionary = calloc(1, sizeof *schema->dictionary);
+        if (!schema->dictionary || !fill(dictionary, schema->dictionary, &handed->dictionary)) {
+            if (!schema->dictionary) PyErr_NoMemory();
+            free(schema->dictionary);
+            free(handed);
+            return 0;
+        }
+        array->dictionary = &handed->dictionary;
+    }
+    Py_INCREF(buffers);
+    handed->held = buffers;
+    array->private_data = handed;
+    array->release = release_array, schema->release = release_schema;
+    return 1;
+}
+
+/* export((format, length, missing, buffers, dictionary)): the capsules of a schema and an array. */
+PyObject *native_export(PyObject *module, PyObject *args) {
+    struct ArrowSchema *schema = calloc(1, sizeof *schema);
+    struct ArrowArray *array = calloc(1, sizeof *array);
+    PyObject *column, *schema_capsule = NULL, *array_capsule = NULL, *answer = NULL;
+
+    (void)module;
+    if (!schema || !array) PyErr_NoMemory();
+    if (schema && array && PyArg_ParseTuple(args, "O!:export", &PyTuple_Type, &column) && fill(column, schema, array)) {
+        schema_capsule = PyCapsule_New(schema, "arrow_schema", drop_schema);
+        array_capsule = PyCapsule_New(array, "arrow_array", drop_array);
+        if (schema_capsule && array_capsule) answer = PyTuple_Pack(2, schema_capsule, array_capsule);
+    }
+    if (!schema_capsule && schema && schema->release) schema->release(schema);
+    if (!schema_capsule) free(schema);
+    if (!array_capsule && array && array->release) array->release(array);
+    if (!array_capsule) free(array);
+    Py_XDECREF(schema_capsule);
+    Py_XDECREF(array_capsule);
+    return answer;
+}
+
+/* ---- a stream of arrays */
+
+/* The next array of a stream in a capsule: None at its end, null and an error where it gives none. */
+static PyObject *next_array(struct ArrowArrayStream *stream) {
+    struct ArrowArray *array = calloc(1, sizeof *array);
+    const char *said;
+    PyObject *capsule;
+
+    if (!array) return PyErr_NoMemory();
+    if (stream->get_next(stream, array) != 0) {
+        said = stream->get_last_error(stream);
+        PyErr_Format(PyExc_ValueError, "the stream is broken: %s", said ? said : "it says not why");
+        free(array);
+        return NULL;
+    }
+    if (!array->release) {
+        free(array);
+        Py_INCREF(Py_None);
+        return Py_None;
+    }
+    capsule = PyCapsule_New(array, "arrow_array", drop_array);
+    if (!capsule) {
+        array->release(array);
+        free(array);
+    }
+    return capsule;
+}
+
+static PyObject *schema_of(struct ArrowArrayStream *stream) {
+    struct ArrowSchema *schema = calloc(1, sizeof *schema);
+    PyObject *capsule;
+
+    if (!schema) return PyErr_NoMemory();
+    if (stream->get_schema(stream, schema) != 0) {
+        free(schema);
+        PyErr_SetString(PyExc_ValueError, "the stream is broken: it has no schema");
+        return NULL;
+    }
+    capsule = PyCapsule_New(schema, "arrow_schema", drop_schema);
+    if (!capsule) {
+        if (schema->release) schema->release(schema);
+        free(schema);
+    }
+    return capsule;
+}
+
+/* arrays_of(stream): the schema of a stream and the list of its arrays, in capsules. */
+PyObject *native_arrays_of(PyObject *module, PyObject *capsule) {
+    struct ArrowArrayStream *stream = PyCapsule_GetPointer(capsule, "arrow_array_stream");
+    PyObject *schema, *list = PyList_New(0), *array = NULL, *answer = NULL;
+
+    (void)module;
+    if (!stream || !list || !stream->release) {
+        if (stream && list) PyErr_SetString(PyExc_ValueError, "the stream is broken: it was released before");
+        Py_XDECREF(list);
+        return NULL;
+    }
+    schema = schema_of(stream);
+    while (schema && (array = next_array(stream)) && array != Py_None && PyList_Append(list, array) == 0)
+        Py_DECREF(array);
+    if (array == Py_None) answer = PyTuple_Pack(2, schema, list);
+    Py_XDECREF(array);
+    Py_XDECREF(schema);
+    Py_DECREF(list);
+    return answer;
+}

@@ -1,0 +1,243 @@
+"""Whether a text is a valid URL string (WHATWG URL Standard, sections 3.4 and 4.3), alone or against a base.
+
+>>> import urlcheck
+>>> answer = urlcheck.check("https://example.com/a?q")
+>>> answer.host, answer.path, answer.query
+('example.com', '/a', 'q')
+>>> answer = urlcheck.check("http://h/a b")
+>>> bool(answer), answer, urlcheck.sentence(answer.rule)
+(False, Refused(rule='code-point', place=10), 'this code point is not allowed in a URL')
+>>> urlcheck.resolve("../x", "http://h/a/b")
+'http://h/x'
+>>> urlcheck.mend("http://h/a b")
+Mended(text='http://h/a%20b', kind=<MendKind.SAME: 'same'>)
+
+A text without a scheme is valid against a base alone: ``check("../x", "http://h/a/b")``. The functions keep no state
+and may be called from any thread.
+"""
+
+import enum
+from dataclasses import dataclass
+from typing import Any, Iterable, Iterator, Literal, Optional, Tuple, Union
+
+from ._library import native
+
+__all__ = [
+    "Base",
+    "BaseRefused",
+    "Diagnostic",
+    "Explanation",
+    "FORMATS",
+    "Fault",
+    "Findings",
+    "MendKind",
+    "Mended",
+    "Mendings",
+    "Profile",
+    "RULES",
+    "Refused",
+    "Region",
+    "UNITS",
+    "Valid",
+    "__version__",
+    "check",
+    "check_each",
+    "check_many",
+    "column",
+    "explain",
+    "faults",
+    "is_valid",
+    "is_valid_many",
+    "mend",
+    "mend_many",
+    "message",
+    "report",
+    "resolve",
+    "resolve_many",
+    "sentence",
+    "version",
+]
+
+
+class Profile(enum.IntEnum):
+    """Which texts are valid; a text and its base are checked by one. Each accepts what the one before it accepts.
+
+    ``STANDARD`` accepts the URL Standard's valid URL strings; ``WIDE`` also ``_`` and hyphens anywhere in
+    domains, and any segments after an authority; ``PARSER`` each text that the URL Standard's parser accepts without a
+    validation error, and no other.
+    """
+
+    STANDARD = 0
+    """The URL Standard's valid URL strings."""
+    WIDE = 1
+    """Also ``_`` and hyphens anywhere in domains, and any segments after an authority."""
+    PARSER = 2
+    """Each text that the URL Standard's parser accepts without a validation error, and no other."""
+
+
+@dataclass(frozen=True)
+class Valid:
+    """A valid URL string, which is true. Its parts are slices of the text, without their delimiters, and ``None`` where
+    absent."""
+
+    scheme: Optional[str]
+    host: Optional[str]
+    port: Optional[str]
+    path: str
+    query: Optional[str]
+    fragment: Optional[str]
+
+    def __bool__(self) -> Literal[True]:
+        return True
+
+
+@dataclass(frozen=True)
+class Refused:
+    """A text that violates ``rule`` at ``place``, counted in code points from 0: its first fault. It is false.
+    ``sentence(rule)`` says what is wrong there."""
+
+    rule: str
+    place: int
+
+    def __bool__(self) -> Literal[False]:
+        return False
+
+
+class MendKind(enum.Enum):
+    """How a mended text differs from the refused one.
+
+    ``SAME``: a second parser reads both as the same URL. ``ESCAPED``: not so, and some code points of the refused text
+    are percent-encoded, and nothing else. ``CHANGED``: neither, so its author has to look.
+    """
+
+    SAME = "same"
+    """A second parser reads both as the same URL."""
+    ESCAPED = "escaped"
+    """Not so; some code points of the refused text are percent-encoded, and nothing else."""
+    CHANGED = "changed"
+    """Neither: its author has to look."""
+
+
+@dataclass(frozen=True)
+class Mended:
+    """A valid URL string in place of a refused text."""
+
+    text: str
+    kind: MendKind
+
+
+@dataclass(frozen=True)
+class Fault:
+    """A rule that a text violates at a place, counted in code points from 0; ``sentence(rule)`` says what is wrong."""
+
+    rule: str
+    place: int
+
+
+class BaseRefused(ValueError):
+    """The base, checked alone, violates ``rule`` at ``place``; nothing is said of the text."""
+
+    def __init__(self, rule: str, place: int) -> None:
+        super().__init__(rule, place)
+        self.rule = rule
+        self.place = place
+
+    def __str__(self) -> str:
+        why = "it has no scheme" if self.rule == "no-scheme" else sentence(self.rule)
+        return "the base is refused at place {}: {} [{}]".format(self.place, why, self.rule)
+
+
+class Base:
+    """A base that is checked once, for many texts: the functions take it in the place of the base's text.
+
+    A text is checked against it by its profile. Beside it ``WIDE`` or ``PARSER`` raises ``ValueError`` where the base
+    was checked by another one, and ``STANDARD`` says nothing, as where no profile is given. Raises ``BaseRefused`` where
+    the base isn't valid alone, and else what ``check`` raises of a text.
+    """
+
+    __slots__ = ("text", "profile", "_data", "_held")
+
+    def __init__(self, text: str, profile: Profile = Profile.STANDARD) -> None:
+        if not isinstance(text, str):
+            raise TypeError("a base is a str, not {}".format(type(text).__name__))
+        self._data, self.profile, self._held = native.prepare(text, profile)
+        self.text = text
+
+    def __reduce__(self) -> Tuple[Any, Tuple[str, Profile]]:
+        return Base, (self.text, self.profile)
+
+    def __repr__(self) -> str:
+        return "Base({!r}, Profile.{})".format(self.text, self.profile.name)
+
+
+AnyBase = Union[str, Base, None]
+
+
+check = native.check
+is_valid = native.is_valid
+resolve = native.resolve
+mend = native.mend
+faults = native.faults
+
+
+def check_each(
+    texts: Iterable[str], base: AnyBase = None, profile: Profile = Profile.STANDARD
+) -> Iterator[Union[Valid, Refused]]:
+    """The answers of ``check`` for these texts, one after the other, as they are asked for. A base is checked once.
+
+    Raises what ``check`` raises; a base that is refused and a profile that isn't one at the first answer.
+    """
+    if isinstance(texts, (str, bytes)):
+        raise TypeError("texts are wanted, not one {}".format(type(texts).__name__))
+    return _answers(iter(texts), base, profile)
+
+
+def sentence(rule: str) -> str:
+    """What is wrong at the place of a refusal by this rule. Raises ``KeyError`` where no rule has the name."""
+    return _SENTENCES[rule]
+
+
+def version() -> str:
+    """The version of the library that is called."""
+    number = native.version()
+    return "{}.{}.{}".format(number // 10000, number // 100 % 100, number % 100)
+
+
+def _answers(texts: Iterator[str], base: AnyBase, profile: Profile) -> Iterator[Union[Valid, Refused]]:
+    """The answers on the texts, against a base that is checked at the first of them."""
+    for text in texts:
+        if isinstance(base, str):
+            base = Base(base, profile)
+        yield check(text, base, profile)
+
+
+def _profile(number: object) -> Profile:
+    """The profile of a number."""
+    if isinstance(number, bool) or not isinstance(number, int):
+        raise TypeError("a profile is a urlcheck.Profile, not {}".format(type(number).__name__))
+    try:
+        return Profile(number)
+    except ValueError:
+        names = ", ".join("{} ({})".format(it.name, it.value) for it in Profile)
+        raise ValueError("no profile has the number {}: there are {}".format(number, names)) from None
+
+
+_NO_UTF8 = "no-utf8"
+_NAMES = tuple(native.rule_name(rule) for rule in range(15)) + (_NO_UTF8,)
+_SENTENCES = {name: native.rule_sentence(rule) for rule, name in enumerate(_NAMES[:-1]) if rule}
+
+RULES: Tuple[str, ...] = _NAMES[1:-1]
+"""The names of the rules, in the order of their numbers."""
+
+native.use(
+    (Valid, Refused, Mended, Fault, Base, BaseRefused, _profile),
+    tuple(Profile),
+    (None, *MendKind),
+    (None, *(kind.value for kind in MendKind)),
+    _NAMES,
+)
+
+__version__ = version()
+
+from ._many import Findings, Mendings, check_many, is_valid_many, mend_many, resolve_many  # noqa: E402
+from ._report import FORMATS, UNITS, Diagnostic, Explanation, Region, column, explain, message, report  # noqa: E402

@@ -1,0 +1,93 @@
+"""Columns of Arrow, read and handed out by its C data interface and the PyCapsule interface over it."""
+
+import sys
+from typing import Any, Iterable, List, Optional, Sequence, Tuple
+
+from ._library import native
+
+_WAYS = ("__arrow_c_array__", "__arrow_c_stream__", "_export_to_c")
+
+
+def is_arrow(texts: object) -> bool:
+    """Whether an object hands out arrays of Arrow. (Older versions of pyarrow do it by a method of their own.)"""
+    return any(hasattr(texts, way) for way in _WAYS) or hasattr(texts, "chunks") and hasattr(texts, "type")
+
+
+class Column:
+    """An answer as an array of Arrow, which other libraries take by ``__arrow_c_array__``, as ``pyarrow.array(column)``."""
+
+    def __init__(self, layout: str, length: int, missing: int, buffers: Tuple[Any, ...], names: Any = None) -> None:
+        self._column = (layout, length, missing, buffers, names)
+
+    def __len__(self) -> int:
+        return self._column[1]
+
+    def __arrow_c_array__(self, requested_schema: object = None) -> Tuple[object, object]:
+        """The capsules of the array's schema and of the array. Nothing is copied; another schema isn't made."""
+        return native.export(self._column)
+
+    @classmethod
+    def truths(cls, verdicts: bytearray, missing: int) -> "Column":
+        present, count = native.bits(verdicts, missing, False)
+        return cls("b", len(verdicts), count, (present if count else None, native.bits(verdicts, 0, True)[0]))
+
+    @classmethod
+    def names(cls, numbers: bytearray, names: Sequence[Optional[str]]) -> "Column":
+        """Names by numbers from 1, as indexes into a dictionary; missing where the number is 0."""
+        present, count = native.bits(numbers, 0, False)
+        indexes = numbers.translate(bytes([0, *range(255)]))
+        data, offsets = bytearray(), [0]
+        for name in names:
+            data += (name or "").encode()
+            offsets.append(len(data))
+        starts = b"".join(offset.to_bytes(8, sys.byteorder) for offset in offsets)
+        words = ("U", len(names), 0, (None, starts, bytes(data)), None)
+        return cls("c", len(numbers), count, (present if count else None, indexes), words)
+
+    @classmethod
+    def numbers(cls, numbers: bytearray, marks: bytearray) -> "Column":
+        """Numbers of 64 bits, missing where the mark is 0."""
+        present, count = native.bits(marks, 0, False)
+        return cls("l", len(marks), count, (present if count else None, numbers))
+
+    @classmethod
+    def texts(cls, data: bytes, offsets: bytearray, marks: bytearray) -> "Column":
+        present, count = native.bits(marks, 0, False)
+        return cls("U", len(marks), count, (present if count else None, offsets, data))
+
+    def like(self, texts: object) -> Any:
+        """The column as an array of pyarrow, where the texts are one, else as it is."""
+        return Column.joined([self], texts)
+
+    @staticmethod
+    def joined(columns: List["Column"], texts: object) -> Any:
+        if type(texts).__module__.partition(".")[0] != "pyarrow":
+            if len(columns) != 1:
+                raise TypeError("an array in one piece is wanted: its answers are columns in {}".format(len(columns)))
+            return columns[0]
+        import pyarrow
+
+        made = [_imported(pyarrow, column) for column in columns]
+        return made[0] if len(made) == 1 and not hasattr(texts, "chunks") else pyarrow.chunked_array(made)
+
+    @staticmethod
+    def chunks(texts: Any) -> List[Tuple[object, object]]:
+        """The pieces in which texts are, each as the capsules of a schema and an array."""
+        if hasattr(texts, "__arrow_c_array__"):
+            return [texts.__arrow_c_array__()]
+        if hasattr(texts, "__arrow_c_stream__"):
+            schema, arrays = native.arrays_of(texts.__arrow_c_stream__())
+            return [(schema, array) for array in arrays]
+        chunks: Iterable[Any] = texts.chunks if hasattr(texts, "chunks") else [texts]
+        return [_exported(chunk) for chunk in chunks]
+
+
+def _imported(pyarrow: Any, column: Column) -> Any:
+    """The column as an array of pyarrow. (Before version 14 it takes addresses.)"""
+    if hasattr(pyarrow.Array, "_import_from_c_capsule"):
+        return pyarrow.Array._import_from_c_capsule(*column.__arrow_c_array__())
+    raise TypeError("pyarrow 14 or later is wanted")
+
+
+def _exported(chunk: Any) -> Tuple[object, object]:
+    raise TypeError("an array that has __arrow_c_array__ is wanted, as pyarrow 14 and later give")

@@ -1,0 +1,248 @@
+"""Many texts in a call: lists, columns of numpy and pandas, and arrays of Arrow, each answered by columns of its own kind.
+
+numpy, pandas and pyarrow are imported only where what came in is theirs.
+"""
+
+import sys
+from typing import Any, Iterable, List, NamedTuple, Optional, Tuple
+
+from . import AnyBase, Profile
+from ._arrow import Column, is_arrow
+from ._library import native
+
+_MISSING = 255
+_NO_UTF8 = "no-utf8"
+_RULES: Tuple[Optional[str], ...] = (None, *(native.rule_name(rule) for rule in range(1, 15)), _NO_UTF8)
+"""The names of the rules by their numbers, and after them of bytes that are no UTF-8, as an Arrow array may hold."""
+
+
+class Findings(NamedTuple):
+    """What is found of many texts, a column each. Where a text is missing, so are its answers."""
+
+    valid: Any
+    """Whether the text is valid."""
+    rule: Any
+    """The rule that it violates first; missing where it is valid."""
+    place: Any
+    """The place of that, in code points from 0; missing where it is valid."""
+
+
+class Mendings(NamedTuple):
+    """Valid texts in place of many, a column each."""
+
+    text: Any
+    """The text itself where it is valid, else one made of it by local edits, or missing where they give none."""
+    kind: Any
+    """How it differs from a refused text: ``same``, ``escaped`` or ``changed``, as ``MendKind`` says."""
+
+
+def check_many(texts: Iterable[Optional[str]], base: AnyBase = None, profile: Profile = Profile.STANDARD) -> Findings:
+    """What ``check`` finds of each text: whether it is valid, and the rule and the place of its first fault.
+
+    The texts are a list or another iterable, a numpy array of objects, a pandas Series, or an Arrow array of strings,
+    which isn't copied. Columns of the same kind are given: lists; arrays of numpy, where a place is -1 and a rule ``None``
+    for a valid text; Series with the same index; arrays of Arrow. ``None``, and in columns NaN and ``pandas.NA``, is a
+    missing text. Other threads run while texts are checked.
+
+    Raises what ``check`` raises, and ``ValueError`` for an Arrow array that is broken.
+    """
+    found: Findings = _kind_of(texts).check(texts, base, profile)
+    return found
+
+
+def is_valid_many(texts: Iterable[Optional[str]], base: AnyBase = None, profile: Profile = Profile.STANDARD) -> Any:
+    """Whether each text is valid, as a column of the kind that came in: see ``check_many``. It takes the least time."""
+    return _kind_of(texts).is_valid(texts, base, profile)
+
+
+def resolve_many(texts: Iterable[Optional[str]], base: AnyBase = None, profile: Profile = Profile.STANDARD) -> Any:
+    """The text of the URL of each text, as ``resolve`` gives it, missing where a text is refused: see ``check_many``."""
+    return _kind_of(texts).write(texts, base, profile, False)[0]
+
+
+def mend_many(texts: Iterable[Optional[str]], base: AnyBase = None, profile: Profile = Profile.STANDARD) -> Mendings:
+    """A valid text in place of each one, and how it differs from it, as ``mend`` gives them: see ``check_many``."""
+    return Mendings(*_kind_of(texts).write(texts, base, profile, True))
+
+
+class _Lists:
+    """Lists, and what else is iterated over."""
+
+    missing: Tuple[Any, ...] = (None,)
+
+    def listed(self, texts: Any) -> List[Any]:
+        if isinstance(texts, (str, bytes)):
+            raise TypeError("texts are wanted, not one {}".format(type(texts).__name__))
+        return texts if type(texts) is list else list(texts)
+
+    def found(self, texts: Any, base: AnyBase, profile: Profile, is_all: bool) -> Tuple[bytearray, ...]:
+        """The verdicts of the texts, and of all the rules and the places too."""
+        return native.check_texts(self.listed(texts), self.missing, base, profile, is_all)
+
+    def check(self, texts: Any, base: AnyBase, profile: Profile) -> Findings:
+        verdicts, rules, places = self.found(texts, base, profile, True)
+        numbers = memoryview(places).cast("q").tolist()
+        return Findings(
+            _truths(verdicts),
+            list(map(_RULES.__getitem__, rules)),
+            [place if place >= 0 else None for place in numbers] if any(rules) else [None] * len(rules),
+        )
+
+    def is_valid(self, texts: Any, base: AnyBase, profile: Profile) -> Any:
+        return _truths(self.found(texts, base, profile, False)[0])
+
+    def write(self, texts: Any, base: AnyBase, profile: Profile, mends: bool) -> Tuple[Any, Any]:
+        return native.write_texts(self.listed(texts), self.missing, base, profile, mends)
+
+
+_TRUTHS: List[Optional[bool]] = [True] + [False] * (_MISSING - 1) + [None]
+
+
+def _truths(verdicts: bytearray) -> List[Optional[bool]]:
+    return list(map(_TRUTHS.__getitem__, verdicts))
+
+
+class _Arrays(_Lists):
+    """Arrays of numpy, of which a text is an object."""
+
+    def listed(self, texts: Any) -> List[Any]:
+        if texts.ndim != 1:
+            raise ValueError("an array of one dimension is wanted, not of {}".format(texts.ndim))
+        if texts.dtype.kind not in "OUT":
+            raise TypeError("an array of texts is wanted, not of {}".format(texts.dtype))
+        listed: List[Any] = texts.tolist()
+        return listed
+
+    def truths(self, verdicts: bytearray) -> Any:
+        import numpy
+
+        numbers = numpy.frombuffer(verdicts, numpy.uint8)
+        if _MISSING not in verdicts:
+            return numbers == 0
+        truths = (numbers == 0).astype(object)
+        truths[numbers == _MISSING] = None
+        return truths
+
+    def check(self, texts: Any, base: AnyBase, profile: Profile) -> Findings:
+        import numpy
+
+        verdicts, rules, places = self.found(texts, base, profile, True)
+        names = numpy.array(_RULES, object)[numpy.frombuffer(rules, numpy.uint8)]
+        return Findings(self.truths(verdicts), names, numpy.frombuffer(places, numpy.int64))
+
+    def is_valid(self, texts: Any, base: AnyBase, profile: Profile) -> Any:
+        return self.truths(self.found(texts, base, profile, False)[0])
+
+    def write(self, texts: Any, base: AnyBase, profile: Profile, mends: bool) -> Tuple[Any, Any]:
+        return _objects(super().write(texts, base, profile, mends))
+
+
+def _objects(columns: Tuple[List[Any], List[Any]]) -> Tuple[Any, Any]:
+    """Two lists as arrays of objects."""
+    import numpy
+
+    made = [numpy.empty(len(column), object) for column in columns]
+    for array, column in zip(made, columns):
+        array[:] = column
+    return made[0], made[1]
+
+
+class _Series(_Lists):
+    """Columns of pandas, with their index."""
+
+    def found(self, texts: Any, base: AnyBase, profile: Profile, is_all: bool) -> Tuple[bytearray, ...]:
+        import pandas
+
+        array = _arrow_of(texts)
+        if array is not None:
+            return _Arrow().found(array, base, profile, is_all)
+        return native.check_texts(texts.tolist(), (None, pandas.NA), base, profile, is_all)
+
+    def truths(self, texts: Any, verdicts: bytearray) -> Any:
+        import numpy
+        import pandas
+
+        numbers = numpy.frombuffer(verdicts, numpy.uint8)
+        column = pandas.arrays.BooleanArray(numbers == 0, numbers == _MISSING)
+        return pandas.Series(column, index=texts.index, name=texts.name)
+
+    def check(self, texts: Any, base: AnyBase, profile: Profile) -> Findings:
+        import numpy
+        import pandas
+
+        verdicts, rules, places = self.found(texts, base, profile, True)
+        numbers = numpy.frombuffer(rules, numpy.uint8)
+        names = pandas.Categorical.from_codes(numbers.astype(numpy.int8) - 1, categories=list(_RULES[1:]))
+        columns = (names, pandas.arrays.IntegerArray(numpy.frombuffer(places, numpy.int64), numbers == 0))
+        made = (pandas.Series(column, index=texts.index, name=texts.name) for column in columns)
+        return Findings(self.truths(texts, verdicts), *made)
+
+    def is_valid(self, texts: Any, base: AnyBase, profile: Profile) -> Any:
+        return self.truths(texts, self.found(texts, base, profile, False)[0])
+
+    def write(self, texts: Any, base: AnyBase, profile: Profile, mends: bool) -> Tuple[Any, Any]:
+        import pandas
+
+        array = _arrow_of(texts)
+        if array is not None:
+            written, kinds = _Arrow().write(array, base, profile, mends)
+            columns = [pandas.array(written, texts.dtype), pandas.Categorical(kinds.to_pylist(), _KINDS)]
+        else:
+            listed = native.write_texts(texts.tolist(), (None, pandas.NA), base, profile, mends)
+            written, kinds = _objects(listed)
+            columns = [pandas.array(written, texts.dtype), pandas.Categorical(kinds, _KINDS)]
+        made = [pandas.Series(column, index=texts.index, name=texts.name) for column in columns]
+        return made[0], made[1]
+
+
+_KINDS = ["same", "escaped", "changed"]
+
+
+def _arrow_of(texts: Any) -> Any:
+    """The array of Arrow in which a Series has its texts, or ``None``."""
+    has_arrow = "pyarrow" in sys.modules and "pyarrow" in (getattr(texts.dtype, "storage", None) or str(texts.dtype))
+    return texts.array.__arrow_array__() if has_arrow else None
+
+
+class _Arrow(_Lists):
+    """Arrays of Arrow, by its C data interface."""
+
+    def found(self, texts: Any, base: AnyBase, profile: Profile, is_all: bool) -> Tuple[bytearray, ...]:
+        chunks = Column.chunks(texts)
+        parts = [native.check_arrow(schema, array, base, profile, is_all) for schema, array in chunks]
+        if len(parts) == 1:
+            return parts[0]
+        return tuple(bytearray().join(columns) for columns in zip(*parts)) or tuple(bytearray() for _ in range(3))
+
+    def check(self, texts: Any, base: AnyBase, profile: Profile) -> Findings:
+        verdicts, rules, places = self.found(texts, base, profile, True)
+        return Findings(
+            Column.truths(verdicts, _MISSING).like(texts),
+            Column.names(rules, _RULES[1:]).like(texts),
+            Column.numbers(places, rules).like(texts),
+        )
+
+    def is_valid(self, texts: Any, base: AnyBase, profile: Profile) -> Any:
+        return Column.truths(self.found(texts, base, profile, False)[0], _MISSING).like(texts)
+
+    def write(self, texts: Any, base: AnyBase, profile: Profile, mends: bool) -> Tuple[Any, Any]:
+        chunks = Column.chunks(texts)
+        parts = [native.write_arrow(schema, array, base, profile, mends) for schema, array in chunks]
+        made = [Column.texts(*part) for part in parts]
+        kinds = [Column.names(_lowered(marks), _KINDS) for _, _, marks in parts]
+        return Column.joined(made, texts), Column.joined(kinds, texts)
+
+
+def _lowered(marks: bytearray) -> bytearray:
+    """The kinds of mended texts of their marks, 0 where there is none."""
+    return marks.translate(bytes([0, 0, 1, 2, 3]) + bytes(251))
+
+
+def _kind_of(texts: Any) -> Any:
+    """How texts are read and answered, by the module that they are of."""
+    module = type(texts).__module__.partition(".")[0]
+    if module == "pandas" and hasattr(texts, "index") and hasattr(texts, "dtype"):
+        return _Series()
+    if module == "numpy" and hasattr(texts, "dtype"):
+        return _Arrays()
+    return _Arrow() if is_arrow(texts) else _Lists()

@@ -1,0 +1,103 @@
+"""What the program writes to standard output and says on standard error, and why a file can't be read or written."""
+
+import errno
+import io
+import os
+import re
+import sys
+
+REASONS = {
+    errno.ENOENT: "there is no such file",
+    errno.EISDIR: "it is a folder",
+    errno.ENOTDIR: "a part of its path is no folder",
+    errno.EACCES: "permission denied",
+    errno.EPERM: "permission denied",
+    errno.ELOOP: "its symbolic links lead in a circle",
+    errno.ENAMETOOLONG: "its name is too long",
+    errno.EBUSY: "it is in use",
+    errno.ETIMEDOUT: "the system took too long",
+    errno.ESTALE: "it is no longer on its server",
+    errno.ENOSPC: "no space is left",
+    errno.EDQUOT: "the quota is used up",
+    errno.EFBIG: "the file may not get larger",
+}
+"""Why a file can't be read or written, as ``urlcheck`` says it; any other reason is said in the system's words."""
+
+
+_HIDDEN = re.compile("[\x00-\x08\x0a-\x1f\x7f-\x9f\u061c\u200e\u200f\u2028-\u202e\u2066-\u2069]")
+"""The controls but the tab, and what turns the direction of a text or ends its line."""
+
+
+def named(name: str) -> str:
+    """A document's name as lines show it: U+FFFD stands for a control but the tab, and for what turns its direction."""
+    return _HIDDEN.sub("\ufffd", name)
+
+
+def reason_of(error: OSError) -> str:
+    """Why the system couldn't do what was asked of it."""
+    return REASONS.get(error.errno or 0) or str(error.strerror or error)
+
+
+def as_utf8() -> None:
+    """On Windows standard error has UTF-8 too, with lines that end as elsewhere."""
+    if sys.platform == "win32" and isinstance(sys.stderr, io.TextIOWrapper):
+        sys.stderr.reconfigure(encoding="utf-8", errors="backslashreplace", newline="\n")
+
+
+def is_closed_pipe(error: OSError) -> bool:
+    """Whether what reads the output has ended. (Windows has no error of its own for that.)"""
+    return isinstance(error, BrokenPipeError) or sys.platform == "win32" and error.errno == errno.EINVAL
+
+
+def closed() -> OSError:
+    """What is raised where a stream was closed before the start."""
+    return OSError(errno.EBADF, os.strerror(errno.EBADF))
+
+
+def tell(line: str) -> None:
+    """Writes a line to standard error, after the program's name."""
+    say("urlcheck-documents: " + line + "\n")
+
+
+def say(lines: str) -> None:
+    """Writes lines to standard error, in one piece: others may write there at the same time. Where that takes nothing
+    the status is alone."""
+    try:
+        if sys.stderr is not None:
+            sys.stderr.write(lines)
+    except OSError:
+        write_nowhere(2)
+
+
+def stop(line: str) -> int:
+    """Says why nothing is read, and gives the status of that."""
+    tell(line)
+    return 2
+
+
+_DRIVES = re.compile("[\x00-\x08\x0b-\x1f\x7f-\x9f\u061c\u200e\u200f\u2028-\u202e\u2066-\u2069]")
+"""What drives a terminal: controls but the tab and the line feed, and what ends a line or turns a text's direction."""
+
+
+def write(lines: bytes) -> None:
+    """Writes whole lines, as they are; to a terminal what drives it is shown as U+FFFD."""
+    if not lines:
+        return
+    # (there is none where it was closed before the start)
+    if sys.stdout is None:
+        raise closed()
+    if sys.stdout.isatty():
+        shown = _DRIVES.sub("\ufffd", lines.decode("utf-8", "surrogateescape"))
+        lines = shown.encode("utf-8", "surrogateescape")
+    sys.stdout.buffer.write(lines)
+
+
+def flush() -> None:
+    """Writes out what was written."""
+    if sys.stdout is not None:
+        sys.stdout.buffer.flush()
+
+
+def write_nowhere(number: int) -> None:
+    """What is left to be written to this file goes nowhere, so that Python's own end says nothing of it."""
+    os.dup2(os.open(os.devnull, os.O_WRONLY), number)

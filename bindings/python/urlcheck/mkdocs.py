@@ -1,0 +1,107 @@
+"""A plugin of MkDocs: a warning for each link of a page that isn't a valid URL string, which ends a strict build.
+
+``plugins: [search, urlcheck]`` in mkdocs.yml. Its reader is that of CommonMark; the HTML of a page is read too, since
+Python-Markdown takes links that CommonMark doesn't.
+"""
+
+import importlib
+import logging
+import os
+import re
+from typing import Any, Optional, Set, Tuple
+
+from . import BaseRefused, Profile
+from . import _html_links, _markdown_links
+from ._config import Misconfigured, configuration_of
+from ._front_matter import front_matter_of
+from ._judge import Judge
+from ._literal import Literals
+from ._source import Link, Source
+
+_OPTIONS: Any = importlib.import_module("mkdocs.config.config_options")
+_PLUGINS: Any = importlib.import_module("mkdocs.plugins")
+
+# (a strict build counts the warnings below this name)
+_LOG = logging.getLogger("mkdocs.plugins.urlcheck")
+
+_ABOVE = re.compile(r"\A(?:\.\.?/)+")
+"""What MkDocs writes before a link of a page in a folder of its own."""
+
+
+class Plugin(_PLUGINS.BasePlugin):  # type: ignore[misc]
+    """What MkDocs calls."""
+
+    config_scheme = (
+        ("profile", _OPTIONS.Choice([it.name.lower() for it in Profile], default=None)),
+        ("base", _OPTIONS.Type(str, default=None)),
+        ("ignore", _OPTIONS.Type(list, default=[])),
+        ("gfm", _OPTIONS.Type(bool, default=False)),
+        ("no_empty", _OPTIONS.Type(bool, default=False)),
+        ("rendered", _OPTIONS.Type(bool, default=True)),
+    )
+
+    def on_config(self, config: Any, **_: Any) -> Any:
+        """Takes the settings. Raises MkDocs's ``PluginError`` where one is wrong."""
+        failed: Any = importlib.import_module("mkdocs.exceptions").PluginError
+        try:
+            project = configuration_of(os.path.dirname(os.path.abspath(config["config_file_path"] or "mkdocs.yml")))
+            name = self.config["profile"]
+            profile = Profile[name.upper()] if name else project.profile or Profile.STANDARD
+            base = self.config["base"] or project.base or config["site_url"] or None
+            self._judge = Judge(base, profile, False, self.config["no_empty"] or project.is_empty_taken)
+            self._ignored = tuple(re.compile(it) for it in self.config["ignore"]) + project.ignored
+            self._is_gfm = self.config["gfm"] or project.gfm
+        except BaseRefused as refused:
+            raise failed("urlcheck: {}".format(refused)) from None
+        except re.error as error:
+            raise failed("urlcheck: ignore has no regular expression: {}".format(error)) from None
+        except Misconfigured as misconfigured:
+            raise failed("urlcheck: {}".format(misconfigured)) from None
+        return config
+
+    def on_page_markdown(self, markdown: str, page: Any, config: Any, files: Any, **_: Any) -> Optional[str]:
+        """Checks what the author wrote: the page's file as it is, where no other plugin changed its text."""
+        self._literals = Literals()
+        self._seen: Set[str] = set()
+        self._path = str(page.file.abs_src_path or "")
+        source = self._literals.source(self._path) if self._path else None
+        is_written = source is not None and "\n".join(source.text.splitlines()).endswith("\n".join(markdown.splitlines()))
+        text = source if source is not None and is_written else Source(markdown)
+        front = front_matter_of(text.text)
+        self._first = text.position(front[0])[0] if front and is_written else 1
+        links, ignored, *_more = _markdown_links.links_of(text, self._is_gfm)
+        for link in links:
+            line, _column = text.position(link.offset)
+            # (the page's HTML doesn't have what is before its text)
+            if not front or link.offset >= front[0]:
+                self._seen.add(_ABOVE.sub("", link.text))
+            if line not in ignored:
+                self._tell(page.file.src_path, link, text if is_written else None)
+        return None
+
+    def on_page_content(self, html: str, page: Any, config: Any, files: Any, **_: Any) -> Optional[str]:
+        """Checks what Python-Markdown made of it, for links that CommonMark doesn't have."""
+        if self.config["rendered"]:
+            for link in _html_links.links_of(Source(html))[0]:
+                text = _ABOVE.sub("", link.text)
+                if text not in self._seen:
+                    self._seen.add(text)
+                    self._tell(page.file.src_path, link, None)
+        return None
+
+    def _tell(self, name: str, link: Link, source: Optional[Source]) -> None:
+        """Warns of a link, where it is wrong: at its place in this source, or where its text is in the page's file."""
+        wrong = self._judge.wrong(link)
+        if wrong is None or any(it.search(link.text) for it in self._ignored):
+            return
+        place: Optional[Tuple[int, int]] = None
+        if source is not None:
+            place = source.position(link.place(wrong.place))
+        else:
+            written = self._literals.source(self._path) if self._path else None
+            texts = (link.text, _ABOVE.sub("", link.text))
+            found = next(filter(None, (self._literals.find(self._path, self._first, it) for it in texts)), None)
+            if written is not None and found is not None:
+                place = written.position(found[0].place(wrong.place))
+        where = "" if place is None else ":{}:{}".format(*place)
+        _LOG.warning("%s%s: %s: %s [%s]", name, where, link.text, wrong.message, wrong.rule)

@@ -1,0 +1,175 @@
+"""An extension of Sphinx: a warning for each link of a document that isn't a valid URL string.
+
+``extensions = ["urlcheck.sphinx"]`` in conf.py. Each warning has the type ``urlcheck`` and the rule as its subtype, so
+that ``suppress_warnings = ["urlcheck.percent"]`` silences those of a rule.
+"""
+
+import importlib
+import os
+import re
+from typing import Any, Dict, Iterator, List, NamedTuple, Optional, Set, Tuple
+
+from . import BaseRefused, Profile, version
+from . import _html_links, _markdown_links
+from ._config import Misconfigured, configuration_of
+from ._judge import Judge
+from ._kinds import kind_of
+from ._literal import Literals
+from ._source import Link, Source
+
+_LOG: Any = importlib.import_module("sphinx.util.logging").getLogger(__name__)
+
+_BEFORE_COLLECTORS = 100
+"""When the links are checked: before the collectors, which make an image's URI a path."""
+
+
+class _Said(NamedTuple):
+    """A link of a document, and where its block is."""
+
+    path: str
+    line: int
+    text: str
+
+
+class _Settings(NamedTuple):
+    """What links are checked by."""
+
+    judge: Judge
+    ignored: Tuple["re.Pattern[str]", ...]
+    has_columns: bool
+    is_gfm: bool
+
+
+def setup(app: Any) -> Dict[str, Any]:
+    """What Sphinx calls."""
+    app.add_config_value("urlcheck_profile", None, "env", [str])
+    app.add_config_value("urlcheck_base", None, "env", [str])
+    app.add_config_value("urlcheck_ignore", [], "env", [list])
+    app.add_config_value("urlcheck_no_empty", False, "env", [bool])
+    app.add_config_value("urlcheck_columns", False, "", [bool])
+    app.connect("config-inited", lambda app, _: _settings(app))
+    app.connect("doctree-read", _judge_document, priority=_BEFORE_COLLECTORS)
+    return {"version": version(), "parallel_read_safe": True, "parallel_write_safe": True}
+
+
+def _settings(app: Any) -> _Settings:
+    """What links are checked by: what conf.py says, else the project's configuration. Raises Sphinx's ``ConfigError``."""
+    failed: Any = importlib.import_module("sphinx.errors").ConfigError
+    config = app.config
+    try:
+        project = configuration_of(os.path.abspath(app.srcdir))
+        name = config.urlcheck_profile
+        if name is not None and name not in [it.name.lower() for it in Profile]:
+            raise failed("urlcheck_profile is one of {}".format(", ".join(it.name.lower() for it in Profile)))
+        profile = Profile[name.upper()] if name is not None else project.profile or Profile.STANDARD
+        judge = Judge(config.urlcheck_base or project.base, profile, False, config.urlcheck_no_empty or project.is_empty_taken)
+        ignored = tuple(re.compile(it) for it in config.urlcheck_ignore) + project.ignored
+    except BaseRefused as refused:
+        raise failed("urlcheck_base: {}".format(refused)) from None
+    except re.error as error:
+        raise failed("urlcheck_ignore: no regular expression: {}".format(error)) from None
+    except Misconfigured as misconfigured:
+        raise failed(str(misconfigured)) from None
+    is_gfm = project.gfm or "linkify" in (getattr(config, "myst_enable_extensions", None) or ())
+    return _Settings(judge, ignored, config.urlcheck_columns, is_gfm)
+
+
+def _judge_document(app: Any, tree: Any) -> None:
+    """Checks the links that the author of a document wrote; what Sphinx makes of its own isn't there yet."""
+    settings, literals = _settings(app), Literals()
+    path = os.path.abspath(app.env.doc2path(app.env.docname))
+    read: Set[Tuple[str, int]] = set()
+    if kind_of(path) == "markdown":
+        # (MyST percent-encodes what it reads, so that its nodes don't say what was written)
+        read = _judge_markdown(settings, literals, path)
+    for said in _links(tree, path):
+        source = literals.source(said.path)
+        # (docutils takes the spaces out of a link, and so makes another one of it)
+        spaced = literals.spaced(said.path, said.text)
+        if spaced is not None:
+            _tell(settings, said._replace(text=spaced.text), source, spaced)
+            continue
+        # (only what is refused is sought)
+        if settings.judge.wrong(Link(said.text, 0, False)) is None:
+            continue
+        found = literals.find(said.path, said.line, said.text)
+        if found is None or source is None:
+            _tell(settings, said, None, None)
+        # (a substitution or a named target is used several times, and written once)
+        elif found[1] and (said.path != path or (said.text, source.position(found[0].offset)[0]) not in read):
+            _tell(settings, said, source, found[0])
+
+
+def _judge_markdown(settings: _Settings, literals: Literals, path: str) -> Set[Tuple[str, int]]:
+    """Checks the links of a document of MyST by its source, and gives them with their lines."""
+    source = literals.source(path)
+    if source is None:
+        return set()
+    links, ignored, _, _ = _markdown_links.links_of(source, settings.is_gfm)
+    read = set()
+    for link in links:
+        line, _ = source.position(link.offset)
+        read.add((link.text, line))
+        if line not in ignored:
+            _tell(settings, _Said(path, line, link.text), source, link)
+    return read
+
+
+def _links(tree: Any, path: str) -> Iterator[_Said]:
+    """The links of a document's nodes."""
+    nodes: Any = importlib.import_module("docutils.nodes")
+    addnodes: Any = importlib.import_module("sphinx.addnodes")
+    wanted = (nodes.reference, nodes.image, nodes.raw, addnodes.toctree, addnodes.download_reference)
+    for node in tree.findall(lambda it: isinstance(it, wanted)):
+        source, line = _place(node, path)
+        if isinstance(node, addnodes.toctree):
+            yield from (_Said(source, line, to) for _, to in node["entries"] if "://" in to)
+        elif isinstance(node, nodes.raw):
+            yield from _links_of_raw(node, source, line)
+        elif isinstance(node, nodes.image):
+            yield _Said(source, line, node["uri"])
+        elif isinstance(node, addnodes.download_reference):
+            if "://" in node.get("reftarget", ""):
+                yield _Said(source, line, node["reftarget"])
+        elif node.get("refuri") and not node.get("internal") and node["refuri"] != "mailto:" + node.astext():
+            yield _Said(source, line, node["refuri"])
+
+
+def _links_of_raw(node: Any, source: str, line: int) -> Iterator[_Said]:
+    """The links of HTML that a document has, or another file that it names."""
+    if "html" in node.get("format", "").split():
+        if os.path.exists(node.get("source", "")):
+            source, line = os.path.abspath(node["source"]), 1
+        for link in _html_links.links_of(Source(node.astext()))[0]:
+            yield _Said(source, line, link.text)
+
+
+def _place(node: Any, path: str) -> Tuple[str, int]:
+    """The file and the line of a node, or of what is around it: the line of an inline node is unknown to docutils."""
+    source: Optional[str] = None
+    line: Optional[int] = None
+    while node is not None and (source is None or line is None):
+        source = source or node.source
+        line = line or node.line
+        node = node.parent
+    # (autodoc counts from the docstring, whose line it doesn't say)
+    file, is_docstring, _ = (source or "").partition(":docstring of ")
+    if is_docstring and os.path.exists(file):
+        return os.path.abspath(file), 1
+    return (os.path.abspath(source) if source and os.path.exists(source) else path), line or 1
+
+
+def _tell(settings: _Settings, said: _Said, source: Optional[Source], link: Optional[Link]) -> None:
+    """Warns of a link, where it is wrong."""
+    given = link or Link(said.text, 0, False)
+    wrong = settings.judge.wrong(given)
+    if wrong is None or any(it.search(said.text) for it in settings.ignored):
+        return
+    where: List[Any] = [said.path, said.line]
+    column = ""
+    if source is not None and link is not None:
+        where[1], at = source.position(link.place(wrong.place))
+        column = "" if settings.has_columns else ", column {}".format(at)
+        where += [at] if settings.has_columns else []
+    location = ":".join(map(str, where))
+    _LOG.warning("%s: %s%s [%s]", said.text, wrong.message, column, wrong.rule, location=location, type="urlcheck", subtype=wrong.rule)

@@ -1,0 +1,78 @@
+// The lines of bytes, checked in one call of the module for each mebibyte of them.
+import {
+  DONE, EMPTY_LINES, LINES, MEMORY, NEXT_LINE, REFUSED, REFUSED_LINES, ROW_BYTE_PLACE, ROW_LENGTH, ROW_LINE,
+  ROW_PLACE, ROW_RULE, ROW_START, ROW_VERDICT, ROW_WORDS, VERDICT
+} from './layout.js'
+
+/** @typedef {import('./urlcheck.js').Many} Many */
+/** @typedef {import('./urlcheck.js').RefusedLine} RefusedLine */
+
+const LF = 10
+const PIECE = 1 << 20
+
+/**
+ * Where a piece of whole lines ends that begins there: so many bytes are checked at a time, or a longer line.
+ * @param {Uint8Array} bytes
+ * @param {number} start
+ * @returns {number}
+ */
+function pieceEnd(bytes, start) {
+  if (bytes.length - start <= PIECE) return bytes.length
+  const last = bytes.lastIndexOf(LF, start + PIECE - 1)
+  if (last >= start) return last + 1
+  const next = bytes.indexOf(LF, start + PIECE)
+  return next === -1 ? bytes.length : next + 1
+}
+
+/**
+ * Adds what the module has found of a piece's lines.
+ * @param {Many} many
+ * @param {import('./memory.js').Room} room
+ * @param {readonly (import('./urlcheck.js').RuleName)[]} names of the rules
+ * @param {number} start where the piece begins
+ */
+function add(many, room, names, start) {
+  const words = new Uint32Array(room.exports.memory.buffer, room.exports.out_at(), room.word(REFUSED_LINES) * ROW_WORDS)
+  for (let at = 0; at < words.length; at += ROW_WORDS) {
+    const from = start + words[at + ROW_START]
+    many.refused.push({
+      line: many.lines + words[at + ROW_LINE],
+      start: from,
+      end: from + words[at + ROW_LENGTH],
+      rule: words[at + ROW_VERDICT] === REFUSED ? names[words[at + ROW_RULE] - 1] : 'not-utf8',
+      place: words[at + ROW_PLACE],
+      byte: words[at + ROW_BYTE_PLACE]
+    })
+  }
+  many.lines += room.word(LINES)
+  many.judged += room.word(LINES) - room.word(EMPTY_LINES)
+}
+
+/**
+ * Checks the lines of bytes.
+ * @param {import('./memory.js').Room} room
+ * @param {readonly (import('./urlcheck.js').RuleName)[]} names of the rules
+ * @param {Uint8Array} bytes
+ * @param {Uint32Array | undefined} held what is held of the base, where there is one
+ * @param {number} profile
+ * @returns {Many}
+ * @throws {RangeError} where there is no memory for a line
+ */
+export function checkedLines(room, names, bytes, held, profile) {
+  /** @type {Many} */
+  const many = { lines: 0, judged: 0, refused: [] }
+  for (let start = 0, end; start < bytes.length; start = end) {
+    end = pieceEnd(bytes, start)
+    room.putBytes(bytes.subarray(start, end))
+    if (held !== undefined) room.hold(held)
+    for (let from = 0; from < end - start; from = room.word(NEXT_LINE)) {
+      room.exports.check_lines(end - start, from, held === undefined ? 0 : 1, profile)
+      room.look()
+      const verdict = room.word(VERDICT)
+      if (verdict === MEMORY) room.stopForMemory()
+      if (verdict !== DONE) throw new Error(`urlcheck.wasm answers ${verdict}`)
+      add(many, room, names, start)
+    }
+  }
+  return many
+}

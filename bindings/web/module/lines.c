@@ -1,0 +1,101 @@
+/*
+ * The lines of bytes that are in the room of the text, checked in one call, alone or against the base that is held: a
+ * row for each that isn't valid. A line ends as urlcheck_next_refused ends it, and an empty one is passed over.
+ */
+#include "glue.h"
+
+uint64_t proved_next_refused(urlcheck_line *answer, const uint8_t *lines, size_t length, size_t from, uint32_t profile)
+    PROVED("next_refused");
+
+/* A line that isn't valid: its number from 1, where its text is, in bytes, and what was found of it. */
+typedef struct {
+    uint32_t line, start, length, verdict, rule, place, byte_place;
+} refused_line;
+
+/* Where urlcheck.js reads: it knows these numbers. */
+_Static_assert(offsetof(lines_judged, lines) == 24 && offsetof(lines_judged, empty) == 28, "layout");
+_Static_assert(offsetof(lines_judged, refused) == 32 && offsetof(lines_judged, next) == 36, "layout");
+_Static_assert(sizeof(refused_line) == 7 * 4 && offsetof(refused_line, byte_place) == 6 * 4, "layout");
+
+/* The rows that a call has room for. After them the next one goes on. */
+enum { ROWS = 4096 };
+
+/* The first line from `from` on: where its text begins, how long that is, and where the next line begins. */
+static urlcheck_line first_line(const uint8_t *lines, size_t length, size_t from) {
+    size_t end = from;
+    while (end < length && lines[end] != '\n') end++;
+    bool is_closed = end < length;
+    size_t text_end = is_closed && end > from && lines[end - 1] == '\r' ? end - 1 : end;
+    return (urlcheck_line){.start = from, .length = text_end - from, .next = is_closed ? end + 1 : end};
+}
+
+/* The next line that is empty or isn't valid against the base that is held: urlcheck_next_refused gives it alone. */
+static urlcheck_line next_refused_with(const uint8_t *lines, size_t length, size_t from) {
+    size_t passed = 0;
+    for (size_t at = from; at < length; passed++) {
+        urlcheck_line line = first_line(lines, length, at);
+        const uint8_t *text = lines + line.start;
+        if (line.length == 0 || !urlcheck_is_valid_with(text, line.length, &held)) {
+            urlcheck_answer checked;
+            proved_check_with(&checked, text, line.length, &held);
+            line.found = checked.found;
+            line.passed = passed;
+            if (line.length == 0 || checked.found.verdict != URLCHECK_VALID) return line;
+        }
+        at = line.next;
+    }
+    return (urlcheck_line){.start = length, .next = length, .passed = passed};
+}
+
+static urlcheck_line next_refused(const uint8_t *lines, size_t length, size_t from, bool is_held, uint32_t profile) {
+    if (is_held) return next_refused_with(lines, length, from);
+    urlcheck_line line;
+    proved_next_refused(&line, lines, length, from, profile);
+    return line;
+}
+
+/* Takes the valid lines before a line, and the line itself, where there is one. */
+static void take(lines_judged *judged, const urlcheck_line *line) {
+    judged->lines += (uint32_t)line->passed;
+    judged->next = (uint32_t)line->next;
+    if (line->start == line->next) return;
+    judged->lines++;
+    if (line->length == 0) {
+        judged->empty++;
+        return;
+    }
+    const urlcheck_finding *found = &line->found;
+    ((refused_line *)out)[judged->refused++] = (refused_line){
+        judged->lines, (uint32_t)line->start, (uint32_t)line->length, found->verdict, found->rule,
+        (uint32_t)found->place, (uint32_t)found->byte_place};
+}
+
+/* Takes the valid lines before a line that found no memory. */
+static void take_before(lines_judged *judged, const urlcheck_line *line) {
+    judged->lines += (uint32_t)line->passed;
+    judged->next = (uint32_t)line->start;
+}
+
+/*
+ * Checks the lines from the byte `from` on, as many as the rows have room for. What the lines before took of the heap
+ * is given up where a line finds no memory, and before each row: so only a line that has none alone ends the call.
+ */
+void check_lines(uint32_t length, uint32_t from, uint32_t is_held, uint32_t profile) {
+    if (!takes_out(ROWS * sizeof(refused_line))) return;
+    uint64_t mark = heap_mark();
+    lines_judged judged = {.found = {.verdict = URLCHECK_DONE}, .next = from};
+    while (judged.next < length && judged.refused < ROWS) {
+        heap_return(mark);
+        urlcheck_line line = next_refused(heap_text(), length, judged.next, is_held, profile);
+        uint32_t verdict = line.found.verdict;
+        if (verdict <= URLCHECK_NO_UTF8) {
+            take(&judged, &line);
+            continue;
+        }
+        take_before(&judged, &line);
+        if (verdict == URLCHECK_MEMORY && line.passed > 0) continue;
+        judged.found = line.found;
+        break;
+    }
+    answer.lines = judged;
+}

@@ -1,0 +1,34 @@
+// What the page shows, in its own address after `#`, so that a case can be sent as a link.
+
+const VIEWS = ['text', 'list', 'html']
+/** A text or list of more units isn't written into the address. */
+const LONGEST = 4000
+
+/** The names that an address may have for a profile; it needs none for the first. */
+const PROFILES = ['standard', 'wide', 'parser']
+
+/** What the page begins with. */
+export const FIRST_TEXT = 'https://example.com/a b?x=100%&y=1#top'
+
+/** The state that the address gives; `text` and `list` are null where it has none. */
+export function readState() {
+  const words = new URLSearchParams(location.hash.slice(1))
+  const view = words.get('view')
+  return {
+    view: VIEWS.includes(view) ? view : 'text',
+    text: words.get('text'),
+    list: words.get('list'),
+    base: words.get('base') ?? '',
+    profile: PROFILES.find(profile => profile === words.get('profile')) ?? PROFILES[0]
+  }
+}
+
+/** The address of a state, after `#`. */
+export function addressOf({ view, text, list, base, profile }) {
+  const words = new URLSearchParams({ view })
+  if (view === 'text' && text.length <= LONGEST) words.set('text', text)
+  if (view === 'list' && list && list.length <= LONGEST) words.set('list', list)
+  if (base && base.length <= LONGEST) words.set('base', base)
+  if (profile !== PROFILES[0]) words.set('profile', profile)
+  return `#${words}`
+}

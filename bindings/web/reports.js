@@ -1,0 +1,136 @@
+// Reports, as `urlcheck lint` writes them: the library writes each piece of one.
+import {
+  VIOLATION_COLUMN, VIOLATION_KIND, VIOLATION_LINE, VIOLATION_PLACE, VIOLATION_PROFILE, VIOLATION_RULE
+} from './layout.js'
+import { stopUnlessString, utf8Length } from './memory.js'
+
+/** @typedef {import('./urlcheck.js').Completion} Completion */
+/** @typedef {import('./urlcheck.js').Diagnostic} Diagnostic */
+/** @typedef {import('./urlcheck.js').ReportFormat} ReportFormat */
+/** @typedef {import('./urlcheck.js').ColumnUnit} ColumnUnit */
+
+/**
+ * How a run over files has ended, by the numbers of `urlcheck_completion`.
+ * @type {Completion[]}
+ */
+const COMPLETIONS = ['whole', 'unread', 'stopped']
+const MOST = 0xffffffff
+
+/**
+ * What a report asks of its checker.
+ * @typedef {object} Numbers
+ * @property {(rule: unknown) => number} ofRule
+ * @property {(profile: unknown) => number} ofProfile
+ * @property {(kind: unknown) => number} ofKind
+ */
+
+/**
+ * @param {unknown} number
+ * @param {string} name what it is called in a refusal
+ * @param {number} least
+ * @returns {number}
+ */
+export function wholeNumber(number, name, least) {
+  if (Number.isInteger(number) && Number(number) >= least && Number(number) <= MOST) return Number(number)
+  throw new RangeError(`the ${name} is no whole number from ${least} to ${MOST}`)
+}
+
+/** A report in a format: its pieces are given one by one, in their order. */
+export class Report {
+  #room
+  #numbers
+  #format
+  #unit
+  #isFirst = true
+
+  /**
+   * @param {import('./memory.js').Room} room
+   * @param {Numbers} numbers
+   * @param {number} format
+   * @param {number} unit
+   */
+  constructor(room, numbers, format, unit) {
+    this.#room = room
+    this.#numbers = numbers
+    this.#format = format
+    this.#unit = unit
+    /** Whether its diagnostics say what to write in place of a text. */
+    this.showsMended = room.exports.shows_mended(format) === 1
+  }
+
+  /**
+   * What is written before all else.
+   * @returns {string}
+   */
+  begin() {
+    this.#room.exports.report_begin(this.#format, this.#unit)
+    return this.#room.writtenText()
+  }
+
+  /**
+   * What is written before the diagnostics of a file.
+   * @param {string} file its name
+   * @returns {string}
+   * @throws {TypeError} where the name has a lone surrogate
+   */
+  fileBegin(file) {
+    stopUnlessString(file, 'name of the file')
+    utf8Length(file, 'name of the file')
+    this.#room.put('', file)
+    this.#room.exports.report_file_begin(this.#format, this.#room.baseLength)
+    return this.#room.writtenText()
+  }
+
+  /**
+   * What is reported of a violation.
+   * @param {Diagnostic} told
+   * @returns {string}
+   * @throws {TypeError} where a text has a lone surrogate, or no rule, kind or profile has the name
+   * @throws {RangeError} where the place is after the end of the text, or the line or a column isn't from 1 to
+   *   4294967295; or there is no memory for it
+   */
+  diagnostic({ file, line, column = 1, text, rule, place, profile, mended }) {
+    const room = this.#room
+    stopUnlessString(file, 'name of the file')
+    const instead = mended?.text ?? ''
+    stopUnlessString(instead, 'mended text')
+    utf8Length(instead, 'mended text')
+    const fileLength = utf8Length(file, 'name of the file')
+    room.put(text, file + instead)
+    const words = room.violation().fill(0)
+    words[VIOLATION_PROFILE] = this.#numbers.ofProfile(profile)
+    words[VIOLATION_RULE] = this.#numbers.ofRule(rule)
+    words[VIOLATION_PLACE] = wholeNumber(place, 'place', 0)
+    words[VIOLATION_LINE] = wholeNumber(line, 'line', 1)
+    words[VIOLATION_COLUMN] = wholeNumber(column, 'column', 1)
+    words[VIOLATION_KIND] = mended ? this.#numbers.ofKind(mended.kind) : 0
+    const isFirst = this.#isFirst ? 1 : 0
+    const mendedLength = room.baseLength - fileLength
+    room.exports.diagnostic(this.#format, this.#unit, isFirst, room.textLength, fileLength, mendedLength)
+    const written = room.writtenText()
+    this.#isFirst = false
+    return written
+  }
+
+  /**
+   * What is written after the diagnostics of a file.
+   * @returns {string}
+   */
+  fileEnd() {
+    this.#room.exports.report_file_end(this.#format)
+    return this.#room.writtenText()
+  }
+
+  /**
+   * What is written after all else.
+   * @param {Completion} [completion] how the run over the files has ended
+   * @returns {string}
+   * @throws {TypeError} where no completion has the name
+   */
+  end(completion = 'whole') {
+    const number = COMPLETIONS.indexOf(completion)
+    if (number < 0) throw new TypeError("the completion has to be 'whole', 'unread' or 'stopped'")
+    this.#room.exports.report_end(this.#format, number)
+    return this.#room.writtenText()
+  }
+}

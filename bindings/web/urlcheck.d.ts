@@ -1,0 +1,353 @@
+/**
+ * The checker of valid URL strings (WHATWG URL Standard, sections 3.4 and 4.3), alone or against a base.
+ *
+ * An index counts UTF-16 units of the caller's string, from 0, and a place code points. A range is two indices, the
+ * second after the part's end, as `slice` takes them.
+ */
+
+/**
+ * Loads the module and gives a checker. Without a source it is the `urlcheck.wasm` beside `urlcheck.js`.
+ * @param source the module, its bytes, a response that has them, or its address, which may be relative to `urlcheck.js`
+ */
+export function load(source?: Source): Promise<Checker>
+
+/** Where the module comes from. */
+export type Source = string | URL | BufferSource | Response | WebAssembly.Module
+
+/** A checker: one instance of the module. Several may exist side by side, each with its own memory. */
+export interface Checker {
+  /**
+   * Whether a text is a valid URL string, alone or against a base, which is checked alone by the same profile.
+   * @throws {BaseRefused} where the base isn't valid alone
+   * @throws {TypeError} where a text is no string or has a lone surrogate, the options are no object, or no profile has
+   *   the name
+   * @throws {RangeError} where there is no memory for the text; the next call works
+   */
+  check(text: string, options?: Options): Valid | Refused
+
+  /**
+   * Whether a text is a valid URL string, without its parts and what is wrong with it: the fastest call.
+   * @throws what `check` throws
+   */
+  isValid(text: string, options?: Options): boolean
+
+  /**
+   * A base that is checked once, for many texts: the other calls take it in the place of its text, and check by its
+   * profile.
+   * @throws what `check` throws of its base
+   */
+  base(text: string, options?: BaseOptions): Base
+
+  /**
+   * All that is wrong with a text, by place and at one place by the rule's number; nothing where it is valid.
+   * @throws what `check` throws
+   */
+  faults(text: string, options?: Options): Fault[]
+
+  /**
+   * The record of the URL that a valid text denotes, and its text.
+   * @throws what `check` throws
+   */
+  resolve(text: string, options?: Options): Resolved | Refused
+
+  /**
+   * What to write in place of a refused text: a valid one made of it by local edits, which keep all else. It is null
+   * where the text is valid, and the text's refusal where the edits give no valid text: `'text' in answer` says which.
+   * @throws what `check` throws
+   */
+  mend(text: string, options?: Options): Mended | Refused | null
+
+  /**
+   * What a rule says and asks, where the URL Standard says it, and an example.
+   * @throws {TypeError} where no rule has the name
+   */
+  explain(rule: RuleName): Explanation
+
+  /**
+   * Checks the lines of bytes by one call of the module for each mebibyte. A line ends with LF, and one CR before that
+   * is no part of it. An empty line is passed over, as `urlcheck lint` does.
+   * @param lines the bytes, in UTF-8; a line that isn't UTF-8 is refused
+   * @throws {TypeError} where the lines are no `Uint8Array`, and what else `check` throws of its options
+   * @throws {RangeError} where there is no memory for a line; the next call works
+   */
+  checkMany(lines: Uint8Array, options?: Options): Many
+
+  /**
+   * The sentence on a violation of a text, without its end: what `urlcheck lint` writes after `error: `.
+   * @param violation such as a fault or a refusal
+   * @param options by whose profile the text was checked
+   * @throws {TypeError} where a text is no string or has a lone surrogate, or no rule or profile has the name
+   * @throws {RangeError} where the place is after the end of the text, or there is no memory
+   */
+  message(text: string, violation: Violation, options?: Options): string
+
+  /**
+   * A report in pieces, as `urlcheck lint` writes it: `begin`, for each file `fileBegin`, its diagnostics and
+   * `fileEnd`, and then `end`.
+   * @param unit what its columns count; without one code points, and in `rdjson` bytes
+   * @throws {TypeError} where no format or unit has the name, or the format has no word for the unit
+   */
+  report(format: ReportFormat, unit?: ColumnUnit): Report
+
+  /** The names of the rules, in the order of their numbers. */
+  readonly rules: readonly RuleName[]
+
+  /** The names of the formats of reports, in the order of their numbers. */
+  readonly formats: readonly ReportFormat[]
+
+  /** The names of what columns count, in the order of their numbers. */
+  readonly units: readonly ColumnUnit[]
+
+  /** The version of the library. */
+  readonly version: string
+}
+
+/** How a text is checked. */
+export interface Options {
+  /** The base, as its text or checked before, or none. */
+  base?: string | Base | null | undefined
+  /**
+   * By which profile the text and the base are checked; without one by that of a base that was checked before, else by
+   * the standard one. Another one than that of such a base is a `TypeError`.
+   */
+  profile?: Profile | undefined
+}
+
+/** How a base is checked. */
+export interface BaseOptions {
+  /** By which profile; without one by the standard one. */
+  profile?: Profile | undefined
+}
+
+/**
+ * A base that was checked, and is valid; `base` of a checker makes it. It is a value like a string: it keeps nothing in
+ * the memory of the module, so there is nothing to free, it never changes, and any checker of its thread accepts it. A
+ * copy of it, as a worker gets one, isn't one: send its text and its profile.
+ */
+export interface Base {
+  /** The base's text. */
+  readonly text: string
+  /** By which the base was checked, and by which texts are checked against it. */
+  readonly profile: Profile
+}
+
+/**
+ * `standard`: the URL Standard's valid URL strings. `wide`: also `_` and hyphens anywhere in domains, and any segments
+ * after an authority. `parser`: each text that the Standard's parser accepts without a validation error, and no other.
+ * Each accepts what the one before it accepts.
+ */
+export type Profile = 'standard' | 'wide' | 'parser'
+
+/** The names of the rules. */
+export type RuleName =
+  | 'no-scheme'
+  | 'opaque-base'
+  | 'two-slashes'
+  | 'host-missing'
+  | 'host-domain'
+  | 'host-number'
+  | 'host-ipv6'
+  | 'host-code-point'
+  | 'port-digit'
+  | 'port-range'
+  | 'first-segment-empty'
+  | 'drive-after-host'
+  | 'code-point'
+  | 'percent'
+
+/** The rules of lines that aren't checked: one that is no UTF-8, and one of more bytes than `urlcheck lint` reads. */
+export type LineRule = 'not-utf8' | 'line-too-long'
+
+/** What the lines of bytes are. */
+export interface Many {
+  /** How many lines there are, also the empty ones. */
+  lines: number
+  /** How many of them were checked: those that aren't empty. */
+  judged: number
+  /** The checked ones that aren't valid, in their order. */
+  refused: RefusedLine[]
+}
+
+/** A line that isn't valid. */
+export interface RefusedLine {
+  /** Its number, from 1. */
+  line: number
+  /** Where its text begins, in bytes, so that `lines.subarray(start, end)` is it. */
+  start: number
+  /** Where its text ends, in bytes. */
+  end: number
+  rule: RuleName | 'not-utf8'
+  /** The first wrong place, in code points of the line's text: of what is no UTF-8 where that begins. */
+  place: number
+  /** The same place, in bytes of the line's text. */
+  byte: number
+}
+
+/** A rule that a text violates, or why a line isn't checked, and where. */
+export interface Violation {
+  rule: RuleName | LineRule
+  /** In code points. */
+  place: number
+}
+
+/** The formats of reports, as `urlcheck lint --format` names them. */
+export type ReportFormat = 'gnu' | 'caret' | 'json' | 'github' | 'sarif' | 'checkstyle' | 'junit' | 'gitlab' | 'rdjson'
+
+/** What columns count, as `urlcheck lint --columns` names it. */
+export type ColumnUnit = 'code-points' | 'bytes' | 'utf16' | 'screen'
+
+/** How a run over files has ended: whole, with a file that wasn't read to its end, or before the last one's end. */
+export type Completion = 'whole' | 'unread' | 'stopped'
+
+/** A report, piece by piece; each call gives a piece of its text, which may be empty. */
+export interface Report {
+  /** Whether its diagnostics say what to write in place of a text. */
+  readonly showsMended: boolean
+  /** What is written before all else. */
+  begin(): string
+  /**
+   * What is written before the diagnostics of a file.
+   * @param file its name
+   * @throws {TypeError} where the name has a lone surrogate
+   */
+  fileBegin(file: string): string
+  /**
+   * What is reported of a violation.
+   * @throws {TypeError} where a text has a lone surrogate, or no rule, kind or profile has the name
+   * @throws {RangeError} where the place is after the end of the text, the line or a column isn't from 1 to
+   *   4294967295, or there is no memory
+   */
+  diagnostic(told: Diagnostic): string
+  /** What is written after the diagnostics of a file. */
+  fileEnd(): string
+  /**
+   * What is written after all else.
+   * @throws {TypeError} where no completion has the name
+   */
+  end(completion?: Completion): string
+}
+
+/** A violation of a text in a file. */
+export interface Diagnostic extends Violation {
+  /** The name of the file. */
+  file: string
+  /** The line that has the text, from 1. */
+  line: number
+  /** The column in which the text begins, from 1; without one 1. */
+  column?: number | undefined
+  text: string
+  /** By which profile the text was checked; without one by the standard one. */
+  profile?: Profile | undefined
+  /** What a program may write in place of the text, or nothing. */
+  mended?: Mended | null | undefined
+}
+
+/** Where a part begins, and the index after its end. */
+export type Range = [start: number, end: number]
+
+/**
+ * A valid URL string. Its parts are taken out of the text when they are asked for; `toJSON` gives them all as a plain
+ * object, which can be sent to a worker or spread.
+ */
+export interface Valid extends Parts {
+  toJSON(): Parts
+}
+
+/** The parts of a valid text: slices of it without their delimiters, and null where absent. */
+export interface Parts {
+  valid: true
+  scheme: string | null
+  host: string | null
+  port: string | null
+  /** The path is always there, though it may be empty. */
+  path: string
+  query: string | null
+  fragment: string | null
+  ranges: Ranges
+}
+
+/** Where the parts of a valid text are in it. */
+export interface Ranges {
+  scheme: Range | null
+  host: Range | null
+  port: Range | null
+  path: Range
+  query: Range | null
+  fragment: Range | null
+}
+
+/** A rule that a text violates, and where. */
+export interface Fault {
+  rule: RuleName
+  /** In code points. */
+  place: number
+  /** In UTF-16 units. */
+  index: number
+}
+
+/** The first fault of a text that isn't valid. */
+export interface Refused extends Fault {
+  valid: false
+}
+
+/** A valid URL string in place of a refused text. */
+export interface Mended {
+  text: string
+  kind: MendKind
+}
+
+/**
+ * How a mended text differs from the refused one. `same`: a second parser reads both as the same URL. `escaped`: not
+ * so; some code points of the refused text are percent-encoded, and nothing else. `changed`: neither; its author has
+ * to look.
+ */
+export type MendKind = 'same' | 'escaped' | 'changed'
+
+/** The record that a valid text denotes. */
+export interface Resolved {
+  valid: true
+  /** The record's text, as `href` of an engine's `URL` has it: ASCII alone. */
+  text: string
+  record: UrlRecord
+}
+
+/** The parts of a record, as its text has them. */
+export interface UrlRecord {
+  scheme: string
+  host: { kind: 'domain' | 'ipv4' | 'ipv6' | 'opaque' | 'empty'; text: string } | null
+  port: string | null
+  /** The path, or null where it is opaque. */
+  segments: string[] | null
+  opaquePath: string | null
+  query: string | null
+  fragment: string | null
+}
+
+/** What is known of a rule. */
+export interface Explanation {
+  readonly rule: RuleName
+  /** What is wrong at the place of a fault. */
+  readonly sentence: string
+  /** What the rule asks. */
+  readonly asks: string
+  /** The section of the URL Standard that asks it. */
+  readonly section: string
+  /** A text that violates the rule, with the base that it is read against, the place, and a valid text that was meant. */
+  readonly example: Example
+}
+
+/** A text that violates a rule. */
+export interface Example {
+  readonly text: string
+  readonly base: string | null
+  readonly place: number
+  readonly meant: string
+}
+
+/** The base, checked alone, violates a rule; nothing is said of the text. */
+export class BaseRefused extends Error {
+  constructor(rule: RuleName, place: number, index: number, why: string)
+  readonly rule: RuleName
+  readonly place: number
+  readonly index: number
+}

@@ -1,0 +1,24 @@
+# Completions of urlcheck-documents for bash.
+_urlcheck_documents() {
+    local word=${COMP_WORDS[COMP_CWORD]} previous=${COMP_WORDS[COMP_CWORD - 1]} words= takes_files= option=
+    # A value after `=` is a word of its own, or with COMP_WORDBREAKS changed a part of the option.
+    if [[ $word == = ]]; then word=
+    elif [[ $previous == = ]]; then previous=${COMP_WORDS[COMP_CWORD - 2]}
+    elif [[ $word == --*=* ]]; then previous=${word%%=*} option=$previous= word=${word#*=}; fi
+    case $previous in
+        --profile) words='standard wide parser' ;;
+        --format) words='gnu caret json github sarif checkstyle junit gitlab rdjson' ;;
+        --columns) words='code-points bytes utf16 screen' ;;
+        --type) words='html xml markdown rst notebook epub css json-feed' ;;
+        --ignore) takes_files=yes ;;
+        --base | --exclude | --stdin-name | --jobs) ;;
+        *) words='--check --format --columns --base --profile --type --ignore --exclude --git --gfm --no-empty --no-config --stdin-name --jobs --quiet -q --help -h --version -V'
+           takes_files=yes ;;
+    esac
+    mapfile -t COMPREPLY < <(compgen -P "$option" -W "$words" -- "$word")
+    if [[ -n $takes_files ]]; then
+        compopt -o filenames
+        mapfile -t -O ${#COMPREPLY[@]} COMPREPLY < <(compgen -P "$option" -f -- "$word")
+    fi
+}
+complete -F _urlcheck_documents urlcheck-documents

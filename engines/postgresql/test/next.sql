@@ -1,2 +1,0 @@
--- A version behind this one, for the test that an extension in use is taken to it.
-CREATE FUNCTION url_is_next() RETURNS boolean LANGUAGE sql IMMUTABLE PARALLEL SAFE AS 'SELECT true';

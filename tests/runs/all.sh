@@ -1,0 +1,117 @@
+#!/usr/bin/env bash
+# Runs the program given as the first argument on the cases of this folder: its status, output and standard error. Words of
+# the environment, for the program on another system (tests/runs/platforms.sh): CASES has the names of the files of cases that are
+# run, else all are, and LACKS what the system lacks that some runs need (`has`, below).
+set -uo pipefail
+for tool in awk cmp mkfifo prlimit python3 setpriv; do
+    command -v "$tool" >/dev/null || { echo "runs: $tool is missing; CONTRIBUTING.md says what the gate needs"; exit 70; }
+done
+program=$(realpath "$1")
+here=${2:-$(dirname "$(realpath "$0")")}
+room=$(mktemp -d)
+finished=no
+trap 'rm -rf "$room"; [ $finished = yes ] || { echo "FAILED: ${cases:-runs} ended all runs"; exit 1; }' EXIT
+failed=0
+count=0
+
+fail() {
+    echo "FAILED: $*"
+    failed=1
+}
+
+# as_nobody COMMAND.. : runs a command as a user who may not read every file, as root may
+as_nobody() {
+    local other=()
+    if [ "$(id -u)" = 0 ]; then other=(setpriv --reuid=65534 --regid=65534 --clear-groups); fi
+    "${other[@]}" "$@"
+}
+
+# expect STATUS STDOUT STDERR WORD.. : a run with these words ends so. STDOUT and STDERR are read with escapes.
+expect() {
+    local status=$1 stdout=$2 stderr=$3 ended
+    shift 3
+    (cd "$room" && "$program" "$@") >"$room/out" 2>"$room/err" </dev/null
+    ended=$?
+    count=$((count + 1))
+    if [ "$ended" != "$status" ]; then fail "$*: status $ended, and not $status"; fi
+    if ! printf '%b' "$stdout" | cmp -s - "$room/out"; then fail "$*: it wrote: $(cat "$room/out")"; fi
+    if ! printf '%b' "$stderr" | cmp -s - "$room/err"; then fail "$*: on standard error: $(cat "$room/err")"; fi
+}
+
+# ends_with STATUS STDERR : the last command, whose status is given second, ended so
+ends_with() {
+    local status=$1 ended=$2 stderr=$3 what=$4
+    count=$((count + 1))
+    if [ "$ended" != "$status" ]; then fail "$what: status $ended, and not $status"; fi
+    if ! printf '%b' "$stderr" | cmp -s - "$room/err"; then fail "$what: on standard error: $(cat "$room/err")"; fi
+}
+
+# on_list COMMAND STATUS STDOUT STDERR WORD.. : a run of the command with these words on the bytes of $room/list ends so
+on_list() {
+    local command=$1 status=$2 stdout=$3 stderr=$4 ended
+    shift 4
+    "$program" "$command" "$@" <"$room/list" >"$room/out" 2>"$room/err"
+    ended=$?
+    ends_with "$status" $ended "$stderr" "$command $*"
+    if ! printf '%b' "$stdout" | cmp -s - "$room/out"; then fail "$command $*: it wrote: $(cat "$room/out")"; fi
+}
+
+# lacks WHAT : whether the system lacks it
+lacks() {
+    case " ${LACKS:-} " in *" $1 "*) ;; *) return 1 ;; esac
+}
+
+# has WHAT RUNS : whether the system has what the next RUNS runs need. Else they are left out, and counted by what they need.
+declare -A left_out=()
+has() {
+    lacks "$1" || return 0
+    count=$((count + $2))
+    left_out[$1]=$((${left_out[$1]:-0} + $2))
+    return 1
+}
+
+# is_posix NAME : whether POSIX alone has files of this name. Windows has none with these code points, or a space at the end.
+is_posix() {
+    case $1 in *' ' | *[:*?\\\<\>\"]* | *[[:cntrl:]]*) ;; *) return 1 ;; esac
+}
+
+# has_file NAME : whether the system has files of this name. Else a run is left out.
+has_file() { ! is_posix "$1" || has posix_names 1; }
+
+# no_base PLACE RULE SENTENCE : what is said on standard error of a base that this rule refuses
+no_base() { printf '%s' "urlcheck: the base is refused at place $1: $3\\nbase refused $1 $2\\n"; }
+
+# What is said of an output on which no space is left, of one that is closed, of an input that is a folder, and of one
+# that is closed.
+no_space="urlcheck: standard output: can't be written: no space is left\\n"
+no_output="urlcheck: standard output: can't be written\\n"
+from_folder="urlcheck: standard input: can't be read: it is a folder\\n"
+no_input="urlcheck: standard input: can't be read\\n"
+
+# all_cases NUMBER : the last line of a file of cases, with the number of its runs
+all_cases() {
+    complete=yes
+    [ "$1" = "$count" ] || fail "$(basename "$cases"): $count runs, and not the $1 of its last line"
+}
+
+files=0
+total=0
+for cases in "$here"/*.cases.sh; do
+    [ -e "$cases" ] || continue
+    name=$(basename "$cases" .cases.sh)
+    case " ${CASES:-$name} " in *" $name "*) ;; *) continue ;; esac
+    files=$((files + 1))
+    count=0
+    complete=no
+    . "$cases"
+    [ $complete = yes ] || fail "$(basename "$cases"): it wasn't read to its end"
+    total=$((total + count))
+done
+[ $files != 0 ] || fail "$here: no file of cases"
+for what in "${!left_out[@]}"; do
+    total=$((total - left_out[$what]))
+    echo "runs: left out ${left_out[$what]} that need $what"
+done
+echo "runs: $total runs of $(basename "$program")"
+finished=yes
+exit $failed

@@ -1,0 +1,166 @@
+#!/usr/bin/env bash
+# edits.sh FOLDER CASES PROGRAM [MODULE]: spoils a copy of what tools/build-page has made in each of these ways, and
+# sees that the runs find it. MODULE is the object of the proved code that tools/build-page keeps; with it the glue is
+# spoiled too, and compiled anew.
+set -euo pipefail
+folder=$(realpath "$1") cases=$(realpath "$2") program=$(realpath "$3") module=${4:-}
+here=$(dirname "$(realpath "$0")")
+top=$(realpath "$here/../../..")
+room=$(mktemp -d)
+trap 'rm -rf "$room"' EXIT
+failed=0
+count=0
+
+# edited WHAT FILE SED : this edit of a file changes it
+edited() {
+    cp "$2" "$room/before"
+    sed -i "$3" "$2"
+    if cmp -s "$2" "$room/before"; then
+        echo "FAILED: $1: the edit changes nothing"
+        failed=1
+        return 1
+    fi
+}
+
+# found WHAT COMMAND.. : the command fails, and says why
+found() {
+    local what=$1
+    shift
+    count=$((count + 1))
+    if "$@" >"$room/said" 2>&1 || ! grep -q 'FAILED' "$room/said"; then
+        echo "FAILED: $what isn't found: $(tail -n 3 "$room/said")"
+        failed=1
+    fi
+}
+
+# run WHAT RUN : the run of this name fails on the copy
+run() {
+    case $2 in
+        vectors) found "$1" node "$here/vectors.mjs" "$room/copy" "$cases" ;;
+        calls) found "$1" node "$here/calls.mjs" "$room/copy" ;;
+        reports) found "$1" node "$here/reports.mjs" "$room/copy" "$cases" "$program" ;;
+    esac
+}
+
+# script WHAT RUN FILE SED : with this edit of a script of the package the run fails
+script() {
+    rm -rf "$room/copy"
+    cp -r "$folder" "$room/copy"
+    edited "$1" "$room/copy/$3" "$4" || return 0
+    run "$1" "$2"
+}
+
+node "$here/vectors.mjs" "$folder" "$cases" >"$room/said" && node "$here/calls.mjs" "$folder" >>"$room/said" ||
+    { cat "$room/said"; echo 'FAILED: the runs fail on what is not spoiled'; exit 1; }
+
+script 'a wrong offset of the byte place' vectors layout.js \
+    's/^export const BYTE_PLACE = 4$/export const BYTE_PLACE = 2/'
+script 'a wrong offset of the place' vectors layout.js 's/^export const PLACE = 2$/export const PLACE = 4/'
+script 'a wrong offset of the parts' vectors layout.js 's/^export const PARTS = 6$/export const PARTS = 12/'
+script 'a wrong offset of a length' vectors layout.js 's/^export const SPAN_LENGTH = 2$/export const SPAN_LENGTH = 0/'
+script 'a wrong offset of a presence' vectors layout.js \
+    's/^export const SPAN_PRESENT = 4$/export const SPAN_PRESENT = 2/'
+script 'a wrong offset of a fault' vectors layout.js \
+    's/^export const FAULT_BYTE_PLACE = 4$/export const FAULT_BYTE_PLACE = 2/'
+script 'a wrong size of a fault' vectors layout.js 's/^export const FAULT_WORDS = 6$/export const FAULT_WORDS = 4/'
+swap='s/textLength, room.baseLength/baseLength, room.textLength/'
+script 'a swapped parameter of check' vectors urlcheck.js "/room.checkAgainst(/$swap"
+script 'a swapped parameter of resolve' vectors urlcheck.js "/resolve_against(/$swap"
+script 'a swapped parameter of faults' vectors urlcheck.js "/faults_against(/$swap"
+script 'a base that is held and ignored by check' vectors urlcheck.js \
+    's/room.checkWith(room.textLength)/room.check(room.textLength, profile)/'
+script 'a base that is held and ignored by faults' vectors urlcheck.js \
+    's/room.exports.faults_with(room.textLength)/room.exports.faults(room.textLength, profile)/'
+script 'a base that is held and ignored by resolve' vectors options.js \
+    's/base: text, held, profile: number/base: undefined, held, profile: number/'
+script 'a base that stays held where another is given' vectors memory.js \
+    's/if (words === this.heldWords) return/if (this.heldWords) return/'
+script 'a base that is held by half' vectors layout.js 's/^export const HELD_WORDS = 10$/export const HELD_WORDS = 9/'
+script 'a base that is held where the memory was' calls memory.js \
+    '/this.held = new Uint32Array(buffer/s/= new/= this.heldWords ? this.held : new/'
+script 'a base that is judged by another profile' calls options.js 's/=== undefined || profile === number/!== null/'
+script 'a refused base that is held' calls urlcheck.js '/^    const words = room.prepared/{n;d}'
+script 'no memory taken for a refusal' calls urlcheck.js 's/known === 1 || this.check(text, options).valid/known === 1/'
+script 'a swapped parameter of mend' vectors urlcheck.js "/mend_against(/$swap"
+script 'a wrong offset of the length of a mended text' vectors layout.js \
+    's/^export const MENDED_LENGTH = 8$/export const MENDED_LENGTH = 10/'
+script 'a mended text of the next kind' vectors urlcheck.js \
+    's/MEND_KINDS\[room.word(MEND_KIND) - 1\]/MEND_KINDS[room.word(MEND_KIND)]/'
+script 'a mended text without its first code point' vectors memory.js 's/, { ignoreBOM: true }//'
+script 'a rule with the next number' vectors urlcheck.js \
+    's/this.rules\[room.word(RULE) - 1\]/this.rules[room.word(RULE)]/'
+script 'the wide profile read as the standard one' vectors options.js "/=== 'wide'/s/return 1/return 0/"
+script "the parser's profile read as the wide one" vectors options.js "/=== 'parser'/s/return 2/return 1/"
+script 'units counted as bytes' vectors urlcheck.js 's/room.textLength === text.length/true/'
+script 'a lone surrogate let through' calls memory.js 's/ && text.length <= SHORT) utf8Length/ \&\& false) utf8Length/'
+script 'a room that is too small' calls memory.js 's/^const SMALL_ROOM = 3 \* SHORT$/const SMALL_ROOM = SHORT/'
+script 'a memory that is seen as it was' calls memory.js \
+    's/if (this.answer.length !== 0) return$/if (this.textRoom > 1) return/'
+script 'large rooms kept after out of memory' calls memory.js 's/^    if (this.textRoom > SMALL_ROOM || .*$//'
+script 'a profile of any name' calls options.js 's/^  throw new TypeError("the profile.*$/  return 0/'
+script 'lines against a base that is ignored' calls lines.js 's/held === undefined ? 0 : 1/0/'
+script 'lines numbered from each piece on' calls lines.js 's/line: many.lines + words/line: words/'
+script 'lines that stand where they do in their piece' calls lines.js 's/const from = start + words/const from = words/'
+script 'the lines behind the rows of a call left out' calls lines.js '/^    for (let from = 0/s/from = room.word(NEXT_LINE)/from = end/'
+script 'a piece that ends within a line' calls lines.js 's/return last + 1$/return last + 2/'
+script 'empty lines counted as judged' calls lines.js 's/ - room.word(EMPTY_LINES)//'
+script 'a wrong offset of a place of a line' calls layout.js 's/^export const ROW_PLACE = 5$/export const ROW_PLACE = 6/'
+script 'a place behind the end let through' calls memory.js '/=== NO_PLACE/d'
+script 'a line of a report that is any number' calls reports.js "s/wholeNumber(line, 'line', 1)/line/"
+script 'each diagnostic taken for the first' calls reports.js 's/^    this.#isFirst = false$//'
+script 'a mended text that is left out' reports reports.js "s/mended?.text ?? ''/''/"
+script 'a report by another profile' reports reports.js 's/this.#numbers.ofProfile(profile)/0/'
+script 'a report in another unit' reports reports.js 's/diagnostic(this.#format, this.#unit/diagnostic(this.#format, 0/'
+script 'a mended text of another kind' reports reports.js 's/this.#numbers.ofKind(mended.kind)/3/'
+
+# The heap alone: with this edit of it its test fails.
+heap() {
+    rm -rf "$room/module"
+    cp -r "$top/bindings/web/module" "$room/module"
+    edited "$1" "$room/module/heap.c" "$2" || return 0
+    cc -std=c11 -g -fsanitize=address,undefined -fno-sanitize-recover=all -I "$room/module" "$room/module/heap.c" \
+        "$here/heap.c" -o "$room/heap"
+    found "$1" "$room/heap"
+}
+
+if command -v cc >/dev/null; then
+    heap 'a heap that is not emptied' '/^void heap_empty(/s/top = last = bottom/last = bottom/'
+    heap 'a refused growth taken for one' 's/return end <= memory_end();/return true;/'
+    heap 'an address that is too high' 's/start <= LIMIT \&\& size <= LIMIT - start/start + size <= LIMIT/'
+    heap 'blocks that are given up and stay' 's/{ top = last = mark; }/{ last = mark; }/'
+    heap 'a block that is not aligned' 's/uint64_t start = aligned(top, alignment);/uint64_t start = top;/'
+    heap 'a block that moves without its bytes' 's/at < kept; at++/at < kept \&\& 0; at++/'
+else
+    echo "browser: the edits of the heap alone are left out, since cc isn't installed"
+fi
+
+# glue WHAT RUN FILE SED : with this edit of the glue, compiled anew, the run fails
+glue() {
+    rm -rf "$room/module" "$room/copy"
+    cp -r "$top/bindings/web/module" "$room/module"
+    cp -r "$folder" "$room/copy"
+    edited "$1" "$room/module/$3" "$4" || return 0
+    "$room/module/compile" "$(dirname "$(rt doc)")" "$module" "$room/copy/urlcheck.wasm" "$top/bindings/c/include" \
+        "$top/platform"
+    run "$1" "$2"
+}
+
+if [ -n "$module" ]; then
+    glue 'a heap of the module that is not emptied' calls heap.c \
+        '/^void heap_empty(/s/top = last = bottom/if (!top) top = last = bottom/'
+    glue 'a swapped parameter of the glue' vectors glue.c \
+        '/ proved_check_against(&/s/heap_text(), length, heap_base()/heap_base(), length, heap_text()/'
+    glue 'a base that the glue holds and ignores' vectors glue.c \
+        '/^    proved_check_with(/s/_with\(.*\)&held/\1held.profile/'
+    glue 'a long mended text that is not written' calls glue.c '/answer.mended.length > room/s/> room/> 9 * room/'
+    glue 'rows of lines that a line writes over' calls lines.c 's/uint64_t mark = heap_mark();/uint64_t mark = 0;/'
+    glue 'a line of its own for a CR' calls lines.c "s/lines\[end - 1\] == '.r'/0/"
+    glue 'a long text of a report that is not written' calls reports.c 's/length <= room/length > 0/'
+    glue 'a column of the text for that of its place' reports reports.c 's/first_column, told.place)/first_column, 0)/'
+    glue 'a growth that is refused and not seen' calls heap.c 's/return end <= memory_end();/return true;/'
+else
+    echo 'browser: the edits of the glue are left out, since no module was given'
+fi
+
+[ $failed = 0 ] && echo "browser: each of $count edits was found"
+exit $failed

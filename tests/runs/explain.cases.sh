@@ -1,0 +1,180 @@
+# The explanations of the rules: they and the two tables of docs/RULES.md say the same, and each example is refused and
+# mended as its explanation says.
+
+top=$(dirname "$(dirname "$here")")
+"$program" explain >"$room/explained" 2>"$room/err"
+ends_with 0 $? '' 'explain'
+
+# names_sections FILE : the names and the sections of the rules in the numbered table
+names_sections() {
+    awk -F ' *[|] *' '$2 ~ /^[0-9]+$/ { gsub(/`/, "", $3); print $3 "\t" $4 }' "$1"
+}
+
+# names_sentences FILE : the names of the rules, and what is wrong at the place, in the other table
+names_sentences() {
+    awk -F ' *[|] *' '/^[|] Rule [|] What is wrong / { within = 1; next } !/^[|]/ { within = 0 }
+        within && $2 !~ /^-/ { gsub(/`/, "", $2); gsub(/`/, "", $3); print $2 "\t" $3 }' "$1"
+}
+
+# explained KEY FILE : the names of the rules, and their lines that begin with the key
+explained() {
+    awk -v key="$1" '$1 == "rule" { name = $2 } $1 == key { print name "\t" substr($0, length(key) + 2) }' "$2"
+}
+
+# holds_together EXPLAINED RULES : they have the same rules in the same order, with one text each
+holds_together() {
+    [ "$(explained rule "$1" | wc -l)" = 14 ] &&
+        names_sections "$2" | cmp -s - <(explained section "$1") &&
+        names_sentences "$2" | cmp -s - <(explained means "$1")
+}
+
+count=$((count + 1))
+holds_together "$room/explained" "$top/docs/RULES.md" || fail 'explain and docs/RULES.md differ'
+
+# A table that says something else is found: another section, another sentence, a row less, two rows in another order.
+differs() {
+    count=$((count + 1))
+    if cmp -s "$top/docs/RULES.md" "$2"; then fail "$1: the table stayed as it was"; fi
+    ! holds_together "$room/explained" "$2" || fail "explain and a table with $1 are the same"
+}
+sed 's/4\.3, URL units/4.3, URL code points/' "$top/docs/RULES.md" >"$room/table"
+differs 'another section' "$room/table"
+sed 's/two hex digits have to/two digits have to/' "$top/docs/RULES.md" >"$room/table"
+differs 'another sentence' "$room/table"
+sed '/^| 14 |/d' "$top/docs/RULES.md" >"$room/table"
+differs 'a row less' "$room/table"
+awk '/^[|] `code-point`/ { row = $0; next } { print } /^[|] `percent`/ { print row }' "$top/docs/RULES.md" >"$room/table"
+differs 'two rows in another order' "$room/table"
+
+# mended_text BASE.. -- TEXT : the text that mend writes in place of another one, or nothing
+mended_text() { "$program" mend "$@" 2>/dev/null | awk 'NR == 1 { is = $1 == "mended" } NR == 2 && is'; }
+
+# example NAME BASE TEXT REFUSED MEANT MENDED : a check of the texts of an explanation says what the explanation says, and
+# mend writes the mended text, and without one the meant text or none
+example() {
+    local name=$1 text=$3 refused=$4 meant=$5 mended=$6 against=()
+    if [ -n "$2" ]; then against=(--base "$2"); fi
+    expect 1 "$refused\\n" '' check "${against[@]}" -- "$text"
+    case $refused in
+        "refused "*" $name") ;;
+        *) fail "explain $name: its example is $refused" ;;
+    esac
+    "$program" check "${against[@]}" -- "$meant" >"$room/out" 2>"$room/err"
+    ends_with 0 $? '' "the meant example of $name"
+    count=$((count + 1))
+    case $(mended_text "${against[@]}" -- "$text") in
+        "$mended") ;;
+        "$meant") [ -z "$mended" ] || fail "explain $name: mended is the meant text" ;;
+        *) fail "explain $name: mend writes $(mended_text "${against[@]}" -- "$text")" ;;
+    esac
+    [ "$mended" != "$meant" ] || fail "explain $name: the meant text is told twice"
+}
+base='' mended=''
+while IFS= read -r entry; do
+    case $entry in
+        'rule '*) name=${entry#rule } base='' mended='' ;;
+        'base '*) base=${entry#base } ;;
+        'text '*) text=${entry#text } ;;
+        'refused '*) refused=$entry ;;
+        'meant '*) meant=${entry#meant } ;;
+        'mended '*) mended=${entry#mended } ;;
+        '') example "$name" "$base" "$text" "$refused" "$meant" "$mended" ;;
+    esac
+done < <(cat "$room/explained" && echo)
+count=$((count + 1))
+[ "$(grep -c '^mended ' "$room/explained")" = 4 ] || fail 'explain: it tells another number of mended texts'
+
+# A rule is explained by its name, and without one each is, in the order of the table, and an empty line stands between
+# two.
+expect 0 'rule host-missing
+means a host is missing here
+asks After //, ftp, http, https, ws and wss have a host, file a host or a path, and a port follows a host.
+section 3.4, 4.3
+text https:///a
+refused 8 host-missing
+meant https://example.com/a
+mended https://a\n' '' explain host-missing
+expect 0 "rule opaque-base
+means there is no scheme, the base has an opaque path, and the text isn't # and a fragment
+asks Against a base whose path is opaque, a text without a scheme is # and a fragment, and nothing else.
+section 4.3 and 4.4, no scheme state
+base urn:isbn:0451450523
+text x
+refused 0 opaque-base
+meant #x\n" '' explain opaque-base
+for name in no-scheme opaque-base two-slashes host-missing host-domain host-number host-ipv6 host-code-point port-digit \
+    port-range first-segment-empty drive-after-host code-point percent; do
+    [ $name = no-scheme ] || echo
+    "$program" explain $name
+done >"$room/each" 2>"$room/err"
+ends_with 0 $? '' 'explain of each name'
+cmp -s "$room/explained" "$room/each" || fail 'explain: each rule is explained otherwise than by its name'
+
+# What a line may be wrong by beside the rules; and words that name nothing.
+expect 0 "rule not-utf8\nmeans this line isn't UTF-8\nasks A line is a text in UTF-8.\n" '' explain not-utf8
+long='A line has at most 65536 bytes. A longer link may be valid: check and the libraries have no such limit.'
+expect 0 "rule line-too-long\nmeans this line has more than 65536 bytes\nasks $long\n" '' explain line-too-long
+located="A located line is FILE:LINE:COLUMN:LINK. FILE isn't empty; LINE and COLUMN are from 1 to 4294967295."
+expect 0 "rule not-located\nmeans this line isn't FILE:LINE:COLUMN:LINK\nasks $located\n" '' explain not-located
+rules='urlcheck: the rules:'
+for name in $("$program" explain | awk '$1 == "rule" { print $2 }'); do rules+=" $name"; done
+rules+=' not-utf8 line-too-long not-located'
+for pair in 'PERCENT percent' 'percent_ percent' 'host-mising host-missing' 'codepoint code-point' 'not-utf-8 not-utf8' \
+    'not-locatd not-located' 'Percent percent'; do
+    word=${pair% *}
+    expect 2 '' "urlcheck: no rule is named '${word/_/ }'; the nearest is ${pair#* }\\n$rules\\nwords\\n" explain "${word/_/ }"
+done
+expect 2 '' "urlcheck: no rule is named 'no-scheme\\0357\\0277\\0275'; the nearest is no-scheme\\n$rules\\nwords\\n" explain $'no-scheme\n'
+for word in '' nothing os xhost; do
+    expect 2 '' "urlcheck: no rule is named '$word'\\n$rules\\nwords\\n" explain "$word"
+done
+# Where no name is near, those that begin so.
+for pair in 'host host-missing host-domain host-number host-ipv6 host-code-point' 'NOT- not-utf8 not-located' 'p port-digit port-range percent'; do
+    word=${pair%% *}
+    expect 2 '' "urlcheck: no rule is named '$word'\\nurlcheck: the rules that begin so: ${pair#* }\\n$rules\\nwords\\n" explain "$word"
+done
+
+# Several names: one explanation behind the other with an empty line between, in the order of the names, also twice; and
+# nothing where one of them is no name, of which each is told once.
+several='percent not-utf8 no-scheme percent'
+for name in $several; do "$program" explain "$name" >"$room/one.$name" 2>"$room/err"; done
+echo >"$room/empty"
+cat "$room/one.percent" "$room/empty" "$room/one.not-utf8" "$room/empty" "$room/one.no-scheme" "$room/empty" \
+    "$room/one.percent" >"$room/several"
+"$program" explain $several >"$room/out" 2>"$room/err"
+ends_with 0 $? '' 'explain of several names'
+cmp -s "$room/several" "$room/out" || fail "explain of several names: it wrote $(cat "$room/out")"
+expect 2 '' "urlcheck: no rule is named 'percemt'; the nearest is percent\\nurlcheck: no rule is named 'nothing'\\n$rules\\nwords\\n" \
+    explain no-scheme percemt nothing
+expect 2 '' "urlcheck: no rule is named 'nothing'\\nurlcheck: no rule is named 'not'\\n\
+urlcheck: the rules that begin so: not-utf8 not-located\\nurlcheck: no rule is named '\\0357\\0277\\0275'\\n$rules\\nwords\\n" \
+    explain nothing not nothing percent $'\e' not
+expect 2 '' "urlcheck: no rule is named 'nothing'\\n$rules\\nwords\\n" explain nothing percent
+
+# The addresses of the pages: as SARIF names them, in the order of the names, a line each; without a name those of the
+# rules by number; and nothing where one of the names is that of no rule.
+"$program" explain --url >"$room/pages" 2>"$room/err"
+ends_with 0 $? '' 'explain --url'
+echo a >"$room/any.txt"
+"$program" lint --format sarif "$room/any.txt" >"$room/report" 2>/dev/null
+python3 - "$room/report" >"$room/help" <<'END'
+import json, sys
+rules = json.load(open(sys.argv[1], encoding="utf-8"))["runs"][0]["tool"]["driver"]["rules"]
+print("\n".join(rule["helpUri"] for rule in rules))
+END
+count=$((count + 1))
+tail -n +4 "$room/help" | cmp -s - "$room/pages" || fail "explain --url: it wrote $(cat "$room/pages")"
+site=https://yuccaeave.example/urlcheck/docs
+expect 0 "$site/rules/host-missing.html\n" '' explain --url host-missing
+expect 0 "$site/rules/percent.html\n$site/COMMANDS.html\n$site/rules/no-scheme.html\n$site/rules/percent.html\n" '' \
+    explain percent --url not-utf8 no-scheme percent
+expect 0 "$site/COMMANDS.html\n$site/COMMANDS.html\n" '' explain --url line-too-long not-located
+expect 2 '' "urlcheck: no rule is named 'percemt'; the nearest is percent\n$rules\nwords\n" explain --url percent percemt
+expect 0 "$site/rules/percent.html\n" '' explain --url -- percent
+
+# The output can't be written.
+for words in 'explain' 'explain percent' 'explain percent no-scheme' 'explain --url'; do
+    "$program" $words >/dev/full 2>"$room/err"
+    ends_with 3 $? "${no_space}write\\n" "$words to a full device"
+done
+all_cases 85

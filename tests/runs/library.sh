@@ -1,0 +1,159 @@
+#!/usr/bin/env bash
+# Runs the library for C over every file of vectors, from C, C++ and Python, and compares with the program given as the
+# first argument; then four threads, each allocation refused in turn, a million faults, and a text of 100 MB. What isn't
+# installed is left out, and a line says so.
+. "$(dirname "$(realpath "$0")")/start.sh"
+cd "$top/tests/runs/library"
+needs library gcc objcopy python3
+"$top/tools/build-library" "$room/installed" >"$room/built" 2>&1 || { cat "$room/built"; exit 1; }
+include=$room/installed/include
+archive=$room/installed/lib/liburlcheck.a
+shared=$room/installed/lib/liburlcheck.so
+export PYTHONPATH=$room/installed/python PYTHONDONTWRITEBYTECODE=1
+strict=(-Wall -Wextra -Werror -O2 -g)
+sanitized=(-fsanitize=address,undefined -fno-sanitize-recover=all)
+
+# Only names of this library are visible, in the archive and in the shared object (where A is a symbol version).
+for seen in "$(nm -g --defined-only "$archive")" "$(nm -D --defined-only "$shared")"; do
+    if grep -E ' [B-Z] ' <<<"$seen" | grep -qv ' urlcheck_'; then echo "FAILED: another name is visible"; exit 1; fi
+done
+
+python3 cases.py pack "$room/cases" "$top"/tests/vectors/*.json
+gcc -std=c99 "${strict[@]}" "${sanitized[@]}" -I "$include" answers.c "$archive" -o "$room/answers_c"
+"$room/answers_c" "$room/cases" >"$room/c"
+python3 cases.py compare "$program" "$room/c" "$top"/tests/vectors/*.json
+"$room/answers_c" "$room/cases" places >"$room/places"
+python3 cases.py places "$room/places" "$top"/tests/vectors/*.json
+python3 ../lengths.py vectors "$room/lengths.json"
+python3 cases.py pack "$room/lengths" "$room/lengths.json"
+"$room/answers_c" "$room/lengths" places >"$room/places"
+python3 cases.py places "$room/places" "$room/lengths.json"
+"$room/answers_c" "$room/cases" mended >"$room/mended"
+python3 cases.py mended "$program" "$room/mended" "$top"/tests/vectors/*.json
+if python3 -m pip --version >/dev/null 2>&1; then
+    python3 -m pip install --no-deps --no-index --target "$room/site" "$room/installed/python" >"$room/built" 2>&1 ||
+        { cat "$room/built"; exit 1; }
+    PYTHONPATH=$room/site
+else
+    echo "library: the package is read from its folder, since pip isn't installed"
+fi
+python3 answers.py "$room/cases" >"$room/python"
+cmp "$room/c" "$room/python"
+python3 answers.py "$room/cases" mended | cmp "$room/mended"
+if command -v g++ >/dev/null; then
+    g++ -std=c++11 "${strict[@]}" "${sanitized[@]}" -I "$include" answers.cpp "$archive" -o "$room/answers_cpp"
+    "$room/answers_cpp" "$room/cases" >"$room/cpp"
+    cmp "$room/c" "$room/cpp"
+    echo 'library: C, C++ and Python give the same answers'
+else
+    echo "library: C and Python give the same answers; C++ left out, since g++ isn't installed"
+fi
+
+# The calls for many texts, and reports by the calls of the library, byte for byte those of `lint`.
+python3 lines.py "$top"/tests/vectors/*.json >"$room/lines"
+gcc -std=c99 -D_XOPEN_SOURCE=600 "${strict[@]}" "${sanitized[@]}" -I "$include" batches.c "$archive" -o "$room/batches"
+"$room/batches" "$room/lines"
+gcc -std=c99 "${strict[@]}" "${sanitized[@]}" -I "$include" lint.c "$archive" -o "$room/lint"
+gcc -std=c99 "${strict[@]}" "${sanitized[@]}" -I "$include" calls.c "$archive" -o "$room/calls"
+"$room/calls"
+formats=(gnu caret json github sarif checkstyle junit gitlab rdjson) units=(code-points bytes utf16 screen) reports=0
+for format in "${!formats[@]}"; do
+    for unit in "${!units[@]}"; do
+        case ${formats[format]}-${units[unit]} in sarif-bytes | sarif-screen | rdjson-[!b]*) continue ;; esac
+        "$program" lint --quiet --format "${formats[format]}" --columns "${units[unit]}" "$room/lines" >"$room/wanted" ||
+            [ $? = 1 ]
+        "$room/lint" "$room/lines" "$room/lines" "$format" "$unit" | cmp - "$room/wanted"
+        reports=$((reports + 1))
+    done
+done
+echo "library: $reports reports as \`lint\` writes them, by the calls of the library"
+
+gcc -std=c99 -D_XOPEN_SOURCE=600 "${strict[@]}" -I "$include" threads.c "$archive" -lpthread -o "$room/threads"
+"$room/threads"
+gcc -std=c99 "${strict[@]}" -I "$include" memory.c "$archive" \
+    -Wl,--wrap=malloc,--wrap=realloc,--wrap=free -o "$room/memory"
+"$room/memory"
+
+# The programs of docs/guides and of the README, as a reader copies them. The one in C ends with 1, since it refuses.
+python3 programs.py "$top" "$room"
+gcc -std=c99 "${strict[@]}" -I "$include" "$room/page.c" "$archive" -o "$room/page_c"
+{ "$room/page_c" || [ $? = 1 ]; } | cmp - "$room/page.c.out"
+gcc -std=c99 "${strict[@]}" -I "$include" "$room/start.c" "$archive" -o "$room/start_c"
+"$room/start_c" | cmp - <(echo 'byte 21')
+if command -v g++ >/dev/null; then
+    g++ -std=c++11 "${strict[@]}" -I "$include" "$room/page.cpp" "$archive" -o "$room/page_cpp"
+    "$room/page_cpp" | cmp - "$room/page.cpp.out"
+fi
+python3 "$room/page.py" | cmp - "$room/page.py.out"
+python3 "$room/report.py" | cmp - "$room/report.py.out"
+python3 "$room/start.py" | cmp - <(echo 'example.com /a http://h/x')
+
+# The lines by which the guide on C builds a program, in a folder that has the program and the library.
+mkdir "$room/build"
+cp "$room/page.c" "$room/build/program.c"
+ln -s "$room/installed" "$room/build/library"
+awk '/^```sh$/ { inside = 1; next } /^```$/ { inside = 0 } inside' "$top/docs/guides/c.md" \
+    >"$room/build/lines"
+[ "$(grep -c '^cc ' "$room/build/lines")" = 2 ] || { echo 'FAILED: docs/guides/c.md has no two lines with cc'; exit 1; }
+if command -v pkg-config >/dev/null && command -v cc >/dev/null; then
+    while IFS= read -r line; do
+        cd "$room/build"
+        rm -f program
+        eval "$line"
+        [[ $line != cc* ]] || { ./program || [ $? = 1 ]; } | cmp - "$room/page.c.out"
+    done <"$room/build/lines"
+    cd "$top/tests/runs/library"
+else
+    echo "library: the lines that build a program are left out, since pkg-config or cc isn't installed"
+fi
+for tests in documents sources projects standards words limits errors; do
+    python3 $tests.py >"$room/tests" 2>&1 || { cat "$room/tests"; exit 1; }
+done
+# Where the system copies no process, as Windows, each document is read by a Python that begins anew.
+WITHOUT_FORK=1 python3 documents.py Documents.test_{html,xml,bases,messages} >"$room/tests" 2>&1 ||
+    { cat "$room/tests"; exit 1; }
+# What is said of a link in each format is what `lint` says of it where it stands.
+python3 formats.py "$program" >"$room/tests" 2>&1 || { cat "$room/tests"; exit 1; }
+python3 reports.py "$program" "$room/lines" standard parser
+echo 'library: links in documents in each format, errors of the package'
+PACKAGE=$room/installed/python bash "$top/tests/runs/uses.sh" "$program" documents
+
+# The links of this repository's own pages, by a Python that has the reader of Markdown. A spoiled page is found.
+with_markdown=
+for python in python3 /usr/bin/python3; do
+    [ -n "$with_markdown" ] || ! "$python" -c 'import markdown_it' 2>/dev/null || with_markdown=$python
+done
+if [ -n "$with_markdown" ]; then
+    pages=("$top"/*.md "$top"/{bindings,bindings/engines,tests}/*/README.md "$top/docs")
+    "$with_markdown" -m urlcheck.documents --check "${pages[@]}" >"$room/own" 2>&1 ||
+        { echo "FAILED: the links of the pages: $(cat "$room/own")"; exit 1; }
+    sed 's/(docs\/COMMANDS.md)/(docs\/COM^MANDS.md)/' "$top/README.md" >"$room/spoiled.md"
+    if "$with_markdown" -m urlcheck.documents --check "$room/spoiled.md" >"$room/own" 2>&1; then
+        echo 'FAILED: a page with a wrong link passes'
+        exit 1
+    fi
+    echo 'library: the links of the pages'
+else
+    echo "library: the links of the pages are left out, since markdown-it-py isn't installed"
+fi
+types=
+for checker in 'python3 -m mypy' mypy; do
+    [ -n "$types" ] || ! $checker --version >/dev/null 2>&1 || types=$checker
+done
+if [ -n "$types" ]; then
+    # (markdown-it-py may be missing beside it)
+    for system in linux win32; do
+        $types --strict --ignore-missing-imports --platform $system -p urlcheck >"$room/types" 2>&1 ||
+            { cat "$room/types"; exit 1; }
+    done
+else
+    echo "library: the package's types left out, since mypy isn't installed"
+fi
+python3 -c 'import doctest, sys, urlcheck; sys.exit(doctest.testmod(urlcheck).failed)'
+python3 - "$top/docs/RULES.md" <<'END'
+import sys, urlcheck
+table = open(sys.argv[1], encoding="utf-8").read().replace("`", "")
+missing = [rule for rule in urlcheck.RULES if "| {} | {} |".format(rule, urlcheck.sentence(rule)) not in table]
+sys.exit("FAILED: other sentences in docs/RULES.md of {}".format(missing) if missing else 0)
+END
+echo 'library: the programs of the pages'

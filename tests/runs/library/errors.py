@@ -1,0 +1,170 @@
+"""Tests of the package's errors and types: what is raised, that it can be sent to another process, and several texts."""
+
+import copy
+import multiprocessing
+import pickle
+import unittest
+
+import urlcheck
+
+
+def against(base):
+    return urlcheck.check("x", base)
+
+
+class Errors(unittest.TestCase):
+    def test_a_refused_base_is_copied(self):
+        refused = urlcheck.BaseRefused("no-scheme", 0)
+        for other in (pickle.loads(pickle.dumps(refused)), copy.copy(refused), copy.deepcopy(refused)):
+            self.assertEqual((other.rule, other.place, str(other)), (refused.rule, refused.place, str(refused)))
+        with multiprocessing.Pool(2) as pool, self.assertRaises(urlcheck.BaseRefused):
+            pool.map(against, ["http://h/", "no base"])
+
+    def test_what_is_wanted_is_said(self):
+        for words, error, said in (
+            ((b"x",), TypeError, "a text is a str, not bytes"),
+            ((None,), TypeError, "a text is a str, not NoneType"),
+            (("x", b"y"), TypeError, "a base is a str, a urlcheck.Base or None, not bytes"),
+            (("x", None, 3), ValueError, "no profile has the number 3"),
+            (("x", None, 7), ValueError, "no profile has the number 7"),
+            (("x", None, -1), ValueError, "no profile has the number -1"),
+            (("x", None, 1 << 40), ValueError, "no profile has the number"),
+            (("x", None, "wide"), TypeError, "a profile is a urlcheck.Profile, not str"),
+            (("x\ud800",), UnicodeEncodeError, "surrogates not allowed"),
+        ):
+            for function in (urlcheck.check, urlcheck.faults, urlcheck.resolve, urlcheck.mend):
+                with self.subTest(words), self.assertRaisesRegex(error, said):
+                    function(*words)
+
+    def test_a_refused_base_says_why(self):
+        """In the words of `lint`: of a base the place, what is wrong there, and the rule."""
+        for base, said in (
+            ("x", "the base is refused at place 0: it has no scheme [no-scheme]"),
+            ("", "the base is refused at place 0: it has no scheme [no-scheme]"),
+            ("http://h/a b", "the base is refused at place 10: this code point is not allowed in a URL [code-point]"),
+        ):
+            for call in (urlcheck.Base, against, lambda it: next(urlcheck.check_each(["x"], it))):
+                with self.assertRaises(urlcheck.BaseRefused) as refused:
+                    call(base)
+                self.assertEqual(str(refused.exception), said)
+        for base in (None, b"a:", 5):
+            with self.assertRaisesRegex(TypeError, "a base is a str, not "):
+                urlcheck.Base(base)
+
+    def test_a_base_is_held(self):
+        base = urlcheck.Base("http://h_/a", urlcheck.Profile.WIDE)
+        self.assertEqual(repr(base), "Base('http://h_/a', Profile.WIDE)")
+        self.assertEqual(urlcheck.check("../x", base).path, "../x")
+        self.assertEqual(urlcheck.resolve("../x", base), "http://h_/x")
+        self.assertFalse(urlcheck.is_valid("a b", base))
+        for other in (pickle.loads(pickle.dumps(base)), copy.copy(base), copy.deepcopy(base)):
+            self.assertEqual((other.text, other.profile), (base.text, base.profile))
+            self.assertTrue(urlcheck.is_valid("//x_/y", other, urlcheck.Profile.WIDE))
+        with self.assertRaises(urlcheck.BaseRefused) as refused:
+            urlcheck.Base("http://h_/a")
+        self.assertEqual((refused.exception.rule, refused.exception.place), ("host-domain", 7))
+        narrow = urlcheck.Base("http://h/")
+        for function in (urlcheck.check, urlcheck.faults, urlcheck.resolve, urlcheck.is_valid, urlcheck.mend):
+            with self.assertRaisesRegex(ValueError, "another profile: STANDARD"):
+                function("x", narrow, urlcheck.Profile.WIDE)
+
+    def test_each_profile_takes_more(self):
+        texts = {"http://h/": 3, "http://a_b/": 2, "http://h//a": 2, "http://a%2Db/": 1, "http://1.2/": 1, "urn:a b": 1}
+        texts.update({"file://h/C:/x": 1, "file://?q": 1, "urn:a ": 0, "http://256/": 0, "http://a%2Fb/": 0})
+        for text, count in texts.items():
+            taken = [profile for profile in urlcheck.Profile if urlcheck.is_valid(text, None, profile)]
+            self.assertEqual(taken, list(urlcheck.Profile)[len(urlcheck.Profile) - count :], text)
+        self.assertEqual(urlcheck.resolve("http://%31.2/", None, urlcheck.Profile.PARSER), "http://1.0.0.2/")
+        self.assertEqual(urlcheck.resolve("#f", "urn:a ?q", urlcheck.Profile.PARSER), "urn:a%20?q#f")
+
+    def test_a_text_is_mended(self):
+        mended = urlcheck.mend("http://h/" + 300 * " " + "x")
+        self.assertEqual(mended, urlcheck.Mended("http://h/" + 300 * "%20" + "x", urlcheck.MendKind.SAME))
+        for other in (pickle.loads(pickle.dumps(mended)), copy.copy(mended), copy.deepcopy(mended)):
+            self.assertEqual(other, mended)
+        self.assertIsNone(urlcheck.mend("../x", urlcheck.Base("http://h/a")))
+        self.assertEqual(urlcheck.mend("http://h:x/"), urlcheck.Refused("port-digit", 9))
+
+    def test_what_is_said_of_a_text(self):
+        refused = urlcheck.check("http://h_/\u65e5", None)
+        self.assertEqual(urlcheck.message("http://h_/", refused), "U+005F LOW LINE is not allowed in a domain; --profile wide allows it")
+        with self.assertRaises(urlcheck.BaseRefused) as base:
+            urlcheck.Base("http://h/%")
+        said = "U+0025 PERCENT SIGN has to be followed by two hex digits"
+        self.assertEqual(urlcheck.message("http://h/%", base.exception), said)
+        self.assertEqual(urlcheck.message("x^", urlcheck.faults("x^", "a:/")[0], urlcheck.Profile.PARSER)[:6], "U+005E")
+        for words, error, why in (
+            ((b"x", refused), TypeError, "a text is a str, not bytes"),
+            (("http:", refused), ValueError, "the place is after the end of the text"),
+            (("x", urlcheck.Fault("percent", -1)), ValueError, "the place is after the end of the text"),
+            (("x", urlcheck.Fault("no-utf8", 0)), KeyError, "no-utf8"),
+            (("x", urlcheck.Fault("percent", 0), 3), ValueError, "no profile has the number 3"),
+            (("x", urlcheck.Fault("percent", 0), "wide"), TypeError, "a profile is a urlcheck.Profile, not str"),
+            (("x\ud800", urlcheck.Fault("percent", 0)), UnicodeEncodeError, "surrogates not allowed"),
+        ):
+            with self.subTest(words), self.assertRaisesRegex(error, why):
+                urlcheck.message(*words)
+
+    def test_columns(self):
+        text = "e\u0301\u65e5\U0001f600\tx"
+        for unit, columns in (("code-points", (1, 2, 3, 4, 5, 6, 7)), ("bytes", (1, 2, 4, 7, 11, 12, 13)),
+                              ("utf16", (1, 2, 3, 4, 6, 7, 8)), ("screen", (1, 2, 2, 4, 6, 9, 10))):
+            self.assertEqual(tuple(urlcheck.column(text, place, unit) for place in range(len(text) + 1)), columns)
+        self.assertEqual(urlcheck.column("x\t", 2, "screen", 8), 17)
+        for words, why in ((("x", 2), "the place is after the end"), (("x", -1), "the place is after the end"),
+                           (("x", 0, "utf-16"), "no column unit is named 'utf-16': there are code-points, bytes, "),
+                           (("x", 0, "bytes", 0), "isn't from 1 to 4294967295"),
+                           (("x", 0, "bytes", 1 << 32), "isn't from 1 to 4294967295")):
+            with self.subTest(words), self.assertRaisesRegex(ValueError, why):
+                urlcheck.column(*words)
+
+    def test_reports(self):
+        wrong = urlcheck.Diagnostic("a", 1, 2, "x y", "code-point", 1)
+        self.assertEqual(urlcheck.FORMATS[:6], ("gnu", "caret", "json", "github", "sarif", "checkstyle"))
+        self.assertEqual(urlcheck.FORMATS[6:9], ("junit", "gitlab", "rdjson"))
+        self.assertEqual(urlcheck.UNITS, ("code-points", "bytes", "utf16", "screen"))
+        said = "a:1:2: error: U+0020 SPACE is not allowed in a URL [code-point]\n"
+        self.assertEqual(list(urlcheck.report([wrong])), ["", said, ""])
+        for words, why in (
+            (([], "xml"), "no format is named 'xml': there are gnu, "),
+            (([], "gnu", "points"), "no column unit is named 'points': there are code-points, "),
+            (([], "sarif", "bytes"), "sarif doesn't support the column unit bytes"),
+            (([], "rdjson", "utf16"), "rdjson doesn't support the column unit utf16"),
+        ):
+            with self.subTest(words), self.assertRaisesRegex(ValueError, why):
+                urlcheck.report(*words)
+        for field, value, error in (("place", 4, ValueError), ("place", -1, ValueError), ("line", 0, ValueError),
+                                    ("column", 1 << 32, ValueError), ("end", 1 << 32, ValueError), ("rule", "no-utf8", KeyError),
+                                    ("profile", 9, ValueError), ("text", "\udfff", UnicodeEncodeError),
+                                    ("file", "\udcff", UnicodeEncodeError)):
+            with self.subTest(field), self.assertRaises(error):
+                list(urlcheck.report([wrong._replace(**{field: value})]))
+
+    def test_explanations(self):
+        for rule in urlcheck.RULES:
+            it = urlcheck.explain(rule)
+            self.assertEqual((it.rule, it.sentence), (rule, urlcheck.sentence(rule)))
+            self.assertEqual(urlcheck.check(it.example, it.base), urlcheck.Refused(rule, it.place))
+            self.assertTrue(urlcheck.check(it.mended, it.base))
+            self.assertTrue(it.asks.endswith(".") and it.section and it.url.startswith("https://url.spec.whatwg.org/#"))
+        with self.assertRaises(KeyError):
+            urlcheck.explain("empty")
+
+    def test_several_texts(self):
+        answers = list(urlcheck.check_each(["../x", "http://h:x/", ""], "http://h/a"))
+        self.assertEqual([bool(it) for it in answers], [True, False, True])
+        self.assertEqual(answers[1], urlcheck.Refused("port-digit", 9))
+        for texts, said in (("http://h/", "texts are wanted, not one str"), (b"a:", "texts are wanted, not one bytes"),
+                            (None, "'NoneType' object is not iterable"), (5, "'int' object is not iterable")):
+            with self.assertRaisesRegex(TypeError, said):
+                urlcheck.check_each(texts)
+        for texts in ([None], [b"a:"], [5]):
+            with self.assertRaisesRegex(TypeError, "a text is a str, not "):
+                next(urlcheck.check_each(texts))
+
+    def test_the_version(self):
+        self.assertEqual(urlcheck.__version__, urlcheck.version())
+
+
+if __name__ == "__main__":
+    unittest.main()

@@ -1,0 +1,220 @@
+# What is written in place of a refused text, and the statuses of that. Each mended text is worked out by hand from the
+# URL Standard, and each kind from its section 4.4.
+
+expect 0 'valid\n' '' mend http://h/a
+expect 0 'mended same\nhttp://h/a%20b\n' '' mend 'http://h/a b'
+expect 0 'mended same\nhttp://h/a\n' '' mend $'\t http:\\\\h\\a\n'
+expect 0 'mended escaped\nhttp://h/100%25\n' '' mend 'http://h/100%'
+expect 0 'mended changed\nhttp://a\n' '' mend --base http://h/ http:a
+expect 0 'mended same\n//k/a\n' '' mend --base=http://h/ ///k/a
+expect 0 'mended same\n\n' '' mend --base http://h/ ' '
+expect 0 'mended same\n-%22\n' '' mend --base http://h/ -- '-"'
+expect 0 'mended same\nhttp://127.0.0.1/.//a%20b\n' '' mend 'http:\\127.0.01//a b'
+
+# The profile and the base.
+expect 1 'none\nrefused 7 host-domain\n' '' mend 'http://a_b//c d'
+expect 0 'mended same\nhttp://a_b//c%20d\n' '' mend --wide 'http://a_b//c d'
+expect 0 'mended same\nhttp://a_b//c%20d\n' '' mend --profile wide 'http://a_b//c d'
+expect 0 'mended same\nhttp://a-b/c%20d\n' '' mend --wide 'http://a%2Db/c d'
+expect 0 'mended same\nhttp://a%2Db/c%20d\n' '' mend --profile parser 'http://a%2Db/c d'
+expect 0 'mended same\nhttp://0.0.0.1/\n' '' mend --profile parser http://0x1/
+expect 0 'mended same\nfile://h/./C:/x\n' '' mend --wide file://h/C:/x
+expect 0 'valid\n' '' mend --profile parser file://h/C:/x
+expect 0 'valid\n' '' mend --profile parser 'urn:a b'
+expect 1 'none\nrefused 0 no-scheme\n' '' mend ''
+expect 1 'none\nrefused 0 opaque-base\n' '' mend --base mailto:a b
+expect 2 '' "$(no_base 0 no-scheme 'it has no scheme')" mend --base '' 'http://h/a b'
+
+# Each edit by the rule that is violated.
+# mends BASE ROW.. : rows of three words, KIND TEXT WRITTEN: against the base, if there is one, the text is mended so
+mends() {
+    local base=$1
+    shift
+    while [ $# != 0 ]; do
+        expect 0 "mended $1\n$3\n" '' mend ${base:+--base "$base"} -- "$2"
+        shift 3
+    done
+}
+# refuses ROW.. : rows of three words, PLACE RULE TEXT: the text is refused so, and has no edit
+refuses() {
+    while [ $# != 0 ]; do
+        expect 1 "none\nrefused $1 $2\n" '' mend -- "$3"
+        shift 3
+    done
+}
+# Code points as escapes.
+expect 0 'valid\n' '' mend http://h/a%20b
+mends '' same 'http://h/a b' http://h/a%20b same $'http://h/\357\267\220' http://h/%EF%B7%90 \
+    same 'http://h/?<a>' http://h/?%3Ca%3E escaped 'http://h/a|b' http://h/a%7Cb escaped 'http://h/a?b\c' http://h/a?b%5Cc \
+    escaped 'http://h/#a#b' http://h/#a%23b escaped http://h/100% http://h/100%25 \
+    escaped 'http://h/%1?%x#%' http://h/%251?%25x#%25 escaped 'mailto:a b' mailto:a%20b escaped 'foo:a\b' foo:a%5Cb
+# What the parser passes over; slashes and hosts, as they are read.
+mends '' same $' http://h/a\n' http://h/a same $'ht\ttp://h/a\r\nb' http://h/ab same 'http://h/ a ' http://h/%20a
+mends '' same 'http://h/a\b' http://h/a/b same 'http:\\h\a' http://h/a same http:/h/a http://h/a same http:h/a http://h/a \
+    same https:///h/a https://h/a same file:/a/b file:///a/b same file:a file:///a same 'file:\a' file:///a \
+    same file:////a file:///.//a same http://h//a http://h/.//a same foo://h//a foo://h/.//a
+# Also where lint doesn't offer it, since something else was likely meant.
+mends '' same http://http://x http://http:/.//x same 'http://h/{{ x }}' http://h/%7B%7B%20x%20%7D%7D \
+    escaped 'C:\x' C:%5Cx escaped http://h/%s http://h/%25s
+mends '' same http://127.0.01/ http://127.0.0.1/ same http://a%2Db:80/x http://a-b:80/x \
+    same $'http://\357\274\221.2.3.4/' http://1.2.3.4/ same 'http://0x7f.1?q#f' 'http://127.0.0.1?q#f' \
+    same 'http://127.0.01//a b' http://127.0.0.1/.//a%20b
+refuses 0 no-scheme '' 0 no-scheme 'a b' 7 host-missing http:// 7 host-domain http://a_b/ 7 host-domain http://u@a/ \
+    9 port-digit http://u:p@a/ 9 port-digit http://h:x/ 9 port-range http://h:65536/ 7 host-ipv6 'http://[::1/' \
+    7 host-number http://1.2.3.256/
+# References.
+mends http://h/a/b same 'c d' c%20d same 'c\d' c/d same '\\k\d' //k/d same ///k/d //k/d same ' ' '' changed http:c http://c \
+    same https:c https://c
+mends file://h/a same /C:/x /./C:/x
+mends mailto:a same '#a b' '#a%20b'
+
+# A failed write.
+"$program" mend 'http://h/a b' >/dev/full 2>"$room/err"
+ends_with 3 $? "${no_space}write\\n" 'mend to a full device'
+
+# ---- without a TEXT: a filter of lines
+
+# filters STATUS STDOUT STDERR WORD.. : a run of `mend` without a TEXT, on the bytes of $room/list, ends so
+filters() { on_list mend "$@"; }
+
+# No line, one without LF, and each kind of line with each end.
+printf '' >"$room/list"
+filters 0 '' 'urlcheck: 0 lines, 0 mended (0 same, 0 escaped, 0 changed), 0 refused\n'
+filters 0 '' '' --quiet
+printf 'http://h/a b' >"$room/list"
+filters 0 'http://h/a%20b' 'urlcheck: 1 line, 1 mended (1 same, 0 escaped, 0 changed), 0 refused\n'
+printf 'http://h/a\nhttp://h/a b\r\nhttp://h/a|b\nhttp:c\nhttp://h:x/\r\n\n\377\nhttp://h/\0' >"$room/list"
+filters 1 'http://h/a\nhttp://h/a%20b\r\nhttp://h/a%7Cb\nhttp://c\nhttp://h:x/\r\n\n\0377\nhttp://h/' \
+    'urlcheck: 7 lines, 4 mended (2 same, 1 escaped, 1 changed), 2 refused\n' --base http://h/x
+filters 1 'http://h/a\nhttp://h/a%20b\r\nhttp://h/a|b\nhttp:c\nhttp://h:x/\r\n\n\0377\nhttp://h/' \
+    'urlcheck: 7 lines, 2 mended (2 same, 0 escaped, 0 changed), 4 refused\n' --base http://h/x --only same
+filters 1 'http://h/a\nhttp://h/a b\r\nhttp://h/a%7Cb\nhttp:c\nhttp://h:x/\r\n\n\0377\nhttp://h/\0' '' \
+    --base http://h/x --only=escaped -q
+printf '\357\273\277http://h/ a\n' >"$room/list"
+filters 0 '\0357\0273\0277http://h/%20a\n' '' --quiet
+
+# The base and the profile.
+printf '../a b\nhttp://h_/ a\n' >"$room/list"
+filters 1 '../a b\nhttp://h_/ a\n' 'urlcheck: 2 lines, 0 mended (0 same, 0 escaped, 0 changed), 2 refused\n'
+filters 0 '../a%20b\nhttp://h_/%20a\n' '' --quiet --wide --base http://h/
+filters 0 '../a%20b\nhttp://h_/%20a\n' '' --quiet --profile wide --base http://h/
+printf 'http://a%%2Db/ c\nurn:a b\nfile://h/C:/x\n' >"$room/list"
+filters 0 'http://a-b/%20c\nurn:a%20b\nfile://h/./C:/x\n' '' --quiet --wide
+filters 0 'http://a%2Db/%20c\nurn:a b\nfile://h/C:/x\n' \
+    'urlcheck: 3 lines, 1 mended (1 same, 0 escaped, 0 changed), 0 refused\n' --profile parser
+filters 2 '' "$(no_base 0 no-scheme 'it has no scheme')" --base ''
+
+# Each list of bytes, what is written in its place, and its counts.
+# mends_list BYTES WRITTEN COUNTS WORD.. : COUNTS is how many lines there are, same, escaped, changed and refused
+mends_list() {
+    local lines same escaped changed refused noun=lines
+    printf '%b' "$1" >"$room/list"
+    read -r lines same escaped changed refused <<<"$3"
+    [ "$lines" != 1 ] || noun=line
+    filters $((refused > 0)) "$2" "urlcheck: $lines $noun, $((same + escaped + changed)) mended \
+($same same, $escaped escaped, $changed changed), $refused refused\n" "${@:4}"
+}
+mends_list 'http://h/a\nhttp://h/a b\r\nhttp://h/a|b\nhttp:c\nhttp://h:x/\r\n\n\0377\nhttp://h/\0' \
+    'http://h/a\nhttp://h/a%20b\r\nhttp://h/a%7Cb\nhttp://c\nhttp://h:x/\r\n\n\0377\nhttp://h/' '7 3 1 0 2'
+mends_list 'http://h/a b\nhttp://h/a|b\nhttp:c\n' 'http://h/a%20b\nhttp://h/a|b\nhttp:c\n' '3 1 0 0 2' --base http://h/x \
+    --only same
+mends_list 'http://h/a b\nhttp://h/a|b\nhttp:c\n' 'http://h/a b\nhttp://h/a|b\nhttp://c\n' '3 0 0 1 2' --base http://h/x \
+    --only changed
+mends_list 'a b\n' 'a%20b\n' '1 1 0 0 0' --base http://h/x
+mends_list 'a b\n' 'a b\n' '1 0 0 0 1'
+mends_list 'http://a_b/\n' 'http://a_b/\n' '1 0 0 0 1'
+mends_list 'http://a_b/\n' 'http://a_b/\n' '1 0 0 0 0' --wide
+mends_list 'http://%68/\n' 'http://h/\n' '1 1 0 0 0' --wide
+mends_list 'http://%68/\n' 'http://%68/\n' '1 0 0 0 0' --profile parser
+mends_list 'http://0x1/\n' 'http://0.0.0.1/\n' '1 1 0 0 0' --profile parser
+mends_list '\0001http://h/a\0' 'http://h/a' '1 1 0 0 0'
+# No line, empty ones, a byte order mark at the start and elsewhere, and CR that is no part of an end.
+mends_list '' '' '0 0 0 0 0'
+mends_list '\n\r\n' '\n\r\n' '0 0 0 0 0'
+mends_list '\xef\xbb\xbf' '\xef\xbb\xbf' '0 0 0 0 0'
+mends_list '\xef\xbb\xbfhttp://h/ a\r\n' '\xef\xbb\xbfhttp://h/%20a\r\n' '1 1 0 0 0'
+mends_list '\n\xef\xbb\xbfhttp://h/\n' '\n\xef\xbb\xbfhttp://h/\n' '1 0 0 0 1'
+mends_list 'http://h/\r\r\n' 'http://h/\r\n' '1 1 0 0 0'
+mends_list 'http://h/\ra\r' 'http://h/a' '1 1 0 0 0'
+# Lines of the most bytes, and of more, with each end, and of several pieces: they stay as they were.
+for row in a,65536,0 ' ,65537,1' ' ,65538,1' ' ,65539,1' ' ,200000,1'; do
+    IFS=, read -r byte length refused <<<"$row"
+    line=http://h/$(head -c $((length - 9)) /dev/zero | tr '\0' "${byte:- }")
+    mends_list "$line\nhttp://h/a b" "$line\nhttp://h/a%20b" "2 1 0 0 $refused"
+    mends_list "$line\r\nhttp://h/a b" "$line\r\nhttp://h/a%20b" "2 1 0 0 $refused"
+    mends_list "$line" "$line" "1 0 0 0 $refused"
+done
+
+# Words.
+filters 2 '' "urlcheck: no kind is named 'sam'; the nearest is same\nurlcheck: the kinds: same escaped changed\nwords\n" \
+    --only sam
+filters 2 '' "urlcheck: no kind is named ''\nurlcheck: the kinds: same escaped changed\nwords\n" --only ''
+of_lines='urlcheck: --only and --quiet are for the lines of standard input, not for a TEXT\nwords\n'
+filters 2 '' "$of_lines" --only same urn:a
+filters 2 '' "$of_lines" --quiet urn:a
+
+# Lines of the most bytes and of one more, which stays as it was; and 16 MiB without LF in little memory.
+awk 'BEGIN { printf "http://h/ "; for (n = 10; n < 65536; n++) printf "a" }' >"$room/long"
+{ cat "$room/long"; printf '\r\n'; cat "$room/long"; printf 'a\nhttp://h/a b\n'; } >"$room/list"
+{ sed 's/ /%20/' "$room/long"; printf '\r\n'; cat "$room/long"; printf 'a\nhttp://h/a%%20b\n'; } >"$room/wanted"
+"$program" mend <"$room/list" >"$room/out" 2>"$room/err"
+ends_with 1 $? 'urlcheck: 3 lines, 2 mended (2 same, 0 escaped, 0 changed), 1 refused\n' 'mend of long lines'
+cmp -s "$room/wanted" "$room/out" || fail 'mend of long lines: it wrote other bytes'
+{ printf 'http://h/ \n'; head -c 16777216 /dev/zero | tr '\0' ' '; printf '\nurn:a \n'; } >"$room/list"
+{ printf 'http://h/\n'; head -c 16777216 /dev/zero | tr '\0' ' '; printf '\nurn:a\n'; } >"$room/wanted"
+if has prlimit 1; then
+    prlimit --as=$((16 * 1024 * 1024)) "$program" mend <"$room/list" >"$room/out" 2>"$room/err"
+    ends_with 1 $? 'urlcheck: 3 lines, 2 mended (2 same, 0 escaped, 0 changed), 1 refused\n' 'mend of a line of 16 MiB'
+    cmp -s "$room/wanted" "$room/out" || fail 'mend of a line of 16 MiB: it wrote other bytes'
+fi
+
+# A list of 100,000 lines in little memory, made a second time here as it is mended, and that list, which stays.
+
+# in_turn TEXT.. : 100,000 lines, each of these texts in turn with the line's number at its end
+in_turn() { awk 'BEGIN { for (n = 1; n <= 100000; n++) print ARGV[n % (ARGC - 1) + 1] n }' "$@"; }
+kept=https://EXAMPLE.com:443/a/../
+in_turn $kept 'http://h/a b?' 'http://h/a|' 'http:\\h\' >"$room/list"
+in_turn $kept 'http://h/a%20b?' http://h/a%7C http://h/ >"$room/wanted"
+if has prlimit 1; then
+    prlimit --as=$((16 * 1024 * 1024)) "$program" mend <"$room/list" >"$room/out" 2>"$room/err"
+    ends_with 0 $? 'urlcheck: 100000 lines, 75000 mended (50000 same, 25000 escaped, 0 changed), 0 refused\n' \
+        'mend of 100,000 lines'
+    cmp -s "$room/wanted" "$room/out" || fail 'mend of 100,000 lines: it wrote other bytes'
+fi
+"$program" mend --quiet <"$room/wanted" 2>"$room/err" | cmp -s - "$room/wanted" ||
+    fail 'mend of mended lines: it wrote other bytes'
+
+# A pipe that lives: each line is answered before the next one is written.
+mkfifo "$room/mend_ask" "$room/mend_answer"
+"$program" mend --quiet <"$room/mend_ask" >"$room/mend_answer" 2>"$room/err" &
+asked=$!
+exec 8>"$room/mend_ask" 9<"$room/mend_answer"
+for number in 1 2 3; do
+    echo "urn: $number" >&8
+    answer=
+    read -r -t 5 answer <&9
+    count=$((count + 1))
+    if [ "$answer" != "urn:%20$number" ]; then fail "mend of a live pipe: it answered $answer"; fi
+done
+exec 8>&- 9<&-
+wait $asked
+ends_with 0 $? '' 'mend of a live pipe'
+
+# Streams that fail.
+printf 'http://h/a b\n' >"$room/list"
+counted='urlcheck: 1 line, 1 mended (1 same, 0 escaped, 0 changed), 0 refused\n'
+"$program" mend <"$room/list" >/dev/full 2>"$room/err"
+ends_with 3 $? "$no_space${counted}write\\n" 'mend of a list to a full device'
+(sleep 0.3; "$program" mend <"$room/list" 2>"$room/err"; echo $? >"$room/status") | true
+ends_with 3 "$(cat "$room/status")" '' 'mend of a list to a closed pipe'
+if has folder_input 1; then
+    "$program" mend --quiet <"$room" >"$room/out" 2>"$room/err"
+    ends_with 3 $? "${from_folder}read\\n" 'mend of a folder'
+    [ ! -s "$room/out" ] || fail "mend of a folder: it wrote $(head -c 40 "$room/out")"
+fi
+if has closed_streams 1; then
+    "$program" mend --quiet <&- >"$room/out" 2>"$room/err"
+    ends_with 3 $? "${no_input}read\\n" 'mend with standard input closed'
+fi
+
+all_cases 136

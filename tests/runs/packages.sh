@@ -1,0 +1,274 @@
+#!/usr/bin/env bash
+# Installs the program given as the first argument, and the library, into a folder: what is installed there, that the
+# programs of docs/guides build and run by it, that each file names the one version, what the shared library
+# exports, that the header is taken by each standard of C and C++, that an old processor runs the library, and that
+# nothing is left once it is removed. Then the package for JavaScript, as npm installs it: `npx urlcheck` is the program. What
+# isn't installed on the machine is left out, and a line says so. LIBRARY and PAGE may name folders that tools/build-library and
+# tools/build-page wrote.
+. "$(dirname "$(realpath "$0")")/start.sh"
+cd "$top"
+needs packages cc gcc objcopy pkg-config python3
+
+fail() {
+    echo "FAILED: $*"
+    exit 1
+}
+
+# quietly COMMAND.. : what it says is shown where it fails alone
+quietly() {
+    "$@" >"$room/said" 2>&1 || { cat "$room/said"; fail "$*"; }
+}
+
+version=$(cat VERSION)
+library=${LIBRARY:-$room/library}
+[ -n "${LIBRARY:-}" ] || quietly tools/build-library "$library"
+root=$room/root
+prefix=/any/prefix
+at=$root$prefix
+export DESTDIR=$root PROGRAM=$program LIBRARY=$library
+# (the extensions for databases stand partly beside the prefix: they are installed for themselves below)
+ENGINES='' quietly ./install $prefix
+
+# ---- what is installed
+
+python=$(cd "$at/lib" && ls -d python*/*-packages)
+{
+    sed -e "s|PYTHON|$python|" -e "s|VERSION|$version|" tests/runs/packages/files
+    printf 'share/doc/urlcheck/%s\n' docs/*.md docs/guides/*.md docs/rules/*.md docs/*.svg docs/*.png
+    (cd tests && printf 'share/doc/urlcheck/%s\n' vectors/*)
+    (cd bindings/python && printf "lib/$python/%s\n" urlcheck/{*.py,*.pyi,py.typed,_native.abi3.so})
+} | sort >"$room/wanted"
+(cd "$at" && find . ! -type d -printf '%P\n' | sort) >"$room/found"
+diff "$room/wanted" "$room/found" ||
+    fail "other files are installed than those of tests/runs/packages/files, docs/, tests/vectors/ and bindings/python/"
+python3 - "$at/share/doc/urlcheck" <<'PYTHON' || fail "a link of the documents that are installed leads nowhere"
+import pathlib, re, sys
+pages = list(pathlib.Path(sys.argv[1]).rglob("*.md"))
+# (what stands in a block of code is no link)
+texts = [(page, re.sub(r"^```.*?^```$", "", page.read_text("utf-8"), flags=re.M | re.S)) for page in pages]
+links = [(page, link) for page, text in texts for link in re.findall(r"\]\(([^)\s#]+)[^)\s]*\)", text)]
+lost = [(page.name, link) for page, link in links if ":" not in link and not (page.parent / link).exists()]
+print(*lost, sep="\n", end="\n" if lost else "")
+sys.exit(bool(lost) or not links)
+PYTHON
+cmp "$program" "$at/bin/urlcheck"
+for link in liburlcheck.so liburlcheck.so.0; do
+    [ "$(realpath "$at/lib/$link")" = "$(realpath "$at/lib")/liburlcheck.so.$version" ] ||
+        fail "$link names another file"
+done
+if grep -rlF "$room" "$at"; then fail "an installed file names the folder that it was built in"; fi
+
+# ---- the version
+
+"$at/bin/urlcheck" -V | cmp - <(echo "urlcheck $version") || fail "the program has another version than VERSION"
+echo x >"$room/links"
+"$at/bin/urlcheck" lint --quiet --format sarif "$room/links" >"$room/report" || [ $? = 1 ] || fail "lint --format sarif"
+told=$(python3 -c 'import json, sys; print(json.load(sys.stdin)["runs"][0]["tool"]["driver"]["version"])' \
+    <"$room/report")
+[ "$told" = "$version" ] || fail "SARIF says that the version is $told"
+for page in urlcheck.1 urlcheck-documents.1 urlcheck-language-server.1; do
+    grep -qF "urlcheck $version" docs/share/man/$page || fail "docs/share/man/$page has another version than VERSION"
+done
+[ "$(grep -cF "rev: v$version " docs/guides/hook.md)" = 2 ] || fail "docs/guides/hook.md names another tag than VERSION"
+for page in github gitlab; do
+    found=$(grep -oE '(/v|urlcheck-)[0-9]+[.][0-9]+[.][0-9]+' docs/guides/$page.md | sort -u | xargs)
+    [ "$found" = "/v$version urlcheck-$version" ] || fail "docs/guides/$page.md fetches another release than that of VERSION"
+done
+grep -qE "^## $version - [0-9]{4}-[0-9]{2}-[0-9]{2}$" CHANGELOG.md ||
+    fail "CHANGELOG.md has no '## $version - ' with its day"
+
+# ---- programs
+
+export PKG_CONFIG_PATH=$at/lib/pkgconfig PKG_CONFIG_SYSROOT_DIR=$root PYTHONDONTWRITEBYTECODE=1
+[ "$(pkg-config --modversion urlcheck)" = "$version" ] || fail "pkg-config has another version than VERSION"
+grep -qx "prefix=$prefix" "$at/lib/pkgconfig/urlcheck.pc" || fail "the file for pkg-config has another prefix"
+python3 tests/runs/library/programs.py "$top" "$room"
+read -ra flags <<<"$(pkg-config --cflags --libs urlcheck)"
+cc "$room/page.c" "${flags[@]}" -o "$room/page"
+{ LD_LIBRARY_PATH=$at/lib "$room/page" || [ $? = 1 ]; } | cmp - "$room/page.c.out" || fail "the program in C"
+PYTHONPATH=$at/lib/$python python3 "$room/page.py" | cmp - "$room/page.py.out" ||
+    fail "the program in Python"
+# (the package finds the library that was installed with it)
+printf '<a href="http://x_y/">\n' >"$room/page.html"
+{ (cd "$room" && PYTHONPATH=$at/lib/$python python3 "$at/bin/urlcheck-documents" --check page.html 2>"$room/said") ||
+    [ $? = 1 ]; } | cmp - <(echo 'page.html:1:17: error: U+005F LOW LINE is not allowed in a domain; --profile wide allows it [host-domain]') ||
+    { cat "$room/said"; fail "urlcheck-documents"; }
+told=$(PYTHONPATH=$at/lib/$python python3 -c 'import urlcheck; print(urlcheck.version())')
+[ "$told" = "$version" ] || fail "the library says that its version is $told"
+told=$(PYTHONPATH=$at/lib/$python python3 -c 'from importlib.metadata import version; print(version("urlcheck"))')
+[ "$told" = "$version" ] || fail "the Python package says that its version is $told"
+for completions in urlcheck urlcheck-documents; do
+    bash -n "$at/share/bash-completion/completions/$completions"
+done
+if command -v man >/dev/null; then
+    man --warnings -E UTF-8 -l "$at/share/man/man1/urlcheck.1" >"$room/page.txt" 2>"$room/said"
+    [ ! -s "$room/said" ] || { cat "$room/said"; fail "the manual page has warnings"; }
+    grep -q '^NAME' "$room/page.txt" || fail "the manual page has no NAME"
+else
+    echo "packages: the manual page isn't shown, since man isn't installed"
+fi
+
+# ---- the shared library
+
+awk '/^URLCHECK_/ { node = $1 } /^ *urlcheck_[a-z_0-9]*;$/ { print substr($1, 1, length($1) - 1) "@@" node }' \
+    bindings/c/library.map | sort >"$room/wanted"
+declared=$(grep -o '\burlcheck_[a-z_0-9]*(' bindings/c/include/urlcheck.h | tr -d '(' | sort)
+[ "$declared" = "$(sed 's/@@.*//' "$room/wanted")" ] ||
+    fail "bindings/c/library.map has other names than bindings/c/include/urlcheck.h"
+nm -D --defined-only --with-symbol-versions "$at/lib/liburlcheck.so" | awk '$2 != "A" { print $3 }' | sort \
+    >"$room/found"
+diff "$room/wanted" "$room/found" || fail "the library exports other names than bindings/c/library.map"
+objdump -p "$at/lib/liburlcheck.so" | grep -q 'SONAME *liburlcheck\.so\.0$' || fail "the library has another SONAME"
+if command -v qemu-x86_64 >/dev/null; then
+    { LD_LIBRARY_PATH=$at/lib qemu-x86_64 -cpu qemu64 "$room/page" || [ $? = 1 ]; } | cmp - "$room/page.c.out" ||
+        fail "the program in C on an old processor"
+else
+    echo "packages: no old processor is tried, since qemu-x86_64 isn't installed"
+fi
+
+# ---- the header
+
+number=$((10#${version%%.*} * 10000 + 10#$(cut -d. -f2 <<<"$version") * 100 + 10#${version##*.}))
+grep -qx "#define URLCHECK_VERSION $number" "$at/include/urlcheck.h" || fail "the header has another version than VERSION"
+printf '#include "urlcheck.h"\nint main(void) { return urlcheck_version() == 0; }\n' >"$room/header.c"
+cp "$room/header.c" "$room/header.cpp"
+strict=(-Wall -Wextra -Wpedantic -Wundef -Wconversion -Wshadow -Werror -fsyntax-only -I "$at/include")
+count=0
+for compiler in gcc clang g++ clang++; do
+    command -v $compiler >/dev/null || { echo "packages: no header by $compiler, which isn't installed"; continue; }
+    standards=(c89 c99 c11 c17 c2x) file=$room/header.c
+    case $compiler in *++) standards=(c++98 c++11 c++14 c++17 c++20 c++2b) file=$room/header.cpp ;; esac
+    for standard in "${standards[@]}"; do
+        $compiler -std=$standard "${strict[@]}" "$file" || fail "the header by $compiler -std=$standard"
+        count=$((count + 1))
+    done
+done
+
+# ---- the wheel, which has the program as a release's has it
+
+if python3 -m pip --version >/dev/null 2>&1; then
+    cp -r "$library/python" "$room/wheel"
+    install -D -m 755 "$program" "$room/wheel/bin/urlcheck"
+    quietly python3 -m pip install --no-deps --no-index --target "$room/site" "$room/wheel"
+    "$room/site/bin/urlcheck" -V | cmp - <(echo "urlcheck $version") || fail "the wheel's program"
+    grep -qx 'urlcheck = urlcheck.mkdocs:Plugin' "$room"/site/*.dist-info/entry_points.txt ||
+        fail "the wheel has no plugin for MkDocs"
+    [ -x "$room/site/bin/urlcheck-language-server" ] || fail "the wheel has no urlcheck-language-server"
+    PYTHONPATH=$room/site "$room/site/bin/urlcheck-documents" --version >"$room/said" || fail "the wheel's urlcheck-documents"
+    grep -qF "$version" "$room/said" || fail "the wheel's urlcheck-documents says: $(cat "$room/said")"
+else
+    echo "packages: the wheel is left out, since pip isn't installed"
+fi
+
+# ---- the extensions for databases, where their headers are
+
+quietly ./install $prefix
+found=()
+if [ -f "$at/lib/mod_urlcheck.so" ]; then
+    found+=(SQLite)
+    [ "$(objdump -p "$at/lib/mod_urlcheck.so" | sed -n 's/^ *NEEDED *\(liburlcheck.*\)/\1/p')" = liburlcheck.so.0 ] ||
+        fail "the extension for SQLite isn't linked with the shared library"
+    if command -v sqlite3 >/dev/null; then
+        LD_LIBRARY_PATH=$at/lib sqlite3 -init /dev/null -batch :memory: '.load mod_urlcheck' \
+            "SELECT url_resolve('HTTP://H/a/../b')" | cmp - <(echo http://h/b) || fail 'the extension for SQLite'
+    fi
+fi
+if [ -n "$(find "$root" -path '*/extension/urlcheck.control')" ]; then
+    found+=(PostgreSQL)
+    for file in "$(pg_config --pkglibdir)/urlcheck.so" "$(pg_config --sharedir)"/extension/urlcheck{.control,--"$version".sql}; do
+        [ -f "$root$file" ] || fail "the extension for PostgreSQL lacks $file"
+    done
+fi
+echo "packages: extensions for ${found[*]:-no database, since none of their headers are installed}"
+
+# ---- removed again
+
+quietly ./install $prefix
+quietly ./install --uninstall $prefix
+left=$(find "$root" -mindepth 1)
+[ -z "$left" ] || fail "what is left once it is removed: $left"
+if ./install --uninstall $prefix 2>"$room/said"; then fail "what isn't installed is removed"; fi
+if ./install --other 2>"$room/said"; then fail "another option is taken"; fi
+
+# ---- the package for JavaScript, whose program `npx` runs
+
+# What a run over the folder of a user looks like: its status, and its words.
+npx_runs='0 --version
+0 check http://h/a?q
+1 check http://x_y/
+1 lint links.txt
+2 lint --quiet --format sarif links.txt missing
+1 lint --located --format caret located.txt
+0 explain host-domain
+2 check'
+
+# is_program FOLDER : whether `npx urlcheck` there says what the program says, and ends as it does
+is_program() {
+    local status words ended wanted
+    while read -r status words; do
+        ended=0 wanted=0
+        (cd "$1" && "$program" $words) >"$room/wanted" 2>"$room/wanted.err" || wanted=$?
+        (cd "$1" && npx --offline --no -- urlcheck $words) >"$room/found" 2>"$room/found.err" || ended=$?
+        [ "$wanted" = "$status" ] || fail "$words: status $wanted, and not $status"
+        [ "$ended" = "$status" ] && cmp -s "$room/wanted" "$room/found" && cmp -s "$room/wanted.err" "$room/found.err" ||
+            { echo "npx urlcheck $words: status $ended, and not $status"; return 1; }
+    done <<<"$npx_runs"
+}
+
+# installed_by_npm FILE.tgz : a user's folder with the package of the file, without a registry
+installed_by_npm() {
+    rm -rf "$room/user"
+    mkdir "$room/user"
+    cp "$1" "$room/user/package.tgz"
+    printf 'http://h/\n\nhttp://h/a b\n\303\251\n' >"$room/user/links.txt"
+    printf 'a.html:3:9:http://x_y/\n' >"$room/user/located.txt"
+    (cd "$room/user" && quietly npm install --offline --no-audit --no-fund ./package.tgz)
+}
+
+# spoiled_package WHAT SED FILE : a package whose FILE this edit has changed isn't the program
+spoiled_package() {
+    rm -rf "$room/package"
+    tar -C "$room" -xzf "$package"
+    LC_ALL=C sed -i "$2" "$room/package/$3"
+    ! cmp -s "$room/package/$3" "$page/$3" || fail "the package: $1: the edit changes nothing"
+    tar -C "$room" -czf "$room/spoiled.tgz" package
+    installed_by_npm "$room/spoiled.tgz"
+    if is_program "$room/user" >"$room/said"; then fail "the package: $1 isn't found"; fi
+}
+
+lacks=
+for tool in node npm npx wasm-opt; do command -v "$tool" >/dev/null || lacks=$tool; done
+[ -n "$lacks" ] || [ "$(node -p 'process.versions.node.split(".")[0] >= 18')" = true ] || lacks='node from version 18 on'
+if [ -n "$lacks" ]; then
+    echo "packages: the package for JavaScript is left out, since $lacks isn't installed"
+else
+    page=${PAGE:-$room/module}
+    [ -n "${PAGE:-}" ] || quietly tools/build-page "$page"
+    release/pack-page "$page" "$room/packed"
+    cp -r "$page" "$room/later"
+    release/pack-page "$room/later" "$room/packed.again"
+    diff -r "$room/packed" "$room/packed.again" || fail "the package for JavaScript has other bytes the second time"
+    package=$room/packed/urlcheck-$version.tgz
+    installed_by_npm "$package"
+    is_program "$room/user" || fail "the program of the package for JavaScript"
+    spoiled_package 'another file in place of the program' 's/"program\.mjs" }/"urlcheck.js" }/' package.json
+    spoiled_package 'a status that is lost' 's/exit(status)/exit(0)/' program.mjs
+    spoiled_package 'another word in a sentence' 's/is not allowed in a URL/may now stand in a URL/' program.wasm
+    echo "packages: npx urlcheck is the program, in $(wc -l <<<"$npx_runs") runs under $(node --version); 3 spoiled packages are found"
+fi
+
+# ---- the scripts: what they say of themselves, no other option, and paths of the folder that they are called in
+
+for script in install tools/{build-{crate,library,module,page,program,site},make-{manual,rules}} \
+    tools/{try-edits,write-attributes} release/{build-both,build-packages,pack-page} \
+    platform/{build,build-library,lower}; do
+    ./$script --help >"$room/help" || fail "$script --help"
+    grep -q "^[./]*$script" "$room/help" || fail "$script --help says: $(cat "$room/help")"
+    if ./$script --other >"$room/help" 2>"$room/said" || ! grep -q "^usage: [./]*$script" "$room/said"; then
+        fail "$script takes another option: $(cat "$room/help" "$room/said")"
+    fi
+done
+ln -s "$program" "$room/own"
+(cd "$room" && DESTDIR=other PROGRAM=own quietly "$top/install" $prefix)
+cmp "$program" "$room/other$prefix/bin/urlcheck" || fail "paths of another folder than that of the call"
+echo "packages: installed, tried and removed; the header by $count compilers and standards; version $version"

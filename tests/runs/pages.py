@@ -1,0 +1,353 @@
+#!/usr/bin/env python3
+"""Checks the pages of this repository: those at its top, those of docs/ and its folders, and each folder's README.md.
+
+    tests/runs/pages.py texts [TOP]               lengths, links, paths and names; no program is needed
+    tests/runs/pages.py commands PROGRAM [TOP]    runs each block of `console` commands, and compares what they print
+
+TOP is the folder of the pages, by default the one above this file's. It ends with 1 where something is wrong.
+"""
+
+import pathlib
+import re
+import subprocess
+import sys
+import tempfile
+
+README_LINES = 100
+FIRST_SCREEN = 32
+HEADLINE = (
+    "where the checker says yes to a string, alone or against a base, the Standard's parser started on it runs to its"
+    " end without failure or validation error, in at most 3n + 16 steps, and its record has exactly the scheme, host,"
+    " port, path, query and fragment that the string's parts denote; and the checker says yes exactly to the profile's"
+    " written grammar."
+)
+# Folders of the repository: a word of code that begins with one of them is the path of something that is there.
+FOLDERS = "bench", "bindings", "crates", "docs", "platform", "release", "tests", "tools"
+FENCE = re.compile(r"^\s*```(.*)$")
+# A script of the repository, as a block of commands calls it.
+SCRIPT = re.compile(r"(?:^|[ (])((?:\./|(?:bench|platform|release|tests|tools)/)[\w./-]+)", flags=re.M)
+
+
+def pages_of(top):
+    """The pages, each with its path from the top."""
+    folders = "", "docs", "docs/guides", "docs/rules", "bindings/*", "bindings/engines/*", "tests/*"
+    found = [page for folder in folders for page in sorted(top.glob((folder + "/*.md").lstrip("/")))]
+    return [page.relative_to(top) for page in dict.fromkeys(found)]
+
+
+def blocks_of(text):
+    """The fenced blocks: the line where each begins, its language, and its lines."""
+    blocks, inside = [], None
+    for number, line in enumerate(text.split("\n"), start=1):
+        fence = FENCE.match(line)
+        if fence and inside is None:
+            inside = (number, fence.group(1).strip(), [])
+        elif fence:
+            blocks.append(inside)
+            inside = None
+        elif inside:
+            inside[2].append(line)
+    return blocks
+
+
+def prose_of(text):
+    """The text without its fenced blocks, as lines; a line of a block is empty."""
+    lines, inside = [], False
+    for line in text.split("\n"):
+        fenced = FENCE.match(line)
+        lines.append("" if inside or fenced else line)
+        inside = inside != bool(fenced)
+    return lines
+
+
+# ---- sentences
+
+
+def units_of(text):
+    """What sentences stand in: paragraphs, items of lists, cells of tables and headings, each with its first line."""
+    units, lines, first = [], [], 0
+    for number, line in enumerate(prose_of(text) + [""], start=1):
+        stripped = line.strip()
+        begins = re.match(r"(#+|[-*]|\d+\.) ", stripped)
+        if lines and (not stripped or begins or stripped.startswith("|")):
+            units.append((first, " ".join(lines)))
+            lines = []
+        if stripped.startswith("|"):
+            units.extend((number, cell.strip()) for cell in re.split(r"(?<!\\)\|", stripped.strip("|")))
+        elif stripped:
+            first = first if lines else number
+            lines.append(re.sub(r"^(#+|[-*]|\d+\.) ", "", stripped))
+    return units
+
+
+def sentences_of(unit):
+    """The sentences of a paragraph. A word of code is one word, and a link is its text."""
+    plain = re.sub(r"`[^`]*`", "Code", unit)
+    plain = re.sub(r"!?\[([^\]]*)\]\([^)]*\)", r"\1", plain)
+    return re.split(r"(?<=[.!?])[\"')*_]*\s+(?=[\"'(*_]*[A-Z0-9])", plain)
+
+
+# ---- links, paths and names
+
+
+def anchors_of(text):
+    """The anchors that the headings of a page make."""
+    anchors = set()
+    for line in prose_of(text):
+        heading = re.match(r"#+ (.*)", line)
+        if heading:
+            kept = re.sub(r"[^\w\- ]", "", heading.group(1).replace("`", "").lower())
+            anchors.add(kept.strip().replace(" ", "-"))
+    return anchors
+
+
+def links_of(text):
+    """The targets of the links and pictures of a page, without those that name another host."""
+    found = re.findall(r"\]\(([^)\s]+)\)", "\n".join(prose_of(text)))
+    return [target for target in found if not re.match(r"[a-z]+:", target)]
+
+
+def check_links(top, page, text, wrong):
+    for target in links_of(text):
+        path, _, anchor = target.partition("#")
+        file = (top / page).parent / path if path else top / page
+        if not file.exists():
+            wrong.append("{}: a link to {}, which isn't there".format(page, target))
+        elif anchor and anchor not in anchors_of(file.read_text(encoding="utf-8")):
+            wrong.append("{}: a link to {}, and no heading makes this anchor".format(page, target))
+
+
+def check_paths(top, page, text, wrong):
+    for code in re.findall(r"`([^`\s]+)`", "\n".join(prose_of(text))):
+        if code.split("/")[0] in FOLDERS and "/" in code and not re.search(r"[*<>()|$]|\bout/|NAME|\.\.", code):
+            if not (top / code).exists():
+                wrong.append("{}: `{}` isn't there".format(page, code))
+    for line, language, lines in blocks_of(text):
+        # (the commands of docs/DOCUMENTS.md, in blocks of this language, are run with the package)
+        if language not in ("console", "shell-session") and any(it.startswith("$ ") for it in lines):
+            wrong.append("{}:{}: commands in a block that no run takes".format(page, line))
+        # (the commands of a page below bindings/ are for its own folder)
+        for script in SCRIPT.findall("\n".join(lines)) if language == "sh" and page.parts[0] != "bindings" else []:
+            if not (top / script).exists():
+                wrong.append("{}:{}: {} isn't there".format(page, line, script))
+
+
+def check_index(top, pages, texts, wrong):
+    navigation = (top / "mkdocs.yml").read_text(encoding="utf-8")
+    linked = {(top / "docs" / target.partition("#")[0]).resolve() for target in links_of(texts[INDEX])}
+    for page in pages:
+        if page.parent.name in ("docs", "guides") and page != INDEX and (top / page).resolve() not in linked:
+            wrong.append("{}: no link leads to {}".format(INDEX, page))
+        if page.parts[0] == "docs" and not re.search(r": {}$".format(re.escape(str(page))), navigation, flags=re.M):
+            wrong.append("mkdocs.yml: its navigation has no {}".format(page))
+
+
+INDEX = pathlib.Path("docs/README.md")
+PROVED = pathlib.Path("docs/PROVED.md")
+LIBRARY = pathlib.Path("docs/LIBRARY.md")
+
+
+def sources_of(top, crate):
+    """The code of a crate, without its tests."""
+    files = sorted((top / "crates" / crate / "src").rglob("*.rt"))
+    return "\n".join(file.read_text(encoding="utf-8") for file in files if "tests" not in file.parts)
+
+
+def rows_of(section):
+    """The rows of the tables of a section: the words of code in the first cell, and those in the second."""
+    for line in section.split("\n"):
+        cells = [cell.strip() for cell in line.strip().strip("|").split("|")]
+        if line.startswith("|") and len(cells) > 1 and not set(cells[0]) <= set("- :"):
+            yield re.findall(r"`([^`]+)`", cells[0]), re.findall(r"`([^`]+)`", cells[1]) if len(cells) > 2 else []
+
+
+def check_names(top, text, wrong):
+    """Each function and each clause that docs/PROVED.md names stands in its crate, and each law is named."""
+    sections = re.split(r"^## `(\w+)`.*$", text, flags=re.M)
+    for crate, section in zip(sections[1::2], sections[2::2]):
+        code = sources_of(top, crate)
+        if not code:
+            wrong.append("{}: no crate {}".format(PROVED, crate))
+        for functions, clauses in rows_of(section):
+            for name in functions:
+                if not re.search(r"\b(fn|struct|enum|trait) {}\b".format(name.split("::")[-1]), code):
+                    wrong.append("{}: {} has no `{}`".format(PROVED, crate, name))
+            for clause in clauses:
+                if not re.search(r"\b(ensures|fn) {0}\b|^ +{0}\(".format(clause), code, flags=re.M):
+                    wrong.append("{}: {} has no clause `{}`".format(PROVED, crate, clause))
+    for file in sorted((top / "crates").glob("uv_*/src/**/*.rt")) + sorted((top / "crates").glob("urlcheck_c/src/**/*.rt")):
+        if file.stem in ("laws", "silence_laws", "step_counts", "round_trip"):
+            for law in re.findall(r"^pub fn (\w+)", file.read_text(encoding="utf-8"), flags=re.M):
+                if not law.endswith("_rows") and "{}`".format(law) not in text:
+                    wrong.append("{}: the law {} of {} isn't named".format(PROVED, law, file.relative_to(top)))
+
+
+def check_calls(top, text, wrong):
+    """Each call that docs/LIBRARY.md names for callers stands in its crate, with these arguments."""
+    callers = text.partition("\n## For callers")[2]
+    for crates, section in re.findall(r"^### (.*)\n((?:(?!### ).*\n)*)", callers, flags=re.M):
+        code = "\n".join(sources_of(top, crate) for crate in re.findall(r"`(\w+)`", crates))
+        for names, _ in rows_of(section):
+            for name in names:
+                call, _, arguments = name.rstrip(")").partition("(")
+                word = call.split("::")[-1]
+                given = re.findall(r"\bfn {}(?:<[^>]*>)?\(([^)]*(?:\([^)]*\)[^)]*)*)\)".format(word), code)
+                taken = [", ".join(re.findall(r"(\w+): ", each)) for each in given]
+                if arguments and arguments not in taken:
+                    wrong.append("{}: `{}` isn't in {}, which takes: {}".format(LIBRARY, name, crates, taken))
+                if not given and not re.search(r"\b(?:struct|enum|trait) {0}\b|^ +{0}[,({{]".format(word), code, re.M):
+                    wrong.append("{}: {} has no `{}`".format(LIBRARY, crates, name))
+
+
+def words_of_code(top):
+    """Every word of the code, of the definitions, and of the names of files: what a page may name."""
+    words = set()
+    for folder in FOLDERS:
+        for file in (top / folder).rglob("*"):
+            if "out" in file.relative_to(top).parts or not file.is_file() or file.suffix == ".md":
+                continue
+            words.update(re.findall(r"\w+", str(file.relative_to(top))))
+            if file.suffix not in (".svg", ".json"):
+                words.update(re.findall(r"\w+", file.read_text(encoding="utf-8", errors="replace")))
+    return words
+
+
+def check_words(top, texts, wrong):
+    """Each word that a page gives as code, and that has the form of a name or of its beginning, stands somewhere."""
+    known = words_of_code(top)
+    for page, text in texts.items():
+        for code in re.findall(r"`([A-Za-z][\w:]*)`", "\n".join(prose_of(text))):
+            name = code.split("::")[-1]
+            stands = name in known or (name.endswith("_") and any(word.startswith(name) for word in known))
+            if re.search(r"_|[a-z][A-Z]|::", code) and not stands:
+                wrong.append("{}: `{}` is the name of nothing here".format(page, code))
+
+
+def check_notice(top, wrong):
+    """NOTICE has a row for each crate of the toolchain that crates.txt names."""
+    lines = [line for line in (top / "crates.txt").read_text(encoding="utf-8").split("\n") if ":" in line]
+    crates = [line.partition(":") for line in lines if not line.startswith("#")]
+    own = {name.split()[0] for name, _, _ in crates}
+    notice = (top / "NOTICE").read_text(encoding="utf-8")
+    for crate in sorted({word for _, _, below in crates for word in below.split()} - own):
+        if not re.search(r"^{} ".format(crate), notice, flags=re.M):
+            wrong.append("NOTICE: no row for {}, which crates.txt names".format(crate))
+
+
+def check_readme(top, text, wrong):
+    lines = text.rstrip("\n").split("\n")
+    if len(lines) > README_LINES:
+        wrong.append("README.md: {} lines, and at most {} are wanted".format(len(lines), README_LINES))
+    version = (top / "VERSION").read_text(encoding="utf-8").strip()
+    if "Version {},".format(version) not in text:
+        wrong.append("README.md: it doesn't name the version of VERSION, {}".format(version))
+    if not any(re.match(r"\s+\^$", line) for line in lines[:FIRST_SCREEN]):
+        wrong.append("README.md: no diagnostic with a caret on the first screen")
+
+
+def check_texts(top):
+    wrong = []
+    pages = pages_of(top)
+    texts = {page: (top / page).read_text(encoding="utf-8") for page in pages}
+    for page, text in texts.items():
+        check_links(top, page, text, wrong)
+        check_paths(top, page, text, wrong)
+    check_readme(top, texts[pathlib.Path("README.md")], wrong)
+    check_index(top, pages, texts, wrong)
+    check_names(top, texts[PROVED], wrong)
+    if HEADLINE not in re.sub(r"\s+", " ", texts[PROVED]):
+        wrong.append("{}: the headline isn't there, word for word".format(PROVED))
+    check_calls(top, texts[LIBRARY], wrong)
+    check_words(top, texts, wrong)
+    check_notice(top, wrong)
+    return wrong, "{} pages".format(len(pages))
+
+
+# ---- commands
+
+
+def commands_of(block):
+    """The commands of a block, each with the lines that it prints. One that ends with `\\` or `|` goes on."""
+    commands = []
+    for line in block:
+        if commands and commands[-1][0].endswith(("\\", "|")) and not commands[-1][1]:
+            commands[-1] = (commands[-1][0] + "\n" + line, [])
+        elif line.startswith("$ "):
+            commands.append((line[2:], []))
+        elif commands:
+            commands[-1][1].append(line)
+    return commands
+
+
+def room_for(top, program, folder):
+    """A folder as a reader has it: the repository's files, and the program on the path and as ./urlcheck."""
+    room = pathlib.Path(folder)
+    (room / "path").mkdir()
+    (room / "here").mkdir()
+    (room / "path" / "urlcheck").symlink_to(program)
+    (room / "here" / "urlcheck").symlink_to(program)
+    (room / "here" / "tests").symlink_to(top / "tests")
+    return room
+
+
+def script_of(commands, room):
+    """A script that runs the commands one after the other, as one shell does, each with its output in a file."""
+    lines = ["export PATH={}:$PATH LC_ALL=C.UTF-8".format(room / "path"), "cd {}".format(room / "here")]
+    for number, (command, _) in enumerate(commands):
+        lines += ["(exit ${status:-0})", "{", command, "} >%s 2>&1" % (room / str(number)), "status=$?"]
+    return "\n".join(lines) + "\n"
+
+
+def check_own_links(top, program):
+    """The links of the pages that name another host are valid URL strings, as the program says."""
+    wrong, links = [], set()
+    for page in pages_of(top):
+        text = "\n".join(prose_of((top / page).read_text(encoding="utf-8")))
+        links.update(re.findall(r"\]\(([a-z]+:[^)\s]+)\)|<([a-z]+:[^>\s]+)>", text))
+    listed = sorted(one or other for one, other in links)
+    ran = subprocess.run([program, "links"], input="\n".join(listed) + "\n", capture_output=True, text=True, check=False)
+    for line in ran.stdout.splitlines()[:-1]:
+        if line.split()[1] != "ok":
+            wrong.append("a link of the pages, {}: {}".format(listed[int(line.split()[0]) - 1], line))
+    if not listed or ran.returncode > 1:
+        wrong.append("the links of the pages weren't judged: {}".format(ran.stderr))
+    return wrong
+
+
+def check_commands(top, program):
+    wrong, count = check_own_links(top, program), 0
+    for page in pages_of(top):
+        blocks = blocks_of((top / page).read_text(encoding="utf-8"))
+        commands = [command for _, language, block in blocks if language == "console" for command in commands_of(block)]
+        with tempfile.TemporaryDirectory() as folder:
+            room = room_for(top, program, folder)
+            subprocess.run(["bash"], input=script_of(commands, room), text=True, check=False)
+            for number, (command, printed) in enumerate(commands):
+                out = room / str(number)
+                said = out.read_text(encoding="utf-8") if out.exists() else "nothing: it wasn't run\n"
+                if said != "".join(line + "\n" for line in printed):
+                    wrong.append("{}: {}\n it printed\n{}".format(page, command, said))
+        count += len(commands)
+    if not count:
+        wrong.append("no page has a command")
+    return wrong, "{} commands".format(count)
+
+
+def main():
+    words = sys.argv[1:]
+    here = pathlib.Path(__file__).resolve().parents[2]
+    if words[:1] == ["texts"] and len(words) <= 2:
+        wrong, what = check_texts(pathlib.Path(words[1]).resolve() if len(words) == 2 else here)
+    elif words[:1] == ["commands"] and len(words) in (2, 3):
+        program = pathlib.Path(words[1]).resolve()
+        wrong, what = check_commands(pathlib.Path(words[2]).resolve() if len(words) == 3 else here, program)
+    else:
+        sys.exit(__doc__)
+    for line in wrong:
+        print("FAILED: " + line)
+    print("pages: {}, {}".format(what, "as they should be" if not wrong else "{} wrong".format(len(wrong))))
+    sys.exit(1 if wrong else 0)
+
+
+if __name__ == "__main__":
+    main()

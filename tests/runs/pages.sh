@@ -1,0 +1,101 @@
+#!/usr/bin/env bash
+# Checks the pages of this repository over the program given as the first argument: each block of commands prints what
+# the page says, links and names lead somewhere, sentences are short and plain, figures are those that benches stored, pictures
+# are those that their scripts draw. Then it spoils a copy of the pages in each of these ways, and sees that the check finds it.
+set -euo pipefail
+[ $# = 1 ] && [ -x "$1" ] || { echo 'usage: tests/runs/pages.sh PROGRAM'; exit 2; }
+command -v python3 >/dev/null || { echo 'pages: python3 is missing; CONTRIBUTING.md says what the gate needs'; exit 70; }
+program=$(realpath "$1")
+top=$(realpath "$(dirname "$0")/../..")
+room=$(mktemp -d)
+trap 'rm -rf "$room"' EXIT
+export PYTHONDONTWRITEBYTECODE=1
+failed=0
+
+python3 "$top/tests/runs/pages.py" texts || failed=1
+python3 "$top/tests/runs/pages.py" commands "$program" || failed=1
+python3 "$top/tests/runs/prose.py" || failed=1
+python3 "$top/bench/figures.py" || failed=1
+for picture in profiles:docs/profiles.py speed:bench/plot.sh 'speed-short:bench/plot.sh --short'; do
+    read -ra words <<<"${picture#*:}"
+    case $picture in
+        *.py) python3 "$top/${words[0]}" ;;
+        *) bash "$top/${words[0]}" "${words[@]:1}" ;;
+    esac >"$room/drawn.svg" || true
+    [ -s "$room/drawn.svg" ] && cmp -s "$room/drawn.svg" "$top/docs/${picture%:*}.svg" ||
+        { echo "FAILED: docs/${picture%:*}.svg is old; ${picture#*:} draws it anew, on standard output"; failed=1; }
+done
+
+# The page of each rule is what tools/make-rules makes of it.
+if command -v node >/dev/null; then
+    "$top/tools/make-rules" "$program" "$room/made" && diff -r "$room/made/docs/rules" "$top/docs/rules" ||
+        { echo 'FAILED: docs/rules is old; tools/make-rules makes it anew'; failed=1; }
+else
+    echo "pages: that docs/rules is as tools/make-rules makes it is left out, since node isn't installed"
+fi
+
+# The checks, each with its words.
+texts='tests/runs/pages.py texts' commands="tests/runs/pages.py commands $program" prose=tests/runs/prose.py
+
+# spoiled WHAT SAID CHECK FILE SED : in a copy where this edit of a page changed something the check, a script and its words, says so
+count=0
+spoiled() {
+    local what=$1 said=$2 check=$3 file=$4
+    count=$((count + 1))
+    rm -rf "$room/copy"
+    mkdir -p "$room/copy/docs"
+    ln -s "$top"/* "$room/copy/" 2>/dev/null || true
+    cp --remove-destination "$top"/*.md "$top/NOTICE" "$top/mkdocs.yml" "$room/copy/"
+    rm -f "$room/copy/bench"
+    mkdir "$room/copy/bench"
+    cp -r "$top/bench/kinds" "$top/bench/verdicts" "$room/copy/bench/"
+    ln -s "$top"/bench/* "$room/copy/bench/" 2>/dev/null || true
+    cp -r "$top"/docs/* "$room/copy/docs/"
+    # (of the crates a copy has the one file that is spoiled, if any)
+    case $file in
+        crates/*)
+            rm "$room/copy/crates"
+            mkdir -p "$room/copy/${file%/*}"
+            cp "$top/$file" "$room/copy/$file"
+            ;;
+    esac
+    sed -i "$5" "$room/copy/$file"
+    if cmp -s "$room/copy/$file" "$top/$file"; then echo "FAILED: $what: $file stayed as it was"; failed=1; fi
+    if python3 "$top/"$check "$room/copy" >"$room/said" 2>&1 || ! grep -q "^FAILED: .*$said" "$room/said"; then
+        echo "FAILED: pages with $what: $(cat "$room/said")"
+        failed=1
+    fi
+}
+spoiled 'another output' 'urlcheck check ' "$commands" docs/PROFILES.md 's/^refused 22 percent$/refused 21 percent/'
+spoiled 'a long README' 'lines, and at most' "$texts" README.md '$a \\nA line more.'
+spoiled 'a link to nowhere' 'a link to docs/COMMAND.md' "$texts" README.md 's/(docs\/COMMANDS.md)/(docs\/COMMAND.md)/'
+spoiled 'an anchor to nowhere' 'no heading makes' "$texts" docs/COMMANDS.md 's/(#vectors)/(#vector)/'
+spoiled 'a path to nowhere' 'librarian' "$texts" docs/TRUST.md 's/runs\/library.sh`/runs\/librarian.sh`/'
+spoiled 'a name of no function' 'no `fault_list`' "$texts" docs/PROVED.md 's/^| `faults` |/| `fault_list` |/'
+spoiled 'a clause that is none' 'no clause `reported`' "$texts" docs/PROVED.md 's/^| `run_links` | `report`/| `run_links` | `reported`/'
+spoiled 'a name of nothing' 'the name of nothing' "$texts" docs/ARCHITECTURE.md \
+    's/`plain_links::plain_cut`/`plain_links::plain_''cup`/'
+spoiled 'a call with other arguments' 'isn.t in `uv_resolve`' "$texts" docs/LIBRARY.md \
+    's/`resolve(alloc, text, base, profile)`/`resolve(alloc, base, text, profile)`/'
+spoiled 'a link that is no URL string' 'a link of the pages' "$commands" docs/guides/hook.md \
+    's/(https:\/\/pre-commit.com)/(https:\/pre-commit.com)/'
+spoiled 'no word on a law' 'isn.t named' "$texts" docs/PROVED.md '/`step_counts::runs_keep_their_end`/d'
+spoiled 'a page that the navigation lacks' 'its navigation has no' "$texts" mkdocs.yml '/guides\/feed.md/d'
+spoiled 'a long sentence' 'a sentence of ' "$prose" docs/START.md \
+    '$a A word and another one, '"$(printf 'and one more %.0s' {1..12})"'at the end.'
+spoiled 'long sentences' 'words a sentence, and at most' "$prose" docs/guides/epub.md \
+    '$a '"$(for _ in {1..9}; do printf 'A word %sat the end. ' "$(printf 'and another %.0s' {1..12})"; done)"
+spoiled 'a word that the glossary avoids' "the glossary avoids 'judges'" "$prose" docs/QUESTIONS.md 's/checks lists with a link/judges lists with a link/'
+spoiled 'a message with such a word' "a message has 'judges'" "$prose" crates/uv_messages/src/hints.rt 's/TEXT checks one text/TEXT judges one text/'
+spoiled 'a glossary without its table' 'the table of avoided words is missing' "$prose" docs/GLOSSARY.md '/^| `/d'
+spoiled 'no word on who needs a page' "doesn.t say who needs it" "$prose" docs/guides/feed.md 's/^For RSS, Atom/RSS, Atom/'
+spoiled 'a long guide' 'a guide has at most' "$prose" docs/guides/mend.md 's/$/\n\n/'
+! command -v codespell >/dev/null ||
+    spoiled 'a slip of the pen' 'recieve ==> receive' "$prose" docs/INSTALL.md '$a You recieve it.'
+spoiled 'another figure in a table' 'the row should be' bench/figures.py docs/SPEED.md 's/^| plain | 324 |/| plain | 343 |/'
+spoiled 'another figure in a sentence' 'the figures of' bench/figures.py README.md 's/costs 0[.][0-9]* times the/costs 0.01 times the/'
+spoiled 'a stored output that says otherwise' 'the figures of' bench/figures.py bench/verdicts/mixed.txt 's/^check: [0-9]*/check: 999/'
+spoiled 'no notice of a crate' 'no row for idna' "$texts" NOTICE '/^idna /d'
+spoiled 'another headline' 'the headline' "$texts" docs/PROVED.md 's/in at most 3n + 16 steps/in at most 2n + 5 steps/'
+[ $failed = 0 ] && echo "pages: each of $count spoiled copies was found"
+exit $failed

@@ -1,0 +1,188 @@
+#!/usr/bin/env python3
+"""How the pages read: the length of sentences, words that docs/GLOSSARY.md avoids, first lines, lengths, and spelling. The
+messages of the programs avoid these words too.
+
+    tests/runs/prose.py [TOP]            sees that each page keeps to the limits below; 1 where one doesn't
+    tests/runs/prose.py --table [TOP]    writes a row for each page: its words, its sentences, and what they are allowed
+
+TOP is the folder of the pages, by default the one above this file's. Spelling is looked at by codespell where it is installed.
+"""
+
+import ast
+import pathlib
+import re
+import shutil
+import subprocess
+import sys
+import tempfile
+
+import pages
+
+MEAN_WORDS = 20
+MOST_WORDS = 30
+GUIDE_LINES = 120
+GLOSSARY = pathlib.Path("docs/GLOSSARY.md")
+# How the first line of a page begins, by its section in docs/README.md.
+FIRST_LINES = {"Start": "For ", "Guides": "For ", "Reference": "Reference for ", "What lies below": "For "}
+# What pages are allowed beyond this, and why: how many longer sentences, and how many avoided words.
+HISTORY = "what a version said isn't rewritten"
+ALLOWED = {
+    "CHANGELOG.md": (1, 24, HISTORY),
+}
+# Words that codespell takes for slips: a name, and the inputs of examples.
+SPELLED = ("crate", "ans", "nd", "fo", "te", "als", "ist", "oder")
+
+
+def avoided(top):
+    """The words that the glossary avoids, as a pattern; "stand for" is fine."""
+    text = (top / GLOSSARY).read_text(encoding="utf-8").partition("## Words that the pages avoid")[2]
+    words = [word for line in text.splitlines() if line.startswith("| `") for word in re.findall(r"`([^`]+)`", line.split("|")[1])]
+    if len(words) < 10:
+        sys.exit("FAILED: {}: the table of avoided words is missing".format(GLOSSARY))
+    # ("of these pages" is fine too)
+    whole = [re.escape(word) + (r"(?=[.,;:|)])" if word == "of these" else "") for word in words]
+    return re.compile(r"\b({})(?!\w| for\b)".format("|".join(whole)), re.I)
+
+
+def sentences_of(text):
+    """The sentences of a page with at least three words: the line, the sentence, the number of its words."""
+    found = []
+    for line, unit in pages.units_of(text):
+        for sentence in pages.sentences_of(unit.replace("*" + pages.HEADLINE + "*", "").replace(pages.HEADLINE, "")):
+            # (a list of words of code counts as one word, and what a `;` parts is read apart)
+            short = re.sub(r"Code(,? (and |or )?Code)+", "Code", sentence)
+            for part in short.split(";"):
+                words = len(part.split())
+                if words > 2:
+                    found.append((line, part.strip(), words))
+    return found
+
+
+def avoided_in(text, pattern):
+    """The avoided words of a page, each with its line; what is code, a link's target or a heading's anchor isn't looked at."""
+    found = []
+    for number, line in enumerate(pages.prose_of(text), start=1):
+        plain = re.sub(r"\]\([^)]*\)", "]", re.sub(r"``.*?``|`[^`]*`", "", line))
+        found += [(number, word) for word in pattern.findall(plain)]
+    return found
+
+
+def messages_of(file):
+    """The texts between quotation marks in a source of Rattle or Python, but for comments and what says what a thing is."""
+    text = file.read_text(encoding="utf-8")
+    if file.suffix == ".py":
+        nodes = list(ast.walk(ast.parse(text)))
+        said = {id(node.value) for node in nodes if isinstance(node, ast.Expr)}
+        return [it.value for it in nodes if isinstance(it, ast.Constant) and isinstance(it.value, str) and id(it) not in said]
+    code = re.sub(r"^\s*//.*$", "", text, flags=re.M)
+    return re.findall(r'"((?:[^"\\]|\\.)*)"', re.sub(r"""'\\?"'""", "", code), flags=re.S)
+
+
+def check_messages(top, pattern, wrong):
+    """The words that the programs' texts shouldn't have."""
+    # (the crates `test_*` print nothing)
+    files = [it for it in sorted((top / "crates").glob("*/src/**/*.rt")) if "/test_" not in str(it)]
+    files += sorted((top / "bindings/python/urlcheck").glob("*.py"))
+    if len(files) < 2:
+        wrong.append("no source of a program is there")
+    for file in files:
+        for word in (it for message in messages_of(file) for it in pattern.findall(message)):
+            wrong.append("{}: a message has '{}', which the glossary avoids".format(file.relative_to(top), word))
+
+
+def allowed_of(page):
+    """How many longer sentences and avoided words a page may have, and why."""
+    for name, allowance in ALLOWED.items():
+        if page.match(name):
+            return allowance
+    return 0, 0, ""
+
+
+def kinds_of(top):
+    """The pages of docs/ by their kind: the section of docs/README.md that has their link."""
+    parts = re.split(r"^## (.*)\n", (top / pages.INDEX).read_text(encoding="utf-8"), flags=re.M)
+    return {
+        (top / "docs" / target.partition("#")[0]).resolve(): kind
+        for kind, section in zip(parts[1::2], parts[2::2])
+        for target in pages.links_of(section)
+    }
+
+
+def first_line(text):
+    """The first line of a page after its heading."""
+    lines = [line for line in text.split("\n") if line and not line.startswith(("#", "!"))]
+    return lines[0] if lines else ""
+
+
+def check_form(top, page, text, kind, wrong):
+    """A guide's length, and that the first line says who needs the page."""
+    lines = text.count("\n")
+    if page.parent.name == "guides" and lines > GUIDE_LINES:
+        wrong.append("{}: {} lines, and a guide has at most {}".format(page, lines, GUIDE_LINES))
+    if page.parent.name in ("docs", "guides") and not first_line(text).startswith(FIRST_LINES.get(kind, "For ")):
+        wrong.append("{}: its first line doesn't say who needs it: {}".format(page, first_line(text)[:60]))
+
+
+def check_page(page, text, pattern, wrong):
+    """The sentences and words of a page, beside what it is allowed."""
+    long_ones, words_allowed, _ = allowed_of(page)
+    sentences = sentences_of(text)
+    mean = sum(words for _, _, words in sentences) / max(1, len(sentences))
+    if mean > MEAN_WORDS:
+        wrong.append("{}: {:.1f} words a sentence, and at most {} are wanted".format(page, mean, MEAN_WORDS))
+    longer = [it for it in sentences if it[2] > MOST_WORDS]
+    if len(longer) > long_ones:
+        for line, sentence, words in longer:
+            wrong.append("{}:{}: a sentence of {} words: {} ..".format(page, line, words, sentence[:60]))
+    found = avoided_in(text, pattern)
+    if len(found) > words_allowed:
+        wrong += ["{}:{}: the glossary avoids '{}'".format(page, line, word) for line, word in found]
+    return mean, max((words for _, _, words in sentences), default=0), len(longer), len(found)
+
+
+def check_spelling(top, found, wrong):
+    """What codespell takes for a slip, outside of code."""
+    if not shutil.which("codespell"):
+        print("prose: spelling is left out, since codespell isn't installed")
+        return
+    with tempfile.TemporaryDirectory() as folder:
+        for page in found:
+            lines = [re.sub(r"``.*?``|`[^`]*`", "", line) for line in pages.prose_of((top / page).read_text(encoding="utf-8"))]
+            copy = pathlib.Path(folder) / page
+            copy.parent.mkdir(parents=True, exist_ok=True)
+            copy.write_text("\n".join(lines), encoding="utf-8")
+        words = ["codespell", "-L", ",".join(SPELLED), folder]
+        said = subprocess.run(words, capture_output=True, text=True, check=False).stdout
+    wrong += [line.replace(folder + "/", "") for line in said.splitlines() if "==>" in line]
+
+
+def main():
+    words = sys.argv[1:]
+    table = words[:1] == ["--table"]
+    rest = words[1:] if table else words
+    if len(rest) > 1 or (rest and rest[0].startswith("-")):
+        sys.exit(__doc__)
+    top = pathlib.Path(rest[0]).resolve() if rest else pathlib.Path(__file__).resolve().parents[2]
+    pattern, wrong, kinds, found = avoided(top), [], kinds_of(top), pages.pages_of(top)
+    means, most, longer, avoided_words = [], 0, 0, 0
+    for page in found:
+        text = (top / page).read_text(encoding="utf-8")
+        mean, longest, over, words_found = check_page(page, text, pattern, wrong)
+        check_form(top, page, text, kinds.get((top / page).resolve()), wrong)
+        means.append(mean)
+        most, longer, avoided_words = max(most, longest), longer + over, avoided_words + words_found
+        if table:
+            row = "{:34} {:5} words, {:4.1f} a sentence, at most {:2}; {:2} above {}, {:2} avoided words  {}"
+            print(row.format(str(page), len(text.split()), mean, longest, over, MOST_WORDS, words_found, allowed_of(page)[2]))
+    check_spelling(top, found, wrong)
+    check_messages(top, pattern, wrong)
+    for line in wrong:
+        print("FAILED: " + line)
+    print("prose: {} pages, {:.1f} to {:.1f} words a sentence".format(len(found), min(means), max(means)))
+    allowed = "prose: allowed are {} sentences of more than {} words, and {} avoided words, in {}"
+    print(allowed.format(longer, MOST_WORDS, avoided_words, ", ".join(ALLOWED)))
+    return int(bool(wrong))
+
+
+if __name__ == "__main__":
+    sys.exit(main())

@@ -1,0 +1,23 @@
+/*
+ * Preloaded into an engine, counts how often the extension has a base judged, and says so on standard error at the end of
+ * the process: a base that stays is to be judged once.
+ */
+#define _GNU_SOURCE
+#include <dlfcn.h>
+#include <stdio.h>
+
+#include "urlcheck.h"
+
+static unsigned long count;
+
+urlcheck_base urlcheck_prepare(const uint8_t *base, size_t length, uint32_t profile) {
+    urlcheck_base (*prepare)(const uint8_t *, size_t, uint32_t);
+
+    *(void **)&prepare = dlsym(RTLD_NEXT, "urlcheck_prepare");
+    count++;
+    return prepare(base, length, profile);
+}
+
+__attribute__((destructor)) static void say(void) {
+    if (count) fprintf(stderr, "bases checked: %lu\n", count);
+}

@@ -1,0 +1,531 @@
+#!/usr/bin/env bash
+# Runs the recipes of docs/guides, as a reader would copy them, over the program given as the first argument: on links that are
+# right, on wrong ones, and on what once made a recipe end well though nothing was checked. A recipe whose tool isn't
+# installed is left out, and a line says so. Those for documents are run where PACKAGE names the folder of the Python package,
+# and with the word `documents` these alone, as tests/runs/library.sh does.
+set -uo pipefail
+[ $# -ge 1 ] && [ -x "$1" ] && [[ ${*:2} =~ ^(documents)?$ ]] ||
+    { echo 'usage: tests/runs/uses.sh PROGRAM [documents]'; exit 2; }
+for tool in awk find python3; do
+    command -v "$tool" >/dev/null || { echo "uses: $tool is missing; CONTRIBUTING.md says what the gate needs"; exit 70; }
+done
+top=$(realpath "$(dirname "$0")/../..")
+guides=$top/docs/guides
+room=$(mktemp -d)
+trap 'rm -rf "$room"' EXIT
+mkdir "$room/path"
+ln -s "$(realpath "$1")" "$room/path/urlcheck"
+export PATH=$room/path:$PATH LC_ALL=C.UTF-8 HOME=$room PYTHONDONTWRITEBYTECODE=1
+export GIT_CONFIG_NOSYSTEM=1 GIT_AUTHOR_NAME=a GIT_AUTHOR_EMAIL=a GIT_COMMITTER_NAME=a GIT_COMMITTER_EMAIL=a
+failed=0 count=0
+
+# recipe GUIDE LANGUAGE [NUMBER] : the block of the language, by its number from 1, of the page docs/guides/GUIDE.md
+recipe() {
+    local found
+    found=$(awk -v fence="\`\`\`$2" -v wanted="${3:-1}" '
+        $0 == fence { seen++; inside = seen == wanted; next }
+        /^```$/ { inside = 0 }
+        inside' "$guides/$1.md")
+    [ -n "$found" ] || { echo "FAILED: docs/guides/$1.md has no block in $2 with number ${3:-1}" >&2; exit 1; }
+    printf '%s\n' "$found"
+}
+
+# ends STATUS WHAT COMMAND.. : the command ends so, where any means any status but 0; its output is left in out
+ends() {
+    local wanted=$1 what=$2 ended
+    shift 2
+    "$@" >"$room/out" 2>&1 </dev/null
+    ended=$?
+    count=$((count + 1))
+    if [ "$wanted" = any ]; then [ $ended != 0 ]; else [ $ended = "$wanted" ]; fi ||
+        { echo "FAILED: $what: status $ended, and not $wanted: $(cat "$room/out")"; failed=1; }
+}
+
+# says WHAT LINE.. : the last command has written exactly these lines
+says() {
+    local what=$1
+    shift
+    printf '%s\n' "$@" | cmp -s - "$room/out" || { echo "FAILED: $what: it wrote: $(cat "$room/out")"; failed=1; }
+}
+
+# has TOOL : the tool is installed, or a line says that its recipe is left out
+has() {
+    command -v "$1" >/dev/null || { echo "uses: the recipe for $1 is left out, since it isn't installed"; return 1; }
+}
+
+# in_folder NAME : an empty folder of this name, which is gone to
+in_folder() {
+    mkdir -p "$room/$1" && cd "$room/$1" || exit 1
+}
+
+# What else takes blocks of the guides: the guide, the language, and the run; `-` where no run does, with a reason below.
+elsewhere='list console tests/runs/pages.py
+mend console tests/runs/pages.py
+sphinx shell-session tests/runs/authors/pages.py
+mkdocs shell-session tests/runs/authors/pages.py
+markdown shell-session tests/runs/authors/pages.py
+restructuredtext shell-session tests/runs/authors/pages.py
+feed shell-session tests/runs/authors/pages.py
+notebook shell-session tests/runs/authors/pages.py
+epub shell-session tests/runs/authors/pages.py
+asciidoc-latex shell-session tests/runs/authors/pages.py
+editor lua tests/runs/authors/recipes.py
+editor elisp tests/runs/authors/recipes.py
+editor vim tests/runs/authors/recipes.py
+other-editors toml tests/runs/authors/recipes.py
+other-editors json tests/runs/authors/recipes.py
+postgresql sql tests/runs/registers/postgresql.sh
+sqlite sql tests/runs/registers/sqlite.sh
+duckdb sh tests/runs/registers/duckdb.sh
+dataframe python tests/runs/registers/page.py
+python python tests/runs/library/programs.py
+c c tests/runs/library/programs.py
+c cpp tests/runs/library/programs.py
+c sh tests/runs/library.sh
+rattle rust tests/runs/library/programs.py
+javascript js tests/runs/browser.sh
+sphinx python -
+mkdocs yaml -
+cluster sh -
+cluster scala -
+javascript sh -'
+# (the lines for conf.py and mkdocs.yml are those that the commands of their guides write; the others need a cluster, Spark and npm)
+
+# Each block of the guides is taken, by a line of this file or by another run; a run that is named names the guides.
+while IFS=$'\t' read -r guide language number; do
+    [ "$number" = 1 ] && number= || number=" $number"
+    count=$((count + 1))
+    if grep -qF "recipe $guide $language$number" "$0"; then continue; fi
+    run=$(awk -v guide="$guide" -v language="$language" '$1 == guide && $2 == language { print $3 }' <<<"$elsewhere")
+    if [ "$run" = - ]; then continue; fi
+    [ -n "$run" ] && grep -qE "guides|recipes.py|page.py" "$top/$run" ||
+        { echo "FAILED: docs/guides/$guide.md: block${number:- 1} in $language isn't run"; failed=1; }
+done < <(for page in "$guides"/*.md; do
+    awk -v guide="$(basename "$page" .md)" '
+        /^```[a-z]/ { language = substr($0, 4); print guide "\t" language "\t" ++seen[language] }' "$page"
+done)
+echo "uses: no run takes: $(awk '$3 == "-" { printf "%s%s in %s", sep, $1, $2; sep = ", " }' <<<"$elsewhere")"
+
+right='https://example.com/' wrong='http://h/a b'
+
+# Links that stand in text files and in documents, reported where they stand.
+if [ $# = 1 ] && has rg; then
+    in_folder text
+    recipe text-files sh >../text.sh
+    printf 'a\nsee <http://x_y/>, https://example.com/\n\303\251 http://x/\303\251^\n' >a.txt
+    ends 1 'links in text files' bash -o pipefail ../text.sh
+    says 'links in text files' \
+        './a.txt:2:13: error: U+005F LOW LINE is not allowed in a domain [host-domain]' \
+        './a.txt:3:15: error: U+005E CIRCUMFLEX ACCENT is not allowed in a URL [code-point]' 'urlcheck: 3 lines, 2 refused'
+    printf 'see https://example.com/\n' >a.txt
+    ends 0 'right links in text files' bash -o pipefail ../text.sh
+    cd "$room" || exit 1
+fi
+
+# Links of tables and of JSON, in which a wrong one is named, and a file that is none isn't taken for a right one.
+if [ $# = 1 ]; then
+    in_folder tables
+    recipe text-files bash >../table.sh
+    recipe text-files bash 2 >../json.sh
+    printf '\357\273\277url,name\r\nhttps://example.com/,"two\r\nlines"\r\n"http://h/a b",c\r\n' >links.csv
+    ends 1 'links in a table' bash ../table.sh
+    says 'links in a table' 'links.csv:4:11: error: U+0020 SPACE is not allowed in a URL [code-point]' \
+        'urlcheck: 2 lines, 1 refused'
+    printf 'name,url\na,https://example.com/\n' >links.csv
+    ends 0 'right links in a table' bash ../table.sh
+    printf 'name,link\na,https://example.com/\n' >links.csv
+    ends any 'a table without the column' bash ../table.sh
+    if has jq; then
+        echo '{"a": ["http://h/b", {"c": "http://h/a b"}], "d": "no link"}' >links.json
+        ends 1 'links in JSON' bash ../json.sh
+        says 'links in JSON' 'links.json:2:11: error: U+0020 SPACE is not allowed in a URL [code-point]' \
+            'urlcheck: 2 lines, 1 refused'
+        echo '["http://h/b"]' >links.json
+        ends 0 'right links in JSON' bash ../json.sh
+        echo '["http://h/b"' >links.json
+        ends any 'what is no JSON' bash ../json.sh
+    fi
+    cd "$room" || exit 1
+fi
+if [ -n "${PACKAGE:-}" ]; then
+    in_folder pages
+    printf '#!/bin/sh\nPYTHONPATH=%s exec python3 -m urlcheck.documents "$@"\n' "$PACKAGE" >../path/urlcheck-documents
+    chmod +x ../path/urlcheck-documents
+    recipe site sh >../check.sh
+    recipe site bash >../formats.sh
+    recipe site yaml | sed -n 's/^ *run: //p' >../step.sh
+    recipe feed sh >../feeds.sh
+    sentence='U+005F LOW LINE is not allowed in a domain; --profile wide allows it'
+    # (a runner runs a step so)
+    for recipe in 'check.sh' 'formats.sh' '-e step.sh'; do
+        script=../${recipe##* } options=${recipe%"${recipe##* }"}
+        rm -rf site
+        ends any "documents in no folder, $recipe" bash $options "$script"
+        mkdir site
+        printf '<a href="http://x_y/">a</a>\n<a href="b">b</a>\n' >site/a.html
+        ends 1 "wrong links in documents, $recipe" bash $options "$script"
+        grep -qxF -e "site/a.html:1:17: error: $sentence [host-domain]" \
+            -e "::error file=site/a.html,line=1,col=17,title=host-domain::$sentence" "$room/out" ||
+            { echo "FAILED: links in documents, $recipe: it wrote: $(cat "$room/out")"; failed=1; }
+        printf '<a href="b">b</a>\n' >site/a.html
+        ends 0 "right links in documents, $recipe" bash $options "$script"
+        printf '<a>' >site/b.xml
+        ends any "a document that isn't read, $recipe" bash $options "$script"
+    done
+    # Each line that builds a site ends with the check of what it built.
+    recipe site sh 2 >../builds.sh
+    while IFS= read -r line; do
+        folder=$(sed -n 's/.* \([a-z]*\) && .*/\1/p' <<<"$line")
+        [ "${line##*&& }" = "urlcheck-documents --check $folder" ] || { echo "FAILED: docs/guides/site.md: $line"; failed=1; }
+        count=$((count + 1))
+    done <../builds.sh
+    words=$(sed -n 's/.*checks begins with `\(urlcheck-documents [^`]*\)`\.$/\1/p' "$guides/known-faults.md")
+    recipe known-faults sh | sed "s/^urlcheck lint --quiet --format json /${words:-no words} /" >../new-faults.sh
+    printf '<a href="b c">b</a>\n' >a.html
+    : >known.json
+    ends 1 'faults of a document of which none is known' sh ../new-faults.sh a.html
+    cp ../out known.json
+    ends 0 'known faults of a document' sh ../new-faults.sh a.html
+    ends 2 'known faults of a document that is missing' sh ../new-faults.sh missing.html
+    printf '<urlset><loc>http://h/ b</loc></urlset>' | tee feed.xml | gzip >sitemap.xml.gz
+    ends 1 'a feed and a sitemap' bash ../feeds.sh
+    for place in feed.xml:1:23: -:1:23:; do
+        grep -qF -e "$place" "$room/out" || { echo "FAILED: a feed and a sitemap: $(cat "$room/out")"; failed=1; }
+    done
+    cd "$room" || exit 1
+else
+    echo 'uses: the recipes for documents are left out, since PACKAGE names no Python package'
+fi
+if [ $# = 2 ]; then
+    [ $failed = 0 ] && echo "uses: $count runs of recipes for documents"
+    exit $failed
+fi
+
+# hard_names COMMAND.. : the command in a folder of lists: none, right ones, and wrong ones with names that are hard
+hard_names() {
+    local what=$1 name
+    shift
+    rm -f -- *.links
+    ends 0 "$what without a list" "$@"
+    echo $right >right.links
+    ends 0 "$what of a right list" "$@"
+    for name in 'wrong.links' 'two words.links' '-x.links' '--all.links' "quote's.links" $'line\nfeed.links' \
+        'sub/one.links'; do
+        mkdir -p sub
+        echo "$wrong" >"./$name"
+        ends any "$what of $name" "$@"
+        rm -f "./$name"
+    done
+    echo $right >'two words.links'
+    ends 0 "$what of right lists" "$@"
+}
+
+# Lists mended in place: one that can be, one with a line that can't, and one that can't be read.
+in_folder mended
+recipe mend sh >../mend.sh
+printf 'http://h/a b\r\nhttp://h/a|b' >'two words.links'
+ends 1 'lists mended' sh ../mend.sh 'two words.links'
+printf 'http://h/a%%20b\r\nhttp://h/a|b' | cmp -s - 'two words.links' ||
+    { echo "FAILED: lists mended: it is $(cat 'two words.links')"; failed=1; }
+printf 'http://h/a b\n' >right.links
+ends 0 'a list mended' sh ../mend.sh right.links
+printf 'http://h/a%%20b\n' | cmp -s - right.links || { echo "FAILED: a list mended: it is $(cat right.links)"; failed=1; }
+mkdir a.links
+ends 2 'a folder mended' sh ../mend.sh a.links right.links
+[ ! -e a.links.new ] || { echo 'FAILED: a folder mended: it left a.links.new'; failed=1; }
+# (bash ends a command whose input is missing with 1, and dash with 2)
+for shell in bash sh; do
+    echo 'what an earlier run left' >missing.links.new
+    ends 2 "a list that is missing, by $shell" $shell ../mend.sh missing.links 'two words.links'
+    [ ! -e missing.links ] && [ ! -e missing.links.new ] ||
+        { echo "FAILED: a list that is missing, by $shell: there is one"; failed=1; }
+done
+
+# What is new beside the known faults: none known yet, all known, one moved, one more, the same once more, no list.
+in_folder known
+recipe known-faults sh >../new-faults.sh
+printf 'http://h/a b\n%s\n' $right >a.links
+ends 2 'faults without a file of known ones' sh ../new-faults.sh a.links
+: >known.json
+ends 1 'faults of which none is known' sh ../new-faults.sh a.links
+cp ../out known.json
+says 'faults of which none is known' '{"cut":false,"file":"a.links","kind":"same","mended":"http://h/a%20b","message":'\
+'"U+0020 SPACE is not allowed in a URL","offered":true,"rule":"code-point","text":"http://h/a b"}'
+ends 0 'known faults' sh ../new-faults.sh a.links
+printf '%s\n\nhttp://h/a b\n' $right >a.links
+ends 0 'known faults elsewhere' sh ../new-faults.sh a.links
+printf 'http://x_y/\n' >>a.links
+ends 1 'a new fault' sh ../new-faults.sh a.links
+grep -q '"text":"http://x_y/"' ../out || { echo "FAILED: a new fault: it wrote: $(cat ../out)"; failed=1; }
+printf 'http://h/a b\nhttp://h/a b\n' >a.links
+ends 1 'a known fault twice' sh ../new-faults.sh a.links
+ends 2 'known faults of a list that is missing' sh ../new-faults.sh missing.links
+
+in_folder find
+recipe list sh >../find.sh
+hard_names 'find' bash ../find.sh
+if has make; then
+    in_folder make
+    recipe list make >Makefile
+    hard_names 'make' make -s check-links
+fi
+
+# The hook: what is staged is judged, whatever the working tree has, and a list that is renamed too.
+try_hook() {
+    in_folder hook
+    git init -q . && git commit -q --allow-empty -m first
+    recipe hook sh >.git/hooks/pre-commit
+    chmod +x .git/hooks/pre-commit
+    ends 0 'a commit without a list' git commit -q --allow-empty -m none
+    for name in right.links 'two words.links' -x.links; do echo $right >"./$name"; done
+    git add .
+    ends 0 'a commit of right lists' git commit -q -m right
+    for name in wrong.links 'two words.links' -x.links; do
+        echo "$wrong" >"./$name"
+        git add -- "./$name"
+        echo $right >"./$name"
+        ends any "a commit of $name" git commit -q -m wrong
+        git reset -q --hard
+    done
+    echo "$wrong" >right.links
+    ends 0 'a commit whose working tree alone is wrong' git commit -q --allow-empty -m tree
+    git reset -q --hard
+    git mv right.links renamed.links && { seq -f 'https://example.com/%g' 100; echo "$wrong"; } >renamed.links && git add .
+    ends any 'a commit of a list that is renamed' git commit -q -m renamed
+    seq -f 'https://example.com/%g' 100 >renamed.links && git add . && git commit -q -m long
+    git mv renamed.links again.links && echo "$wrong" >>again.links && git add .
+    git diff --cached --name-status | grep -q '^R' || { echo 'FAILED: the list is not seen as renamed'; failed=1; }
+    ends any 'a commit of a list that is renamed and much the same' git commit -q -m again
+    git reset -q --hard
+    git rm -q again.links renamed.links 2>/dev/null || git rm -q renamed.links
+    ends 0 'a commit that deletes a list' git commit -q -m deleted
+}
+if has git; then try_hook; fi
+
+if has git && has pre-commit; then
+    in_folder source
+    git init -q . && cp "$top/.pre-commit-hooks.yaml" . && git add . && git commit -q -m hooks && git tag "v$(cat "$top/VERSION")"
+    in_folder framework
+    git init -q .
+    recipe hook yaml | sed "s|https://example.com/urlcheck.git.*|$room/source|" >.pre-commit-config.yaml
+    echo $right >-x.links
+    git add .
+    ends 0 'pre-commit of a right list' pre-commit run --all-files
+    echo "$wrong" >-x.links
+    ends 1 'pre-commit of a wrong list' pre-commit run --all-files
+    grep -q 'x.links:1:11: error' "$room/out" || { echo "FAILED: pre-commit says: $(cat "$room/out")"; failed=1; }
+fi
+
+# The hooks for documents that the guide names are there.
+recipe hook yaml 2 >"$room/hooks.yaml"
+while IFS= read -r id; do
+    grep -qx -- "- id: $id" "$top/.pre-commit-hooks.yaml" || { echo "FAILED: no hook $id"; failed=1; }
+    count=$((count + 1))
+done < <(sed -n 's/^ *- id: //p' "$room/hooks.yaml")
+
+# The workflows: each script that a runner gives to its shell, as a reader of YAML finds it.
+try_workflows() {
+    local number step
+    in_folder jobs
+    recipe github yaml >../workflow-1.yml
+    recipe github yaml 2 >../workflow-2.yml
+    recipe gitlab yaml >../workflow-3.yml
+    cat >../steps.py <<'PYTHON'
+import sys, yaml
+count = 0
+for name in sys.argv[1:]:
+    found = yaml.safe_load(open(name))
+    steps = found if isinstance(found, list) else found.get("jobs", {}).get("links", {}).get("steps")
+    scripts = [step["run"] for step in steps if "run" in step] if steps else [
+        "\n".join(found["links"][part]) for part in ("before_script", "script")]
+    for script in scripts:
+        count += 1
+        open("../step-%d" % count, "w").write(script)
+PYTHON
+    rm -f ../step-[0-9]
+    ends 0 'the workflows are YAML' python3 ../steps.py ../workflow-1.yml ../workflow-2.yml ../workflow-3.yml
+    [ "$(printf '%s ' ../step-[0-9])" = '../step-1 ../step-2 ../step-3 ../step-4 ../step-5 ' ] ||
+        { echo "FAILED: docs/guides/github.md or gitlab.md has other steps: $(printf '%s ' ../step-*)"; failed=1; }
+    [ "$(grep -c 'PROGRAM: urlcheck' ../workflow-[13].yml | xargs)" = '../workflow-1.yml:1 ../workflow-3.yml:1' ] ||
+        { echo 'FAILED: docs/guides/github.md or gitlab.md names the program of a release otherwise'; failed=1; }
+    try_fetching 1
+    try_fetching 4
+    for step in ../step-2 ../step-3 ../step-5; do
+        rm -rf docs
+        mkdir docs
+        ends 2 "without a list: $(head -n 1 $step)" bash -eo pipefail $step
+        echo $right >docs/a.links
+        ends 0 "right: $(head -n 1 $step)" bash -eo pipefail $step
+        echo "$wrong" >'docs/two words.links'
+        ends 1 "wrong: $(head -n 1 $step)" bash -eo pipefail $step
+    done
+    grep -q code-point urlcheck.sarif || { echo 'FAILED: urlcheck.sarif lacks the wrong place'; failed=1; }
+    python3 -c 'import json
+found, = json.load(open("links-quality.json"))
+assert found["location"] == {"path": "docs/two words.links", "lines": {"begin": 1}}, found
+assert found["check_name"] == "code-point" and found["description"] and found["fingerprint"] and found["severity"] == "major"' ||
+        { echo "FAILED: the report for GitLab: $(cat links-quality.json)"; failed=1; }
+}
+
+# try_fetching NUMBER : a step that gets the program of a release, put where a job finds it; one whose bytes are others isn't
+try_fetching() {
+    local program
+    program=$(sed -n 's/^ *PROGRAM: //p' ../workflow-1.yml)
+    rm -rf release fetched
+    mkdir release fetched
+    cp "$room/path/urlcheck" "release/$program"
+    { (cd release && sha256sum "$program") && echo "$(printf '%064d' 0)  another"; } >sums
+    mv sums release/SHA256SUMS
+    cd fetched || exit 1
+    fetch=(env RELEASE="file://$room/jobs/release" PROGRAM="$program" GITHUB_PATH="$room/jobs/paths" bash -eo pipefail "../../step-$1")
+    ends 0 'a program that was fetched' "${fetch[@]}"
+    ends 0 'the program that is put there' "$HOME/.local/bin/urlcheck" check $right
+    [ "$(cat ../paths)" = "$HOME/.local/bin" ] || { echo "FAILED: a later step looks into: $(cat ../paths)"; failed=1; }
+    rm -r "$HOME/.local"
+    echo x >>"../release/$program"
+    ends any 'a program with other bytes' "${fetch[@]}"
+    rm ../release/SHA256SUMS "$program"
+    ends any 'a release without its checksums' "${fetch[@]}"
+    [ ! -e "$HOME/.local" ] || { echo 'FAILED: a program with other bytes is put there'; failed=1; }
+    cd ..
+}
+
+if has curl; then
+    if python3 -c 'import yaml' 2>/dev/null; then
+        try_workflows
+    else
+        echo "uses: the recipes for GitHub and GitLab are left out, since Python's package yaml isn't installed"
+    fi
+fi
+
+# Editors: the place they go to, in a line with wide and combining characters and a tab before it.
+in_folder editors
+printf 'http://h/\nhttp://h/\344\270\255e\314\201\tx\n' >'two words.links'
+if has vim; then
+    cat >judge.vim <<'VIM'
+silent make!
+call writefile([printf('%d entries, line %d, %s', len(getqflist()), line('.'), matchstr(getline('.'), '\%' . col('.') . 'c.') ==# "\t")], 'place')
+cfirst
+call writefile([printf('%d entries, line %d, at the tab %d', len(getqflist()), line('.'), getline('.')[col('.') - 1] ==# "\t")], 'place')
+qall!
+VIM
+    recipe editor-lists vim >bytes.vimrc
+    recipe editor-lists vim 2 >screen.vimrc
+    for settings in bytes screen; do
+        ends 0 "vim, by $settings" timeout 60 \
+            vim -Nu $settings.vimrc -i NONE -n -es -c 'edit two\ words.links' -c 'source judge.vim'
+        mv place "$room/out" 2>/dev/null || : >"$room/out"
+        says "vim, of the place by $settings" '1 entries, line 2, at the tab 1'
+    done
+fi
+if has emacs; then
+    recipe editor-lists elisp >settings.el
+    cat >judge.el <<'LISP'
+(require 'compile)
+(when (equal (getenv "SETTINGS") "yes") (load (expand-file-name "settings.el") nil t))
+(let ((compilation-buffer (compilation-start (getenv "LINT"))))
+  (while (get-buffer-process compilation-buffer) (accept-process-output nil 0.1))
+  (accept-process-output nil 0.1)
+  (with-current-buffer compilation-buffer
+    (goto-char (point-min))
+    (compilation-next-error 1)
+    (compile-goto-error))
+  (with-current-buffer (window-buffer)
+    (princ (format "line %d, at the tab %s\n" (line-number-at-pos) (eq (char-after) ?\t)))))
+LISP
+    # Emacs stays before a combining mark where it goes by columns of the screen.
+    printf 'http://h/\nhttp://h/\344\270\255\tx\n' >wide.links
+    for run in "yes urlcheck lint 'two words.links'" 'no urlcheck lint --columns screen wide.links'; do
+        ends 0 "emacs, ${run#* }" env SETTINGS="${run%% *}" LINT="${run#* }" timeout 60 emacs -Q --batch -l judge.el
+        tail -n 1 "$room/out" >"$room/last" && mv "$room/last" "$room/out"
+        says "emacs, of the place by ${run#* }" 'line 2, at the tab t'
+    done
+fi
+
+# The task of an editor that runs a command and matches each line it writes.
+recipe editor-lists json >tasks.json
+cat >task.py <<'PYTHON'
+import json, re, subprocess, sys
+task, = json.load(open("tasks.json"))["tasks"]
+command = [task["command"], *(word.replace("${file}", sys.argv[1]) for word in task["args"])]
+ran = subprocess.run(command, stdout=subprocess.PIPE, text=True)
+pattern = task["problemMatcher"]["pattern"]
+parts = ("file", "line", "column", "message", "code")
+for line in ran.stdout.splitlines():
+    found = re.search(pattern["regexp"], line)
+    print(*(found[pattern[name]] for name in parts), sep="|")
+sys.exit(ran.returncode)
+PYTHON
+printf 'http://h/\nhttp://h/\360\237\230\200 x\n' >'two words.links'
+ends 1 'the task of Visual Studio Code' python3 task.py 'two words.links'
+says 'the task of Visual Studio Code' 'two words.links|2|12|U+0020 SPACE is not allowed in a URL|code-point'
+
+# Documents: each kind, a wrong link in each, a document that is cut, one without links, a link over two lines.
+in_folder documents
+recipe feed bash >recipe.sh
+# feed STATUS TEXT [LINE..] : the recipe over a document of this text ends so, and says this
+feed() {
+    local wanted=$1
+    printf '%b' "$2" >feed.xml
+    ends "$wanted" "the document $2" bash recipe.sh
+    [ $# = 2 ] || says "the document $2" "${@:3}"
+}
+rss='<rss version="2.0"><channel><link>https://a.example/</link><item><link>'
+atom='<feed xmlns="http://www.w3.org/2005/Atom"><link rel="self" href="/feed.xml"/><entry><link href="'
+map='<urlset xmlns="http://www.sitemaps.org/schemas/sitemap/0.9"><url><loc>\n  '
+feed 0 "$rss/b</link></item></channel></rss>" '1 ok https://a.example/' '2 ok https://example.com/b' \
+    'links 2 ok 2 bad 0 differs 0'
+feed 1 "$rss/b c</link></item></channel></rss>" '1 ok https://a.example/' '2 bad 2 code-point' \
+    'links 2 ok 1 bad 1 differs 0'
+feed 1 "$rss/b\\nhttp://c/</link></item></channel></rss>"
+feed 0 "$rss\\u00a0/b</link></item></channel></rss>" '1 ok https://a.example/' '2 ok https://example.com/%C2%A0/b' \
+    'links 2 ok 2 bad 0 differs 0'
+feed 0 "$atom./b\"/></entry></feed>" '1 ok https://example.com/feed.xml' '2 ok https://example.com/b' \
+    'links 2 ok 2 bad 0 differs 0'
+feed 1 "$atom./b|\"/></entry></feed>"
+feed 0 "${map}https://example.com/a\\n</loc></url></urlset>" '1 ok https://example.com/a' 'links 1 ok 1 bad 0 differs 0'
+feed 1 "${map}https://example.com/[]\\n</loc></url></urlset>"
+feed any "${map}https://example.com/a</loc></url>"
+feed any 'no document'
+feed any '<rss version="2.0"><channel><title>none</title></channel></rss>'
+sed_line=$(tr '\n' ' ' <"$guides/list.md" | sed -n "s/.*GNU \`\(sed [^\`]*\)\`.*/\1/p")
+[ -n "$sed_line" ] || { echo 'FAILED: docs/guides/list.md has no line for the byte order mark'; failed=1; }
+printf '\357\273\277https://example.com/\n' >marked
+ends any 'a list with a byte order mark' sh -c 'urlcheck links <marked'
+ends 0 'a byte order mark that is taken off' sh -c "$sed_line <marked | urlcheck links"
+
+# Pieces: their sums are the list's, a piece that fails fails the whole, and so does a wrong line.
+in_folder pieces
+awk 'BEGIN { for (n = 1; n <= 40000; n++)
+    print (n % 5 == 1 ? "http://h/a b" : n % 5 == 3 ? "x" : "http://h/" n) }' >all.links
+sums='links 40000 ok 24000 bad 16000 differs 0'
+awk 'BEGIN { for (n = 1; n <= 40000; n++) print "http://h/" n }' >right.links
+# failing TIMES : a program that fails with 3 on a piece that has the line http://h/20000, and else is urlcheck
+mkdir failing
+printf '#!/bin/sh\ncat >piece.$$\nif grep -qx http://h/20000 piece.$$; then rm piece.$$; exit 3; fi\n%s' \
+    "$room/path/urlcheck \"\$@\" <piece.\$\$; ended=\$?; rm piece.\$\$; exit \$ended" >failing/urlcheck
+chmod +x failing/urlcheck
+# sums COMMAND.. : the sums of a list in pieces; the command reads all.links
+in_pieces() {
+    local what=$1
+    shift
+    cp all.links wrong.links
+    ends 1 "$what of a list" "$@"
+    grep -qxF "$sums" "$room/out" || { echo "FAILED: $what: it wrote: $(cat "$room/out")"; failed=1; }
+    cp right.links all.links
+    ends 0 "$what of a right list" "$@"
+    says "$what of a right list" 'links 40000 ok 40000 bad 0 differs 0'
+    PATH=$PWD/failing:$PATH ends any "$what with a piece that fails" "$@"
+    ! grep -q '^links 40000' "$room/out" || { echo "FAILED: $what: a piece that failed was counted"; failed=1; }
+    : >all.links
+    ends 0 "$what of an empty list" "$@"
+    says "$what of an empty list" 'links 0 ok 0 bad 0 differs 0'
+    mv wrong.links all.links
+}
+if has parallel; then
+    recipe cluster bash | sed 's/--block 10M/--block 100K/' >parallel.sh
+    in_pieces 'parallel' bash parallel.sh
+fi
+
+[ $failed = 0 ] && echo "uses: $count runs of recipes"
+exit $failed

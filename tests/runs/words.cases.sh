@@ -1,0 +1,415 @@
+# The words of the command line, and the statuses that they give.
+
+# ran STATUS WORD.. : a run of these words has this status
+ran() {
+    local status=$1 ended
+    shift
+    (cd "$room" && "$program" "$@") >"$room/out" 2>"$room/err" </dev/null
+    ended=$?
+    count=$((count + 1))
+    if [ "$ended" != "$status" ]; then fail "$*: status $ended, and not $status"; fi
+}
+
+# refused WHY WORD.. : these words are refused: standard error says why, how the program is used, and at its end `words`,
+# each line but this one after the program's name
+refused() {
+    local why=$1
+    shift
+    ran 2 "$@"
+    if [ -s "$room/out" ]; then fail "$*: it wrote: $(cat "$room/out")"; fi
+    if ! grep -qF -- "$why" "$room/err" || ! grep -q '^urlcheck: Usage: urlcheck' "$room/err" ||
+        [ "$(tail -n 1 "$room/err")" != words ] || [ "$(grep -vc '^urlcheck: ' "$room/err")" != 1 ]; then
+        fail "$*: on standard error: $(cat "$room/err")"
+    fi
+}
+
+# shows LINE WORD.. : these words are answered on standard output alone, with this line among others
+shows() {
+    local line=$1
+    shift
+    ran 0 "$@"
+    if [ -s "$room/err" ]; then fail "$*: on standard error: $(cat "$room/err")"; fi
+    if ! grep -qxF -- "$line" "$room/out"; then fail "$*: it wrote: $(cat "$room/out")"; fi
+}
+
+# Words that are refused, and words that ask for help.
+refused 'requires a subcommand'
+refused "'-x'" -x
+refused '<TEXT>' check
+refused "'-a'" check -a
+refused "'-a'" lint -a b
+expect 2 '' "urlcheck: a value is required for '--base <TEXT>' but none was supplied\nurlcheck: For more information, try '--help'.\nwords\n" \
+    check --base
+refused "'urn:b'" check urn:a urn:b
+refused "'urn:b'" check -- urn:a urn:b
+expect 2 '' "urlcheck: a value is required for '--profile <PROFILE>' but none was supplied\nurlcheck: For more information, try '--help'.\nwords\n" \
+    check --profile
+refused "'b'" check -- --base b t
+refused "'chek'" chek urn:a
+no_file='urlcheck: links reads standard input, not a file: urlcheck links <FILE'
+# usage_of WORDS : what is said of how a command is used: an option is one of those that may be left out, also where it is given
+usage_of() { printf '%s' "urlcheck: Usage: $1\nurlcheck: For more information, try '--help'.\n"; }
+usage=$(usage_of 'urlcheck links [--base <TEXT>] [OPTIONS]')
+of_one=$(usage_of 'urlcheck check [--base <TEXT>] [OPTIONS] <TEXT>')
+of_all='urlcheck: --all is an option of check and lint\n'
+expect 2 '' "urlcheck: unexpected argument 'x' found\n$usage$no_file\nwords\n" links x
+expect 2 '' "urlcheck: unexpected argument 'links.txt' found\n$usage$no_file\nwords\n" links --base http://h/ links.txt
+expect 2 '' "urlcheck: unexpected argument '--all' found\n$usage$of_all""words\n" links --all links.txt
+expect 2 '' "urlcheck: unexpected argument '--all' found\n$usage$of_all""words\n" links --all
+refused "'--format'" mend --format gnu
+refused "'b'" mend a b
+refused '<FILE>' vectors
+if has byte_arguments 4; then
+    expect 2 '' "urlcheck: argument 2 isn't UTF-8\nwords\n" check $'\xff'
+    expect 2 '' "urlcheck: argument 1 isn't UTF-8\nwords\n" $'\xff'
+    expect 2 '' "urlcheck: argument 3 isn't UTF-8\nwords\n" check a $'b\xff' --base $'\xfe'
+    expect 2 '' "urlcheck: argument 2 isn't UTF-8\nwords\n" vectors $'\xff'
+fi
+refused $'unexpected argument \'--\xef\xbf\xbd[2J\'' check $'--\e[2J' a
+refused $'unrecognized subcommand \'a\xef\xbf\xbd\'' $'a\a'
+shows "  2  the arguments, the base or the file of vectors are refused, or lint couldn't read a file" --help
+shows "  2  the arguments, the base or the file of vectors are refused, or lint couldn't read a file" -h
+shows "  urlcheck check 'http://h/a b'" help
+shows '  urlcheck check --base http://h/a/b ../x' check --help
+shows '  urlcheck links --base http://h/ < links.txt' help links
+shows '  urlcheck lint --format caret links.txt' lint --help
+shows "  urlcheck mend 'http://h/a b'" mend --help
+shows '  urlcheck vectors vectors/standard.json' help vectors
+expect 0 "urlcheck $(cat "$(dirname "$(dirname "$here")")/VERSION")\n" '' -V
+expect 0 "urlcheck $(cat "$(dirname "$(dirname "$here")")/VERSION")\nUnicode 18.0, in domains\n" '' --version
+
+# The statuses of each command stand in its help, and each command that judges says what the profiles are.
+shows '  1  the text is refused' check --help
+shows "  2  the arguments or the base are refused, or a file can't be read; the others are checked" lint --help
+shows "  1  a line isn't ok" help links
+shows '  1  a case fails' vectors --help
+shows '  2  the arguments are refused, or no rule has the name' explain --help
+shows '      --profile <PROFILE>  standard, wide or parser; without it standard' links --help
+shows '  -q, --quiet              Leaves out the counts on standard error' lint --help
+shows '      --stdin-name <NAME>  Reports on - under this name; without it under -' help lint
+# (a file that can't be read is 2 for lint, which goes on with the others, and 3 for vectors)
+shows "  2  the arguments or the base are refused, or a file can't be read; the others are checked" help lint
+shows "  3  out of memory, the file can't be read, or the output failed" help vectors
+
+# A profile by its name, by `--wide`, and by a name that none has.
+expect 0 'valid\nscheme http\nhost domain a_b\nsegment \n' '' check --profile wide http://a_b/
+expect 1 'refused 7 host-domain\n' '' check --profile=standard http://a_b/
+expect 0 'valid\nscheme http\nhost domain a_b\nsegment x\n' '' check x --base http://a_b/ --profile wide
+expect 0 'valid\nscheme http\nhost domain a-b\nsegment \n' '' check --profile parser http://a%2Db/
+expect 0 'valid\nscheme http\nhost ipv4 1.0.0.2\nsegment x\n' '' check x --base http://1.2/ --profile=parser
+expect 0 'links 0 ok 0 bad 0 differs 0\n' '' links --base http://h_/ --profile wide
+expect 2 '' "$(no_base 7 host-domain 'U+005F LOW LINE is not allowed in a domain; --profile wide allows it')" links --profile=standard --base http://h_/
+expect 2 '' "$(no_base 7 host-domain 'U+0021 EXCLAMATION MARK is not allowed in a domain; --profile parser allows it')" links --wide --base http://h_!/
+expect 2 '' "$(no_base 7 host-domain 'U+0020 SPACE is not allowed in a domain')" mend --profile parser --base 'http://h_! /' x
+expect 0 'mended same\na%20b\n' '' mend --base http://h_/ --wide 'a b'
+refused "'--parser'" check --parser urn:a
+profiles='urlcheck: the profiles: standard wide parser\nwords\n'
+expect 2 '' "urlcheck: no profile is named 'wyde'; the nearest is wide\n$profiles" check --profile wyde urn:a
+expect 2 '' "urlcheck: no profile is named 'WIDE'; the nearest is wide\n$profiles" links --profile WIDE --base 'a b'
+expect 2 '' "urlcheck: no profile is named 'STANDRAD'; the nearest is standard\n$profiles" check --profile STANDRAD urn:a
+expect 2 '' "urlcheck: no profile is named 'wdie'; the nearest is wide\n$profiles" check --profile wdie urn:a
+expect 2 '' "urlcheck: no profile is named 'wdei'\n$profiles" check --profile wdei urn:a
+expect 2 '' "urlcheck: no profile is named '\0357\0277\0275x'\n$profiles" check --profile $'\ex' urn:a
+expect 2 '' "urlcheck: no profile is named 'Parse'; the nearest is parser\n$profiles" mend --profile Parse urn:a
+expect 2 '' "urlcheck: no profile is named 'browser'\n$profiles" lint --profile browser missing
+expect 2 '' "urlcheck: no profile is named ''\n$profiles" check --profile= urn:a
+both='urlcheck: --wide is short for --profile wide: only one of them may be given\nwords\n'
+expect 2 '' "$both" check --wide --profile wide urn:a
+expect 2 '' "$both" links --profile standard --wide
+expect 2 '' "$both" check --wide --profile parser urn:a
+
+# A text that is `-` alone is no standard input: where it is refused, a hint says so.
+of_check='urlcheck: - is the text here; lint - and links read standard input\n'
+of_mend='urlcheck: - is the text here; mend without a TEXT reads standard input\n'
+expect 1 'refused 0 no-scheme\n' "$of_check" check -
+expect 1 'refused 0 no-scheme\n' "$of_check" check --all --wide -- -
+expect 1 'none\nrefused 0 no-scheme\n' "$of_mend" mend -
+expect 0 'valid\nscheme http\nhost domain h\nsegment -\n' '' check --base http://h/ -
+expect 0 'valid\n' '' mend --base http://h/ -
+expect 1 'refused 0 no-scheme\n' '' check -- --
+expect 1 'none\nrefused 0 no-scheme\n' '' mend -- -x
+expect 2 '' "$(no_base 0 no-scheme 'it has no scheme')" check --base - -
+
+# So does one where a refused text has no base and looks like the name of a file: it has no `:`, `?`, `#` or space, and
+# ends in a dot and what lists and documents end in, in any case. Whether there is such a file doesn't matter.
+list_of_check='is the text here; lint FILE checks the lines of a file\n'
+list_of_mend='is the text here; mend <FILE mends the lines of a file\n'
+document='is the text here; urlcheck-documents --check FILE checks the links of a document\n'
+for end in txt csv tsv json links; do
+    expect 1 'refused 0 no-scheme\n' "urlcheck: links.$end $list_of_check" check links.$end
+    expect 1 'none\nrefused 0 no-scheme\n' "urlcheck: .${end^^} $list_of_mend" mend .${end^^}
+done
+for end in html htm xhtml xht xml rss atom rdf svg md markdown; do
+    expect 1 'refused 0 no-scheme\n' "urlcheck: page.$end $document" check page.$end
+    expect 1 'none\nrefused 0 no-scheme\n' "urlcheck: .${end^^} $document" mend .${end^^}
+done
+expect 1 'refused 0 no-scheme\n' "urlcheck: ../a/x.y.Html $document" check --all --wide -- ../a/x.y.Html
+expect 1 'refused 0 no-scheme\nrefused 1 code-point\n' "urlcheck: a\0357\0277\0275.md $document" check --all $'a\e.md'
+for text in html x.opml x.htmlx x.html/ x.ht .h xhtml links.txt~ 'a b.html' a?b.html a#b.html .json.gz; do
+    expect 1 'refused 0 no-scheme\n' '' check "$text"
+done
+expect 1 'none\nrefused 0 no-scheme\n' '' mend 'x?y.md'
+expect 1 'refused 0 opaque-base\n' '' check --base urn:a page.html
+expect 1 'none\nrefused 0 opaque-base\n' '' mend --base urn:a page.html
+expect 1 'refused 7 host-domain\n' '' check http://a_b/page.html
+expect 0 'valid\nscheme http\nhost domain h\nsegment page.html\n' '' check --base http://h/ page.html
+expect 2 '' "$(no_base 0 no-scheme 'it has no scheme')" check --base page.html page.html
+
+# A first word that is no command: a hint at what may have been meant.
+for word in http://h/ links.txt; do
+    ran 2 "$word"
+    if [ -s "$room/out" ] || [ "$(head -n 1 "$room/err")" != "urlcheck: unrecognized subcommand '$word'" ] ||
+        [ "$(tail -n 2 "$room/err")" != $'urlcheck: check TEXT checks one text, and lint FILE the lines of a file\nwords' ]; then
+        fail "$word: on standard error: $(cat "$room/err")"
+    fi
+done
+
+# One that is near to a command, or abbreviates just one by its first letter and further ones in their order: that one, in place
+# of clap's tips. `version` is told to be an option.
+# no_command HINT WORD.. : these words are refused for the first of them, with this hint alone
+no_command() {
+    local hint=$1
+    shift
+    expect 2 '' "urlcheck: unrecognized subcommand '$1'\n$(usage_of "$(basename "$program") <COMMAND>")urlcheck: $hint\nwords\n" "$@"
+}
+for words in 'chk check' 'chek check' 'LINT lint' 'lnit lint' 'mnd mend' 'vec vectors' 'exp explain' 'lks links'; do
+    read -r word near <<<"$words"
+    no_command "no command is named '$word'; the nearest is $near" $word urn:a
+done
+no_command 'version is no command: write urlcheck --version' version
+# (two begin so, the first letter is another one, or the letters are in another order)
+for word in ln hck vtc; do
+    ran 2 $word
+    if grep -q 'no command is named' "$room/err" ||
+        [ "$(tail -n 2 "$room/err")" != $'urlcheck: check TEXT checks one text, and lint FILE the lines of a file\nwords' ]; then
+        fail "$word: on standard error: $(cat "$room/err")"
+    fi
+done
+
+# A text that is cut at its spaces: a hint at quotes, but not where the last word looks like an option.
+# cut_up HINTS WORD.. : these words are refused for one too many, and so many lines hint at quotes, before the last one
+cut_up() {
+    local hints=$1 line
+    shift
+    ran 2 "$@"
+    line="urlcheck: $1 accepts one TEXT: put it in single quotes if it has spaces"
+    if [ -s "$room/out" ] || [ "$(tail -n 1 "$room/err")" != words ] ||
+        ! head -n 1 "$room/err" | grep -q "^urlcheck: unexpected argument '" ||
+        [ "$(tail -n 2 "$room/err" | grep -cxF -- "$line")" != "$hints" ] || [ "$(grep -c quotes "$room/err")" != "$hints" ]; then
+        fail "$*: on standard error: $(cat "$room/err")"
+    fi
+}
+cut_up 1 check http://h/a b
+cut_up 1 check --wide http://h/a b c
+cut_up 1 mend http://h/a b
+cut_up 1 check -- -a b
+cut_up 0 check a b --all
+cut_up 0 check --bogus a b
+cut_up 0 vectors a b
+cut_up 0 links a b
+
+# The usage shows no option that was given as one that has to be, nor does the help.
+expect 2 '' "urlcheck: unexpected argument 'b' found\n${of_one}urlcheck: check accepts one TEXT: put it in single quotes if it has spaces\n\
+words\n" check --base http://h/ --wide a b
+expect 2 '' "urlcheck: unexpected argument 'b' found\n$(usage_of 'urlcheck mend [--base <TEXT>] [OPTIONS] [TEXT]')\
+urlcheck: mend accepts one TEXT: put it in single quotes if it has spaces\nwords\n" mend --base http://h/ a b
+shows 'Usage: urlcheck lint [--base <TEXT>] [OPTIONS] <FILE>...' lint --help
+shows 'Usage: urlcheck links [--base <TEXT>] [OPTIONS]' help links
+
+# A lint without a file: a hint at standard input.
+expect 2 '' "urlcheck: the following required arguments were not provided:\nurlcheck:   <FILE>...\n\
+$(usage_of 'urlcheck lint [--base <TEXT>] [OPTIONS] <FILE>...')\
+urlcheck: lint reads standard input as the FILE -\nwords\n" lint
+
+# An option that another command takes: which commands these are, in place of the tip to hand it over as a text.
+# of_others COMMANDS COMMAND WORD.. : these words of a command are refused for the first of them, which these commands take
+of_others() {
+    local takers=$1 shown=${3%%=*} line
+    shift
+    ran 2 "$@"
+    line="urlcheck: $shown is an option of $takers"
+    if [ "$(head -n 1 "$room/err")" != "urlcheck: unexpected argument '$shown' found" ] || [ -s "$room/out" ] ||
+        ! grep -qxF -- "$line" "$room/err" || grep -q 'tip:' "$room/err" || [ "$(tail -n 1 "$room/err")" != words ]; then
+        fail "$*: on standard error: $(cat "$room/err")"
+    fi
+}
+of_others lint check --format json x
+of_others lint check --format=json x
+of_others lint mend --located
+of_others mend lint --only same x
+of_others 'check and lint' mend --all x
+of_others 'lint and mend' check -q x
+of_others 'lint and mend' vectors --quiet
+of_others 'check, lint, links and mend' explain --base x
+of_others explain check --url x
+expect 2 '' "urlcheck: unexpected argument '--format' found\n${of_one}\
+urlcheck: --format is an option of lint\nwords\n" check --all --format json x
+# (before the command it is told where it is; the usage of all names the file of the program)
+for words in '--format lint json lint x' '--wide check,_lint,_links_and_mend check x' '--all check_and_lint check x'; do
+    read -r option takers words <<<"$words"
+    expect 2 '' "urlcheck: unexpected argument '$option' found\n$(usage_of "$(basename "$program") <COMMAND>")\
+urlcheck: $option is an option of ${takers//_/ }, and is written after the command\nwords\n" $option $words
+done
+# (one that none takes is first, or no option is, or it is after --)
+for words in '--bogus --format x' '-- --format x' '- --bogus --format'; do
+    refused "unexpected argument '" check $words
+    ! grep -q 'is an option' "$room/err" || fail "check $words: on standard error: $(cat "$room/err")"
+done
+expect 2 '' "urlcheck: unexpected argument '--format' found\n$of_one""urlcheck: --format is an option of lint\nwords\n" \
+    check --base --format
+
+of_others lint check --stdin-name x y
+
+# An option that no command takes, with the nearest of the command's own, whatever its case and value, in place of clap's tip.
+# nearest_is OPTION COMMAND WORD.. : these words of a command are refused for the first of them, to which this one is near
+nearest_is() {
+    local near=$1 shown=${3%%=*}
+    shift
+    ran 2 "$@"
+    if [ -s "$room/out" ] || [ "$(head -n 1 "$room/err")" != "urlcheck: unexpected argument '$shown' found" ] ||
+        [ "$(tail -n 2 "$room/err")" != "urlcheck: $1 has no option $shown; the nearest is $near"$'\n'words ] ||
+        grep -q 'tip:' "$room/err"; then
+        fail "$*: on standard error: $(cat "$room/err")"
+    fi
+}
+nearest_is --base links --bse http://h/
+nearest_is --base links --bse=http://h/ links.txt
+nearest_is --base links --BASE http://h/
+nearest_is --profile check --porfile wide urn:a
+nearest_is --wide check --wied --format x
+nearest_is --columns lint --colums bytes links.txt
+nearest_is --stdin-name lint --stdin-nam=n -
+nearest_is --only mend --onyl same
+nearest_is --all lint --alll links.txt
+nearest_is --url explain --ulr percent
+# (so is one that abbreviates just one of them: by its first letter, and by further ones in their order)
+nearest_is --format lint --fmt gnu links.txt
+nearest_is --format lint -f gnu links.txt
+nearest_is --columns lint --cl=bytes links.txt
+nearest_is --stdin-name lint --sin n -
+nearest_is --base links --BS http://h/
+for word in --fto --mat= --t; do
+    ran 2 lint $word links.txt
+    if grep -q 'has no option' "$room/err" || [ "$(tail -n 1 "$room/err")" != words ]; then
+        fail "lint $word: on standard error: $(cat "$room/err")"
+    fi
+done
+# (of one that isn't near nothing is said, nor that links takes no file; after -- none is an option)
+for words in '--bogus http://h/' '-x links.txt' '--only= same'; do
+    ran 2 links $words
+    if grep -q -e 'has no option' -e 'takes no file' "$room/err" || [ "$(tail -n 1 "$room/err")" != words ]; then
+        fail "links $words: on standard error: $(cat "$room/err")"
+    fi
+done
+expect 2 '' "urlcheck: unexpected argument '--bse' found\n$usage$no_file\nwords\n" links -- --bse x
+
+# Each option of the help is one of the commands that have it in their help, and of no other: as vectors says, which has none.
+count=$((count + 1))
+for command in check lint links mend explain; do
+    "$program" help $command | sed -n '/^Options:$/,/^$/p' | grep -o -e '--[a-z0-9-]*' -e '-[a-z],' | tr -d , |
+        grep -vx -e --help -e -h | sed "s/$/ $command/"
+done | awk '!seen[$0]++' | sort -s -k 1,1 | awk '$1 != option { option = $1; printf "%s%s %s", (NR > 1 ? "\n" : ""), $1, $2; next }
+    { printf ", %s", $2 } END { print "" }' | sed 's/, \([a-z]*\)$/ and \1/' >"$room/options"
+[ "$(wc -l <"$room/options")" -gt 8 ] || fail "the help has these options: $(cat "$room/options")"
+while read -r option takers; do
+    "$program" vectors $option >"$room/out" 2>"$room/err"
+    grep -qxF -- "urlcheck: $option is an option of $takers" "$room/err" || fail "$option: of $takers: $(cat "$room/err")"
+done <"$room/options"
+
+# The text and the base are taken as they are given.
+expect 1 'refused 0 no-scheme\n' '' check ''
+expect 0 'valid\nscheme http\nhost domain h\nsegment \n' '' check --base http://h ''
+expect 2 '' "$(no_base 0 no-scheme 'it has no scheme')" check --base b ''
+expect 2 '' "$(no_base 0 no-scheme 'it has no scheme')" check --base= a
+expect 1 'refused 0 no-scheme\n' '' check ' a '
+expect 1 'refused 5 code-point\n' '' check 'urn:a '
+expect 1 'refused 0 no-scheme\n' '' check -- --x
+expect 1 'refused 0 no-scheme\n' '' check -- --wide
+expect 1 'refused 0 no-scheme\n' '' check -- -a
+expect 0 'valid\nscheme urn\nopaque a\n' '' check -- urn:a
+expect 2 '' "$(no_base 7 host-missing 'a host is missing here')" check --base http:// http://h/
+expect 0 'links 0 ok 0 bad 0 differs 0\n' '' links --base x:
+
+# A refused text, a base in each way of giving it, and a base that is refused, also where the text has a scheme.
+expect 1 'refused 0 no-scheme\n' '' check x
+expect 1 'refused 10 code-point\n' '' check 'http://h/a b'
+expect 0 'valid\nscheme http\nhost domain h\nsegment a\nsegment x\n' '' check --base 'http://h/a/b?q' x
+expect 0 'valid\nscheme http\nhost domain h\nsegment a\nsegment x\n' '' check '--base=http://h/a/b?q' x
+expect 0 'valid\nscheme http\nhost domain h\nsegment -x\n' '' check --base=http://h/ -- -x
+expect 0 'valid\nscheme urn\nopaque a\nfragment t\n' '' check --base urn:a '#t'
+expect 1 'refused 0 drive-after-host\n' '' check --base file://h/a /C:/x
+expect 2 '' "$(no_base 7 host-missing 'a host is missing here')" check --base http:// x
+expect 2 '' "$(no_base 0 no-scheme 'it has no scheme')" check --base x urn:a
+
+# All that is wrong with a text; tests/runs/check.cases.sh has more.
+expect 1 'refused 7 host-missing\n' '' check http:// --all
+expect 1 'refused 1 code-point\nrefused 4 percent\n' '' check --all --wide 'a b?%4' --base http://x_y//
+expect 2 '' "$(no_base 7 host-missing 'a host is missing here')" check --all --base http:// 'a b'
+
+# The standard and the wide profile: each text is refused by the standard one, but the last, and taken or refused by the
+# wide one.
+expect 1 'refused 9 first-segment-empty\n' '' check http://h//a
+expect 0 'valid\nscheme http\nhost domain h\nsegment \nsegment a\n' '' check --wide http://h//a
+expect 1 'refused 9 first-segment-empty\n' '' check http://h//..
+expect 0 'valid\nscheme http\nhost domain h\nsegment \n' '' check --wide http://h//..
+expect 1 'refused 8 first-segment-empty\n' '' check file:////a
+expect 0 'valid\nscheme file\nhost empty\nsegment \nsegment a\n' '' check --wide file:////a
+expect 1 'refused 8 first-segment-empty\n' '' check file:////C:/..
+expect 0 'valid\nscheme file\nhost empty\nsegment \nsegment \n' '' check --wide file:////C:/..
+for host in a_b -a ab--c; do
+    expect 1 'refused 7 host-domain\n' '' check "http://$host/"
+    expect 0 "valid\nscheme http\nhost domain $host\nsegment \n" '' check --wide "http://$host/"
+done
+for flag in --all --wide; do
+    expect 1 'refused 7 host-number\n' '' check $flag http://1.2.3/
+    expect 1 'refused 7 host-domain\n' '' check $flag $'http://\xc2\xad/'
+    expect 1 'refused 7 host-domain\n' '' check $flag http://a%62/
+    expect 1 'refused 8 drive-after-host\n' '' check $flag file://h/C:/x
+    expect 0 'valid\nscheme http\nhost domain h\nsegment \n' '' check $flag --base http://x/a //h
+done
+expect 2 '' "$(no_base 7 host-domain 'U+005F LOW LINE is not allowed in a domain; --profile wide allows it')" check --base http://a_b/ x
+expect 0 'valid\nscheme http\nhost domain a_b\nsegment x\n' '' check --wide --base http://a_b/ x
+expect 1 'refused 7 host-domain\nrefused 11 code-point\n' '' check --all 'http://a_b/ '
+expect 1 'refused 11 code-point\n' '' check --all --wide 'http://a_b/ '
+
+# The parser's profile.
+# takes TEXT REFUSAL LINES : the wide profile refuses the text, and the parser's one takes it with these lines
+takes() {
+    expect 1 "refused $2\\n" '' check --wide "$1"
+    expect 0 "valid\\n$3" '' check --profile parser "$1"
+}
+takes http://a%2Db/ '7 host-domain' 'scheme http\nhost domain a-b\nsegment \n'
+takes http://b%C3%BCcher/ '7 host-domain' 'scheme http\nhost domain xn--bcher-kva\nsegment \n'
+takes http://a+b/ '7 host-domain' 'scheme http\nhost domain a+b\nsegment \n'
+takes http://a..b/ '7 host-domain' 'scheme http\nhost domain a..b\nsegment \n'
+takes http://1.2.3/ '7 host-number' 'scheme http\nhost ipv4 1.2.0.3\nsegment \n'
+takes http://%31.2.3/ '7 host-domain' 'scheme http\nhost ipv4 1.2.0.3\nsegment \n'
+takes http://1/ '7 host-number' 'scheme http\nhost ipv4 0.0.0.1\nsegment \n'
+takes $'http://\xef\xbc\x91.2.3.4/' '7 host-number' 'scheme http\nhost ipv4 1.2.3.4\nsegment \n'
+takes file:// '7 host-missing' 'scheme file\nhost empty\nsegment \n'
+takes 'file://?q' '7 host-missing' 'scheme file\nhost empty\nsegment \nquery q\n'
+takes file://h/C:/x '8 drive-after-host' 'scheme file\nhost domain h\nsegment C:\nsegment x\n'
+takes 'urn:a b' '5 code-point' 'scheme urn\nopaque a b\n'
+takes 'javascript:alert(1, 2)' '19 code-point' 'scheme javascript\nopaque alert(1, 2)\n'
+takes 'urn:a ?q' '5 code-point' 'scheme urn\nopaque a%20\nquery q\n'
+takes 'urn:a  #f' '5 code-point' 'scheme urn\nopaque a %20\nfragment f\n'
+# What it refuses too: what the parser reports or fails at.
+for text in http://a%2Fb/ http://%ff/ http://xn--a/ $'http://\xc2\xad/' http://u@h/ 'http://h\x/' 'http://h ' \
+    file://C:/x; do
+    expect 1 'refused 7 host-domain\n' '' check --profile parser "$text"
+done
+for host in 256 01 0x1 1.2.3.4.5 1.2.3.4. a.1; do
+    expect 1 'refused 7 host-number\n' '' check --profile parser "http://$host/"
+done
+expect 1 'refused 7 host-missing\n' '' check --profile parser http:///h
+expect 1 'refused 5 two-slashes\n' '' check --profile parser http:h
+expect 1 'refused 5 code-point\n' '' check --profile parser 'urn:a '
+expect 1 'refused 6 code-point\n' '' check --profile parser 'foo:/a b'
+expect 1 'refused 7 host-domain\nrefused 14 port-digit\nrefused 16 code-point\n' '' \
+    check --profile parser --all 'http://a%2Fb:8x/ '
+# The base is judged by it too.
+expect 0 'valid\nscheme file\nhost domain h\nsegment C:\nsegment x\n' '' check --profile parser --base file://h/a /C:/x
+expect 0 'valid\nscheme urn\nopaque a b\nfragment f\n' '' check --profile parser --base 'urn:a b' '#f'
+expect 2 '' "$(no_base 5 code-point 'U+0020 SPACE is not allowed in a URL')" check --wide --base 'urn:a b' '#f'
+expect 2 '' "$(no_base 7 host-number 'the host that begins here ends in a number, and is no IPv4 address')" check --profile parser --base http://256/ x
+all_cases 300
