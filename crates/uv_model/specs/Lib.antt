@@ -16,5 +16,4 @@ pub mod Cut
 pub mod Valid
 pub mod Violations
 pub mod Records
-pub mod Streams
 pub mod Laws

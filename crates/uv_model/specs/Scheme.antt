@@ -6,7 +6,7 @@ use Rattle.std.specs.Str.{bytes_eq}
 use Rattle.std.specs.Char.{is_ascii, is_ascii_alphabetic, is_ascii_alphanumeric, is_ascii_uppercase, to_ascii_lowercase}
 use Rattle.uv_model.specs.Ascii.{plus_sign, hyphen, full_stop, colon}
 use Rattle.uv_model.specs.declared.scheme.Class.{Class}
-use Rattle.uv_model.specs.declared.scheme.Class.TheVariants.{Special, File, Other}
+use Rattle.uv_model.specs.declared.scheme.Class.TheVariants.{SpecialNotFile, File, Other}
 
 -- the text in ASCII lower case
 abbrev pub lowercase : List ℕ → List ℕ
@@ -53,4 +53,4 @@ default_port scheme = port_beside (lowercase scheme) special_schemes
 unfoldable pub scheme_class : List ℕ → Class
 scheme_class scheme =
     if bytes_eq (lowercase scheme) (codes "file") then File
-    else (if is_some (default_port scheme) then Special else Other)
+    else (if is_some (default_port scheme) then SpecialNotFile else Other)

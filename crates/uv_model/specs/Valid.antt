@@ -8,7 +8,7 @@ use Rattle.std.specs.Str.Parse.{digits_value}
 use Rattle.uv_model.specs.declared.profile.Profile.{Profile}
 use Rattle.uv_model.specs.declared.profile.Profile.TheVariants.{Standard, Parser}
 use Rattle.uv_model.specs.declared.scheme.Class.{Class}
-use Rattle.uv_model.specs.declared.scheme.Class.TheVariants.{Special, File, Other}
+use Rattle.uv_model.specs.declared.scheme.Class.TheVariants.{SpecialNotFile, File, Other}
 use Rattle.uv_model.specs.declared.host.Host.{Host}
 use Rattle.uv_model.specs.declared.host.Host.TheVariants.{Domain, V4, V6, Opaque, Empty}
 use Rattle.uv_model.specs.Hosts.Address.{IsBracketedIpv6}
@@ -97,7 +97,7 @@ MayBePathBehind profile segments text = ((text ≡ []) × (segments ≡ [])) ⊎
 
 -- a special URL has a host and may have a port and a path
 pub record IsSpecialAuthority (setting : Setting) (host_text : List ℕ) (parts : Parts) : Type 0 where
-  pub unstopped : is_stopped setting.profile Special (ends_at_host (texts_of parts)) host_text ≡ false
+  pub unstopped : is_stopped setting.profile SpecialNotFile (ends_at_host (texts_of parts)) host_text ≡ false
   pub value : Host
   pub host : IsHostText setting.profile host_text value
   pub valued : parts.host ≡ Some value
@@ -142,7 +142,7 @@ IsOtherAuthority setting host_text parts =
 
 -- what follows `//`, by the class
 abbrev pub FitsAuthority : Class → Setting → List ℕ → Parts → Type 0
-FitsAuthority Special setting host_text parts = IsSpecialAuthority setting host_text parts
+FitsAuthority SpecialNotFile setting host_text parts = IsSpecialAuthority setting host_text parts
 FitsAuthority File setting host_text parts = IsFileAuthority setting host_text parts
 FitsAuthority Other setting host_text parts = IsOtherAuthority setting host_text parts
 

@@ -18,8 +18,8 @@ type AddressText = ArrayString<48>;
 // The hex digits in lower case.
 const HEX_DIGITS: &[u8; 16] = b"0123456789abcdef";
 
-/// Appends the four numbers of an IPv4 address, the highest first, with `.` between each two. An error means that memory
-/// ran out: `out` then still begins with what it held.
+/// Appends the four numbers of an IPv4 address, the highest first, with `.` between each two. An error means that
+/// memory ran out: `out` then still begins with what it held.
 pub fn push_ipv4(out: &mut String, value: u32) -> Result<(), AllocError>
     ensures ok { OnOk result (string_bytes out.new ≡ string_bytes out.old ++ serial_ipv4 value) }
     ensures err { OnErr result (StartsWith (string_bytes out.new) (string_bytes out.old)) }

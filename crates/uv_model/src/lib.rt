@@ -1,4 +1,4 @@
-//! The definitions of valid URL strings and of the URL parser, the records, and the readers and writers.
+//! The definitions of valid URL strings and of the URL parser, and the records.
 #![tactic(auto)]
 
 mod address_text;
@@ -19,7 +19,6 @@ mod rule;
 mod scheme;
 mod segments;
 mod serializer;
-mod streams;
 mod text;
 mod text_list;
 mod units;
@@ -41,9 +40,6 @@ pub use record::Record;
 pub use rule::{Refusal, Rule};
 pub use scheme::{Class, class_of, default_port, is_name};
 pub use segments::{is_double_dot, is_drive_letter, is_normalized_drive_letter, is_single_dot};
-pub use streams::{
-    DeviceFault, FromReader, ScriptSink, ScriptSource, Sink, Source, ToWriter, write_whole,
-};
 pub use text::Text;
 pub use text_list::{ListedTexts, TextList};
 pub use units::is_url_code_point;

@@ -113,20 +113,20 @@ impl Rule {
                 "there is no scheme, the base has an opaque path, and the text isn't # and a fragment"
             }
             Rule::TwoSlashes => "// has to follow this scheme",
-            Rule::HostMissing => "a host has to stand here",
+            Rule::HostMissing => "a host is missing here",
             Rule::HostDomain => "the host that begins here is no valid domain",
             Rule::HostNumber => {
                 "the host that begins here ends in a number, and is no IPv4 address"
             }
             Rule::HostIpv6 => "the host that begins here is no IPv6 address in brackets",
-            Rule::HostCodePoint => "this code point may not stand in a host",
+            Rule::HostCodePoint => "this code point is not allowed in a host",
             Rule::PortDigit => "this code point of the port is no digit",
             Rule::PortRange => "the port that begins here is above 65535",
             Rule::FirstSegmentEmpty => "the path's first segment is empty, and others follow it",
             Rule::DriveAfterHost => {
                 "the path that begins here begins with /, a drive letter and /, and follows a host"
             }
-            Rule::CodePoint => "this code point may not stand in a URL",
+            Rule::CodePoint => "this code point is not allowed in a URL",
             Rule::Percent => "two hex digits have to follow this %",
         }
     }

@@ -7,7 +7,7 @@ ghost use Rattle.uv_model.specs.Scheme.{default_port, is_lowercase_ascii, lowerc
 #[derive(Clone, Copy, Debug, PartialEq, Eq)]
 pub enum Class {
     /// `ftp`, `http`, `https`, `ws` and `wss`.
-    Special,
+    SpecialNotFile,
     /// `file`.
     File,
     /// Every other scheme.
@@ -23,7 +23,7 @@ pub fn class_of(scheme: &str) -> Class
         return Class::File;
     }
     match default_port(scheme) {
-        Some(_) => Class::Special,
+        Some(_) => Class::SpecialNotFile,
         None => Class::Other,
     }
 }

@@ -38,8 +38,8 @@ impl Record {
     }
 }
 
-// The length of that text, with room for any address and any port. No clause says it: a text that outgrows it is written
-// all the same.
+// The length of that text, with room for any address and any port. No clause says it: a text that outgrows it is
+// written all the same.
 fn room_for(url: &Record) -> usize {
     url.scheme()
         .len()

@@ -19,7 +19,7 @@ pub fn is_url_host(class: Class, host: Option<&Host>, profile: Profile) -> bool
     ensures { IsTrue result ↔ IsUrlHost profile class (option_copied host.entry) }
 {
     match class {
-        Class::Special => is_special_host(host, profile),
+        Class::SpecialNotFile => is_special_host(host, profile),
         Class::File => is_file_host(host, profile),
         Class::Other => is_other_host(host),
     }

@@ -34,7 +34,7 @@ fn may_be_empty(class: Class, host: Option<&Host>) -> bool
     ensures { result ≡ may_be_empty class (option_copied host.entry) }
 {
     match class {
-        Class::Special => false,
+        Class::SpecialNotFile => false,
         Class::File => false,
         Class::Other => host.is_some(),
     }
@@ -45,7 +45,7 @@ fn may_be_opaque(class: Class, host: Option<&Host>) -> bool
     ensures { IsTrue result ↔ ((class ≡ Class.Other) × (option_copied host.entry ≡ None)) }
 {
     match class {
-        Class::Special => false,
+        Class::SpecialNotFile => false,
         Class::File => false,
         Class::Other => host.is_none(),
     }

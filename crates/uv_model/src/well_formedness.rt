@@ -124,7 +124,7 @@ fn takes_port(class: Class, host: Option<&Host>) -> bool
 {
     match class {
         Class::File => false,
-        Class::Special | Class::Other => match host {
+        Class::SpecialNotFile | Class::Other => match host {
             None | Some(Host::Empty) => false,
             Some(_) => true,
         },
@@ -153,7 +153,7 @@ fn is_url_query(class: Class, query: Option<&str>) -> bool
             }
             match class {
                 Class::Other => true,
-                Class::Special | Class::File => is_without(b'\'', bytes),
+                Class::SpecialNotFile | Class::File => is_without(b'\'', bytes),
             }
         }
     }

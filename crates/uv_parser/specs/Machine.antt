@@ -7,7 +7,7 @@ use Rattle.std.specs.Str.{bytes_eq}
 use Rattle.std.specs.Char.{is_ascii_alphabetic, is_ascii_digit, to_ascii_lowercase}
 use Rattle.std.specs.Str.Parse.{digits_value}
 use Rattle.uv_model.specs.declared.scheme.Class.{Class}
-use Rattle.uv_model.specs.declared.scheme.Class.TheVariants.{Special, File, Other}
+use Rattle.uv_model.specs.declared.scheme.Class.TheVariants.{SpecialNotFile, File, Other}
 use Rattle.uv_model.specs.declared.host.Host.{Host}
 use Rattle.uv_model.specs.declared.host.Host.TheVariants as host
 use Rattle.uv_model.specs.declared.path.UrlPath.{UrlPath}
@@ -222,7 +222,7 @@ has_same_scheme (Some base) scheme = bytes_eq base.scheme scheme
 -- goes by a `/`.
 abbrev pub after_scheme : Option Url → Class → ℕ → Variables → List ℕ → Turn
 after_scheme base File p v rest = if begins_two_slashes rest then onward FileState v else stop
-after_scheme base Special p v rest =
+after_scheme base SpecialNotFile p v rest =
     if has_same_scheme base v.url.scheme then onward SpecialRelativeOrAuthorityState v
     else onward SpecialAuthoritySlashesState v
 after_scheme base Other p v rest =

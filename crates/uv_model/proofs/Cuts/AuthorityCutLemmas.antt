@@ -6,7 +6,7 @@ use Rattle.std.specs.List.{after_first}
 use Rattle.std.proofs.lemmas.Bool.{false≢true, cases_Bool, and_parts, not-true, not-false, eqb-true, eq-eqb}
 use Rattle.std.proofs.Math.Seq.{drop-append_seam}
 use Rattle.uv_model.specs.declared.scheme.Class.{Class}
-use Rattle.uv_model.specs.declared.scheme.Class.TheVariants.{Special, File, Other}
+use Rattle.uv_model.specs.declared.scheme.Class.TheVariants.{SpecialNotFile, File, Other}
 use Rattle.uv_model.specs.Ascii.{slash, colon}
 use Rattle.uv_model.specs.Parts.{written_authority, written_behind}
 use Rattle.uv_model.specs.Path.{is_without, starts_with_slash}
@@ -123,7 +123,7 @@ host_cut-written : (class : Class) (host_text : List ℕ) (port_text : Option (L
     → IsHostCut class host_text port_text
     → host_cut class (host_text ++ written_behind colon port_text) ≡ host_text
 host_cut-written File host_text port_text is = rw is (append-nil host_text)
-host_cut-written Special host_text port_text is =
+host_cut-written SpecialNotFile host_text port_text is =
     host_before-written false host_text port_text (ends_from_start host_text port_text is)
 host_cut-written Other host_text port_text is =
     host_before-written false host_text port_text (ends_from_start host_text port_text is)
@@ -133,7 +133,7 @@ port_cut-written : (class : Class) (host_text : List ℕ) (port_text : Option (L
     → IsHostCut class host_text port_text
     → port_cut class (host_text ++ written_behind colon port_text) ≡ port_text
 port_cut-written File host_text port_text is = sym is
-port_cut-written Special host_text port_text is =
+port_cut-written SpecialNotFile host_text port_text is =
     port_behind-written false host_text port_text (ends_from_start host_text port_text is)
 port_cut-written Other host_text port_text is =
     port_behind-written false host_text port_text (ends_from_start host_text port_text is)
@@ -142,14 +142,14 @@ port_cut-written Other host_text port_text is =
 pub host_cut-is : (class : Class) (authority : List ℕ)
     → IsHostCut class (host_cut class authority) (port_cut class authority)
 host_cut-is File authority = refl
-host_cut-is Special authority = ends_at_port _ _ (host_before-ends false authority)
+host_cut-is SpecialNotFile authority = ends_at_port _ _ (host_before-ends false authority)
 host_cut-is Other authority = ends_at_port _ _ (host_before-ends false authority)
 
 -- and the authority is written with them
 pub written_host_cut : (class : Class) (authority : List ℕ)
     → authority ≡ host_cut class authority ++ written_behind colon (port_cut class authority)
 written_host_cut File authority = sym (append-nil authority)
-written_host_cut Special authority = written_host false authority
+written_host_cut SpecialNotFile authority = written_host false authority
 written_host_cut Other authority = written_host false authority
 
 -- ---- the authority and the path

@@ -5,7 +5,7 @@ use Rattle.std.specs.Str.Parse.{digits_value}
 use Rattle.std.proofs.lemmas.Bool.{cases_Bool}
 use Rattle.uv_model.specs.declared.profile.Profile.{Profile}
 use Rattle.uv_model.specs.declared.scheme.Class.{Class}
-use Rattle.uv_model.specs.declared.scheme.Class.TheVariants.{Special, File, Other}
+use Rattle.uv_model.specs.declared.scheme.Class.TheVariants.{SpecialNotFile, File, Other}
 use Rattle.uv_model.specs.declared.host.Host.{Host}
 use Rattle.uv_model.specs.declared.host.Host.TheVariants.{Domain, V4, V6, Opaque, Empty}
 use Rattle.uv_model.specs.declared.path.UrlPath.TheVariants.{Segments}
@@ -68,11 +68,11 @@ IsUrlPath-joined profile class host start (segment ∷ rest) text are joins =
 -- the path behind a host
 pub IsUrlPath-authority : (profile : Profile) (class : Class) (host : Host) (segments : List (List ℕ))
     → AreSegments segments → IsUrlPath profile class (Some host) (Segments (authority_path class segments))
-IsUrlPath-authority profile Special host [] each = (IsUrlSegment-nil, tt)
+IsUrlPath-authority profile SpecialNotFile host [] each = (IsUrlSegment-nil, tt)
 IsUrlPath-authority profile File host [] each = (IsUrlSegment-nil, tt)
 IsUrlPath-authority profile Other host [] each = refl
-IsUrlPath-authority profile Special host (segment ∷ rest) each =
-    IsUrlPath-walk profile Special (Some host) [] segment rest tt each
+IsUrlPath-authority profile SpecialNotFile host (segment ∷ rest) each =
+    IsUrlPath-walk profile SpecialNotFile (Some host) [] segment rest tt each
 IsUrlPath-authority profile File host (segment ∷ rest) each =
     IsUrlPath-walk profile File (Some host) [] segment rest tt each
 IsUrlPath-authority profile Other host (segment ∷ rest) each =
@@ -86,9 +86,9 @@ AreSegments-maybe segments text (inr path) = path.joins.each
 
 -- ---- hosts
 
--- the host of a text of class Special
+-- the host of a text of class SpecialNotFile
 IsUrlHost-special : (profile : Profile) (text : List ℕ) (value : Host) → IsHostText profile text value
-    → IsUrlHost profile Special (Some value)
+    → IsUrlHost profile SpecialNotFile (Some value)
 IsUrlHost-special profile text (Domain form) is = IsUrlDomain-form profile text form is
 IsUrlHost-special profile text (V4 value) is = ipv4_text_small profile text value is
 IsUrlHost-special profile text (V6 pieces) is = bracketed_small text pieces is
@@ -97,7 +97,7 @@ IsUrlHost-special profile text Empty is = is
 
 -- it takes a port
 takes_port-special : (profile : Profile) (text : List ℕ) (value : Host) → IsHostText profile text value
-    → takes_port Special (Some value) ≡ true
+    → takes_port SpecialNotFile (Some value) ≡ true
 takes_port-special profile text (Domain form) is = refl
 takes_port-special profile text (V4 value) is = refl
 takes_port-special profile text (V6 pieces) is = refl
@@ -132,10 +132,10 @@ authority_host-opaque : (parts : Parts) (text : List ℕ) → parts.host ≡ Non
     → authority_host parts ≡ Some (Opaque (encoded false text))
 authority_host-opaque parts text e spelled = rw (e, spelled) refl
 
--- class Special
-IsAuthority-special : (setting : Setting) (scheme text : List ℕ) (parts : Parts) → scheme_class scheme ≡ Special
-    → setting.default_port ≡ default_port scheme → FitsAuthority Special setting text parts
-    → IsAuthority setting.profile Special scheme parts
+-- class SpecialNotFile
+IsAuthority-special : (setting : Setting) (scheme text : List ℕ) (parts : Parts) → scheme_class scheme ≡ SpecialNotFile
+    → setting.default_port ≡ default_port scheme → FitsAuthority SpecialNotFile setting text parts
+    → IsAuthority setting.profile SpecialNotFile scheme parts
 IsAuthority-special setting scheme text parts class default fits =
     let takes : takes_port (scheme_class scheme) (Some fits.value) ≡ true
     = rw class (takes_port-special setting.profile text fits.value fits.host)
@@ -238,7 +238,7 @@ IsAuthority-other setting scheme text parts class default spelled (host, given, 
 pub IsAuthority-fits : (class : Class) (setting : Setting) (scheme text : List ℕ) (parts : Parts)
     → scheme_class scheme ≡ class → setting.default_port ≡ default_port scheme → parts.host_text ≡ Some text
     → FitsAuthority class setting text parts → IsAuthority setting.profile class scheme parts
-IsAuthority-fits Special setting scheme text parts same default spelled fits =
+IsAuthority-fits SpecialNotFile setting scheme text parts same default spelled fits =
     IsAuthority-special setting scheme text parts same default fits
 IsAuthority-fits File setting scheme text parts same default spelled fits =
     IsAuthority-file setting scheme text parts fits

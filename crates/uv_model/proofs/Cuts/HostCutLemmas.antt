@@ -115,7 +115,8 @@ word_passes test s q n c b text each =
     }
 
 -- a text of a domain's code points
-word_of_permitted : (profile : Profile) (text : List ℕ) → IsWritten profile → list_all (is_permitted profile) text ≡ true
+word_of_permitted : (profile : Profile) (text : List ℕ) → IsWritten profile
+    → list_all (is_permitted profile) text ≡ true
     → IsHostWord text
 word_of_permitted Standard text written permitted =
     word_passes (is_permitted Standard) refl refl refl refl refl text permitted

@@ -7,7 +7,7 @@ use Rattle.std.proofs.lemmas.Bool.{false≢true}
 use Rattle.uv_model.specs.declared.profile.Profile.{Profile}
 use Rattle.uv_model.specs.declared.profile.Profile.TheVariants.{Standard, Wide, Parser}
 use Rattle.uv_model.specs.declared.scheme.Class.{Class}
-use Rattle.uv_model.specs.declared.scheme.Class.TheVariants.{Special, File, Other}
+use Rattle.uv_model.specs.declared.scheme.Class.TheVariants.{SpecialNotFile, File, Other}
 use Rattle.uv_model.specs.declared.rule.Rule.{Rule}
 use Rattle.uv_model.specs.declared.rule.Rule.TheVariants.{NoScheme, OpaqueBase, TwoSlashes, FirstSegmentEmpty}
 use Rattle.uv_model.specs.declared.rule.Rule.TheVariants.{DriveAfterHost}
@@ -109,7 +109,7 @@ fits_any_base (Some url) parts some = inl some
 -- what follows `//` doesn't depend on it
 same_authority : (class : Class) (setting : Setting) (other : Option Url) (text : List ℕ) (parts : Parts)
     → FitsAuthority class setting text parts → FitsAuthority class (record setting { base = other }) text parts
-same_authority Special setting other text parts is = record {
+same_authority SpecialNotFile setting other text parts is = record {
   unstopped = is.unstopped;
   value = is.value;
   host = is.host;

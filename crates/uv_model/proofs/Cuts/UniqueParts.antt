@@ -8,7 +8,7 @@ use Rattle.std.proofs.lemmas.List.Splits.{slice_split_none, slice_split_at}
 use Rattle.uv_model.specs.declared.profile.Profile.{Profile}
 use Rattle.uv_model.specs.declared.profile.Profile.TheVariants.{Standard, Wide, Parser}
 use Rattle.uv_model.specs.declared.scheme.Class.{Class}
-use Rattle.uv_model.specs.declared.scheme.Class.TheVariants.{Special, File, Other}
+use Rattle.uv_model.specs.declared.scheme.Class.TheVariants.{SpecialNotFile, File, Other}
 use Rattle.uv_model.specs.declared.host.Host.{Host}
 use Rattle.uv_model.specs.Ascii.{slash}
 use Rattle.uv_model.specs.Path.{MayBePathSlashed, IsPathAbsolute, IsPathRelative, IsPathSlashed, JoinsTo, AreSegments}
@@ -160,7 +160,7 @@ no_host profile class host_text host absent none = rw absent none
 -- what follows `//` by the class
 denoted_by_class : (class : Class) (setting : Setting) (host_text : List ℕ) (parts : Parts)
     → FitsAuthority class setting host_text parts → AreDenoted setting class Authority (Some host_text) parts
-denoted_by_class Special setting host_text parts is = record {
+denoted_by_class SpecialNotFile setting host_text parts is = record {
   host = (is.value, is.host, is.valued);
   port = is.port;
   segments = may_be_segments parts.segments parts.path_text

@@ -7,7 +7,7 @@ use Rattle.std.proofs.lemmas.Bool.{false≢true, true≢false, and_from, and_par
 use Rattle.uv_model.specs.declared.profile.Profile.{Profile}
 use Rattle.uv_model.specs.declared.profile.Profile.TheVariants.{Standard, Wide, Parser}
 use Rattle.uv_model.specs.declared.scheme.Class.{Class}
-use Rattle.uv_model.specs.declared.scheme.Class.TheVariants.{Special, File, Other}
+use Rattle.uv_model.specs.declared.scheme.Class.TheVariants.{SpecialNotFile, File, Other}
 use Rattle.uv_model.specs.declared.host.Host.{Host}
 use Rattle.uv_model.specs.declared.host.Host.TheVariants.{Domain, V4, V6, Opaque, Empty}
 use Rattle.uv_model.specs.Ascii.{slash, colon, question_mark, number_sign}
@@ -50,7 +50,8 @@ written_numbers Parser text value written is = absurd written
 pub word_of_host : (profile : Profile) (text : List ℕ) (host : Host) → IsWritten profile
     → IsHostText profile text host → IsHostWord text
 word_of_host profile text (Domain form) written is = word_of_form profile text form written is.0
-word_of_host profile text (V4 value) written is = word_of_ipv4 text value (written_numbers profile text value written is)
+word_of_host profile text (V4 value) written is =
+    word_of_ipv4 text value (written_numbers profile text value written is)
 word_of_host profile text (V6 pieces) written is = word_of_ipv6 text pieces is
 word_of_host profile text (Opaque host) written is = absurd is
 word_of_host profile text Empty written is = absurd is
@@ -201,9 +202,10 @@ path_alone_end Parser segments text written path = absurd written
 fits_by_class : (class : Class) (setting : Setting) (host_text : List ℕ) (parts : Parts) → IsWritten setting.profile
     → FitsAuthority class setting host_text parts
     → MiddleFits class (Some host_text) parts.port_text parts.path_text
-fits_by_class Special setting host_text parts written is =
+fits_by_class SpecialNotFile setting host_text parts written is =
     let word = word_of_host setting.profile host_text is.value written is.host in
-    authority_fits Special host_text parts.port_text parts.path_text word is.port_text (word.ends parts.port_text)
+    authority_fits SpecialNotFile host_text parts.port_text parts.path_text word is.port_text
+    (word.ends parts.port_text)
     (path_behind parts.segments parts.path_text
     (slashed_or_none setting.profile parts.segments parts.path_text is.path))
 fits_by_class File setting host_text parts written (none, absent, inl named) =

@@ -8,7 +8,7 @@ use Rattle.std.specs.Str.Parse.{digits_value}
 use Rattle.uv_model.specs.declared.profile.Profile.{Profile}
 use Rattle.uv_model.specs.declared.profile.Profile.TheVariants.{Standard, Wide, Parser}
 use Rattle.uv_model.specs.declared.scheme.Class.{Class}
-use Rattle.uv_model.specs.declared.scheme.Class.TheVariants.{Special, File, Other}
+use Rattle.uv_model.specs.declared.scheme.Class.TheVariants.{SpecialNotFile, File, Other}
 use Rattle.uv_model.specs.declared.host.Host.{Host}
 use Rattle.uv_model.specs.declared.host.Host.TheVariants.{Domain, V4, V6, Opaque, Empty}
 use Rattle.uv_model.specs.Ascii.{question_mark, slash}
@@ -178,7 +178,7 @@ opaque_host_text hosts text (Some (V6 pieces)) = hosts.host Standard text (V6 pi
 opaque_host_text hosts text (Some _) = None
 opaque_host_text hosts text None = opaque_host text
 
--- what follows `//` in class Special
+-- what follows `//` in class SpecialNotFile
 abbrev special_authority : (hosts : HostDecisions) (setting : Setting) (text : List ℕ) (parts : Parts)
     → Option (IsSpecialAuthority setting text parts)
 special_authority hosts setting text parts =
@@ -193,7 +193,7 @@ special_authority hosts setting text parts =
       port = is.2.1;
       path = is.3;
     })
-    (all_four (is_false (is_stopped setting.profile Special (ends_at_host (texts_of parts)) text))
+    (all_four (is_false (is_stopped setting.profile SpecialNotFile (ends_at_host (texts_of parts)) text))
     (hosts.host setting.profile text value)
     (both (port_text parts.port_text)
     (same_option same_number parts.port (port_given setting.default_port parts.port_text)))
@@ -220,7 +220,7 @@ file_host_path hosts profile text parts =
 -- what follows `//`, by the class
 abbrev authority : (hosts : HostDecisions) (class : Class) (setting : Setting) (text : List ℕ) (parts : Parts)
     → Option (FitsAuthority class setting text parts)
-authority hosts Special setting text parts = special_authority hosts setting text parts
+authority hosts SpecialNotFile setting text parts = special_authority hosts setting text parts
 authority hosts File setting text parts =
     all_three (is_absent parts.port_text) (is_absent parts.port)
     (either (file_host_path hosts setting.profile text parts)

@@ -11,7 +11,7 @@ use Rattle.std.proofs.lemmas.Option.{none-some}
 use Rattle.uv_model.specs.declared.profile.Profile.{Profile}
 use Rattle.uv_model.specs.declared.profile.Profile.TheVariants.{Standard, Parser}
 use Rattle.uv_model.specs.declared.scheme.Class.{Class}
-use Rattle.uv_model.specs.declared.scheme.Class.TheVariants.{Special, File, Other}
+use Rattle.uv_model.specs.declared.scheme.Class.TheVariants.{SpecialNotFile, File, Other}
 use Rattle.uv_model.specs.declared.host.Host.{Host}
 use Rattle.uv_model.specs.declared.host.Host.TheVariants.{Empty}
 use Rattle.uv_model.specs.declared.rule.Rule.{Rule}
@@ -43,7 +43,7 @@ use Rattle.uv_model.proofs.Deciding.Decisions.{is_false, is_file_class, is_other
 use Rattle.uv_model.proofs.Deciding.Decisions.{other_number, other_text, present, proof_of, same_number, same_text}
 
 -- The decisions on host texts, in which the parsers of addresses take part: that a text is this host, and that a host
--- of class Special or File violates a rule.
+-- of class SpecialNotFile or File violates a rule.
 pub record HostDecisions : Type 0 where
   pub host : (profile : Profile) (text : List ℕ) (value : Host) → Option (IsHostText profile text value)
   pub violation :
@@ -152,7 +152,7 @@ started setting text cut =
 
 -- ---- the host
 
--- a code point that may not stand in an opaque host
+-- a code point that is not allowed in an opaque host
 abbrev foreign_host_at : (text : List ℕ) (place : ℕ) → Option (HasForeignHostCodePoint text place)
 foreign_host_at text place =
     at_place text place
@@ -163,7 +163,7 @@ foreign_host_at text place =
 abbrev opaque_host_violation : (hosts : HostDecisions) (text : List ℕ) (place : ℕ) (rule : Rule)
     → Option (OpaqueHostViolation text place rule)
 opaque_host_violation hosts text place HostIpv6 =
-    both (hosts.violation Standard Special false text HostIpv6) (same_number place 0)
+    both (hosts.violation Standard SpecialNotFile false text HostIpv6) (same_number place 0)
 opaque_host_violation hosts text place HostCodePoint =
     both (is_false (starts_with_bracket text)) (foreign_host_at text place)
 opaque_host_violation hosts text place Percent =
@@ -179,7 +179,7 @@ lacks_file_host _ host_text path_text = both (same_text host_text []) (is_false 
 -- the host is missing
 abbrev lacks_host : (profile : Profile) (class : Class) (host_text : List ℕ) (port_text : Option (List ℕ))
     (path_text : List ℕ) → Option (LacksHost profile class host_text port_text path_text)
-lacks_host profile Special host_text port_text path_text = same_text host_text []
+lacks_host profile SpecialNotFile host_text port_text path_text = same_text host_text []
 lacks_host profile File host_text port_text path_text = lacks_file_host profile host_text path_text
 lacks_host profile Other host_text port_text path_text =
     both (same_text host_text []) (is_true (is_some port_text))

@@ -7,7 +7,7 @@ use Rattle.std.specs.Str.{bytes_eq}
 use Rattle.std.proofs.lemmas.Bool.{false≢true}
 use Rattle.std.proofs.lemmas.Slice.Eq.{bytes_eq-Decides}
 use Rattle.uv_model.specs.declared.scheme.Class.{Class}
-use Rattle.uv_model.specs.declared.scheme.Class.TheVariants.{Special, File, Other}
+use Rattle.uv_model.specs.declared.scheme.Class.TheVariants.{SpecialNotFile, File, Other}
 
 -- what a decision finds is proved
 pub proof_of : {A : Type 0} → (decision : Option A) → IsSome decision → A
@@ -125,17 +125,17 @@ same_option same (Some a) (Some b) = option_map (λ is. ap Some is) (same a b)
 -- the class is File
 abbrev pub is_file_class : (class : Class) → Option (class ≡ File)
 is_file_class File = Some refl
-is_file_class Special = None
+is_file_class SpecialNotFile = None
 is_file_class Other = None
 
 -- the class is Other
 abbrev pub is_other_class : (class : Class) → Option (class ≡ Other)
 is_other_class Other = Some refl
-is_other_class Special = None
+is_other_class SpecialNotFile = None
 is_other_class File = None
 
--- Special is another class than Other
-pub special_not_other : Special ≢ Other
+-- SpecialNotFile is another class than Other
+pub special_not_other : SpecialNotFile ≢ Other
 special_not_other same = cc
 
 -- and so is File
@@ -145,5 +145,5 @@ file_not_other same = cc
 -- the class isn't Other
 abbrev pub isnt_other_class : (class : Class) → Option (class ≢ Other)
 isnt_other_class Other = None
-isnt_other_class Special = Some special_not_other
+isnt_other_class SpecialNotFile = Some special_not_other
 isnt_other_class File = Some file_not_other

@@ -4,7 +4,7 @@ use Rattle.std.proofs.lemmas.Bool.{true≢false}
 use Rattle.uv_model.specs.declared.profile.Profile.{Profile}
 use Rattle.uv_model.specs.declared.profile.Profile.TheVariants.{Standard}
 use Rattle.uv_model.specs.declared.scheme.Class.{Class}
-use Rattle.uv_model.specs.declared.scheme.Class.TheVariants.{Special, File, Other}
+use Rattle.uv_model.specs.declared.scheme.Class.TheVariants.{SpecialNotFile, File, Other}
 use Rattle.uv_model.specs.declared.host.Host.{Host}
 use Rattle.uv_model.specs.declared.host.Host.TheVariants.{Domain, V4, V6, Opaque, Empty}
 use Rattle.uv_model.specs.Hosts.Address.{IsBracketedIpv6}
@@ -105,7 +105,7 @@ opaque_not_empty text (Some Empty) is nothing = is
 -- the host of a host text by the class
 abbrev pub HasHost : Profile → Class → Option (List ℕ) → Option Host → Type 0
 HasHost profile class None host = host ≡ None
-HasHost profile Special (Some text) host = (value : Host) × IsHostText profile text value × (host ≡ Some value)
+HasHost profile SpecialNotFile (Some text) host = (value : Host) × IsHostText profile text value × (host ≡ Some value)
 HasHost profile File (Some text) host =
     ((value : Host) × IsFileHostText profile text value × (host ≡ Some value)) ⊎ ((text ≡ []) × (host ≡ Some Empty))
 HasHost profile Other (Some text) host = IsOpaqueHostText text host ⊎ ((text ≡ []) × (host ≡ Some Empty))
@@ -114,7 +114,7 @@ HasHost profile Other (Some text) host = IsOpaqueHostText text host ⊎ ((text �
 pub one_host : (profile : Profile) (class : Class) (text : Option (List ℕ)) (host other : Option Host)
     → HasHost profile class text host → HasHost profile class text other → host ≡ other
 one_host profile class None host other is is' = is ∙ sym is'
-one_host profile Special (Some text) host other (a, is, e) (b, is', e') =
+one_host profile SpecialNotFile (Some text) host other (a, is, e) (b, is', e') =
     e ∙ ap Some (host_unique profile text a b is is') ∙ sym e'
 one_host profile File (Some text) host other (inl (a, is, e)) (inl (b, is', e')) =
     e ∙ ap Some (file_host_unique profile text a b is is') ∙ sym e'

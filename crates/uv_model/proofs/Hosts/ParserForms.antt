@@ -23,7 +23,7 @@ use Rattle.percent_encoding.proofs.PercentLemmas.{percent_decode-nil, percent_de
 use Rattle.uv_model.specs.declared.profile.Profile.{Profile}
 use Rattle.uv_model.specs.declared.profile.Profile.TheVariants.{Standard, Wide, Parser}
 use Rattle.uv_model.specs.declared.scheme.Class.{Class}
-use Rattle.uv_model.specs.declared.scheme.Class.TheVariants.{Special, File, Other}
+use Rattle.uv_model.specs.declared.scheme.Class.TheVariants.{SpecialNotFile, File, Other}
 use Rattle.uv_model.specs.declared.host.Host.{Host}
 use Rattle.uv_model.specs.declared.host.Host.TheVariants.{Domain, V4, V6, Opaque, Empty}
 use Rattle.uv_model.specs.Ascii.{at_sign, backslash, colon, full_stop, left_bracket, percent_sign, right_bracket}
@@ -174,7 +174,7 @@ ipv4_by_profile Parser text value is = wide_ipv4_are_parsers text value is
 
 -- ---- hosts
 
--- a host of class Special
+-- a host of class SpecialNotFile
 pub wide_hosts_are_parsers : (text : List ℕ) (value : Host) → IsHostText Wide text value → IsHostText Parser text value
 wide_hosts_are_parsers text (Domain form) is = wide_domains_are_parsers text form is
 wide_hosts_are_parsers text (V4 value) is = wide_ipv4_are_parsers text value is
@@ -199,7 +199,7 @@ is_going c = nat_lt 0x20 c && (not (c == at_sign) && not (c == backslash))
 
 -- such a code point doesn't stop the parser
 going_on : (class : Class) (c : ℕ) → is_going c ≡ true → is_stopping class c ≡ false
-going_on Special c is = grind (arith, nat_tests)
+going_on SpecialNotFile c is = grind (arith, nat_tests)
 going_on File c is = grind (arith, nat_tests)
 going_on Other c is = grind (arith, nat_tests)
 
@@ -225,7 +225,7 @@ going_has_no_stop class last text each =
 pub going_not_stopped : (profile : Profile) (class : Class) (last : Bool) (text : List ℕ)
     → list_all is_going text ≡ true
     → is_drive_letter text ≡ false → is_stopped profile class last text ≡ false
-going_not_stopped Parser Special last text each drive = going_has_no_stop Special last text each
+going_not_stopped Parser SpecialNotFile last text each drive = going_has_no_stop SpecialNotFile last text each
 going_not_stopped Parser File last text each drive = or_from _ _ drive (going_has_no_stop File last text each)
 going_not_stopped Parser Other last text each drive = refl
 going_not_stopped Standard class last text each drive = refl
@@ -291,7 +291,8 @@ inner_numbers a b c d text is =
 -- so are hex digits
 inner_digits : (text : List ℕ) → list_all is_ascii_hexdigit text ≡ true → list_all is_inner text ≡ true
 inner_digits text is =
-    passes-weaker is_ascii_hexdigit is_inner (λ c hex. or_left (is_ascii_hexdigit c) ((c == colon) || (c == full_stop)) hex)
+    passes-weaker is_ascii_hexdigit is_inner (λ c hex. or_left (is_ascii_hexdigit c) ((c == colon) || (c == full_stop))
+    hex)
     text is
 
 -- lists of groups

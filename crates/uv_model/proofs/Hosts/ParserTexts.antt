@@ -5,7 +5,7 @@ use Rattle.std.proofs.lemmas.Bool.{and_from, and_parts}
 use Rattle.std.proofs.lemmas.Bool.Decides.{nat_tests}
 use Rattle.uv_model.specs.declared.profile.Profile.TheVariants.{Wide, Parser}
 use Rattle.uv_model.specs.declared.scheme.Class.{Class}
-use Rattle.uv_model.specs.declared.scheme.Class.TheVariants.{Special, File, Other}
+use Rattle.uv_model.specs.declared.scheme.Class.TheVariants.{SpecialNotFile, File, Other}
 use Rattle.uv_model.specs.declared.host.Host.{Host}
 use Rattle.uv_model.specs.declared.host.Host.TheVariants.{Domain, V4, V6, Opaque, Empty}
 use Rattle.uv_model.specs.declared.path.UrlPath.{UrlPath}
@@ -44,8 +44,8 @@ taken_path followed segments text path = record {
 parsers_authority : (class : Class) (base : Option Url) (scheme : Option (List ℕ)) (host_text : List ℕ) (parts : Parts)
     → FitsAuthority class (setting_of Wide base scheme) host_text parts
     → FitsAuthority class (setting_of Parser base scheme) host_text parts
-parsers_authority Special base scheme host_text parts is = record {
-  unstopped = wide_host_not_stopped Special (ends_at_host (texts_of parts)) host_text is.value is.host;
+parsers_authority SpecialNotFile base scheme host_text parts is = record {
+  unstopped = wide_host_not_stopped SpecialNotFile (ends_at_host (texts_of parts)) host_text is.value is.host;
   value = is.value;
   host = wide_hosts_are_parsers host_text is.value is.host;
   valued = is.valued;
@@ -138,12 +138,12 @@ parsers_domain form is = record {
 
 -- a host
 parsers_url_host : (class : Class) (host : Option Host) → IsUrlHost Wide class host → IsUrlHost Parser class host
-parsers_url_host Special (Some (Domain form)) is = parsers_domain form is
-parsers_url_host Special (Some (V4 value)) is = is
-parsers_url_host Special (Some (V6 pieces)) is = is
-parsers_url_host Special (Some (Opaque text)) is = is
-parsers_url_host Special (Some Empty) is = is
-parsers_url_host Special None is = is
+parsers_url_host SpecialNotFile (Some (Domain form)) is = parsers_domain form is
+parsers_url_host SpecialNotFile (Some (V4 value)) is = is
+parsers_url_host SpecialNotFile (Some (V6 pieces)) is = is
+parsers_url_host SpecialNotFile (Some (Opaque text)) is = is
+parsers_url_host SpecialNotFile (Some Empty) is = is
+parsers_url_host SpecialNotFile None is = is
 parsers_url_host File (Some (Domain form)) is = (parsers_domain form is.0, is.1)
 parsers_url_host File (Some (V4 value)) is = is
 parsers_url_host File (Some (V6 pieces)) is = is

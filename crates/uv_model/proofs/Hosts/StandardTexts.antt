@@ -4,7 +4,7 @@ use Rattle.std.specs.List.{list_all}
 use Rattle.std.proofs.lemmas.Bool.{and_from, and_parts}
 use Rattle.uv_model.specs.declared.profile.Profile.TheVariants.{Standard, Wide}
 use Rattle.uv_model.specs.declared.scheme.Class.{Class}
-use Rattle.uv_model.specs.declared.scheme.Class.TheVariants.{Special, File, Other}
+use Rattle.uv_model.specs.declared.scheme.Class.TheVariants.{SpecialNotFile, File, Other}
 use Rattle.uv_model.specs.declared.host.Host.{Host}
 use Rattle.uv_model.specs.declared.host.Host.TheVariants.{Domain, V4, V6, Empty}
 use Rattle.uv_model.specs.declared.host.Host.TheVariants as host
@@ -24,7 +24,7 @@ use Rattle.uv_model.proofs.Paths.SlashedPaths.{slashed_absolute}
 
 -- ---- texts
 
--- a host of class Special
+-- a host of class SpecialNotFile
 wide_host : (text : List ℕ) (value : Host) → IsHostText Standard text value → IsHostText Wide text value
 wide_host text (Domain form) is = standard_domains_are_wide text form is
 wide_host text (V4 value) is = is
@@ -50,7 +50,7 @@ wide_path segments text (inr path) = inr (slashed_absolute segments text path)
 wide_authority : (class : Class) (base : Option Url) (scheme : Option (List ℕ)) (host_text : List ℕ) (parts : Parts)
     → FitsAuthority class (setting_of Standard base scheme) host_text parts
     → FitsAuthority class (setting_of Wide base scheme) host_text parts
-wide_authority Special base scheme host_text parts is = record {
+wide_authority SpecialNotFile base scheme host_text parts is = record {
   unstopped = refl;
   value = is.value;
   host = wide_host host_text is.value is.host;
@@ -133,12 +133,12 @@ wide_domain form is = record {
 
 -- a host
 wide_url_host : (class : Class) (host : Option Host) → IsUrlHost Standard class host → IsUrlHost Wide class host
-wide_url_host Special (Some (Domain form)) is = wide_domain form is
-wide_url_host Special (Some (V4 value)) is = is
-wide_url_host Special (Some (V6 pieces)) is = is
-wide_url_host Special (Some (host.Opaque text)) is = is
-wide_url_host Special (Some Empty) is = is
-wide_url_host Special None is = is
+wide_url_host SpecialNotFile (Some (Domain form)) is = wide_domain form is
+wide_url_host SpecialNotFile (Some (V4 value)) is = is
+wide_url_host SpecialNotFile (Some (V6 pieces)) is = is
+wide_url_host SpecialNotFile (Some (host.Opaque text)) is = is
+wide_url_host SpecialNotFile (Some Empty) is = is
+wide_url_host SpecialNotFile None is = is
 wide_url_host File (Some (Domain form)) is = (wide_domain form is.0, is.1)
 wide_url_host File (Some (V4 value)) is = is
 wide_url_host File (Some (V6 pieces)) is = is

@@ -1,5 +1,6 @@
 -- Texts of paths of segments, each behind a `/`.
-use Rattle.std.proofs.Common.{◌≡◌, ◌≢◌, ℕ, ◌+◌, ◌<◌, suc, Bool, true, false, ◌==◌, List, [], ◌∷◌, ◌++◌, All, Option, Some}
+use Rattle.std.proofs.Common.{◌≡◌, ◌≢◌, ℕ, ◌+◌, ◌<◌, suc, Bool, true, false, ◌==◌, List, [], ◌∷◌, ◌++◌, All, Option}
+use Rattle.std.proofs.Common.{Some}
 use Rattle.std.proofs.Common.{None, Result, Ok, Err, refl, sym, ap, ◌∙◌, subst, inl, inr, eqb-true, ne_eqb, lit<, arith}
 use Rattle.std.proofs.Common.{length, get_or, take, drop, drop-cons, take-append-drop, length-drop, get_or-drop}
 use Rattle.std.proofs.Common.{append_assoc}
@@ -23,7 +24,8 @@ use Rattle.uv_model.proofs.Paths.PathPieces.{splits_first}
 -- ---- the texts between slashes
 
 -- the first of them takes one more code point
-onto_first-append : (c : ℕ) (parts others : List (List ℕ)) (first : List ℕ) (rest : List (List ℕ)) → parts ≡ first ∷ rest
+onto_first-append : (c : ℕ) (parts others : List (List ℕ)) (first : List ℕ) (rest : List (List ℕ))
+    → parts ≡ first ∷ rest
     → onto_first c (parts ++ others) ≡ onto_first c parts ++ others
 onto_first-append c parts others first rest is = rw is refl
 
@@ -105,10 +107,15 @@ without_last-push (first ∷ next ∷ rest) last = ap (λ s. first ∷ s) (witho
 pub before_last : (text front last : List ℕ) → IsPathText text → text ≡ front ++ (slash ∷ last)
     → IsAscii front → is_without slash last ≡ true → IsTextOf (without_last (segments_behind text)) front
 before_last text front last is whole ascii none = record {
-  path = record { ascii = ascii; start = λ some. starts front some (ap starts_with_slash (sym whole) ∙ is.start (filled front whole)) };
+  path = record {
+    ascii = ascii;
+    start = λ some. starts front some
+        (ap starts_with_slash (sym whole) ∙ is.start (filled front whole));
+  };
   behind =
       sym (ap (λ t. without_last (segments_behind t)) whole
-      ∙ ap without_last (segments_behind-append front last ∙ ap (λ s. segments_behind front ++ s) (pieces-one last none))
+      ∙ ap without_last (segments_behind-append front last ∙ ap (λ s. segments_behind front ++ s)
+      (pieces-one last none))
       ∙ without_last-push (segments_behind front) last);
 }
   where
@@ -149,7 +156,8 @@ cut_path text front end is inside here later cut =
     let size = length-drop (suc end) text in
     rw cut (before_last text (take end text) (drop (suc end) text) is whole (IsAscii-take text end is.ascii)
     (without_at (drop (suc end) text) (λ i within e.
-    later (suc end + i) (omega arith) (omega (arith, size, within, inside)) (sym (get_or-drop (suc end) text i 0) ∙ e))))
+    later (suc end + i) (omega arith) (omega (arith, size, within, inside))
+    (sym (get_or-drop (suc end) text i 0) ∙ e))))
 
 -- what stands behind the `/` at its start
 pub behind_start : (text : List ℕ) (rest : Option (Bor (List ℕ))) → IsPathText text

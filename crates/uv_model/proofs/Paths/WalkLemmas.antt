@@ -3,7 +3,7 @@ use Rattle.std.proofs.Common.{◌≡◌, ℕ, Bool, true, false, List, [], ◌�
 use Rattle.std.specs.Prelude.{if◌then◌else◌}
 use Rattle.std.proofs.lemmas.Bool.{cases_Bool}
 use Rattle.uv_model.specs.declared.scheme.Class.{Class}
-use Rattle.uv_model.specs.declared.scheme.Class.TheVariants.{Special, File, Other}
+use Rattle.uv_model.specs.declared.scheme.Class.TheVariants.{SpecialNotFile, File, Other}
 use Rattle.uv_model.specs.Encoding.{encoded}
 use Rattle.uv_model.specs.Path.{AreSegments, IsSegment, is_double_dot, is_lone_drive, is_single_dot, shorten, walk}
 use Rattle.uv_model.specs.Path.{walk_one, without_last}
@@ -26,7 +26,7 @@ AreUrlSegments-without_last (segment ∷ next ∷ rest) are = (are.0, AreUrlSegm
 -- a shortened path
 pub AreUrlSegments-shorten : (class : Class) (path : List (List ℕ)) → AreUrlSegments path
     → AreUrlSegments (shorten class path)
-AreUrlSegments-shorten Special path are = AreUrlSegments-without_last path are
+AreUrlSegments-shorten SpecialNotFile path are = AreUrlSegments-without_last path are
 AreUrlSegments-shorten Other path are = AreUrlSegments-without_last path are
 AreUrlSegments-shorten File path are =
     elim (cases_Bool (is_lone_drive path)) [

@@ -6,12 +6,13 @@ use Rattle.std.proofs.lemmas.Bool.{cases_Bool, false≢true}
 use Rattle.uv_model.specs.declared.profile.Profile.{Profile}
 use Rattle.uv_model.specs.declared.profile.Profile.TheVariants.{Standard, Wide, Parser}
 use Rattle.uv_model.specs.declared.scheme.Class.{Class}
-use Rattle.uv_model.specs.declared.scheme.Class.TheVariants.{Special, File, Other}
+use Rattle.uv_model.specs.declared.scheme.Class.TheVariants.{SpecialNotFile, File, Other}
 use Rattle.uv_model.specs.declared.host.Host.{Host}
 use Rattle.uv_model.specs.declared.path.UrlPath.{UrlPath}
 use Rattle.uv_model.specs.declared.path.UrlPath.TheVariants.{Opaque, Segments}
 use Rattle.uv_model.specs.Records.Denote.{authority_host, authority_path, denote, denoted_host, denoted_path}
-use Rattle.uv_model.specs.Records.Denote.{denoted_port, denoted_query, denoted_scheme, end_escaped, has_tail, kept_drive}
+use Rattle.uv_model.specs.Records.Denote.{denoted_port, denoted_query, denoted_scheme, end_escaped, has_tail}
+use Rattle.uv_model.specs.Records.Denote.{kept_drive}
 use Rattle.uv_model.specs.Records.Denote.{listed_segments}
 use Rattle.uv_model.specs.Encoding.{encoded}
 use Rattle.uv_model.specs.Parts.{Form, Parts, SchemeAuthority, SchemePath, SchemeOpaque, Authority, PathAbsolute}
@@ -21,7 +22,8 @@ use Rattle.uv_model.specs.Setting.{setting_of}
 use Rattle.uv_model.specs.Records.Url.{Url}
 use Rattle.uv_model.specs.Valid.{FitsBase, FitsForm, FitsScheme, HasAuthority, IsOpaquePath, MayBeUnits, Valid}
 use Rattle.uv_model.specs.Valid.{scheme_in}
-use Rattle.uv_model.specs.Records.WellFormed.{AreUrlSegments, IsUrlHost, IsUrlOpaquePath, IsUrlPath, IsUrlPort, IsUrlQuery}
+use Rattle.uv_model.specs.Records.WellFormed.{AreUrlSegments, IsUrlHost, IsUrlOpaquePath, IsUrlPath, IsUrlPort}
+use Rattle.uv_model.specs.Records.WellFormed.{IsUrlQuery}
 use Rattle.uv_model.specs.Records.WellFormed.{IsUrlScheme, MayBeWellFormed, WellFormed}
 use Rattle.uv_model.specs.Laws.Wholes.{DenotedRecordsAreWellFormed}
 use Rattle.uv_model.specs.Path.{IsPathAbsolute, IsPathRelative, is_drive_letter, is_normalized_drive_letter, shorten}
@@ -247,7 +249,7 @@ AreUrlSegments-base profile class host (Segments (segment ∷ rest)) is = is
 -- the drive letter that is kept of them
 AreUrlSegments-kept_drive : (class : Class) (path segments : List (List ℕ)) → AreUrlSegments path
     → AreUrlSegments (kept_drive class path segments)
-AreUrlSegments-kept_drive Special path segments are = tt
+AreUrlSegments-kept_drive SpecialNotFile path segments are = tt
 AreUrlSegments-kept_drive Other path segments are = tt
 AreUrlSegments-kept_drive File [] segments are = tt
 AreUrlSegments-kept_drive File (drive ∷ others) [] are = tt
@@ -261,7 +263,8 @@ AreUrlSegments-kept_drive File (drive ∷ others) (first ∷ rest) are =
 pub AreDenoted-reference : (profile : Profile) (url : Url) (form : Form) (parts : Parts) → WellFormed profile url
     → parts.scheme ≡ None
     → denoted_host (Some url) form parts ≡ url.host → denoted_port (Some url) form parts ≡ url.port
-    → IsUrlPath profile (scheme_class url.scheme) url.host (denoted_path (Some url) (scheme_class url.scheme) form parts)
+    → IsUrlPath profile (scheme_class url.scheme) url.host
+    (denoted_path (Some url) (scheme_class url.scheme) form parts)
     → MayBeUnits parts.query → AreDenoted profile (Some url) (scheme_class (scheme_in (Some url) parts)) form parts
 AreDenoted-reference profile url form parts base none host port path query =
     subst (λ (class : Class). AreDenoted profile (Some url) class form parts) (sym (class-reference url parts none))
@@ -282,7 +285,8 @@ IsUrlPath-absolute profile url parts base path =
     let class : Class = scheme_class url.scheme in
     let segments : List (List ℕ) = listed_segments url.path in
     let start : AreUrlSegments (kept_drive class segments parts.segments)
-    = AreUrlSegments-kept_drive class segments parts.segments (AreUrlSegments-base profile class url.host url.path base.path)
+    = AreUrlSegments-kept_drive class segments parts.segments
+    (AreUrlSegments-base profile class url.host url.path base.path)
     in
     IsUrlPath-joined profile class url.host (kept_drive class segments parts.segments) parts.segments path.behind start
     path.relative.joins

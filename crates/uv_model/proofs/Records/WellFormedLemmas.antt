@@ -9,7 +9,7 @@ use Rattle.std.specs.Fmt.{digit_glyph}
 use Rattle.std.proofs.lemmas.Bool.{agree_below_at, and_from, and_parts, cases_Bool, false≢true, not-true, true≢false}
 use Rattle.std.proofs.lemmas.List.Sums.{list_all-from_AllPass}
 use Rattle.uv_model.specs.declared.scheme.Class.{Class}
-use Rattle.uv_model.specs.declared.scheme.Class.TheVariants.{Special, File, Other}
+use Rattle.uv_model.specs.declared.scheme.Class.TheVariants.{SpecialNotFile, File, Other}
 use Rattle.uv_model.specs.Ascii.{question_mark, slash}
 use Rattle.uv_model.specs.Records.Denote.{quotes}
 use Rattle.uv_model.specs.Encoding.{encoded}
@@ -45,7 +45,7 @@ IsAsciiUnits-encoded quote text units =
 -- the query of a valid text, encoded by the class
 pub IsUrlQuery-encoded : (class : Class) (query : List ℕ) → IsUnits query
     → IsUrlQuery class (Some (encoded (quotes class) query))
-IsUrlQuery-encoded Special query units = (IsAsciiUnits-encoded true query units, no_apostrophe-encoded query)
+IsUrlQuery-encoded SpecialNotFile query units = (IsAsciiUnits-encoded true query units, no_apostrophe-encoded query)
 IsUrlQuery-encoded File query units = (IsAsciiUnits-encoded true query units, no_apostrophe-encoded query)
 IsUrlQuery-encoded Other query units = IsAsciiUnits-encoded false query units
 

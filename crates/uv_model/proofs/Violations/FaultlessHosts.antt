@@ -67,7 +67,7 @@ form_no_bracket Standard text form is = written_no_bracket Standard text form tt
 form_no_bracket Wide text form is = written_no_bracket Wide text form tt is
 form_no_bracket Parser text form is = is.0
 
--- ---- hosts of classes Special and File
+-- ---- hosts of classes SpecialNotFile and File
 
 -- a valid host isn't empty
 pub host_not_empty : (profile : Profile) (text : List ℕ) (host : Host) → IsHostText profile text host → text ≢ []
@@ -106,7 +106,7 @@ host_text_faultless profile class last text (V6 pieces) free is _ h = h
 host_text_faultless profile class last text (Opaque host) free is rule h = is
 host_text_faultless profile class last text Empty free is rule h = is
 
--- a valid host of a file URL is one of a URL of class Special
+-- a valid host of a file URL is one of a URL of class SpecialNotFile
 pub file_host_is_host : (profile : Profile) (text : List ℕ) (host : Host) → IsFileHostText profile text host
     → (other : Host) × IsHostText profile text other
 file_host_is_host profile text (Domain form) is = (Domain form, is.0)

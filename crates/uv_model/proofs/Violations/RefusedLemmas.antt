@@ -101,7 +101,8 @@ path_begins setting cut =
 path_start_all_begin : (setting : Setting) (cut : Cut) → Begins (FromPathStart setting cut) (path_place cut) 11
 path_start_all_begin setting cut =
     begins_either (OfPathStart setting cut) (FromPath setting cut) (path_place cut) 11 (path_start_begins setting cut)
-    (begins_earlier (FromPath setting cut) _ 13 (path_place cut) 11 (path_begins setting cut) (omega arith) (omega arith))
+    (begins_earlier (FromPath setting cut) _ 13 (path_place cut) 11 (path_begins setting cut) (omega arith)
+    (omega arith))
 
 port_all_begin : (setting : Setting) (cut : Cut) → Begins (FromPort setting cut) (host_end cut) 9
 port_all_begin setting cut =
@@ -128,7 +129,8 @@ path_first setting cut =
 -- the path's start before what the path holds
 pub path_start_first : (setting : Setting) (cut : Cut) → Precedes (OfPathStart setting cut) (FromPath setting cut)
 path_start_first setting cut =
-    precedes (OfPathStart setting cut) (FromPath setting cut) (path_place cut + second_slash cut.path_text) 12 13 (omega arith)
+    precedes (OfPathStart setting cut) (FromPath setting cut) (path_place cut + second_slash cut.path_text) 12 13
+    (omega arith)
     (path_start_ends setting cut) (path_begins setting cut)
 
 -- the port before the path's start

@@ -1,15 +1,16 @@
 -- The violations of a path by what it holds: those of units, and in an opaque path of the parser's profile all of these
 -- but the spaces that it takes.
-use Rattle.std.proofs.Common.{◌≡◌, ◌≢◌, ℕ, zero, suc, Bool, true, false, ◌||◌, ◌==◌, List, [], ◌∷◌, drop, refl, sym}
+use Rattle.std.proofs.Common.{◌≡◌, ℕ, zero, suc, Bool, true, false, ◌||◌, ◌==◌, List, [], ◌∷◌, drop, refl, sym, ap}
 use Rattle.std.proofs.Common.{◌∙◌, inl, inr, eqb-true}
-use Rattle.std.proofs.lemmas.Bool.{false≢true, and_parts, and_from, cases_Bool, true_from_ne_false}
+use Rattle.std.proofs.lemmas.Bool.{false≢true, and_parts, and_from, cases_Bool, false_from_ne_true, true_from_ne_false}
 use Rattle.uv_model.specs.declared.profile.Profile.{Profile}
 use Rattle.uv_model.specs.declared.profile.Profile.TheVariants.{Standard, Wide, Parser}
 use Rattle.uv_model.specs.declared.rule.Rule.{Rule}
 use Rattle.uv_model.specs.Ascii.{space}
 use Rattle.uv_model.specs.Path.{IsTakenSpacedPath, ends_with_space, is_spaced}
 use Rattle.uv_model.specs.Units.{is_unit_at, is_url_code_point}
-use Rattle.uv_model.specs.Violations.UnitViolation.{IsTakenSpace, PathUnitViolation, UnitViolation, unit_rule}
+use Rattle.uv_model.specs.Violations.UnitViolation.{IsTakenSpace, PathUnitViolation, UnitViolation, only_spaces}
+use Rattle.uv_model.specs.Violations.UnitViolation.{unit_rule}
 use Rattle.uv_model.proofs.Violations.UnitViolationLemmas.{UnitViolation-earlier, UnitViolation-here}
 use Rattle.uv_model.proofs.Violations.UnitViolationLemmas.{UnitViolation-later, UnitViolation-nil, UnitViolation-said}
 
@@ -44,15 +45,25 @@ space_at (c ∷ rest) (suc place) rule spaced h =
     space_at rest place rule (and_parts ((c == space) || is_unit_at c rest) (is_spaced rest) spaced).1
     (UnitViolation-earlier c rest place rule h)
 
--- a space that nothing follows ends the text
-last_space : (text : List ℕ) (place : ℕ) → drop place text ≡ space ∷ [] → ends_with_space text ≡ true
-last_space [] zero here = absurd cc
-last_space [] (suc place) here = absurd cc
-last_space (c ∷ []) zero here = (let same : c ≡ space = cc in rw same refl)
-last_space (c ∷ []) (suc zero) here = absurd cc
-last_space (c ∷ []) (suc (suc place)) here = absurd cc
-last_space (c ∷ next ∷ rest) zero here = absurd cc
-last_space (c ∷ next ∷ rest) (suc place) here = last_space (next ∷ rest) place here
+-- a text of spaces ends with one
+spaces_end : (c : ℕ) (rest : List ℕ) → (c == space) ≡ true → only_spaces rest ≡ true → ends_with_space (c ∷ rest) ≡ true
+spaces_end c [] is only = is
+spaces_end c (next ∷ rest) is only =
+    let parts = and_parts (next == space) (only_spaces rest) only in
+    spaces_end next rest parts.0 parts.1
+
+-- a space that spaces alone follow is one of the text's end
+last_spaces : (text : List ℕ) (place : ℕ) (after : List ℕ) → drop place text ≡ space ∷ after
+    → only_spaces after ≡ true → ends_with_space text ≡ true
+last_spaces [] zero after here only = absurd cc
+last_spaces [] (suc place) after here only = absurd cc
+last_spaces (c ∷ rest) zero after here only =
+    let same : c ≡ space = cc in
+    let left : rest ≡ after = cc in
+    spaces_end c rest (rw same refl) (ap only_spaces left ∙ only)
+last_spaces (c ∷ []) (suc zero) after here only = absurd cc
+last_spaces (c ∷ []) (suc (suc place)) after here only = absurd cc
+last_spaces (c ∷ next ∷ rest) (suc place) after here only = last_spaces (next ∷ rest) place after here only
 
 -- an opaque path that the parser takes has no violation
 pub taken_faultless : (followed : Bool) (text : List ℕ) → IsTakenSpacedPath followed text → (place : ℕ) (rule : Rule)
@@ -61,9 +72,10 @@ taken_faultless followed text is place rule (unit, foreign) =
     let (rest, here) = space_at text place rule is.spaced.units unit in
     foreign (record { rest = rest; here = here; behind = behind rest here })
   where
-    behind : (rest : List ℕ) → drop place text ≡ space ∷ rest → followed ≡ false → rest ≢ []
-    behind rest here alone nothing =
-        false≢true (sym (is.end alone) ∙ last_space text place (rw nothing at here))
+    behind : (rest : List ℕ) → drop place text ≡ space ∷ rest → followed ≡ false → only_spaces rest ≡ false
+    behind rest here alone =
+        false_from_ne_true (only_spaces rest)
+        (λ only. false≢true (sym (is.end alone) ∙ last_spaces text place rest here only))
 
 -- ---- a path without a violation
 
@@ -114,7 +126,7 @@ unspaced_end_without_violation followed (c ∷ []) none alone = elim (cases_Bool
       let is : c ≡ space = eqb-true c space same in
       absurd (none 0 (unit_rule space) (
         rw is (space_violates []),
-        λ taken. let rest : [] ≡ taken.rest = cc in taken.behind alone (sym rest),
+        λ taken. let none : taken.rest ≡ [] = cc in false≢true (sym (taken.behind alone) ∙ ap only_spaces none),
       ))
   | inr other ↦ other
 ]

@@ -7,7 +7,7 @@ use Rattle.std.proofs.lemmas.List.{length-append, length-drop}
 use Rattle.uv_model.specs.declared.profile.Profile.{Profile}
 use Rattle.uv_model.specs.declared.profile.Profile.TheVariants.{Standard, Wide, Parser}
 use Rattle.uv_model.specs.declared.scheme.Class.{Class}
-use Rattle.uv_model.specs.declared.scheme.Class.TheVariants.{Special, File, Other}
+use Rattle.uv_model.specs.declared.scheme.Class.TheVariants.{SpecialNotFile, File, Other}
 use Rattle.uv_model.specs.declared.rule.Rule.{Rule}
 use Rattle.uv_model.specs.declared.rule.Rule.TheVariants.{NoScheme, OpaqueBase, TwoSlashes, HostMissing, HostDomain}
 use Rattle.uv_model.specs.declared.rule.Rule.TheVariants.{HostNumber, HostIpv6, HostCodePoint, PortDigit, PortRange}
@@ -88,8 +88,8 @@ host_text_some profile class last text _ h = absurd h
 held_host_within : (profile : Profile) (class : Class) (last : Bool) (text : List ℕ) (place : ℕ) (rule : Rule)
     → HostContentViolation profile class last text place rule
     → place < length text
-held_host_within profile Special last text place rule (h, at) =
-    (let some = host_text_some profile Special last text rule h in omega arith)
+held_host_within profile SpecialNotFile last text place rule (h, at) =
+    (let some = host_text_some profile SpecialNotFile last text rule h in omega arith)
 held_host_within profile File last text place rule (h, at) =
     (let some = host_text_some profile File last text rule h in omega arith)
 held_host_within profile Other last text place rule h = opaque_violation_within text place rule h

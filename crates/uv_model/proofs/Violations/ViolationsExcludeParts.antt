@@ -1,12 +1,13 @@
 -- A valid text has no violation.
-use Rattle.std.proofs.Common.{◌≡◌, ◌≢◌, ℕ, Bool, true, false, List, [], ◌∷◌, Option, Some, None, refl, sym, ap, ◌∙◌, inl}
+use Rattle.std.proofs.Common.{◌≡◌, ◌≢◌, ℕ, Bool, true, false, List, [], ◌∷◌, Option, Some, None, refl, sym, ap, ◌∙◌}
+use Rattle.std.proofs.Common.{inl}
 use Rattle.std.proofs.Common.{inr, subst}
 use Rattle.std.specs.Prelude.{IsSome, is_some, not, ◌&&◌, ◌||◌}
 use Rattle.std.proofs.lemmas.Bool.{false≢true}
 use Rattle.uv_model.specs.declared.profile.Profile.{Profile}
 use Rattle.uv_model.specs.declared.profile.Profile.TheVariants.{Standard, Wide, Parser}
 use Rattle.uv_model.specs.declared.scheme.Class.{Class}
-use Rattle.uv_model.specs.declared.scheme.Class.TheVariants.{Special, File, Other}
+use Rattle.uv_model.specs.declared.scheme.Class.TheVariants.{SpecialNotFile, File, Other}
 use Rattle.uv_model.specs.declared.rule.Rule.{Rule}
 use Rattle.uv_model.specs.declared.rule.Rule.TheVariants.{NoScheme, OpaqueBase, TwoSlashes, HostMissing}
 use Rattle.uv_model.specs.declared.rule.Rule.TheVariants.{FirstSegmentEmpty, DriveAfterHost}
@@ -45,11 +46,11 @@ use Rattle.uv_model.proofs.Hosts.HostUniqueness.{opaque_not_empty}
 
 -- ---- the host, by the class
 
--- a host that is there and has no violation of what it holds, of class Special
+-- a host that is there and has no violation of what it holds, of class SpecialNotFile
 pub special_host_faultless : (profile : Profile) (last : Bool) (text : List ℕ) (port_text : Option (List ℕ))
     (path_text : List ℕ) → text ≢ []
-    → ((rule : Rule) → HostTextViolation profile Special last text rule → ⊥) → (place : ℕ) (rule : Rule)
-    → HostViolation profile Special last text port_text path_text place rule → ⊥
+    → ((rule : Rule) → HostTextViolation profile SpecialNotFile last text rule → ⊥) → (place : ℕ) (rule : Rule)
+    → HostViolation profile SpecialNotFile last text port_text path_text place rule → ⊥
 special_host_faultless profile last text port_text path_text some none place HostMissing h = some h.0
 special_host_faultless profile last text port_text path_text some none place rule h = none rule h.0
 
@@ -95,10 +96,11 @@ authority_host_faultless : (class : Class) (setting : Setting) (text : List ℕ)
     → FitsAuthority class setting text parts → (place : ℕ) (rule : Rule)
     → HostViolation setting.profile class (ends_at_host (texts_of parts)) text parts.port_text parts.path_text place
     rule → ⊥
-authority_host_faultless Special setting text parts is =
+authority_host_faultless SpecialNotFile setting text parts is =
     special_host_faultless setting.profile (ends_at_host (texts_of parts)) text parts.port_text parts.path_text
     (host_not_empty setting.profile text is.value is.host)
-    (host_text_faultless setting.profile Special (ends_at_host (texts_of parts)) text is.value is.unstopped is.host)
+    (host_text_faultless setting.profile SpecialNotFile (ends_at_host (texts_of parts)) text is.value is.unstopped
+    is.host)
 authority_host_faultless File setting text parts (no_port, absent, inl named) =
     let (other, is) = file_host_is_host setting.profile text named.value named.host in
     file_host_faultless setting.profile (ends_at_host (texts_of parts)) text parts.port_text parts.path_text
@@ -124,7 +126,7 @@ authority_host_faultless Other setting text parts (inr (nothing, valued, no_port
 authority_port : (class : Class) (setting : Setting) (text : List ℕ) (parts : Parts)
     → FitsAuthority class setting text parts
     → MayBePortText parts.port_text
-authority_port Special setting text parts is = is.port_text
+authority_port SpecialNotFile setting text parts is = is.port_text
 authority_port File setting text parts is = rw is.0 tt
 authority_port Other setting text parts (inl (host, port), given, path) = port
 authority_port Other setting text parts (inr (nothing, valued, no_port), given, path) = rw no_port tt
@@ -140,7 +142,7 @@ path_alone_behind Parser segments text path = path
 authority_path : (class : Class) (setting : Setting) (text : List ℕ) (parts : Parts)
     → FitsAuthority class setting text parts
     → MayBePathBehind setting.profile parts.segments parts.path_text
-authority_path Special setting text parts is = is.path
+authority_path SpecialNotFile setting text parts is = is.path
 authority_path File setting text parts (no_port, absent, inl named) = named.path
 authority_path File setting text parts (no_port, absent, inr (nothing, valued, path)) =
     path_alone_behind setting.profile parts.segments parts.path_text path
@@ -150,7 +152,7 @@ authority_path Other setting text parts is = is.2
 authority_drive : (class : Class) (setting : Setting) (text : List ℕ) (parts : Parts)
     → FitsAuthority class setting text parts
     → class ≡ File → text ≢ [] → IsWithoutDrive setting.profile parts.path_text
-authority_drive Special setting text parts is class some = absurd cc
+authority_drive SpecialNotFile setting text parts is class some = absurd cc
 authority_drive File setting text parts (no_port, absent, inl named) class some = named.no_drive
 authority_drive File setting text parts (no_port, absent, inr (nothing, valued, path)) class some =
     absurd (some nothing)

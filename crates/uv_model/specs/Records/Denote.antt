@@ -55,7 +55,7 @@ abbrev pub listed_segments : UrlPath → List (List ℕ)
 listed_segments (Segments list) = list
 listed_segments (Opaque text) = []
 
--- the path behind an authority: a URL of class Special or File has one segment at least
+-- the path behind an authority: a URL of class SpecialNotFile or File has one segment at least
 abbrev pub authority_path : Class → List (List ℕ) → List (List ℕ)
 authority_path Other [] = []
 authority_path class [] = [] ∷ []
@@ -105,7 +105,7 @@ denoted_port base SchemeOpaque parts = None
 denoted_port base Authority parts = parts.port
 denoted_port base _ parts = base_port base
 
--- in a query of a URL of class Special or File `'` is encoded too
+-- in a query of a URL of class SpecialNotFile or File `'` is encoded too
 abbrev pub quotes : Class → Bool
 quotes Other = false
 quotes _ = true

@@ -5,7 +5,7 @@ use Rattle.std.specs.Char.{is_ascii, is_ascii_uppercase}
 use Rattle.uv_model.specs.declared.profile.Profile.{Profile}
 use Rattle.uv_model.specs.declared.profile.Profile.TheVariants.{Standard, Wide, Parser}
 use Rattle.uv_model.specs.declared.scheme.Class.{Class}
-use Rattle.uv_model.specs.declared.scheme.Class.TheVariants.{Special, File, Other}
+use Rattle.uv_model.specs.declared.scheme.Class.TheVariants.{SpecialNotFile, File, Other}
 use Rattle.uv_model.specs.declared.host.Host.{Host}
 use Rattle.uv_model.specs.declared.host.Host.TheVariants as host
 use Rattle.uv_model.specs.declared.path.UrlPath.{UrlPath}
@@ -54,7 +54,7 @@ pub record IsUrlOpaqueHost (text : List ℕ) : Type 0 where
   pub host : IsOpaqueHost text
   pub ascii : is_ascii_text text ≡ true
 
--- the host of a URL of class Special: a domain or an address
+-- the host of a URL of class SpecialNotFile: a domain or an address
 abbrev pub IsSpecialHost : Profile → Option Host → Type 0
 IsSpecialHost profile (Some (host.Domain form)) = IsUrlDomain profile form
 IsSpecialHost profile (Some (host.V4 value)) = IsAddress (host.V4 value)
@@ -79,7 +79,7 @@ IsOtherHost _ = ⊥
 
 -- the host by the class of the scheme
 abbrev pub IsUrlHost : Profile → Class → Option Host → Type 0
-IsUrlHost profile Special host = IsSpecialHost profile host
+IsUrlHost profile SpecialNotFile host = IsSpecialHost profile host
 IsUrlHost profile File host = IsFileHost profile host
 IsUrlHost profile Other host = IsOtherHost host
 
@@ -140,7 +140,7 @@ abbrev pub IsUrlPath : Profile → Class → Option Host → UrlPath → Type 0
 IsUrlPath profile class host (Segments segments) = AreSegmentsOf class host segments
 IsUrlPath profile class host (Opaque text) = (class ≡ Other) × (host ≡ None) × IsUrlOpaquePath profile text
 
--- an absent query, or ASCII units, in class Special and File without `'`
+-- an absent query, or ASCII units, in class SpecialNotFile and File without `'`
 abbrev pub IsUrlQuery : Class → Option (List ℕ) → Type 0
 IsUrlQuery class None = Unit {0}
 IsUrlQuery Other (Some query) = IsAsciiUnits query

@@ -1,5 +1,5 @@
 -- The faults of a text that should be URL units, after the URL Standard, section 4.3.
-use Rattle.std.specs.Prelude.{◌≡◌, ◌≢◌, ℕ, Bool, true, false, List, [], ◌∷◌, drop, ◌==◌, if◌then◌else◌}
+use Rattle.std.specs.Prelude.{◌≡◌, ◌≢◌, ℕ, Bool, true, false, List, [], ◌∷◌, drop, ◌==◌, ◌&&◌, if◌then◌else◌}
 use Rattle.uv_model.specs.declared.profile.Profile.{Profile}
 use Rattle.uv_model.specs.declared.profile.Profile.TheVariants.{Parser}
 use Rattle.uv_model.specs.declared.rule.Rule.{Rule}
@@ -27,11 +27,18 @@ UnitViolation text place CodePoint = HasForeignCodePoint text place
 UnitViolation text place Percent = HasBarePercent text place
 UnitViolation text place _ = ⊥
 
--- a space at the place of an opaque path that the parser takes: one that a code point follows, or a query or a fragment
+-- the text has spaces alone
+abbrev pub only_spaces : List ℕ → Bool
+only_spaces [] = true
+only_spaces (c ∷ rest) = (c == space) && only_spaces rest
+
+-- A space at the place of an opaque path that the parser takes: another code point than a space follows it somewhere,
+-- or a query or a fragment. The parser removes the spaces at a text's end (section 4.4, basic URL parser), so each of
+-- them is a violation.
 pub record IsTakenSpace (followed : Bool) (text : List ℕ) (place : ℕ) : Type 0 where
   pub rest : List ℕ
   pub here : drop place text ≡ space ∷ rest
-  pub behind : followed ≡ false → rest ≢ []
+  pub behind : followed ≡ false → only_spaces rest ≡ false
 
 -- the rules that a path can violate by what it holds: by the parser's profile an opaque one may hold spaces
 abbrev pub PathUnitViolation : Profile → Bool → Bool → List ℕ → ℕ → Rule → Type 0

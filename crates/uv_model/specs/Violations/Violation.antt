@@ -8,7 +8,7 @@ use Rattle.std.specs.Str.Parse.{digits_value}
 use Rattle.uv_model.specs.declared.profile.Profile.{Profile}
 use Rattle.uv_model.specs.declared.profile.Profile.TheVariants.{Standard, Parser}
 use Rattle.uv_model.specs.declared.scheme.Class.{Class}
-use Rattle.uv_model.specs.declared.scheme.Class.TheVariants.{Special, File, Other}
+use Rattle.uv_model.specs.declared.scheme.Class.TheVariants.{SpecialNotFile, File, Other}
 use Rattle.uv_model.specs.declared.host.Host.TheVariants.{Empty}
 use Rattle.uv_model.specs.declared.rule.Refusal.{Refusal}
 use Rattle.uv_model.specs.declared.rule.Rule.{Rule}
@@ -70,7 +70,8 @@ pub record IsStoppedName (profile : Profile) (class : Class) (last : Bool) (text
   pub no_bracket : starts_with_bracket text ≡ false
   pub stopped : is_stopped profile class last text ≡ true
 
--- The rules of the host of a URL of class Special or File, but for the rule of a missing host; `last` says that nothing
+-- The rules of the host of a URL of class SpecialNotFile or File, but for the rule of a missing host; `last` says that
+-- nothing
 -- of the text follows the host.
 abbrev pub HostTextViolation : Profile → Class → Bool → List ℕ → Rule → Type 0
 HostTextViolation profile class last host_text HostDomain =
@@ -86,10 +87,11 @@ abbrev pub LacksFileHost : Profile → List ℕ → List ℕ → Type 0
 LacksFileHost Parser host_text path_text = ⊥
 LacksFileHost _ host_text path_text = (host_text ≡ []) × (starts_with_slash path_text ≡ false)
 
--- The host is missing: in class Special wherever it is empty, in class File where no path follows it, and else where
+-- The host is missing: in class SpecialNotFile wherever it is empty, in class File where no path follows it, and else
+-- where
 -- a port follows it.
 abbrev pub LacksHost : Profile → Class → List ℕ → Option (List ℕ) → List ℕ → Type 0
-LacksHost profile Special host_text port_text path_text = host_text ≡ []
+LacksHost profile SpecialNotFile host_text port_text path_text = host_text ≡ []
 LacksHost profile File host_text port_text path_text = LacksFileHost profile host_text path_text
 LacksHost profile Other host_text port_text path_text = (host_text ≡ []) × IsSome port_text
 

@@ -5,7 +5,7 @@ use Rattle.std.specs.Char.{is_ascii_alphabetic, to_ascii_lowercase}
 use Rattle.std.proofs.lemmas.Bool.{cases_Bool}
 use Rattle.std.proofs.lemmas.List.{length-drop}
 use Rattle.uv_model.specs.declared.scheme.Class.{Class}
-use Rattle.uv_model.specs.declared.scheme.Class.TheVariants.{Special, File, Other}
+use Rattle.uv_model.specs.declared.scheme.Class.TheVariants.{SpecialNotFile, File, Other}
 use Rattle.uv_model.specs.Ascii.{space, slash, colon, question_mark, number_sign}
 use Rattle.uv_parser.specs.Machine.{State, SchemeStartState, SchemeState, NoSchemeState}
 use Rattle.uv_parser.specs.Machine.{SpecialRelativeOrAuthorityState, PathOrAuthorityState, RelativeState}
@@ -276,7 +276,7 @@ module _ (text : List ℕ) where
       either text _
       (moves text (c ∷ rest) _ _ (λ others same. omega (arith, same, without_scheme_leaves text)))
       (stops text)
-  after_scheme_fewer base Special p v c rest e none =
+  after_scheme_fewer base SpecialNotFile p v c rest e none =
       let short = rest_length text p (c ∷ rest) e in
       either text _
       (moves text (c ∷ rest) _ _ (λ others same. omega (arith, same, none, short, without_scheme_leaves text)))

@@ -7,7 +7,7 @@ use Rattle.std.proofs.lemmas.Bool.{and_parts, cases_Bool}
 use Rattle.uv_model.specs.declared.host.Host.{Host}
 use Rattle.uv_model.specs.declared.host.Host.TheVariants as host
 use Rattle.uv_model.specs.declared.scheme.Class.{Class}
-use Rattle.uv_model.specs.declared.scheme.Class.TheVariants.{Special, File, Other}
+use Rattle.uv_model.specs.declared.scheme.Class.TheVariants.{SpecialNotFile, File, Other}
 use Rattle.uv_model.specs.Ascii.{slash, colon, backslash, question_mark}
 use Rattle.uv_model.specs.Cut.{IsHostCut, texts_of}
 use Rattle.uv_parser.specs.Machine.{Variables, begins, is_special, at_pointer, emptied, with_brackets}
@@ -68,8 +68,8 @@ slashed_path (c ∷ rest) units none start =
     })
 
 -- a class is one of three
-pub class_cases : (class : Class) → (class ≡ Special) ⊎ ((class ≡ File) ⊎ (class ≡ Other))
-class_cases Special = inl refl
+pub class_cases : (class : Class) → (class ≡ SpecialNotFile) ⊎ ((class ≡ File) ⊎ (class ≡ Other))
+class_cases SpecialNotFile = inl refl
 class_cases File = inr (inl refl)
 class_cases Other = inr (inr refl)
 
@@ -137,13 +137,13 @@ module _ (base : Option Url) (text : List ℕ) (form : Form) (given : Option (Li
   of_class class is parts fits =
       subst (λ (k : Class). FitsAuthority k (setting_of Parser base (Some scheme)) host_text parts) (sym is) fits
 
-  -- with its host and its port taken, and the rest fine, a text of class Special is silent
-  special_taken : scheme_class scheme ≡ Special → list_all (is_authority_letter true) host_text ≡ true
+  -- with its host and its port taken, and the rest fine, a text of class SpecialNotFile is silent
+  special_taken : scheme_class scheme ≡ SpecialNotFile → list_all (is_authority_letter true) host_text ≡ true
       → IsHostTaken true host_text port_text → AreFine path query fragment → SilentOrStops base text
   special_taken special letters taken fine =
       let port = port_given (default_port scheme) port_text in
       let parts = authority_parts form given host_text port_text path query fragment (Some taken.value) port in
-      let fits : FitsAuthority Special (setting_of Parser base (Some scheme)) host_text parts
+      let fits : FitsAuthority SpecialNotFile (setting_of Parser base (Some scheme)) host_text parts
       = record {
         unstopped =
             special_unstopped last host_text (letters_no_at_sign true host_text letters)
@@ -155,25 +155,25 @@ module _ (base : Option Url) (text : List ℕ) (form : Form) (given : Option (Li
         port = refl;
         path = path_fits fine;
       } in
-      inl (parts, silent (Some taken.value) port (of_class Special special parts fits) fine)
+      inl (parts, silent (Some taken.value) port (of_class SpecialNotFile special parts fits) fine)
 
-  -- class Special
-  special_decided : scheme_class scheme ≡ Special → SilentOrStops base text
+  -- class SpecialNotFile
+  special_decided : scheme_class scheme ≡ SpecialNotFile → SilentOrStops base text
   special_decided special =
       let authority = host_text ++ written_behind colon port_text in
       let rest = authority ++ (path ++ tail query fragment) in
-      let host_cut : IsHostCut Special host_text port_text
+      let host_cut : IsHostCut SpecialNotFile host_text port_text
       = subst (λ (k : Class). IsHostCut k host_text port_text) special cut in
       let class : is_special v.url.scheme ≡ true = rw (same, special) refl in
       elim (cases_Bool (begins slash rest || begins backslash rest)) [
-        | inl further ↦ inr (start Special special (stops_here base (λ p. rw further refl)))
+        | inl further ↦ inr (start SpecialNotFile special (stops_here base (λ p. rw further refl)))
         | inr none ↦
             elim (authority_decided base (AreFine path query fragment) true host_text port_text
             (path ++ tail query fragment) v class host_cut unended
             (delimits_path path query fragment slashed)
             (λ g e. path_start_decided base path query fragment g free slashed)) [
               | inl (letters, taken, fine) ↦ special_taken special letters taken fine
-              | inr stops ↦ inr (start Special special (ends_again base (λ p. rw none refl) stops))
+              | inr stops ↦ inr (start SpecialNotFile special (ends_again base (λ p. rw none refl) stops))
             ]
       ]
 

@@ -101,6 +101,18 @@ module _ (base : Option Url) (scheme path : List ℕ) (query fragment : Option (
             (λ p. colon_row base scheme (path ++ tail query fragment) p ∙ rw (other, no_slash) refl) stops)
       ]
 
+-- where nothing follows the path, it ends as the text does
+path_ends : (text scheme path : List ℕ) (query fragment : Option (List ℕ)) → IsKept text
+    → text ≡ scheme ++ colon ∷ (path ++ tail query fragment)
+    → (is_some query || is_some fragment) ≡ false → ends_with_space path ≡ false
+path_ends text scheme path (Some query) fragment kept whole followed = absurd (true≢false followed)
+path_ends text scheme path None (Some fragment) kept whole followed = absurd (true≢false followed)
+path_ends text scheme path None None kept whole followed =
+    let behind : IsKept (scheme ++ colon ∷ (path ++ [])) = subst IsKept whole kept in
+    let alone = kept_behind (scheme ++ colon ∷ []) (path ++ [])
+    (subst IsKept (sym (append_assoc scheme (colon ∷ []) (path ++ []))) behind) in
+    ends_without_space path (rw append-nil at alone.end)
+
 -- the text is one on which the parser is silent, with these parts, or its run stops
 pub opaque_silent_or_stops : (base : Option Url) (text scheme : List ℕ) (port_text : Option (List ℕ)) (path : List ℕ)
     (query fragment : Option (List ℕ))
@@ -122,7 +134,7 @@ opaque_silent_or_stops base text scheme port_text path query fragment is other s
             other,
             record {
               spaced = record { units = units; no_question_mark = have.path_question_mark; start = start };
-              end = path_ends query fragment (text_is_kept text kept) whole;
+              end = path_ends text scheme path query fragment (text_is_kept text kept) whole;
             },
             refl,
           );
@@ -134,18 +146,6 @@ opaque_silent_or_stops base text scheme port_text path query fragment is other s
       | inr (p, removed) ↦ inr (removed_stops base text p removed)
     ]
   where
-    -- where nothing follows the path, it ends as the text does
-    path_ends : (query fragment : Option (List ℕ)) → IsKept text
-        → text ≡ scheme ++ colon ∷ (path ++ tail query fragment)
-        → (is_some query || is_some fragment) ≡ false → ends_with_space path ≡ false
-    path_ends (Some query) fragment kept whole followed = absurd (true≢false followed)
-    path_ends None (Some fragment) kept whole followed = absurd (true≢false followed)
-    path_ends None None kept whole followed =
-        let behind : IsKept (scheme ++ colon ∷ (path ++ [])) = subst IsKept whole kept in
-        let alone = kept_behind (scheme ++ colon ∷ []) (path ++ [])
-        (subst IsKept (sym (append_assoc scheme (colon ∷ []) (path ++ []))) behind) in
-        ends_without_space path (rw append-nil at alone.end)
-
     against : (base : Option Url) → FitsBase base (opaque_parts scheme port_text path query fragment)
     against None = refl
     against (Some url) = inl refl

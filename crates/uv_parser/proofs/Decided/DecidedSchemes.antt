@@ -3,7 +3,7 @@ use Rattle.std.proofs.Common.{◌≡◌, ℕ, true, false, ◌==◌, ◌⊎◌, 
 use Rattle.std.proofs.Common.{inl, inr, eqb-true, append_assoc}
 use Rattle.std.proofs.lemmas.Bool.{and_right, cases_Bool}
 use Rattle.uv_model.specs.declared.host.Host.{Host}
-use Rattle.uv_model.specs.declared.scheme.Class.TheVariants.{Special, File, Other}
+use Rattle.uv_model.specs.declared.scheme.Class.TheVariants.{SpecialNotFile, File, Other}
 use Rattle.uv_model.specs.Ascii.{slash, colon, question_mark, number_sign}
 use Rattle.uv_model.specs.Cut.{IsCut, starts_with_two_slashes}
 use Rattle.uv_parser.specs.Machine.{begins, begins_two_slashes, has_same_scheme, PathOrAuthorityState, SchemeState}
@@ -61,7 +61,7 @@ no_two_before_tail (c ∷ d ∷ rest) query fragment none = none
 -- ---- from the scheme's `:` on
 
 module _ (base : Option Url) (scheme : List ℕ) where
-  special_without : (rest : List ℕ) → scheme_class scheme ≡ Special → begins_two_slashes rest ≡ false
+  special_without : (rest : List ℕ) → scheme_class scheme ≡ SpecialNotFile → begins_two_slashes rest ≡ false
       → Stops base SchemeState (with_more (lowercase scheme) empty_variables) (colon ∷ rest)
   special_without rest special none =
       elim (cases_Bool (has_same_scheme base (lowercase scheme))) [
@@ -167,7 +167,7 @@ module _ (base : Option Url) (text scheme : List ℕ) (port_text : Option (List 
   have_alone = marks base text (Some scheme) None port_text path query fragment is
 
   -- a scheme that needs `//`
-  needs_slashes : (scheme_class scheme ≡ Special) ⊎ (scheme_class scheme ≡ File) → SilentOrStops base text
+  needs_slashes : (scheme_class scheme ≡ SpecialNotFile) ⊎ (scheme_class scheme ≡ File) → SilentOrStops base text
   needs_slashes (inl special) =
       inr (scheme_stops base text scheme (path ++ tail query fragment) kept is.scheme alone_text
       (special_without base scheme (path ++ tail query fragment) special

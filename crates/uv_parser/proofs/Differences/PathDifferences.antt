@@ -5,7 +5,7 @@ use Rattle.std.proofs.Common.{inr}
 use Rattle.std.proofs.lemmas.Bool.{cases_Bool, false≢true}
 use Rattle.uv_model.specs.declared.profile.Profile.TheVariants.{Standard}
 use Rattle.uv_model.specs.declared.scheme.Class.{Class}
-use Rattle.uv_model.specs.declared.scheme.Class.TheVariants.{Special, File, Other}
+use Rattle.uv_model.specs.declared.scheme.Class.TheVariants.{SpecialNotFile, File, Other}
 use Rattle.uv_model.specs.Ascii.{slash}
 use Rattle.uv_model.specs.Cut.{class_in, starts_with_two_slashes}
 use Rattle.uv_model.specs.Parts.{Form, SchemeAuthority, SchemePath, SchemeOpaque, Authority, PathAbsolute, PathRelative}
@@ -52,7 +52,7 @@ slashed_cases segments text (inr is) =
 -- the path behind `//`
 pub path_behind : (class : Class) (setting : Setting) (host_text : List ℕ) (parts : Parts)
     → FitsAuthority class setting host_text parts → MayBePathSlashed parts.segments parts.path_text
-path_behind Special setting host_text parts fits =
+path_behind SpecialNotFile setting host_text parts fits =
     slashed_or_none setting.profile parts.segments parts.path_text fits.path
 path_behind File setting host_text parts (no_text, none, inl fits) =
     slashed_or_none setting.profile parts.segments parts.path_text fits.path

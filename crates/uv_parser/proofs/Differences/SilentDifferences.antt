@@ -8,7 +8,7 @@ use Rattle.uv_model.specs.declared.host.Host.{Host}
 use Rattle.uv_model.specs.declared.host.Host.TheVariants as host
 use Rattle.uv_model.specs.declared.rule.Rule.TheVariants.{DriveAfterHost, FirstSegmentEmpty}
 use Rattle.uv_model.specs.declared.scheme.Class.{Class}
-use Rattle.uv_model.specs.declared.scheme.Class.TheVariants.{Special, File, Other}
+use Rattle.uv_model.specs.declared.scheme.Class.TheVariants.{SpecialNotFile, File, Other}
 use Rattle.uv_model.specs.Violations.Violation.{HasHost}
 use Rattle.uv_model.specs.Cut.{class_in}
 use Rattle.uv_model.specs.Parts.{Form, SchemeAuthority, SchemePath, SchemeOpaque, Authority, PathAbsolute, PathRelative}
@@ -42,7 +42,7 @@ file_not_other : (class : Class) → class ≡ File → class ≡ Other → ⊥
 file_not_other class file other = absurd cc
 
 -- and neither is this one
-special_not_other : (class : Class) → class ≡ Special → class ≡ Other → ⊥
+special_not_other : (class : Class) → class ≡ SpecialNotFile → class ≡ Other → ⊥
 special_not_other class special other = absurd cc
 
 -- what follows `//` in a URL of class File, where the host has a text
@@ -93,7 +93,7 @@ authority_or_differs : (base : Option Url) (class : Class) (host_text : List ℕ
     → FitsAuthority class (setting_of Parser base parts.scheme) host_text parts
     → MayBePathBehind Standard parts.segments parts.path_text
     → FitsAuthority class (setting_of Standard base parts.scheme) host_text parts ⊎ Differs base parts
-authority_or_differs base Special host_text parts class given is path =
+authority_or_differs base SpecialNotFile host_text parts class given is path =
     elim (host_or_differs host_text is.value is.host) [
       | inl valid ↦ inl (record {
         unstopped = refl;
@@ -151,7 +151,7 @@ empty_cases (Some (host.Opaque text)) = inr (λ e. absurd cc)
 
 -- a class is File, or not
 file_cases : (class : Class) → (class ≡ File) ⊎ (class ≢ File)
-file_cases Special = inr (λ e. absurd cc)
+file_cases SpecialNotFile = inr (λ e. absurd cc)
 file_cases File = inl refl
 file_cases Other = inr (λ e. absurd cc)
 
@@ -243,7 +243,7 @@ valid_host : (class : Class) (base : Option Url) (scheme : Option (List ℕ)) (t
     → class ≢ Other
     → FitsAuthority class (setting_of Standard base scheme) text parts
     → ((value : Host) × IsHostText Standard text value) ⊎ (text ≡ [])
-valid_host Special base scheme text parts plain is = inl (is.value, is.host)
+valid_host SpecialNotFile base scheme text parts plain is = inl (is.value, is.host)
 valid_host File base scheme text parts plain (no_port, absent, inl is) =
     inl (file_host_is_host Standard text is.value is.host)
 valid_host File base scheme text parts plain (no_port, absent, inr (nothing, valued, path)) = inr nothing
@@ -259,7 +259,7 @@ no_foreign_host base text parts valid foreign =
           let taken = host_by_parser Standard foreign.text value is in
           let same : value ≡ foreign.host
           = same_Some value foreign.host
-          (one_host Parser Special (Some foreign.text) (Some value) (Some foreign.host) (value, taken, refl)
+          (one_host Parser SpecialNotFile (Some foreign.text) (Some value) (Some foreign.host) (value, taken, refl)
           (foreign.host, foreign.taken, refl)) in
           host_not_differs foreign.text foreign.host (subst (λ (v : Host). IsHostText Standard foreign.text v) same is)
           foreign.differs

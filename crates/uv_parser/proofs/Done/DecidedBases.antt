@@ -8,7 +8,7 @@ use Rattle.std.proofs.lemmas.Bool.{and_parts, cases_Bool, false≢true, not-true
 use Rattle.uv_model.specs.declared.host.Host.{Host}
 use Rattle.uv_model.specs.declared.profile.Profile.TheVariants.{Parser}
 use Rattle.uv_model.specs.declared.scheme.Class.{Class}
-use Rattle.uv_model.specs.declared.scheme.Class.TheVariants.{Special, File, Other}
+use Rattle.uv_model.specs.declared.scheme.Class.TheVariants.{SpecialNotFile, File, Other}
 use Rattle.uv_model.specs.declared.path.UrlPath.{UrlPath}
 use Rattle.uv_model.specs.declared.path.UrlPath.TheVariants.{Opaque, Segments}
 use Rattle.uv_model.specs.Ascii.{number_sign}
@@ -54,7 +54,7 @@ port_absent scheme host (Some port) is none = absurd (true≢false (sym is.0 ∙
 
 -- no host takes no port
 pub takes_none : (class : Class) → takes_port class None ≡ false
-takes_none Special = refl
+takes_none SpecialNotFile = refl
 takes_none File = refl
 takes_none Other = refl
 

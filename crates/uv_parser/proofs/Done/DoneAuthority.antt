@@ -7,7 +7,7 @@ use Rattle.std.proofs.lemmas.Bool.{and_from, and_left, and_parts, and_right, tru
 use Rattle.uv_model.specs.declared.host.Host.{Host}
 use Rattle.uv_model.specs.declared.host.Host.TheVariants as host
 use Rattle.uv_model.specs.declared.scheme.Class.{Class}
-use Rattle.uv_model.specs.declared.scheme.Class.TheVariants.{Special, File, Other}
+use Rattle.uv_model.specs.declared.scheme.Class.TheVariants.{SpecialNotFile, File, Other}
 use Rattle.uv_model.specs.Ascii.{slash, colon, question_mark, number_sign, at_sign, backslash}
 use Rattle.uv_model.specs.Cut.{EndsAtPort, IsAuthorityCut, IsHostCut, class_in, ends_at_host, is_within}
 use Rattle.uv_model.specs.Cut.{is_within_at_end, texts_of}
@@ -141,7 +141,7 @@ is_named base text parts class is form of_class =
     (fits_form base text parts SchemeAuthority is form) of_class (ap (scheme_or base) named) in
     (scheme, host_text, spelled, named, all)
 
--- ---- class Special
+-- ---- class SpecialNotFile
 
 -- a port's `:` stands outside brackets
 closed_before : (text : List ℕ) (port : Option (List ℕ)) → EndsAtPort text port → (length text == 0) ≡ false
@@ -151,15 +151,15 @@ closed_before text (Some port) ends some = inr (some, ends.ends refl)
 
 -- its host has letters of an authority alone
 pub special_letters : (base : Option Url) (parts : Parts) (scheme host_text : List ℕ)
-    → IsNamed base parts Special scheme host_text → list_all (is_authority_letter true) host_text ≡ true
+    → IsNamed base parts SpecialNotFile scheme host_text → list_all (is_authority_letter true) host_text ≡ true
 special_letters base parts scheme host_text is =
     let on = special_goes_on (ends_at_host (texts_of parts)) host_text is.fits.unstopped in
     letters_from true host_text is.no_slash is.no_question_mark is.no_number_sign (on.no_at_sign refl)
     (λ same. on.no_backslash)
 
--- host, port and path of an authority of class Special are parsed as they are denoted
+-- host, port and path of an authority of class SpecialNotFile are parsed as they are denoted
 pub special_has : (base : Option Url) (parts : Parts) (scheme host_text : List ℕ)
-    → (is : IsNamed base parts Special scheme host_text) → HasParsed parts scheme host_text is.fits.value
+    → (is : IsNamed base parts SpecialNotFile scheme host_text) → HasParsed parts scheme host_text is.fits.value
 special_has base parts scheme host_text is =
     let fits : IsSpecialAuthority (setting_of Parser base (Some scheme)) host_text parts = is.fits in
     let special = is_special_scheme scheme is.of_class in
@@ -187,11 +187,11 @@ special_has base parts scheme host_text is =
       path = fits.path;
     }
 
--- an authority of class Special
+-- an authority of class SpecialNotFile
 pub special_done : (base : Option Url) (text : List ℕ) (parts : Parts) → Valid Parser base text parts
-    → parts.form ≡ SchemeAuthority → scheme_class (scheme_in base parts) ≡ Special → RunsSilently base text parts
+    → parts.form ≡ SchemeAuthority → scheme_class (scheme_in base parts) ≡ SpecialNotFile → RunsSilently base text parts
 special_done base text parts silent form special =
-    let (scheme, host_text, spelled, named, is) = is_named base text parts Special silent form special in
+    let (scheme, host_text, spelled, named, is) = is_named base text parts SpecialNotFile silent form special in
     let all = special_has base parts scheme host_text is in
     authority_runs base parts scheme host_text is.fits.value text silent.whole
     silent.query silent.fragment (parser_valid_is_kept base text parts silent) form spelled named is.given all

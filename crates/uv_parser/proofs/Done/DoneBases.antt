@@ -1,9 +1,10 @@
 -- The run of a reference with an authority on which the parser is silent is done, with the URL that the parts denote:
--- against a well-formed base of class Special or Other. And the law for each base of class Special or Other with a path
+-- against a well-formed base of class SpecialNotFile or Other. And the law for each base of class SpecialNotFile or
+-- Other with a path
 -- of segments.
 use Rattle.std.proofs.Common.{◌≡◌, ℕ, false, ◌||◌, List, ◌∷◌, ◌++◌, Some, None, refl, sym, ap, subst, ◌∙◌, append_assoc}
 use Rattle.uv_model.specs.declared.host.Host.{Host}
-use Rattle.uv_model.specs.declared.scheme.Class.TheVariants.{Special, Other}
+use Rattle.uv_model.specs.declared.scheme.Class.TheVariants.{SpecialNotFile, Other}
 use Rattle.uv_model.specs.declared.path.UrlPath.TheVariants.{Segments}
 use Rattle.uv_model.specs.Ascii.{slash, backslash, colon}
 use Rattle.uv_model.specs.Records.Denote.{authority_path}
@@ -96,14 +97,14 @@ module _ (url : Url) (text : List ℕ) (parts : Parts) (is : Valid Parser (Some 
       (λ u ends.
       (base_starts url _ Other not_opaque other (same_variables AuthorityState _ u ends)))
 
-  -- against a base of class Special
-  pub special_reference_done : parts.form ≡ Authority → scheme_class url.scheme ≡ Special
+  -- against a base of class SpecialNotFile
+  pub special_reference_done : parts.form ≡ Authority → scheme_class url.scheme ≡ SpecialNotFile
       → RunsSilently (Some url) text parts
   unfolding rest Starts
   special_reference_done form special =
-      let of_class : scheme_class (scheme_in (Some url) parts) ≡ Special
+      let of_class : scheme_class (scheme_in (Some url) parts) ≡ SpecialNotFile
       = ap (λ o. scheme_class (scheme_or (Some url) o)) none ∙ special in
-      let (host_text, named) = is_named_by (Some url) text parts Special url.scheme is
+      let (host_text, named) = is_named_by (Some url) text parts SpecialNotFile url.scheme is
       (fits_form (Some url) text parts Authority is form) of_class (ap (scheme_or (Some url)) none) in
       let has = special_has (Some url) parts url.scheme host_text named in
       let rest = (host_text ++ written_behind colon parts.port_text)
@@ -115,5 +116,5 @@ module _ (url : Url) (text : List ℕ) (parts : Parts) (is : Valid Parser (Some 
       (special_some url.scheme host_text named.fits.value (is_special_scheme url.scheme special) has.parsed.parsed) in
       authority_reference host_text named.fits.value form named.given has
       (λ u ends.
-      (base_starts url rest Special not_opaque special
+      (base_starts url rest SpecialNotFile not_opaque special
       (ends_again (Some url) (λ p. rw none refl) (same_variables AuthorityState rest u ends))))

@@ -4,7 +4,7 @@ use Rattle.std.proofs.Common.{◌≡◌, ◌≢◌, ℕ, true, false, List, [], 
 use Rattle.std.specs.List.{join_with_byte}
 use Rattle.std.proofs.lemmas.Bool.{true≢false}
 use Rattle.uv_model.specs.declared.scheme.Class.{Class}
-use Rattle.uv_model.specs.declared.scheme.Class.TheVariants.{Special, File, Other}
+use Rattle.uv_model.specs.declared.scheme.Class.TheVariants.{SpecialNotFile, File, Other}
 use Rattle.uv_model.specs.declared.path.UrlPath.{UrlPath}
 use Rattle.uv_model.specs.declared.path.UrlPath.TheVariants.{Opaque, Segments}
 use Rattle.uv_model.specs.Ascii.{slash, question_mark, number_sign}
@@ -109,7 +109,7 @@ same_list (Segments list) = refl
 
 -- a base of another class than File keeps no drive letter
 no_kept_drive : (class : Class) (list segments : List (List ℕ)) → class ≢ File → kept_drive class list segments ≡ []
-no_kept_drive Special list segments other = refl
+no_kept_drive SpecialNotFile list segments other = refl
 no_kept_drive Other list segments other = refl
 no_kept_drive File list segments other = absurd (other refl)
 

@@ -1,7 +1,7 @@
 -- The parser is silent on the valid hosts of URLs of class Other alone.
 use Rattle.std.proofs.Common.{not}
 use Rattle.uv_model.specs.declared.profile.Profile.TheVariants.{Parser}
-use Rattle.uv_model.specs.declared.scheme.Class.TheVariants.{Special}
+use Rattle.uv_model.specs.declared.scheme.Class.TheVariants.{SpecialNotFile}
 use Rattle.uv_model.specs.Hosts.OpaqueHost.{is_forbidden_host}
 use Rattle.uv_model.proofs.Cuts.HostCutLemmas.{is_without-passes}
 use Rattle.uv_model.proofs.Hosts.ParserForms.{bracketed_not_stopped}
@@ -37,7 +37,7 @@ valid_is_silent text host (inr (nothing, empty)) =
     (Empty, rw nothing refl, (other_hosts_are_taken text Empty).1 (inl (nothing, refl)), empty)
 valid_is_silent text (Some (V6 pieces)) (inl is) = (
   V6 pieces,
-  (special_goes_on true text (bracketed_not_stopped Parser Special true text pieces is)).no_at_sign refl,
+  (special_goes_on true text (bracketed_not_stopped Parser SpecialNotFile true text pieces is)).no_at_sign refl,
   (other_hosts_are_taken text (V6 pieces)).1 (inr (inl (pieces, is, refl))),
   refl,
 )

@@ -5,7 +5,7 @@ use Rattle.std.proofs.lemmas.Bool.{cases_Bool}
 use Rattle.uv_model.specs.declared.host.Host.{Host}
 use Rattle.uv_model.specs.declared.host.Host.TheVariants as host
 use Rattle.uv_model.specs.declared.scheme.Class.{Class}
-use Rattle.uv_model.specs.declared.scheme.Class.TheVariants.{Special, File, Other}
+use Rattle.uv_model.specs.declared.scheme.Class.TheVariants.{SpecialNotFile, File, Other}
 use Rattle.uv_model.specs.Ascii.{slash, colon}
 use Rattle.uv_model.specs.Records.Url.{Url, is_opaque}
 use Rattle.uv_model.specs.Scheme.{lowercase, scheme_class}
@@ -19,7 +19,7 @@ use Rattle.uv_parser.proofs.Running.Steps.{Ending, EndsAs, ends_again, ends_past
 
 -- the state in which a run reads what follows `//`
 abbrev pub state_behind_slashes : Class → State
-state_behind_slashes Special = SpecialAuthorityIgnoreSlashesState
+state_behind_slashes SpecialNotFile = SpecialAuthorityIgnoreSlashesState
 state_behind_slashes File = FileHostState
 state_behind_slashes Other = AuthorityState
 
@@ -42,7 +42,7 @@ pub scheme_starts : (base : Option Url) (scheme rest : List ℕ) (class : Class)
     → EndsAs base (state_behind_slashes class) (variables_behind_slashes class (scheme_variables scheme)) rest ending
     → EndsAs base SchemeState (with_more (lowercase scheme) empty_variables) (colon ∷ slash ∷ slash ∷ rest)
     ending
-scheme_starts base scheme rest Special special ends =
+scheme_starts base scheme rest SpecialNotFile special ends =
     elim (cases_Bool (has_same_scheme base (lowercase scheme))) [
       | inl same ↦
           ends_step base {s₁ = SpecialRelativeOrAuthorityState} {v₁ = scheme_variables scheme}
@@ -68,7 +68,7 @@ pub base_starts : (url : Url) (rest : List ℕ) (class : Class) {ending : Ending
     → is_opaque url.path ≡ false → scheme_class url.scheme ≡ class
     → EndsAs (Some url) (state_behind_slashes class) (variables_behind_slashes class (base_variables url)) rest ending
     → EndsAs (Some url) NoSchemeState empty_variables (slash ∷ slash ∷ rest) ending
-base_starts url rest Special not_opaque special ends =
+base_starts url rest SpecialNotFile not_opaque special ends =
     let plain : is_file url.scheme ≡ false = rw special refl in
     let class : is_special url.scheme ≡ true = rw special refl in
     ends_again (Some url) {s₁ = RelativeState} {v₁ = empty_variables} (λ p. rw (not_opaque, plain) refl)

@@ -2,7 +2,7 @@
 use Rattle.std.proofs.Common.{◌≡◌, ℕ, true, List, [], ◌∷◌, ◌++◌, Option, Some, None, refl, ap, ◌∙◌, inl, inr}
 use Rattle.std.specs.List.{join_with_byte}
 use Rattle.uv_model.specs.declared.scheme.Class.{Class}
-use Rattle.uv_model.specs.declared.scheme.Class.TheVariants.{Special, File, Other}
+use Rattle.uv_model.specs.declared.scheme.Class.TheVariants.{SpecialNotFile, File, Other}
 use Rattle.uv_model.specs.Ascii.{slash}
 use Rattle.uv_model.specs.Records.Denote.{authority_path}
 use Rattle.uv_model.specs.Encoding.{encoded}
@@ -35,7 +35,7 @@ empty_segment = (record { units = IsUnits-nil; no_slash = refl; no_question_mark
 -- with segments the path behind an authority is their walk
 some_walk : (class : Class) (first : List ℕ) (others : List (List ℕ))
     → authority_path class (first ∷ others) ≡ walk class [] (first ∷ others)
-some_walk Special first others = refl
+some_walk SpecialNotFile first others = refl
 some_walk File first others = refl
 some_walk Other first others = refl
 
@@ -85,7 +85,7 @@ module _ (base : Option Url) (query fragment : Option (List ℕ)) (query_units :
   no_path_ends : (class : Class) (v : Variables) → scheme_class v.url.scheme ≡ class
       → Ends base PathStartState (walking [] v) (tail query fragment)
       (with_tail query fragment (walking (authority_path class []) v))
-  no_path_ends Special v of_class =
+  no_path_ends SpecialNotFile v of_class =
       empty_segment_ends v (λ p. rw of_class (special_row query fragment (walking [] v)))
   no_path_ends File v of_class = empty_segment_ends v (λ p. rw of_class (special_row query fragment (walking [] v)))
   no_path_ends Other v of_class =

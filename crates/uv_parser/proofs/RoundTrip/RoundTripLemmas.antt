@@ -5,7 +5,7 @@ use Rattle.std.proofs.lemmas.Bool.{false≢true}
 use Rattle.uv_model.specs.declared.profile.Profile.{Profile}
 use Rattle.uv_model.specs.declared.profile.Profile.TheVariants.{Parser}
 use Rattle.uv_model.specs.declared.scheme.Class.{Class}
-use Rattle.uv_model.specs.declared.scheme.Class.TheVariants.{Special, File, Other}
+use Rattle.uv_model.specs.declared.scheme.Class.TheVariants.{SpecialNotFile, File, Other}
 use Rattle.uv_model.specs.declared.host.Host.{Host}
 use Rattle.uv_model.specs.declared.host.Host.TheVariants as host
 use Rattle.uv_model.specs.declared.path.UrlPath.{UrlPath}
@@ -39,13 +39,13 @@ read_back_from url is =
 
 -- a URL without a host is of class Other
 other_without : (class : Class) → IsUrlHost Parser class None → class ≡ Other
-other_without Special is = absurd is
+other_without SpecialNotFile is = absurd is
 other_without File is = absurd is
 other_without Other is = refl
 
 -- and has a segment
 some_without : (class : Class) → may_be_empty class None ≡ false
-some_without Special = refl
+some_without SpecialNotFile = refl
 some_without File = refl
 some_without Other = refl
 
@@ -89,7 +89,7 @@ authority_stable : (class : Class) (setting : Setting) (host_text : List ℕ) (p
     → parts.host_text ≡ Some host_text
     → FitsAuthority class setting host_text parts
     → IsStableHost (authority_host parts)
-authority_stable Special setting host_text parts text is =
+authority_stable SpecialNotFile setting host_text parts text is =
     authority_host_stable parts (Some is.value) (Some host_text) is.valued text
     (host_stable setting.profile host_text is.value is.host)
 authority_stable File setting host_text parts text (none, absent, inl is) =

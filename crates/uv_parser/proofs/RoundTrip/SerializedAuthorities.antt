@@ -6,7 +6,7 @@ use Rattle.std.specs.List.{join_with_byte}
 use Rattle.std.proofs.lemmas.Bool.{false≢true}
 use Rattle.uv_model.specs.Path.{MayBePathSlashed}
 use Rattle.uv_model.specs.declared.scheme.Class.{Class}
-use Rattle.uv_model.specs.declared.scheme.Class.TheVariants.{Special, File, Other}
+use Rattle.uv_model.specs.declared.scheme.Class.TheVariants.{SpecialNotFile, File, Other}
 use Rattle.uv_model.specs.declared.host.Host.{Host}
 use Rattle.uv_model.specs.declared.host.Host.TheVariants as host
 use Rattle.uv_model.specs.declared.path.UrlPath.TheVariants.{Segments}
@@ -63,10 +63,10 @@ path_segments class value (segment ∷ rest) is = is
 -- and denotes itself
 path_denoted : (class : Class) (value : Host) (segments : List (List ℕ))
     → IsUrlPath Parser class (Some value) (Segments segments) → authority_path class segments ≡ segments
-path_denoted Special value [] is = absurd (false≢true is)
+path_denoted SpecialNotFile value [] is = absurd (false≢true is)
 path_denoted File value [] is = absurd (false≢true is)
 path_denoted Other value [] is = refl
-path_denoted Special value (segment ∷ rest) is = walk-kept Special [] (segment ∷ rest) is
+path_denoted SpecialNotFile value (segment ∷ rest) is = walk-kept SpecialNotFile [] (segment ∷ rest) is
 path_denoted File value (segment ∷ rest) is = walk-kept File [] (segment ∷ rest) is
 path_denoted Other value (segment ∷ rest) is = walk-kept Other [] (segment ∷ rest) is
 
@@ -142,7 +142,7 @@ own_file (host.Opaque text) is = absurd is
 own_file host.Empty is = refl
 
 -- so is each host of a special URL
-own_special : (value : Host) → IsUrlHost Parser Special (Some value) → own_value value ≡ Some value
+own_special : (value : Host) → IsUrlHost Parser SpecialNotFile (Some value) → own_value value ≡ Some value
 own_special (host.Domain form) is = refl
 own_special (host.V4 value) is = refl
 own_special (host.V6 pieces) is = refl
@@ -167,7 +167,7 @@ all_fits : (class : Class) (scheme : List ℕ) (value : Host) (port : Option ℕ
     → PortFits class scheme value port → MayBePathSlashed segments (serial_segments segments)
     → FitsAuthority class (setting_of Parser None (Some scheme)) (serial_host value)
     (authority_parts scheme value port segments query fragment)
-all_fits Special scheme value port segments query fragment is stable fits path = record {
+all_fits SpecialNotFile scheme value port segments query fragment is stable fits path = record {
   unstopped = special_goes_on _ value is;
   value = value;
   host = special_text value is stable;
@@ -199,7 +199,7 @@ all_fits Other scheme value port segments query fragment is stable fits path =
 host_cut : (class : Class) (value : Host) (port : Option ℕ) → IsHostWord (serial_host value)
     → (port ≡ None) ⊎ (takes_port class (Some value) ≡ true)
     → IsHostCut class (serial_host value) (option_map decimal port)
-host_cut Special value port word taken = word.ends (option_map decimal port)
+host_cut SpecialNotFile value port word taken = word.ends (option_map decimal port)
 host_cut File value port word taken = rw (no_file_port value port taken) refl
 host_cut Other value port word taken = word.ends (option_map decimal port)
 
@@ -212,7 +212,7 @@ host_denoted class (host.Domain form) is parts own text = rw own refl
 host_denoted class (host.V4 value) is parts own text = rw own refl
 host_denoted class (host.V6 pieces) is parts own text = rw own refl
 host_denoted class host.Empty is parts own text = rw own refl
-host_denoted Special (host.Opaque name) is parts own text = absurd is
+host_denoted SpecialNotFile (host.Opaque name) is parts own text = absurd is
 host_denoted File (host.Opaque name) is parts own text = absurd is
 host_denoted Other (host.Opaque name) is parts own text =
     rw (own, text) (ap (λ s. Some (host.Opaque s)) (encoded-ascii name is.ascii))

@@ -9,7 +9,7 @@ use Rattle.uv_model.specs.declared.profile.Profile.TheVariants.{Parser}
 use Rattle.uv_model.specs.declared.host.Host.{Host}
 use Rattle.uv_model.specs.declared.host.Host.TheVariants as host
 use Rattle.uv_model.specs.declared.scheme.Class.{Class}
-use Rattle.uv_model.specs.declared.scheme.Class.TheVariants.{Special, File, Other}
+use Rattle.uv_model.specs.declared.scheme.Class.TheVariants.{SpecialNotFile, File, Other}
 use Rattle.uv_model.specs.Ascii.{colon, vertical_bar}
 use Rattle.uv_model.specs.Hosts.Address.{IsAddress, IsBracketedIpv6, IsIpv4}
 use Rattle.uv_model.specs.Hosts.Domain.{is_form_code_point}
@@ -49,11 +49,11 @@ domain_word form is = word_passes (is_form_code_point Parser) refl refl refl ref
 -- the text of a well-formed URL's host
 pub host_word : (class : Class) (value : Host) → IsUrlHost Parser class (Some value) → IsHostWord (serial_host value)
 unfolding serial_host
-host_word Special (host.Domain form) is = domain_word form is
-host_word Special (host.V4 value) is = word_of_ipv4 _ value (ipv4_text value is)
-host_word Special (host.V6 pieces) is = word_of_ipv6 _ pieces (ipv6_text pieces is)
-host_word Special (host.Opaque text) is = absurd is
-host_word Special host.Empty is = absurd is
+host_word SpecialNotFile (host.Domain form) is = domain_word form is
+host_word SpecialNotFile (host.V4 value) is = word_of_ipv4 _ value (ipv4_text value is)
+host_word SpecialNotFile (host.V6 pieces) is = word_of_ipv6 _ pieces (ipv6_text pieces is)
+host_word SpecialNotFile (host.Opaque text) is = absurd is
+host_word SpecialNotFile host.Empty is = absurd is
 host_word File (host.Domain form) is = domain_word form is.0
 host_word File (host.V4 value) is = word_of_ipv4 _ value (ipv4_text value is)
 host_word File (host.V6 pieces) is = word_of_ipv6 _ pieces (ipv6_text pieces is)
@@ -127,11 +127,11 @@ ipv6_unstopped class last pieces small =
 
 -- so it doesn't at a special URL's host
 pub special_goes_on : (last : Bool) (value : Host) → IsSpecialHost Parser (Some value)
-    → is_stopped Parser Special last (serial_host value) ≡ false
+    → is_stopped Parser SpecialNotFile last (serial_host value) ≡ false
 unfolding serial_host
-special_goes_on last (host.Domain form) is = domain_unstopped Special last form is
-special_goes_on last (host.V4 value) is = ipv4_unstopped Special last value is
-special_goes_on last (host.V6 pieces) is = ipv6_unstopped Special last pieces is
+special_goes_on last (host.Domain form) is = domain_unstopped SpecialNotFile last form is
+special_goes_on last (host.V4 value) is = ipv4_unstopped SpecialNotFile last value is
+special_goes_on last (host.V6 pieces) is = ipv6_unstopped SpecialNotFile last pieces is
 special_goes_on last (host.Opaque text) is = absurd is
 special_goes_on last host.Empty is = absurd is
 

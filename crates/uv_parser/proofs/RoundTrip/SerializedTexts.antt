@@ -11,7 +11,7 @@ use Rattle.std.proofs.lemmas.Bool.Decides.{nat_tests}
 use Rattle.std.proofs.lemmas.Fmt.{decimal_is_IsNumeral}
 use Rattle.uv_model.specs.Scheme.{default_port}
 use Rattle.uv_model.specs.declared.scheme.Class.{Class}
-use Rattle.uv_model.specs.declared.scheme.Class.TheVariants.{Special, File, Other}
+use Rattle.uv_model.specs.declared.scheme.Class.TheVariants.{SpecialNotFile, File, Other}
 use Rattle.uv_model.specs.Ascii.{slash, apostrophe}
 use Rattle.uv_model.specs.Records.Denote.{quotes}
 use Rattle.uv_model.specs.Encoding.{encoded}
@@ -60,7 +60,7 @@ quoted_kept (c ∷ rest) ascii without =
 pub encoded-query : (class : Class) (query : Option (List ℕ)) → IsUrlQuery class query
     → option_map (encoded (quotes class)) query ≡ query
 encoded-query class None is = refl
-encoded-query Special (Some query) is = ap Some (encoded-kept true query (quoted_kept query is.0.ascii is.1))
+encoded-query SpecialNotFile (Some query) is = ap Some (encoded-kept true query (quoted_kept query is.0.ascii is.1))
 encoded-query File (Some query) is = ap Some (encoded-kept true query (quoted_kept query is.0.ascii is.1))
 encoded-query Other (Some query) is = ap Some (encoded-ascii query is.ascii)
 
@@ -73,7 +73,7 @@ encoded-fragment (Some fragment) is = ap Some (encoded-ascii fragment is.ascii)
 -- the query is units
 pub query_units : (class : Class) (query : Option (List ℕ)) → IsUrlQuery class query → MayBeUnits query
 query_units class None is = tt
-query_units Special (Some query) is = is.0.units
+query_units SpecialNotFile (Some query) is = is.0.units
 query_units File (Some query) is = is.0.units
 query_units Other (Some query) is = is.units
 

@@ -183,7 +183,7 @@ bad_ipv6 text =
     })
     (both (is_true (starts_with_bracket text)) (is_absent (parse_host true text)))
 
--- a rule of the host of class Special or File
+-- a rule of the host of class SpecialNotFile or File
 abbrev host_violation : (profile : Profile) (class : Class) (last : Bool) (text : List ℕ) (rule : Rule)
     → Option (HostTextViolation profile class last text rule)
 host_violation profile class last text HostDomain =

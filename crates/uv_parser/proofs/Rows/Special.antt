@@ -4,7 +4,7 @@ use Rattle.uv_parser.specs.Rows.Special.{SpecialRows, scheme_rows, authority_row
 use Rattle.uv_parser.proofs.Rows.Computing.{parser}
 use Rattle.uv_parser.proofs.Rows.RowsLemmas.{all_hold}
 
--- the rows of class Special hold, each by computation
+-- the rows of class SpecialNotFile hold, each by computation
 pub special_rows_hold : SpecialRows
 unfolding parser
 special_rows_hold = (

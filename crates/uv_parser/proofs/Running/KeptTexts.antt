@@ -1,16 +1,17 @@
 -- What the test before the parser machine's first step says of a text, and which texts pass it: no code point of theirs
 -- is a tab or a newline, and neither the first nor the last is a C0 control or a space.
-use Rattle.std.proofs.Common.{◌≡◌, ℕ, ◌+◌, Bool, true, false, ◌||◌, ◌==◌, List, [], ◌∷◌, ◌++◌, None, refl}
+use Rattle.std.proofs.Common.{◌≡◌, ℕ, ◌+◌, Bool, true, false, ◌&&◌, ◌||◌, ◌==◌, List, [], ◌∷◌, ◌++◌, None, refl}
 use Rattle.std.proofs.Common.{sym, ◌∙◌, append-nil, eqb-true, inl, inr, arith}
 use Rattle.std.specs.Prelude.{nat_le}
 use Rattle.std.specs.List.{list_all, list_any}
 use Rattle.std.proofs.lemmas.Bool.{and_parts, cases_Bool, or_from, or_parts}
 use Rattle.std.proofs.lemmas.Bool.Decides.{nat_tests}
+use Rattle.std.proofs.Math.Bool.{and-false, and-true}
 use Rattle.std.proofs.lemmas.Option.{none-some}
 use Rattle.uv_model.specs.Ascii.{space}
 use Rattle.uv_model.specs.Hosts.StoppedHost.{ends_with_control}
 use Rattle.uv_model.specs.Path.{ends_with_space, is_spaced}
-use Rattle.uv_model.specs.Removed.{first_removed, is_removed, is_tab_or_newline, removed_behind}
+use Rattle.uv_model.specs.Removed.{are_controls, first_removed, is_tab_or_newline, removed_behind}
 use Rattle.uv_model.specs.Units.{is_unit_at}
 use Rattle.uv_parser.proofs.Running.Unremoved.{is_unremoved, unremoved_unit_at}
 
@@ -33,30 +34,26 @@ starts_with_control (c ∷ rest) = nat_le c 0x20
 -- behind the first place
 behind_is_kept : (p : ℕ) (text : List ℕ) → removed_behind p text ≡ None → IsKept text
 behind_is_kept p [] kept = record { untabbed = refl; end = refl }
-behind_is_kept p (c ∷ []) kept =
-    elim (cases_Bool (is_removed true c)) [
+behind_is_kept p (c ∷ rest) kept =
+    elim (cases_Bool (is_tab_or_newline c || (nat_le c 0x20 && are_controls rest))) [
       | inl removed ↦ absurd (none-some p (sym (rw removed at kept)))
       | inr stays ↦
-          let (tab, control) = or_parts (is_tab_or_newline c) (nat_le c 0x20) stays in
-          record { untabbed = or_from _ _ tab refl; end = control }
+          let (tab, control) = or_parts (is_tab_or_newline c) (nat_le c 0x20 && are_controls rest) stays in
+          let later = behind_is_kept (p + 1) rest (rw stays at kept) in
+          record { untabbed = or_from _ _ tab later.untabbed; end = ends rest control later.end }
     ]
-behind_is_kept p (c ∷ next ∷ rest) kept =
-    elim (cases_Bool (is_removed false c)) [
-      | inl removed ↦ absurd (none-some p (sym (rw removed at kept)))
-      | inr stays ↦
-          let later = behind_is_kept (p + 1) (next ∷ rest) (rw stays at kept) in
-          record {
-            untabbed = or_from _ _ (or_parts (is_tab_or_newline c) false stays).0 later.untabbed;
-            end = later.end;
-          }
-    ]
+  where
+    ends : (rest : List ℕ) → (nat_le c 0x20 && are_controls rest) ≡ false → ends_with_control rest ≡ false
+        → ends_with_control (c ∷ rest) ≡ false
+    ends [] control end = sym (and-true (nat_le c 0x20)) ∙ control
+    ends (next ∷ rest) control end = end
 
 -- of the whole text
 pub text_is_kept : (text : List ℕ) → first_removed text ≡ None → IsKept text
 unfolding first_removed
 text_is_kept [] kept = record { untabbed = refl; end = refl }
 text_is_kept (c ∷ rest) kept =
-    elim (cases_Bool (is_removed true c)) [
+    elim (cases_Bool (is_tab_or_newline c || nat_le c 0x20)) [
       | inl removed ↦ absurd (none-some 0 (sym (rw removed at kept)))
       | inr stays ↦
           let (tab, control) = or_parts (is_tab_or_newline c) (nat_le c 0x20) stays in
@@ -71,16 +68,25 @@ text_is_kept (c ∷ rest) kept =
 
 -- ---- what passes the test
 
+-- what doesn't end with a C0 control or a space isn't such alone
+not_controls : (c : ℕ) (rest : List ℕ) → ends_with_control (c ∷ rest) ≡ false
+    → (nat_le c 0x20 && are_controls rest) ≡ false
+not_controls c [] end = and-true (nat_le c 0x20) ∙ end
+not_controls c (next ∷ rest) end = rw (not_controls next rest end) (and-false (nat_le c 0x20))
+
+-- nor does what follows its first code point
+later_end : (c : ℕ) (rest : List ℕ) → ends_with_control (c ∷ rest) ≡ false → ends_with_control rest ≡ false
+later_end c [] end = refl
+later_end c (next ∷ rest) end = end
+
 -- behind the first place
 behind_passes : (p : ℕ) (text : List ℕ) → IsKept text → removed_behind p text ≡ None
 behind_passes p [] is = refl
-behind_passes p (c ∷ []) is =
-    let stays : is_removed true c ≡ false = or_from _ _ (or_parts (is_tab_or_newline c) false is.untabbed).0 is.end in
-    rw stays refl
-behind_passes p (c ∷ next ∷ rest) is =
-    let parts = or_parts (is_tab_or_newline c) (list_any is_tab_or_newline (next ∷ rest)) is.untabbed in
-    let stays : is_removed false c ≡ false = or_from _ _ parts.0 refl in
-    rw stays (behind_passes (p + 1) (next ∷ rest) (record { untabbed = parts.1; end = is.end }))
+behind_passes p (c ∷ rest) is =
+    let parts = or_parts (is_tab_or_newline c) (list_any is_tab_or_newline rest) is.untabbed in
+    let stays : (is_tab_or_newline c || (nat_le c 0x20 && are_controls rest)) ≡ false
+    = or_from _ _ parts.0 (not_controls c rest is.end) in
+    rw stays (behind_passes (p + 1) rest (record { untabbed = parts.1; end = later_end c rest is.end }))
 
 -- the whole text
 pub kept_passes : (text : List ℕ) → starts_with_control text ≡ false → IsKept text → first_removed text ≡ None
@@ -88,12 +94,8 @@ unfolding first_removed
 kept_passes [] start is = refl
 kept_passes (c ∷ rest) start is =
     let parts = or_parts (is_tab_or_newline c) (list_any is_tab_or_newline rest) is.untabbed in
-    let stays : is_removed true c ≡ false = or_from _ _ parts.0 start in
-    rw stays (behind_passes 1 rest (record { untabbed = parts.1; end = behind rest is.end }))
-  where
-    behind : (rest : List ℕ) → ends_with_control (c ∷ rest) ≡ false → ends_with_control rest ≡ false
-    behind [] end = refl
-    behind (next ∷ rest) end = end
+    let stays : (is_tab_or_newline c || nat_le c 0x20) ≡ false = or_from _ _ parts.0 start in
+    rw stays (behind_passes 1 rest (record { untabbed = parts.1; end = later_end c rest is.end }))
 
 -- ---- one text behind another
 

@@ -1,4 +1,5 @@
--- Where the parser machine stops within a host text of class Special or File: what the text says where it doesn't stop,
+-- Where the parser machine stops within a host text of class SpecialNotFile or File: what the text says where it
+-- doesn't stop,
 -- and what of the whole text says that it doesn't.
 use Rattle.std.proofs.Common.{◌≡◌, ℕ, Bool, true, false, not, ◌&&◌, ◌||◌, ◌==◌, List, [], ◌∷◌, ◌++◌, length, Option}
 use Rattle.std.proofs.Common.{Some, None, refl, ne_eqb, arith}
@@ -7,7 +8,7 @@ use Rattle.std.specs.List.{list_any}
 use Rattle.std.proofs.lemmas.Bool.{false≢true, or_from, or_parts}
 use Rattle.uv_model.specs.declared.profile.Profile.TheVariants.{Parser}
 use Rattle.uv_model.specs.declared.scheme.Class.{Class}
-use Rattle.uv_model.specs.declared.scheme.Class.TheVariants.{Special, File}
+use Rattle.uv_model.specs.declared.scheme.Class.TheVariants.{SpecialNotFile, File}
 use Rattle.uv_model.specs.Ascii.{at_sign, backslash, colon}
 use Rattle.uv_model.specs.Cut.{Cut, ends_at_host}
 use Rattle.uv_model.specs.Hosts.StoppedHost.{ends_with_control, has_stop, is_stopped, is_stopping}
@@ -20,7 +21,7 @@ use Rattle.uv_parser.proofs.Running.KeptTexts.{IsKept, IsUntabbed, kept_before, 
 
 -- What a host text says at which the machine doesn't stop, where `last` says that nothing follows it.
 pub record GoesOn (class : Class) (last : Bool) (text : List ℕ) : Type 0 where
-  pub no_at_sign : class ≡ Special → is_without at_sign text ≡ true
+  pub no_at_sign : class ≡ SpecialNotFile → is_without at_sign text ≡ true
   pub no_backslash : is_without backslash text ≡ true
   pub untabbed : IsUntabbed text
   pub end : last ≡ true → ends_with_control text ≡ false
@@ -34,11 +35,11 @@ end_alone true text none is = none
 end_alone false text none is = absurd (false≢true is)
 
 -- a special URL's host has neither `@` nor `\` nor a tab or newline
-special_marks : (text : List ℕ) → list_any (is_stopping Special) text ≡ false
+special_marks : (text : List ℕ) → list_any (is_stopping SpecialNotFile) text ≡ false
     → (is_without at_sign text ≡ true) × (is_without backslash text ≡ true) × IsUntabbed text
 special_marks [] none = (refl, refl, refl)
 special_marks (c ∷ rest) none =
-    let parts = or_parts (is_stopping Special c) (list_any (is_stopping Special) rest) none in
+    let parts = or_parts (is_stopping SpecialNotFile c) (list_any (is_stopping SpecialNotFile) rest) none in
     let at = or_parts (c == at_sign) ((c == backslash) || is_tab_or_newline c) parts.0 in
     let other = or_parts (c == backslash) (is_tab_or_newline c) at.1 in
     let later = special_marks rest parts.1 in (
@@ -58,10 +59,10 @@ file_marks (c ∷ rest) none =
     (is_without-more backslash c rest other.0 later.0, or_from _ _ other.1 later.1)
 
 -- the host of a special URL
-pub special_goes_on : (last : Bool) (text : List ℕ) → is_stopped Parser Special last text ≡ false
-    → GoesOn Special last text
+pub special_goes_on : (last : Bool) (text : List ℕ) → is_stopped Parser SpecialNotFile last text ≡ false
+    → GoesOn SpecialNotFile last text
 special_goes_on last text unstopped =
-    let parts = or_parts (list_any (is_stopping Special) text) (last && ends_with_control text) unstopped in
+    let parts = or_parts (list_any (is_stopping SpecialNotFile) text) (last && ends_with_control text) unstopped in
     let marks = special_marks text parts.0 in
     record {
       no_at_sign = λ same. marks.0;
@@ -86,14 +87,14 @@ file_goes_on last text unstopped =
       },
     )
   where
-    file_no_special : File ≡ Special → ⊥
+    file_no_special : File ≡ SpecialNotFile → ⊥
     file_no_special same = cc
 
 -- ---- where the text doesn't stop it
 
 -- no code point of a special URL's host
 special_none : (text : List ℕ) → is_without at_sign text ≡ true → is_without backslash text ≡ true → IsUntabbed text
-    → list_any (is_stopping Special) text ≡ false
+    → list_any (is_stopping SpecialNotFile) text ≡ false
 special_none [] at back untabbed = refl
 special_none (c ∷ rest) at back untabbed =
     let a = is_without-cons at_sign c rest at in
@@ -169,7 +170,7 @@ host_is_kept cut host is =
 
 -- the machine doesn't stop at the host of a special URL
 pub special_unstopped : (last : Bool) (text : List ℕ) → is_without at_sign text ≡ true
-    → is_without backslash text ≡ true → IsHostKept last text → is_stopped Parser Special last text ≡ false
+    → is_without backslash text ≡ true → IsHostKept last text → is_stopped Parser SpecialNotFile last text ≡ false
 special_unstopped last text at back is =
     or_from _ _ (special_none text at back is.untabbed) (end_none last text is.end)
 

@@ -13,7 +13,7 @@ use Rattle.std.proofs.lemmas.Bool.{and_from, and_parts, false≢true}
 use Rattle.std.proofs.lemmas.Bool.Decides.{nat_tests}
 use Rattle.uv_model.specs.declared.profile.Profile.TheVariants.{Parser}
 use Rattle.uv_model.specs.declared.scheme.Class.{Class}
-use Rattle.uv_model.specs.declared.scheme.Class.TheVariants.{Special, File, Other}
+use Rattle.uv_model.specs.declared.scheme.Class.TheVariants.{SpecialNotFile, File, Other}
 use Rattle.uv_model.specs.Ascii.{colon, slash}
 use Rattle.uv_model.specs.Cut.{ends_at_host, texts_of}
 use Rattle.uv_model.specs.Hosts.StoppedHost.{ends_with_control}
@@ -86,7 +86,7 @@ host_above last text above =
 opaque_kept : (last : Bool) (text : List ℕ) (host : Option Host) → IsOpaqueHostText text host → IsHostKept last text
 opaque_kept last text None is = host_above last text (unremoved_faultless text (is_faultless-units text is.units))
 opaque_kept last text (Some (V6 pieces)) is =
-    let on = special_goes_on last text (bracketed_not_stopped Parser Special last text pieces is) in
+    let on = special_goes_on last text (bracketed_not_stopped Parser SpecialNotFile last text pieces is) in
     record { untabbed = on.untabbed; end = on.end }
 opaque_kept last text (Some (Domain form)) is = absurd is
 opaque_kept last text (Some (V4 value)) is = absurd is
@@ -96,7 +96,7 @@ opaque_kept last text (Some Empty) is = absurd is
 -- by the class
 authority_is_kept : (class : Class) (base : Option Url) (scheme : Option (List ℕ)) (host_text : List ℕ) (parts : Parts)
     → FitsAuthority class (setting_of Parser base scheme) host_text parts → AuthorityIsKept host_text parts
-authority_is_kept Special base scheme host_text parts is =
+authority_is_kept SpecialNotFile base scheme host_text parts is =
     let on = special_goes_on (ends_at_host (texts_of parts)) host_text is.unstopped in
     record {
       host = record { untabbed = on.untabbed; end = on.end };

@@ -1,4 +1,5 @@
--- The whole run of a text with a scheme and an authority, of class Other or Special, whose host and port are parsed.
+-- The whole run of a text with a scheme and an authority, of class Other or SpecialNotFile, whose host and port are
+-- parsed.
 use Rattle.uv_model.specs.Path.{MayBePathSlashed}
 use Rattle.std.proofs.Common.{◌≡◌, ℕ, true, false, ◌||◌, ◌==◌, List, [], ◌∷◌, ◌++◌, length, Option, Some, None, refl}
 use Rattle.std.proofs.Common.{sym, ap, ◌∙◌, append_assoc, arith}
@@ -7,7 +8,7 @@ use Rattle.std.proofs.lemmas.Bool.Decides.{nat_tests}
 use Rattle.uv_parser.specs.HostParser.{parse_host}
 use Rattle.std.proofs.lemmas.Bool.{true≢false, and_parts}
 use Rattle.uv_model.specs.declared.host.Host.{Host}
-use Rattle.uv_model.specs.declared.scheme.Class.TheVariants.{Special, Other}
+use Rattle.uv_model.specs.declared.scheme.Class.TheVariants.{SpecialNotFile, Other}
 use Rattle.uv_model.specs.declared.path.UrlPath.TheVariants.{Segments}
 use Rattle.uv_model.specs.Ascii.{slash, backslash, colon}
 use Rattle.uv_model.specs.Records.Denote.{authority_host, authority_path}
@@ -127,7 +128,7 @@ module _ (base : Option Url) (parts : Parts) (scheme host_text : List ℕ) (valu
       scheme_starts base scheme (authority ++ (parts.path_text ++ tail parts.query parts.fragment)) Other other ends
 
   -- a special URL goes to a host that isn't empty
-  pub special_starts : scheme_class scheme ≡ Special → list_all (is_authority_letter true) host_text ≡ true
+  pub special_starts : scheme_class scheme ≡ SpecialNotFile → list_all (is_authority_letter true) host_text ≡ true
       → (length host_text == 0) ≡ false → StartsAuthority
   unfolding authority StartsAuthority
   special_starts special letters some url ends =
@@ -135,16 +136,16 @@ module _ (base : Option Url) (parts : Parts) (scheme host_text : List ℕ) (valu
       let none : (begins slash rest || begins backslash rest) ≡ false
       = no_slash_before host_text (written_behind colon parts.port_text)
       (parts.path_text ++ tail parts.query parts.fragment) letters some in
-      scheme_starts base scheme rest Special special (ends_again base (λ p. rw none refl) ends)
+      scheme_starts base scheme rest SpecialNotFile special (ends_again base (λ p. rw none refl) ends)
 
 -- ---- the scheme and the host
 
--- a scheme of class Other isn't special, and one of class Special is
+-- a scheme of class Other isn't special, and one of class SpecialNotFile is
 pub not_special : (scheme : List ℕ) → scheme_class scheme ≡ Other → is_special (lowercase scheme) ≡ false
 not_special scheme other = rw (scheme_class-lowercase scheme, other) refl
 
--- a scheme of class Special is special
-pub is_special_scheme : (scheme : List ℕ) → scheme_class scheme ≡ Special → is_special (lowercase scheme) ≡ true
+-- a scheme of class SpecialNotFile is special
+pub is_special_scheme : (scheme : List ℕ) → scheme_class scheme ≡ SpecialNotFile → is_special (lowercase scheme) ≡ true
 is_special_scheme scheme special = rw (scheme_class-lowercase scheme, special) refl
 
 -- a host with a value of its own

@@ -4,7 +4,7 @@ use Rattle.std.proofs.Common.{append_assoc}
 use Rattle.std.specs.Prelude.{option_map}
 use Rattle.std.proofs.lemmas.Bool.{false≢true}
 use Rattle.uv_model.specs.declared.scheme.Class.{Class}
-use Rattle.uv_model.specs.declared.scheme.Class.TheVariants.{Special, File, Other}
+use Rattle.uv_model.specs.declared.scheme.Class.TheVariants.{SpecialNotFile, File, Other}
 use Rattle.uv_model.specs.Ascii.{colon}
 use Rattle.uv_model.specs.Records.Denote.{denote, denoted_host, denoted_path, denoted_port, denoted_query}
 use Rattle.uv_model.specs.Records.Denote.{denoted_scheme, quotes}
@@ -48,7 +48,7 @@ runs_kept base text parts scheme middle behind kept whole =
 -- a special scheme is one whose queries have `'` encoded
 pub special_of_class : (class : Class) (scheme : List ℕ) → scheme_class scheme ≡ class
     → is_special scheme ≡ quotes class
-special_of_class Special scheme e = rw e refl
+special_of_class SpecialNotFile scheme e = rw e refl
 special_of_class File scheme e = rw e refl
 special_of_class Other scheme e = rw e refl
 

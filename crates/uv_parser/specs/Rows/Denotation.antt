@@ -4,7 +4,7 @@ use Rattle.std.specs.Prelude.{ℕ, List, [], ◌∷◌, map, codes, Option, Some
 use Prim.Native.String.{String as Literal}
 use Rattle.uv_model.specs.declared.host.Host.{Host}
 use Rattle.uv_model.specs.declared.scheme.Class.{Class}
-use Rattle.uv_model.specs.declared.scheme.Class.TheVariants.{Special, File, Other}
+use Rattle.uv_model.specs.declared.scheme.Class.TheVariants.{SpecialNotFile, File, Other}
 use Rattle.uv_model.specs.Records.Denote.{denote}
 use Rattle.uv_model.specs.Parts.{Form, SchemeAuthority, SchemePath, SchemeOpaque, Authority, PathAbsolute}
 use Rattle.uv_model.specs.Parts.{PathRelative, NoPath, Parts, written}
@@ -165,8 +165,8 @@ empty_readings =
 -- a class, a list of segments, and that list shortened
 abbrev pub shortened_paths : List (Class × List Literal × List Literal)
 shortened_paths =
-    (Special, "a" ∷ "b" ∷ [], "a" ∷ [])
-    ∷ (Special, "C:" ∷ [], [])
+    (SpecialNotFile, "a" ∷ "b" ∷ [], "a" ∷ [])
+    ∷ (SpecialNotFile, "C:" ∷ [], [])
     ∷ (Other, "" ∷ [], [])
     ∷ (Other, [], [])
     ∷ (File, "C:" ∷ [], "C:" ∷ [])
@@ -179,13 +179,13 @@ shortened_paths =
 -- a class, the list that a walk starts from, the segments that it goes over, and where it ends
 abbrev pub walked_paths : List (Class × List Literal × List Literal × List Literal)
 walked_paths =
-    (Special, [], "a" ∷ ".." ∷ "b" ∷ [], "b" ∷ [])
-    ∷ (Special, [], "" ∷ "a" ∷ [], "" ∷ "a" ∷ [])
-    ∷ (Special, [], "C:" ∷ ".." ∷ ".." ∷ [], "" ∷ [])
+    (SpecialNotFile, [], "a" ∷ ".." ∷ "b" ∷ [], "b" ∷ [])
+    ∷ (SpecialNotFile, [], "" ∷ "a" ∷ [], "" ∷ "a" ∷ [])
+    ∷ (SpecialNotFile, [], "C:" ∷ ".." ∷ ".." ∷ [], "" ∷ [])
     ∷ (File, [], "C:" ∷ ".." ∷ ".." ∷ [], "C:" ∷ "" ∷ [])
     ∷ (File, [], "c%3A" ∷ ".." ∷ [], "" ∷ [])
-    ∷ (Special, "a" ∷ "b" ∷ [], "%2E." ∷ [], "a" ∷ "" ∷ [])
-    ∷ (Special, "a" ∷ "b" ∷ [], ".%2e" ∷ "x" ∷ [], "a" ∷ "x" ∷ [])
+    ∷ (SpecialNotFile, "a" ∷ "b" ∷ [], "%2E." ∷ [], "a" ∷ "" ∷ [])
+    ∷ (SpecialNotFile, "a" ∷ "b" ∷ [], ".%2e" ∷ "x" ∷ [], "a" ∷ "x" ∷ [])
     ∷ (Other, [], "a" ∷ "." ∷ "b" ∷ "%2E" ∷ [], "a" ∷ "b" ∷ "" ∷ [])
     ∷ (Other, "a" ∷ [], "é" ∷ "'" ∷ "..." ∷ [], "a" ∷ "%C3%A9" ∷ "'" ∷ "..." ∷ [])
     ∷ (Other, "a" ∷ [], [], "a" ∷ [])

@@ -34,6 +34,7 @@ space_rows =
     ∷ done "urn:a b ?q" (with_query "q" (opaque "urn" "a b%20")) "urn:a b%20?q"
     ∷ done "urn:a b%20?q" (with_query "q" (opaque "urn" "a b%20")) "urn:a b%20?q"
     ∷ stops "urn:a " 5
+    ∷ stops "urn:a  " 5
     ∷ stops "urn: " 4
     ∷ stops "urn:a ?q " 8
     ∷ stops "urn:a b\"" 7

@@ -155,7 +155,7 @@ refused_spaces =
 abbrev pub spaced_base : Url
 spaced_base = opaque "urn" "a b"
 
--- class Special needs a host
+-- class SpecialNotFile needs a host
 abbrev pub special_references : List Row
 special_references =
     against root_base (stops "//" 2)

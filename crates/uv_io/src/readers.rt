@@ -1,7 +1,7 @@
 //! The standard library's readers as readers of this product.
 ghost use Rattle.std.specs.Prelude.{◌≡◌, ℕ, ◌+◌, ◌^◌, ◌<◌};
 
-use crate::streams::stream::{DeviceFault, Source};
+use crate::stream::{DeviceFault, Source};
 use std::io::Read;
 use std::marker::Model;
 

@@ -2,7 +2,7 @@
 ghost use Rattle.std.specs.Prelude.{◌≡◌, ℕ, List, Option, OnOk, OnErr, length, take, ◌+◌, ◌-◌, ◌^◌, ◌<◌};
 ghost use Rattle.std.specs.Io.{ReadsAtMost, WritesAtMost};
 ghost use Rattle.std.specs.Io.KnownBytes.{Appends, ReadConsumes, WriteAppends};
-ghost use Rattle.uv_model.specs.Streams.Stream.{read_failures, write_failures};
+ghost use Rattle.uv_io.specs.Stream.{read_failures, write_failures};
 
 /// A read or a write failed, or a write took nothing of a piece that had bytes.
 #[derive(Clone, Copy, Debug, PartialEq, Eq)]

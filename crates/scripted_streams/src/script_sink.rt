@@ -1,10 +1,10 @@
 //! A sink that plays a list of answers, to try a run over: each write can be made short or made to fail.
 ghost use Rattle.std.specs.Prelude.{◌≡◌, [], IfOk};
-ghost use Rattle.uv_model.specs.Streams.Script.{write_answers};
+ghost use Rattle.scripted_streams.specs.Script.{write_answers};
 
-use crate::streams::stream::{DeviceFault, Sink};
 use std::alloc::{AllocError, Global};
 use std::marker::Model;
+use uv_io::{DeviceFault, Sink};
 
 /// A sink that plays a list of answers: how many bytes it takes, and failures, and then it fails. It takes no more
 /// bytes than it has room for. Contracts see the bytes that it holds, its room for more, the answers to come, and how
@@ -18,7 +18,7 @@ pub struct ScriptSink<'a> {
 
 impl<'a> Model for ScriptSink<'a> {
     ghost use Rattle.std.specs.Prelude.{◌-◌, vec_capacity, vec_len};
-    ghost use Rattle.uv_model.specs.Streams.Script.{SinkScript, write_answers};
+    ghost use Rattle.scripted_streams.specs.Script.{SinkScript, write_answers};
 
     ghost Value = { SinkScript };
 
@@ -65,8 +65,8 @@ impl Sink for ScriptSink<'_> {
     ghost use Rattle.std.specs.Prelude.{◌≡◌, ◌+◌, ◌-◌, ◌^◌, ◌<◌, Some, length};
     ghost use Rattle.std.specs.Io.{WritesAtMost};
     ghost use Rattle.std.specs.Io.KnownBytes.{WriteAppends};
-    ghost use Rattle.uv_model.specs.Streams.Stream.{write_failures};
-    ghost use Rattle.uv_model.specs.Streams.Script.{PlaysWrite};
+    ghost use Rattle.uv_io.specs.Stream.{write_failures};
+    ghost use Rattle.scripted_streams.specs.Script.{PlaysWrite};
 
     ghost contents = { λ s. Some s.bytes };
 

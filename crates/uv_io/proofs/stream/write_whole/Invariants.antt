@@ -1,7 +1,7 @@
 -- The pieces taken so far are a prefix of the whole, and no write has failed.
 use Rattle.std.proofs.Common.{◌≡◌, ◌≤◌, ◌-◌, length, take}
 use Rattle.std.specs.Io.KnownBytes.{Appends}
-use Rattle.uv_model.proofs.streams.stream.write_whole.Given as goal
+use Rattle.uv_io.proofs.stream.write_whole.Given as goal
 
 abbrev pub invariant-loop-at : goal.invariant-loop-at
 invariant-loop-at g l = record {

@@ -1,11 +1,11 @@
 //! A source that plays a list of answers, to try a run over: each read can be made short or made to fail.
 ghost use Rattle.std.specs.Prelude.{◌≡◌, IfSome, is_some, not};
 ghost use Rattle.std.specs.List.{list_any};
-ghost use Rattle.uv_model.specs.Streams.Script as spec;
-ghost use Rattle.uv_model.specs.Streams.Script.{read_answers};
+ghost use Rattle.scripted_streams.specs.Script as spec;
+ghost use Rattle.scripted_streams.specs.Script.{read_answers};
 
-use crate::streams::stream::{DeviceFault, Source};
 use std::marker::Model;
+use uv_io::{DeviceFault, Source};
 
 /// A source that plays a list of answers: pieces of bytes and failures, and then its end. Contracts see the answers to
 /// come, what is left of a begun piece first, and how many reads have failed.
@@ -19,7 +19,7 @@ pub struct ScriptSource<'a> {
 impl<'a> Model for ScriptSource<'a> {
     ghost use Rattle.std.specs.Prelude.{◌≡◌, false};
     ghost use Rattle.std.specs.List.{list_any};
-    ghost use Rattle.uv_model.specs.Streams.Script.{SourceScript, behind, is_empty_piece, read_answers};
+    ghost use Rattle.scripted_streams.specs.Script.{SourceScript, behind, is_empty_piece, read_answers};
 
     ghost Value = { SourceScript };
 
@@ -72,8 +72,8 @@ impl Source for ScriptSource<'_> {
     ghost use Rattle.std.specs.Prelude.{◌≡◌, ◌+◌, ◌-◌, ◌^◌, ◌<◌, Some, length};
     ghost use Rattle.std.specs.Io.{ReadsAtMost};
     ghost use Rattle.std.specs.Io.KnownBytes.{ReadConsumes};
-    ghost use Rattle.uv_model.specs.Streams.Stream.{read_failures};
-    ghost use Rattle.uv_model.specs.Streams.Script.{PlaysRead, given};
+    ghost use Rattle.uv_io.specs.Stream.{read_failures};
+    ghost use Rattle.scripted_streams.specs.Script.{PlaysRead, given};
 
     ghost remaining = { λ s. Some (given s.answers) };
 

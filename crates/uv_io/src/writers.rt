@@ -1,7 +1,7 @@
 //! The standard library's writers as writers of this product.
 ghost use Rattle.std.specs.Prelude.{◌≡◌, ℕ, ◌+◌, ◌^◌, ◌<◌};
 
-use crate::streams::stream::{DeviceFault, Sink};
+use crate::stream::{DeviceFault, Sink};
 use std::io::Write;
 use std::marker::Model;
 
