@@ -12,7 +12,7 @@ use Rattle.std.proofs.Math.Utf8.{encodes, encode}
 use Rattle.uv_grammar.specs.TextSplits.{IsFirstMark, IsPortMark, SplitsHost}
 use Rattle.uv_grammar.proofs.SliceLemmas.{around}
 use Rattle.uv_model.specs.declared.scheme.Class.{Class}
-use Rattle.uv_model.specs.declared.scheme.Class.TheVariants.{Special, Other}
+use Rattle.uv_model.specs.declared.scheme.Class.TheVariants.{SpecialNotFile, Other}
 use Rattle.uv_model.specs.Hosts.OpaqueHost.{starts_with_bracket}
 use Rattle.uv_model.specs.Path.{is_without}
 use Rattle.uv_model.proofs.Texts.AsciiLemmas.{AreBeyond, AreBeyond-encode}
@@ -155,10 +155,10 @@ splits_host class authority host port is_host is_port =
 
 -- the class isn't File
 pub splits_before_port : (class : Class) (authority host : List ℕ) (port : Option (List ℕ))
-    → ((class ≡ Special) ⊎ (class ≡ Other)) → host ≡ host_before false authority
+    → ((class ≡ SpecialNotFile) ⊎ (class ≡ Other)) → host ≡ host_before false authority
     → port ≡ port_behind false authority → SplitsHost class authority host port
 splits_before_port class authority host port (inl same) is_host is_port =
-    rw same (splits_host Special authority host port is_host is_port)
+    rw same (splits_host SpecialNotFile authority host port is_host is_port)
 splits_before_port class authority host port (inr same) is_host is_port =
     rw same (splits_host Other authority host port is_host is_port)
 

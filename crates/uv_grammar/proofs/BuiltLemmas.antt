@@ -10,7 +10,7 @@ use Rattle.uv_model.specs.declared.rule.Rule.{Rule}
 use Rattle.uv_model.specs.declared.rule.Rule.TheVariants.{NoScheme, OpaqueBase, TwoSlashes, FirstSegmentEmpty}
 use Rattle.uv_model.specs.declared.rule.Rule.TheVariants.{DriveAfterHost}
 use Rattle.uv_model.specs.declared.scheme.Class.{Class}
-use Rattle.uv_model.specs.declared.scheme.Class.TheVariants.{Special, File, Other}
+use Rattle.uv_model.specs.declared.scheme.Class.TheVariants.{SpecialNotFile, File, Other}
 use Rattle.uv_model.specs.Ascii.{number_sign, question_mark}
 use Rattle.uv_model.specs.Violations.Violation.{HasEmptyFirst, HasHost, MayBeUnitViolation, IsStarted}
 use Rattle.uv_model.specs.Violations.Violation.{HasDrive, PathContentViolation, has_opaque_path}
@@ -74,7 +74,7 @@ without_drive Parser path none = tt
 no_opaque_host : (class : Class) (scheme port_text : Option (List ℕ)) (host_text path : List ℕ)
     (query fragment : Option (List ℕ))
     → has_opaque_path class (cut_with scheme (Some host_text) port_text path query fragment) ≡ false
-no_opaque_host Special scheme port_text host_text path query fragment = refl
+no_opaque_host SpecialNotFile scheme port_text host_text path query fragment = refl
 no_opaque_host File scheme port_text host_text path query fragment = refl
 no_opaque_host Other None port_text host_text path query fragment = refl
 no_opaque_host Other (Some scheme) port_text host_text path query fragment = refl
@@ -82,7 +82,7 @@ no_opaque_host Other (Some scheme) port_text host_text path query fragment = ref
 no_opaque_slash : (class : Class) (scheme port_text : Option (List ℕ)) (path : List ℕ)
     (query fragment : Option (List ℕ)) → starts_with_slash path ≡ true
     → has_opaque_path class (cut_with scheme None port_text path query fragment) ≡ false
-no_opaque_slash Special scheme port_text path query fragment start = refl
+no_opaque_slash SpecialNotFile scheme port_text path query fragment start = refl
 no_opaque_slash File scheme port_text path query fragment start = refl
 no_opaque_slash Other None port_text path query fragment start = refl
 no_opaque_slash Other (Some scheme) port_text path query fragment start = rw start refl
@@ -90,7 +90,7 @@ no_opaque_slash Other (Some scheme) port_text path query fragment start = rw sta
 no_opaque_reference : (class : Class) (port_text : Option (List ℕ)) (path : List ℕ)
     (query fragment : Option (List ℕ))
     → has_opaque_path class (cut_with None None port_text path query fragment) ≡ false
-no_opaque_reference Special port_text path query fragment = refl
+no_opaque_reference SpecialNotFile port_text path query fragment = refl
 no_opaque_reference File port_text path query fragment = refl
 no_opaque_reference Other port_text path query fragment = refl
 
@@ -184,6 +184,50 @@ path_alone Parser segments path is start = is
 
 -- ---- authorities
 
+-- a valid authority of a special URL
+special_fits : (setting : Setting) (host_text : List ℕ) (parts : Parts) (host : Option Host) → parts.host ≡ host
+    → FitsHost setting.profile SpecialNotFile (ends_at_host (texts_of parts)) host_text parts.port_text parts.path_text
+    host
+    → MayBePortText parts.port_text → parts.port ≡ port_given setting.default_port parts.port_text
+    → MayBePathBehind setting.profile parts.segments parts.path_text
+    → FitsAuthority SpecialNotFile setting host_text parts
+special_fits setting host_text parts None same (inl (some, fits)) port_text port path = absurd fits
+special_fits setting host_text parts (Some value) same (inl (some, fits)) port_text port path = record {
+  unstopped = fits.0;
+  value = value;
+  host = fits.1;
+  valued = same;
+  port_text = port_text;
+  port = port;
+  path = path;
+}
+special_fits setting host_text parts host same (inr (empty, is, may)) port_text port path = absurd may
+
+-- a valid authority of a file URL, which has no port
+file_fits : (setting : Setting) (host_text : List ℕ) (parts : Parts) (host : Option Host) → parts.host ≡ host
+    → FitsHost setting.profile File (ends_at_host (texts_of parts)) host_text parts.port_text parts.path_text host
+    → IsHostCut File host_text parts.port_text → parts.port ≡ port_given setting.default_port parts.port_text
+    → MayBePathBehind setting.profile parts.segments parts.path_text
+    → (host_text ≢ [] → IsWithoutDrive setting.profile parts.path_text) → FitsAuthority File setting host_text parts
+file_fits setting host_text parts None same (inl (some, fits)) cut port path drive = absurd fits
+file_fits setting host_text parts (Some value) same (inl (some, fits)) cut port path drive = (
+  cut,
+  port ∙ ap (port_given setting.default_port) cut,
+  inl (record {
+    unstopped = fits.0;
+    value = value;
+    host = fits.1;
+    valued = same;
+    path = path;
+    no_drive = drive some;
+  }),
+)
+file_fits setting host_text parts host same (inr (empty, is, may)) cut port path drive = (
+  cut,
+  port ∙ ap (port_given setting.default_port) cut,
+  inr (empty, same ∙ is, path_alone setting.profile parts.segments parts.path_text path may),
+)
+
 -- a valid authority of the class
 authority_fits : (kind : Class) (setting : Setting) (host_text : List ℕ) (parts : Parts) (host : Option Host)
     → parts.host ≡ host
@@ -193,37 +237,10 @@ authority_fits : (kind : Class) (setting : Setting) (host_text : List ℕ) (part
     → MayBePathBehind setting.profile parts.segments parts.path_text
     → (kind ≡ File → host_text ≢ [] → IsWithoutDrive setting.profile parts.path_text)
     → FitsAuthority kind setting host_text parts
-authority_fits Special setting host_text parts None same (inl (some, fits)) cut port_text port path drive = absurd fits
-authority_fits Special setting host_text parts (Some value) same (inl (some, fits)) cut port_text port path drive =
-    record {
-      unstopped = fits.0;
-      value = value;
-      host = fits.1;
-      valued = same;
-      port_text = port_text;
-      port = port;
-      path = path;
-    }
-authority_fits Special setting host_text parts host same (inr (empty, is, may)) cut port_text port path drive =
-    absurd may
-authority_fits File setting host_text parts None same (inl (some, fits)) cut port_text port path drive = absurd fits
-authority_fits File setting host_text parts (Some value) same (inl (some, fits)) cut port_text port path drive = (
-  cut,
-  port ∙ ap (port_given setting.default_port) cut,
-  inl (record {
-    unstopped = fits.0;
-    value = value;
-    host = fits.1;
-    valued = same;
-    path = path;
-    no_drive = drive refl some;
-  }),
-)
-authority_fits File setting host_text parts host same (inr (empty, is, may)) cut port_text port path drive = (
-  cut,
-  port ∙ ap (port_given setting.default_port) cut,
-  inr (empty, same ∙ is, path_alone setting.profile parts.segments parts.path_text path may),
-)
+authority_fits SpecialNotFile setting host_text parts host same fits cut port_text port path drive =
+    special_fits setting host_text parts host same fits port_text port path
+authority_fits File setting host_text parts host same fits cut port_text port path drive =
+    file_fits setting host_text parts host same fits cut port path (drive refl)
 authority_fits Other setting host_text parts host same (inl (some, fits)) cut port_text port path drive =
     (inl (subst (λ (h : Option Host). IsOpaqueHostText host_text h) (sym same) fits, port_text), port, path)
 authority_fits Other setting host_text parts host same (inr (empty, is, may)) cut port_text port path drive =
@@ -284,7 +301,7 @@ no_authority base text scheme port_text path query fragment host port is no_host
 -- a class is Other or isn't
 class_cases : (kind : Class) → (kind ≡ Other) ⊎ (kind ≢ Other)
 class_cases Other = inl refl
-class_cases Special = inr (λ same. cc)
+class_cases SpecialNotFile = inr (λ same. cc)
 class_cases File = inr (λ same. cc)
 
 -- a scheme without an authority is of class Other

@@ -4,7 +4,8 @@ use Rattle.std.proofs.Common.{arith, append-nil, true, false, subst, ne_eqb}
 use Rattle.std.specs.Prelude.{◌==◌, Option, Some, None, slice_range}
 use Rattle.std.specs.Str.{IsCharBoundary, IsUtf8, all_scalars, chars, encode_utf8_all}
 use Rattle.std.proofs.lemmas.Bool.{and_from, and_parts}
-use Rattle.std.proofs.lemmas.Str.{IsCharBoundary-at_seam, IsUtf8-append, IsUtf8-nil, chars-encodes, encode_ascii, encodes-append}
+use Rattle.std.proofs.lemmas.Str.{IsCharBoundary-at_seam, IsUtf8-append, IsUtf8-nil, chars-encodes, encode_ascii}
+use Rattle.std.proofs.lemmas.Str.{encodes-append}
 use Rattle.std.proofs.lemmas.Str.{encodes-chars, scalars-chars}
 use Rattle.std.proofs.lemmas.List.{append_assoc, length-append}
 use Rattle.std.proofs.Math.Seq.{drop-append_seam, take-append_seam}
@@ -189,7 +190,8 @@ piece_there bytes prefix mark (Some part) back from same here some scalars back_
     let text = encode_utf8_all part in
     let grouped : bytes ≡ (prefix ++ mark) ++ (text ++ back)
     = same ∙ ap (λ t. prefix ++ t) (append_assoc mark text back) ∙ sym (append_assoc prefix mark (text ++ back)) in
-    let start : length (prefix ++ mark) ≡ from + length mark = length-append prefix mark ∙ ap (λ n. n + length mark) here in
+    let start : length (prefix ++ mark) ≡ from + length mark = length-append prefix mark
+    ∙ ap (λ n. n + length mark) here in
     let end : from + length mark + length text ≡ from + (length mark + length text) = omega arith in
     let cut = range_there bytes (prefix ++ mark) text back grouped (part_utf8 part scalars) back_is in
     let slice : slice_range bytes (length (prefix ++ mark)) (length (prefix ++ mark) + length text) ≡ text
@@ -303,66 +305,145 @@ pub record AreCutThere (bytes : List ℕ) (cut : Cut) : Type 0 where
   pub ends : AreEnds bytes (ends_of cut)
   pub same : cut_at bytes (ends_of cut) ≡ cut
 
-cut_there : (bytes : List ℕ) (cut : Cut) → bytes ≡ laid_out cut → HasScalars cut → AreScalars cut.port_text
-    → AreCutThere bytes cut
-cut_there bytes cut same scalars port_is =
+-- ---- what is laid out before a place of a cut, and from it on
+
+abbrev before_port : Cut → List ℕ
+before_port cut = scheme_piece cut.scheme ++ piece (47 ∷ 47 ∷ []) cut.host_text
+
+abbrev before_path : Cut → List ℕ
+before_path cut = before_port cut ++ piece (58 ∷ []) cut.port_text
+
+abbrev before_query : Cut → List ℕ
+before_query cut = before_path cut ++ encode_utf8_all cut.path_text
+
+abbrev before_fragment : Cut → List ℕ
+before_fragment cut = before_query cut ++ piece (63 ∷ []) cut.query
+
+abbrev fragment_on : Cut → List ℕ
+fragment_on cut = piece (35 ∷ []) cut.fragment ++ []
+
+abbrev query_on : Cut → List ℕ
+query_on cut = piece (63 ∷ []) cut.query ++ fragment_on cut
+
+abbrev path_on : Cut → List ℕ
+path_on cut = encode_utf8_all cut.path_text ++ query_on cut
+
+abbrev port_on : Cut → List ℕ
+port_on cut = piece (58 ∷ []) cut.port_text ++ path_on cut
+
+abbrev host_on : Cut → List ℕ
+host_on cut = piece (47 ∷ 47 ∷ []) cut.host_text ++ port_on cut
+
+-- what is laid out from a place on is UTF-8
+record AreTexts (cut : Cut) : Type 0 where
+  path : IsUtf8 (encode_utf8_all cut.path_text)
+  from_fragment : IsUtf8 (fragment_on cut)
+  from_query : IsUtf8 (query_on cut)
+  from_path : IsUtf8 (path_on cut)
+  from_port : IsUtf8 (port_on cut)
+  from_host : IsUtf8 (host_on cut)
+
+texts : (cut : Cut) → HasScalars cut → AreScalars cut.port_text → AreTexts cut
+texts cut scalars port_is =
+    let text_is : IsUtf8 (encode_utf8_all cut.path_text) = part_utf8 cut.path_text scalars.path in
+    let f_is : IsUtf8 (fragment_on cut) = IsUtf8-append (piece (35 ∷ []) cut.fragment) []
+    (piece_utf8 (35 ∷ []) cut.fragment number_sign_utf8 scalars.fragment) IsUtf8-nil in
+    let q_is : IsUtf8 (query_on cut) = IsUtf8-append (piece (63 ∷ []) cut.query) (fragment_on cut)
+    (piece_utf8 (63 ∷ []) cut.query question_mark_utf8 scalars.query) f_is in
+    let a_is : IsUtf8 (path_on cut) = IsUtf8-append (encode_utf8_all cut.path_text) (query_on cut) text_is q_is in
+    let o_is : IsUtf8 (port_on cut) = IsUtf8-append (piece (58 ∷ []) cut.port_text) (path_on cut)
+    (piece_utf8 (58 ∷ []) cut.port_text colon_utf8 port_is) a_is in
+    record {
+      path = text_is;
+      from_fragment = f_is;
+      from_query = q_is;
+      from_path = a_is;
+      from_port = o_is;
+      from_host =
+          IsUtf8-append (piece (47 ∷ 47 ∷ []) cut.host_text) (port_on cut)
+          (piece_utf8 (47 ∷ 47 ∷ []) cut.host_text slashes_utf8 scalars.host) o_is;
+    }
+
+-- the bytes are laid out so, and each part ends where the ends say
+record AreSeams (bytes : List ℕ) (cut : Cut) : Type 0 where
+  at_port : bytes ≡ before_port cut ++ port_on cut
+  at_path : bytes ≡ before_path cut ++ path_on cut
+  at_query : bytes ≡ before_query cut ++ query_on cut
+  at_fragment : bytes ≡ before_fragment cut ++ fragment_on cut
+  to_port : length (before_port cut) ≡ end_of_host cut
+  to_path : length (before_path cut) ≡ end_of_port cut
+  to_query : length (before_query cut) ≡ end_of_path cut
+  to_fragment : length (before_fragment cut) ≡ end_of_query cut
+
+seams : (bytes : List ℕ) (cut : Cut) → bytes ≡ laid_out cut → AreSeams bytes cut
+seams bytes cut same =
     let s = scheme_piece cut.scheme in
     let h = piece (47 ∷ 47 ∷ []) cut.host_text in
     let o = piece (58 ∷ []) cut.port_text in
     let text = encode_utf8_all cut.path_text in
     let q = piece (63 ∷ []) cut.query in
-    let f = piece (35 ∷ []) cut.fragment in
-    let f_is : IsUtf8 (f ++ []) = IsUtf8-append f []
-    (piece_utf8 (35 ∷ []) cut.fragment number_sign_utf8 scalars.fragment) IsUtf8-nil in
-    let q_is : IsUtf8 (q ++ (f ++ [])) = IsUtf8-append q (f ++ [])
-    (piece_utf8 (63 ∷ []) cut.query question_mark_utf8 scalars.query) f_is in
-    let text_is : IsUtf8 text = part_utf8 cut.path_text scalars.path in
-    let a_is : IsUtf8 (text ++ (q ++ (f ++ []))) = IsUtf8-append text (q ++ (f ++ [])) text_is q_is in
-    let o_is : IsUtf8 (o ++ (text ++ (q ++ (f ++ [])))) = IsUtf8-append o (text ++ (q ++ (f ++ [])))
-    (piece_utf8 (58 ∷ []) cut.port_text colon_utf8 port_is) a_is in
-    let h_is : IsUtf8 (h ++ (o ++ (text ++ (q ++ (f ++ []))))) = IsUtf8-append h (o ++ (text ++ (q ++ (f ++ []))))
-    (piece_utf8 (47 ∷ 47 ∷ []) cut.host_text slashes_utf8 scalars.host) o_is in
     let se = scheme_extent cut.scheme in
     let he = piece_extent (47 ∷ 47 ∷ []) cut.host_text in
     let oe = piece_extent (58 ∷ []) cut.port_text in
     let qe = piece_extent (63 ∷ []) cut.query in
-    let at_port : bytes ≡ (s ++ h) ++ (o ++ (text ++ (q ++ (f ++ []))))
-    = same ∙ sym (append_assoc s h (o ++ (text ++ (q ++ (f ++ []))))) in
-    let at_path : bytes ≡ ((s ++ h) ++ o) ++ (text ++ (q ++ (f ++ [])))
-    = at_port ∙ sym (append_assoc (s ++ h) o (text ++ (q ++ (f ++ [])))) in
-    let at_query : bytes ≡ (((s ++ h) ++ o) ++ text) ++ (q ++ (f ++ []))
-    = at_path ∙ sym (append_assoc ((s ++ h) ++ o) text (q ++ (f ++ []))) in
-    let at_fragment : bytes ≡ ((((s ++ h) ++ o) ++ text) ++ q) ++ (f ++ [])
-    = at_query ∙ sym (append_assoc (((s ++ h) ++ o) ++ text) q (f ++ [])) in
-    let to_port : length (s ++ h) ≡ end_of_host cut = length-append s h ∙ omega (arith, se, he) in
-    let to_path : length ((s ++ h) ++ o) ≡ end_of_port cut
+    let at_port : bytes ≡ before_port cut ++ port_on cut = same ∙ sym (append_assoc s h (port_on cut)) in
+    let at_path : bytes ≡ before_path cut ++ path_on cut = at_port ∙ sym (append_assoc (s ++ h) o (path_on cut)) in
+    let at_query : bytes ≡ before_query cut ++ query_on cut
+    = at_path ∙ sym (append_assoc ((s ++ h) ++ o) text (query_on cut)) in
+    let to_port : length (before_port cut) ≡ end_of_host cut = length-append s h ∙ omega (arith, se, he) in
+    let to_path : length (before_path cut) ≡ end_of_port cut
     = length-append (s ++ h) o ∙ omega (arith, to_port, oe) in
-    let to_query : length (((s ++ h) ++ o) ++ text) ≡ end_of_path cut
+    let to_query : length (before_query cut) ≡ end_of_path cut
     = length-append ((s ++ h) ++ o) text ∙ omega (arith, to_path) in
-    let to_fragment : length ((((s ++ h) ++ o) ++ text) ++ q) ≡ end_of_query cut
-    = length-append (((s ++ h) ++ o) ++ text) q ∙ omega (arith, to_query, qe) in
-    let scheme = scheme_there bytes cut.scheme (h ++ (o ++ (text ++ (q ++ (f ++ []))))) same scalars.scheme h_is in
-    let host = piece_there bytes s (47 ∷ 47 ∷ []) cut.host_text (o ++ (text ++ (q ++ (f ++ [])))) (end_of_scheme cut)
-    same se (lit< tt) scalars.host o_is in
-    let port = piece_there bytes (s ++ h) (58 ∷ []) cut.port_text (text ++ (q ++ (f ++ []))) (end_of_host cut)
-    at_port to_port (lit< tt) port_is a_is in
-    let query = piece_there bytes (((s ++ h) ++ o) ++ text) (63 ∷ []) cut.query (f ++ []) (end_of_path cut)
-    at_query to_query (lit< tt) scalars.query f_is in
-    let fragment = piece_there bytes ((((s ++ h) ++ o) ++ text) ++ q) (35 ∷ []) cut.fragment [] (end_of_query cut)
-    at_fragment to_fragment (lit< tt) scalars.fragment IsUtf8-nil in
+    record {
+      at_port = at_port;
+      at_path = at_path;
+      at_query = at_query;
+      at_fragment = at_query ∙ sym (append_assoc (((s ++ h) ++ o) ++ text) q (fragment_on cut));
+      to_port = to_port;
+      to_path = to_path;
+      to_query = to_query;
+      to_fragment = length-append (((s ++ h) ++ o) ++ text) q ∙ omega (arith, to_query, qe);
+    }
+
+-- the path between its ends
+path_there : (bytes : List ℕ) (cut : Cut) → HasScalars cut → AreTexts cut → AreSeams bytes cut
+    → IsRange bytes (end_of_port cut) (end_of_path cut)
+    × (chars (slice_range bytes (end_of_port cut) (end_of_path cut)) ≡ cut.path_text)
+path_there bytes cut scalars utf8 seam =
+    let text = encode_utf8_all cut.path_text in
+    let before = before_path cut in
+    let range = range_there bytes before text (query_on cut) seam.at_path utf8.path utf8.from_query in
+    let slice : slice_range bytes (length before) (length before + length text) ≡ text
+    = rw seam.at_path (range_seam before text (query_on cut)) in
+    let to_path = seam.to_path in
+    let end : end_of_port cut + length text ≡ end_of_path cut = omega arith in (
+      rw (to_path, end) at range,
+      ap chars (rw (to_path, end) at slice) ∙ chars-encodes cut.path_text scalars.path,
+    )
+
+cut_there : (bytes : List ℕ) (cut : Cut) → bytes ≡ laid_out cut → HasScalars cut → AreScalars cut.port_text
+    → AreCutThere bytes cut
+cut_there bytes cut same scalars port_is =
+    let utf8 = texts cut scalars port_is in
+    let seam = seams bytes cut same in
+    let scheme = scheme_there bytes cut.scheme (host_on cut) same scalars.scheme utf8.from_host in
+    let host = piece_there bytes (scheme_piece cut.scheme) (47 ∷ 47 ∷ []) cut.host_text (port_on cut)
+    (end_of_scheme cut) same (scheme_extent cut.scheme) (lit< tt) scalars.host utf8.from_port in
+    let port = piece_there bytes (before_port cut) (58 ∷ []) cut.port_text (path_on cut) (end_of_host cut)
+    seam.at_port seam.to_port (lit< tt) port_is utf8.from_path in
+    let path = path_there bytes cut scalars utf8 seam in
+    let query = piece_there bytes (before_query cut) (63 ∷ []) cut.query (fragment_on cut) (end_of_path cut)
+    seam.at_query seam.to_query (lit< tt) scalars.query utf8.from_fragment in
+    let fragment = piece_there bytes (before_fragment cut) (35 ∷ []) cut.fragment [] (end_of_query cut)
+    seam.at_fragment seam.to_fragment (lit< tt) scalars.fragment IsUtf8-nil in
     let whole : length bytes ≡ end_of_query cut + extent 1 cut.fragment = ap length same ∙ whole_length cut in
-    let range = range_there bytes ((s ++ h) ++ o) text (q ++ (f ++ [])) at_path text_is q_is in
-    let slice : slice_range bytes (length ((s ++ h) ++ o)) (length ((s ++ h) ++ o) + length text) ≡ text
-    = rw at_path (range_seam ((s ++ h) ++ o) text (q ++ (f ++ []))) in
-    let end : end_of_port cut + length text ≡ end_of_path cut = omega arith in
-    let path : chars (slice_range bytes (end_of_port cut) (end_of_path cut)) ≡ cut.path_text
-    = ap chars (rw (to_path, end) at slice) ∙ chars-encodes cut.path_text scalars.path in
     record {
       ends = record {
         scheme = scheme.0;
         host = host.range;
         port = port.range;
-        path = rw (to_path, end) at range;
+        path = path.0;
         query = query.range;
         fragment = subst (λ (k : ℕ). MayBePart bytes 1 (end_of_query cut) k) (sym whole) fragment.range;
       };
@@ -372,7 +453,7 @@ cut_there bytes cut same scalars port_is =
           (chars (slice_range bytes (end_of_port cut) (end_of_path cut)))
           (part_between bytes 1 (end_of_path cut) (end_of_query cut))
           (part_between bytes 1 (end_of_query cut) (length bytes)) cut
-          scheme.1 host.same port.same path query.same
+          scheme.1 host.same port.same path.1 query.same
           (subst (λ (k : ℕ). part_between bytes 1 (end_of_query cut) k ≡ cut.fragment) (sym whole) fragment.same);
     }
 

@@ -82,9 +82,11 @@ may_be_empty Wide path slashed = slashed
 may_be_empty Parser path slashed = tt
 
 -- such a link is valid with its parts
-pub file_accepted : (profile : Profile) (base : Option Url) (text after path : List ℕ) (query fragment : Option (List ℕ))
+pub file_accepted : (profile : Profile) (base : Option Url) (text after path : List ℕ)
+    (query fragment : Option (List ℕ))
     → text ≡ codes "file" ++ colon ∷ slash ∷ slash ∷ after → AreUnitsBehind after path query fragment
-    → starts_with_slash path ≡ true → IsAccepted profile base text (built (file_cut path query fragment) (Some Empty) None)
+    → starts_with_slash path ≡ true
+    → IsAccepted profile base text (built (file_cut path query fragment) (Some Empty) None)
 file_accepted profile base text after path query fragment joined units slashed =
     let setting = setting_of profile base (Some (codes "file")) in
     let cut = file_cut path query fragment in

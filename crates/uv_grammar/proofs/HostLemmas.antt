@@ -13,7 +13,7 @@ use Rattle.uv_model.specs.declared.rule.Rule.{Rule}
 use Rattle.uv_model.specs.declared.rule.Rule.TheVariants.{HostMissing, HostDomain, HostNumber, HostIpv6, HostCodePoint}
 use Rattle.uv_model.specs.declared.rule.Rule.TheVariants.{Percent}
 use Rattle.uv_model.specs.declared.scheme.Class.{Class}
-use Rattle.uv_model.specs.declared.scheme.Class.TheVariants.{Special, File, Other}
+use Rattle.uv_model.specs.declared.scheme.Class.TheVariants.{SpecialNotFile, File, Other}
 use Rattle.uv_host.specs.OpaqueHosts.{IsOpaqueHostOrEmpty}
 use Rattle.uv_model.specs.Hosts.Address.{IsBracketedIpv6}
 use Rattle.uv_model.specs.Violations.Violation.{HostContentViolation, HostViolation, HostTextViolation}
@@ -55,7 +55,7 @@ other_not_stopped Parser text = refl
 -- an empty text violates no rule by what it holds
 pub empty_content_fits : (profile : Profile) (class : Class) (last : Bool) (place : ℕ) (rule : Rule)
     → HostContentViolation profile class last [] place rule → ⊥
-empty_content_fits profile Special last place rule h = empty_host_faultless profile Special last rule h.0
+empty_content_fits profile SpecialNotFile last place rule h = empty_host_faultless profile SpecialNotFile last rule h.0
 empty_content_fits profile File last place rule h = empty_host_faultless profile File last rule h.0
 empty_content_fits profile Other last place HostIpv6 h = false≢true h.0.bracket
 empty_content_fits profile Other last place HostCodePoint h = nothing_at place h.1.code_point h.1.rest h.1.here
@@ -83,13 +83,13 @@ empty_silent profile class last port_text path_text not place rule h =
 -- what it holds violates no rule of a missing host
 content_not_missing : (profile : Profile) (class : Class) (last : Bool) (text : List ℕ) (place : ℕ)
     → HostContentViolation profile class last text place HostMissing → ⊥
-content_not_missing profile Special last text place h = h.0
+content_not_missing profile SpecialNotFile last text place h = h.0
 content_not_missing profile File last text place h = h.0
 content_not_missing profile Other last text place h = h
 
 lacks_nothing : (profile : Profile) (class : Class) (text : List ℕ) (port_text : Option (List ℕ)) (path_text : List ℕ)
     → text ≢ [] → LacksHost profile class text port_text path_text → ⊥
-lacks_nothing profile Special text port_text path_text some h = some h
+lacks_nothing profile SpecialNotFile text port_text path_text some h = some h
 lacks_nothing profile File text port_text path_text some h = host_there profile text path_text some h
 lacks_nothing profile Other text port_text path_text some h = some h.0
 

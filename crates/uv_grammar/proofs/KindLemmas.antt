@@ -194,8 +194,8 @@ special_swap profile a b class port host_text parts x = record {
 authority_swap : (profile : Profile) (a b : Url) (class : Class) (port : Option ℕ) (host_text : List ℕ) (parts : Parts)
     → FitsAuthority class (setting_with profile a class port) host_text parts
     → FitsAuthority class (setting_with profile b class port) host_text parts
-authority_swap profile a b classes.Special port host_text parts x =
-    special_swap profile a b classes.Special port host_text parts x
+authority_swap profile a b classes.SpecialNotFile port host_text parts x =
+    special_swap profile a b classes.SpecialNotFile port host_text parts x
 authority_swap profile a b classes.File port host_text parts x = x
 authority_swap profile a b classes.Other port host_text parts x = x
 

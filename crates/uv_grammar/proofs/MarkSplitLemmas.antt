@@ -97,9 +97,11 @@ splits_at_none bytes utf8 none =
       joined = sym (append-nil (chars bytes ++ []) ∙ append-nil (chars bytes));
       prefix =
           ap (is_without number_sign) (append-nil (chars bytes))
-          ∙ is_without-chars number_sign bytes (lit< tt) utf8 (not_found (is_byte2 question_mark number_sign) number_sign bytes refl none);
+          ∙ is_without-chars number_sign bytes (lit< tt) utf8
+          (not_found (is_byte2 question_mark number_sign) number_sign bytes refl none);
       no_question_mark =
-          is_without-chars question_mark bytes (lit< tt) utf8 (not_found (is_byte2 question_mark number_sign) question_mark bytes refl none);
+          is_without-chars question_mark bytes (lit< tt) utf8
+          (not_found (is_byte2 question_mark number_sign) question_mark bytes refl none);
     }
 
 -- split at `#`, and what stands before it at `?`

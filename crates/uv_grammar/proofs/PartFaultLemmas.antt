@@ -1,5 +1,6 @@
 -- The violations of the start, the host, the port and the path's start: one at most, or one of each code point.
-use Rattle.std.proofs.Common.{◌≡◌, ◌≢◌, ℕ, ◌⊎◌, Bool, List, [], ◌∷◌, ◌++◌, true, false, not, Option, Some, inl, inr, refl}
+use Rattle.std.proofs.Common.{◌≡◌, ◌≢◌, ℕ, ◌⊎◌, Bool, List, [], ◌∷◌, ◌++◌, true, false, not, Option, Some, inl, inr}
+use Rattle.std.proofs.Common.{refl}
 use Rattle.std.proofs.Common.{sym, ap, ◌∙◌, subst, ◌==◌, eqb-true}
 use Rattle.std.specs.Prelude.{◌<◌, ◌+◌, is_some}
 use Rattle.std.specs.Char.{is_ascii_digit, is_ascii_alphabetic}
@@ -13,7 +14,7 @@ use Rattle.uv_model.specs.declared.rule.Rule.TheVariants.{HostCodePoint, Percent
 use Rattle.uv_model.specs.declared.rule.Rule.TheVariants.{FirstSegmentEmpty, DriveAfterHost}
 use Rattle.uv_model.specs.declared.rule.Refusal.{Refusal}
 use Rattle.uv_model.specs.declared.scheme.Class.{Class}
-use Rattle.uv_model.specs.declared.scheme.Class.TheVariants.{Special, File, Other}
+use Rattle.uv_model.specs.declared.scheme.Class.TheVariants.{SpecialNotFile, File, Other}
 use Rattle.uv_model.specs.Ascii.{slash}
 use Rattle.uv_model.specs.Violations.AllViolations.{AreFaults, ListsViolations}
 use Rattle.uv_model.specs.Violations.Violation.{Behind, Violation, ViolationOf, HasDrive, HasEmptyFirst}
@@ -133,8 +134,8 @@ host_one_at_most profile class last (c ∷ rest) port_text path_text whole place
 
     of_content : (class : Class) → is_scanned class (c ∷ rest) ≡ false
         → HasOneAtMost (HostContentViolation profile class last (c ∷ rest))
-    of_content Special none place other rule second h k =
-        (h.1 ∙ sym k.1, one_rule profile Special last (c ∷ rest) rule second h.0 k.0)
+    of_content SpecialNotFile none place other rule second h k =
+        (h.1 ∙ sym k.1, one_rule profile SpecialNotFile last (c ∷ rest) rule second h.0 k.0)
     of_content File none place other rule second h k =
         (h.1 ∙ sym k.1, one_rule profile File last (c ∷ rest) rule second h.0 k.0)
     of_content Other none place other HostIpv6 HostIpv6 h k = (h.1 ∙ sym k.1, refl)
@@ -194,7 +195,7 @@ host_scan_adds setting cut class host_text before after is same scanned adds =
     to : (class : Class) (text : List ℕ) → is_scanned class text ≡ true → (place : ℕ) (rule : Rule)
         → HostUnitViolation text place rule
         → HostViolation setting.profile class (ends_at_host cut) text cut.port_text cut.path_text place rule
-    to Special text tested place rule h = absurd (false≢true tested)
+    to SpecialNotFile text tested place rule h = absurd (false≢true tested)
     to File text tested place rule h = absurd (false≢true tested)
     to Other [] tested place rule h = absurd (false≢true tested)
     to Other (c ∷ rest) tested place HostCodePoint h = (no_bracket c rest tested, h)
@@ -204,7 +205,7 @@ host_scan_adds setting cut class host_text before after is same scanned adds =
     from : (class : Class) (text : List ℕ) → is_scanned class text ≡ true → (place : ℕ) (rule : Rule)
         → HostViolation setting.profile class (ends_at_host cut) text cut.port_text cut.path_text place rule
         → HostUnitViolation text place rule
-    from Special text tested place rule h = absurd (false≢true tested)
+    from SpecialNotFile text tested place rule h = absurd (false≢true tested)
     from File text tested place rule h = absurd (false≢true tested)
     from Other [] tested place rule h = absurd (false≢true tested)
     from Other (c ∷ rest) tested place HostCodePoint h = h.1
@@ -350,7 +351,8 @@ no_faults profile base text (refusal ∷ rest) lists parts fits =
 pub all_faults : (profile : Profile) (base : Option Url) (text : List ℕ) (cut : Cut) (setting : Setting)
     (first found : List Refusal)
     → IsCut base text cut → setting ≡ setting_of profile base cut.scheme
-    → AddsViolations (FirstViolation setting text cut) [] first → AddsViolations (ContentViolation setting cut) first found
+    → AddsViolations (FirstViolation setting text cut) [] first
+    → AddsViolations (ContentViolation setting cut) first found
     → AreFaults profile base text found
 unfolding Violation
 all_faults profile base text cut setting first found is made one two =

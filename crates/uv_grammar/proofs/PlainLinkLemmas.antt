@@ -1,5 +1,6 @@
 -- A link of plain parts is valid with them, and a text with a plain start is judged by what stands behind that.
-use Rattle.std.proofs.Common.{◌≡◌, ◌≢◌, ℕ, Bool, true, false, ◌==◌, List, [], ◌∷◌, ◌++◌, Option, Some, None, refl, sym, ap}
+use Rattle.std.proofs.Common.{◌≡◌, ◌≢◌, ℕ, Bool, true, false, ◌==◌, List, [], ◌∷◌, ◌++◌, Option, Some, None, refl}
+use Rattle.std.proofs.Common.{sym, ap}
 use Rattle.std.proofs.Common.{◌∙◌, ◌<◌, ◌^◌, ◌||◌, length, subst, inl, arith, append_assoc}
 use Rattle.std.specs.List.{list_all}
 use Rattle.std.specs.Str.{chars, IsUtf8}
@@ -11,7 +12,7 @@ use Rattle.uv_model.specs.declared.host.Host.TheVariants.{Domain}
 use Rattle.uv_model.specs.declared.profile.Profile.{Profile}
 use Rattle.uv_model.specs.declared.profile.Profile.TheVariants.{Standard, Wide, Parser}
 use Rattle.uv_model.specs.declared.rule.Refusal.{Refusal}
-use Rattle.uv_model.specs.declared.scheme.Class.TheVariants.{Special}
+use Rattle.uv_model.specs.declared.scheme.Class.TheVariants.{SpecialNotFile}
 use Rattle.uv_model.specs.Ascii.{slash, question_mark, number_sign}
 use Rattle.uv_model.specs.Valid.{MayBePortText}
 use Rattle.uv_model.specs.Hosts.StoppedHost.{is_stopped}
@@ -78,14 +79,15 @@ some_name name form own is none =
 
 -- the parser doesn't stop at it
 plain_not_stopped : (profile : Profile) (last : Bool) (name form : List ℕ) → IsDomain Wide name form
-    → is_stopped profile Special last name ≡ false
+    → is_stopped profile SpecialNotFile last name ≡ false
 plain_not_stopped Standard last name form is = refl
 plain_not_stopped Wide last name form is = refl
-plain_not_stopped Parser last name form is = wide_host_not_stopped Special last name (Domain form) is
+plain_not_stopped Parser last name form is = wide_host_not_stopped SpecialNotFile last name (Domain form) is
 
-plain_host : (setting : Setting) (scheme : Option (List ℕ)) (name form : List ℕ) (port_text : Option (List ℕ)) (path : List ℕ)
+plain_host : (setting : Setting) (scheme : Option (List ℕ)) (name form : List ℕ) (port_text : Option (List ℕ))
+    (path : List ℕ)
     (query fragment : Option (List ℕ)) → name ≡ form
-    → setting.class ≡ Special → IsDomain Wide name form → IsDomain setting.profile name form
+    → setting.class ≡ SpecialNotFile → IsDomain Wide name form → IsDomain setting.profile name form
     → FitsHostPart setting (link_cut scheme name port_text path query fragment) (Some (Domain form))
 plain_host setting scheme name form port_text path query fragment own special wide is =
     let last = ends_at_host (link_cut scheme name port_text path query fragment) in
@@ -188,26 +190,29 @@ start_is_cut profile base text scheme name form port_text port after path query 
     (word_cut l.behind name l.rest l.named.joined (name_word name form own l.named.wide)) l.port_cut b
 
 -- its host is valid
-start_host : (setting : Setting) (scheme : Option (List ℕ)) (name form : List ℕ) (port_text : Option (List ℕ)) (path : List ℕ)
-    (query fragment : Option (List ℕ)) → name ≡ form → setting.class ≡ Special
+start_host : (setting : Setting) (scheme : Option (List ℕ)) (name form : List ℕ) (port_text : Option (List ℕ))
+    (path : List ℕ)
+    (query fragment : Option (List ℕ)) → name ≡ form → setting.class ≡ SpecialNotFile
     → IsDomain Wide name form → IsDomain setting.profile name form
     → IsLeast (HostPartViolation setting (link_cut scheme name port_text path query fragment)) None
 start_host setting scheme name form port_text path query fragment own special wide is place rule h =
     let last = ends_at_host (link_cut scheme name port_text path query fragment) in
     special_host_faultless setting.profile last name port_text path (some_name name form own wide)
-    (host_text_faultless setting.profile Special last name (Domain form)
+    (host_text_faultless setting.profile SpecialNotFile last name (Domain form)
     (plain_not_stopped setting.profile last name form wide) is) h.inner rule
     (subst (λ k. HostViolation setting.profile k last name port_text path h.inner rule) special h.holds)
 
 -- and so is its port
-start_port : (scheme : Option (List ℕ)) (name : List ℕ) (port_text : Option (List ℕ)) (path : List ℕ) (query fragment : Option (List ℕ))
+start_port : (scheme : Option (List ℕ)) (name : List ℕ) (port_text : Option (List ℕ)) (path : List ℕ)
+    (query fragment : Option (List ℕ))
     → MayBePortText port_text → IsLeast (PortPartViolation (link_cut scheme name port_text path query fragment)) None
 start_port scheme name None path query fragment valid place rule h = h
 start_port scheme name (Some port_text) path query fragment valid place rule h =
     port_faultless port_text valid h.inner rule h.holds
 
 -- a text with a plain start is refused by the least violation of what stands behind it
-pub start_refused : (profile : Profile) (base : Option Url) (text : List ℕ) (scheme : Option (List ℕ)) (name form : List ℕ)
+pub start_refused : (profile : Profile) (base : Option Url) (text : List ℕ) (scheme : Option (List ℕ))
+    (name form : List ℕ)
     (port_text : Option (List ℕ)) (port : Option ℕ) (after path : List ℕ) (query fragment : Option (List ℕ))
     (refusal : Refusal) → chars form ≡ name → IsStartCut profile base text scheme name form port_text port after
     → IsBehindCut after path query fragment
@@ -225,7 +230,8 @@ start_refused profile base text scheme name form port_text port after path query
     (start_port scheme name port_text path query fragment l.port_cut.valid) least
 
 -- and is valid where there is none
-pub start_accepted : (profile : Profile) (base : Option Url) (text : List ℕ) (scheme : Option (List ℕ)) (name form : List ℕ)
+pub start_accepted : (profile : Profile) (base : Option Url) (text : List ℕ) (scheme : Option (List ℕ))
+    (name form : List ℕ)
     (port_text : Option (List ℕ)) (port : Option ℕ) (after path : List ℕ) (query fragment : Option (List ℕ))
     → chars form ≡ name → IsStartCut profile base text scheme name form port_text port after
     → IsBehindCut after path query fragment
@@ -239,7 +245,8 @@ start_accepted profile base text scheme name form port_text port after path quer
     let setting = setting_of profile base scheme in
     accepted profile base text cut setting
     (start_is_cut profile base text scheme name form port_text port after path query fragment own l b) refl
-    (special_started profile base text scheme l.behind name port_text path query fragment l.special) (built cut (Some (Domain form)) port)
+    (special_started profile base text scheme l.behind name port_text path query fragment l.special)
+    (built cut (Some (Domain form)) port)
     (record {
       host = Some (Domain form);
       port = port;

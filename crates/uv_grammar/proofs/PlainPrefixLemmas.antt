@@ -17,7 +17,7 @@ use Rattle.std.proofs.lemmas.Str.{chars-append, chars-IsAscii, IsUtf8-from_ascii
 use Rattle.std.proofs.Math.Nat.{min-le_left}
 use Rattle.std.proofs.Math.Seq.{take-append_seam, drop-append_seam}
 use Rattle.uv_model.specs.declared.profile.Profile.{Profile}
-use Rattle.uv_model.specs.declared.scheme.Class.TheVariants.{Special}
+use Rattle.uv_model.specs.declared.scheme.Class.TheVariants.{SpecialNotFile}
 use Rattle.uv_model.specs.Ascii.{slash, colon}
 use Rattle.uv_model.specs.Hosts.Domain.{is_form_code_point}
 use Rattle.uv_model.specs.Records.Url.{Url}
@@ -64,30 +64,30 @@ prefix_cut bytes prefix rest end has is_prefix is_rest =
     }
 
 -- the special schemes but `file`, each by its name
-pub https_special : scheme_class (codes "https") ≡ Special
+pub https_special : scheme_class (codes "https") ≡ SpecialNotFile
 unfolding scheme_class default_port
 https_special = refl
 
-pub http_special : scheme_class (codes "http") ≡ Special
+pub http_special : scheme_class (codes "http") ≡ SpecialNotFile
 unfolding scheme_class default_port
 http_special = refl
 
-pub ftp_special : scheme_class (codes "ftp") ≡ Special
+pub ftp_special : scheme_class (codes "ftp") ≡ SpecialNotFile
 unfolding scheme_class default_port
 ftp_special = refl
 
-pub wss_special : scheme_class (codes "wss") ≡ Special
+pub wss_special : scheme_class (codes "wss") ≡ SpecialNotFile
 unfolding scheme_class default_port
 wss_special = refl
 
-pub ws_special : scheme_class (codes "ws") ≡ Special
+pub ws_special : scheme_class (codes "ws") ≡ SpecialNotFile
 unfolding scheme_class default_port
 ws_special = refl
 
 -- a special scheme in the bytes
 pub special_prefix : (bytes name behind : List ℕ) → bytes ≡ name ++ colon ∷ slash ∷ slash ∷ behind → is_scheme name
     ≡ true
-    → scheme_class name ≡ Special → IsSpecialPrefix bytes (length name)
+    → scheme_class name ≡ SpecialNotFile → IsSpecialPrefix bytes (length name)
 special_prefix bytes name behind same is special =
     let prefix : take (length name) bytes ≡ name = ap (take (length name)) same ∙ take-append_seam name
     (colon ∷ slash ∷ slash ∷ behind) in
@@ -122,7 +122,7 @@ special_cut bytes scheme behind none rest end is a b =
 -- a special scheme in any case
 pub scheme_cut : (text scheme rest behind : List ℕ) → SplitsScheme text (Some scheme) rest → rest
     ≡ slash ∷ slash ∷ behind
-    → scheme_class scheme ≡ Special → IsSpecialCut text scheme behind
+    → scheme_class scheme ≡ SpecialNotFile → IsSpecialCut text scheme behind
 scheme_cut text scheme rest behind split slashes special = record {
   joined =
       split.joined ∙ append_assoc scheme (colon ∷ []) rest ∙ ap (λ (s : List ℕ). scheme ++ colon ∷ s) slashes;
@@ -173,7 +173,8 @@ start_behind profile base text behind rest scheme written name start special sam
       named = named;
       port_cut =
           subst
-          (λ (s : List ℕ). IsPortCut (default_port s) rest (chars_of_option start.port_text) start.port (chars start.rest))
+          (λ (s : List ℕ). IsPortCut (default_port s) rest (chars_of_option start.port_text) start.port
+          (chars start.rest))
           (sym same) is.port_cut;
     })
 
@@ -282,7 +283,8 @@ four_small bytes place i fit = elim (cases_Bool (nat_lt i 4)) [
       rw (get_or-take 4 (drop place bytes) i 0 inside, get_or-drop place bytes i 0) fits
   | inr far ↦
       let behind : 4 ≤ i = grind (arith, nat_tests) in
-      rw (get_or_past (take 4 (drop place bytes)) i 0 (omega (arith, length-take 4 (drop place bytes), min-le_left 4 (length (drop place bytes))))) (omega arith)
+      rw (get_or_past (take 4 (drop place bytes)) i 0
+      (omega (arith, length-take 4 (drop place bytes), min-le_left 4 (length (drop place bytes))))) (omega arith)
 ]
 
 -- four bytes that are one number are the same bytes

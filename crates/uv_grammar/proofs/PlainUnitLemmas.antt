@@ -180,6 +180,7 @@ pub host_units : (held : ℕ → Bool) (text prefix rest : List ℕ) → HoldsOp
 host_units held text prefix rest holds cut =
     let permitted : ℕ → Bool = λ c. not (is_forbidden_host c) in
     let each : list_all permitted prefix ≡ true =
-    rw cut.is_prefix (passes_prefix held permitted (host_byte held holds) refl (λ c far. grind (arith, nat_tests)) text) in
+    rw cut.is_prefix (passes_prefix held permitted (host_byte held holds) refl (λ c far. grind (arith, nat_tests))
+    text) in
     word_cut text prefix rest (split_joined held text prefix rest cut)
     (word_passes permitted refl refl refl refl refl prefix each)

@@ -9,7 +9,7 @@ use Rattle.std.proofs.lemmas.Option.{none-some}
 use Rattle.std.proofs.lemmas.Slice.Eq.{bytes_eq-Decides}
 use Rattle.std.proofs.lemmas.Str.{chars-IsAscii}
 use Rattle.uv_model.proofs.Texts.AsciiLemmas.{IsAscii-from_test}
-use Rattle.uv_model.specs.declared.scheme.Class.TheVariants.{Special, File, Other}
+use Rattle.uv_model.specs.declared.scheme.Class.TheVariants.{SpecialNotFile, File, Other}
 use Rattle.uv_model.specs.Scheme.{default_port, lowercase, port_beside, scheme_class, special_schemes}
 
 -- `file` has no default port
@@ -19,7 +19,8 @@ file_without_port scheme same =
     ap (λ s. port_beside s special_schemes) (sym ((bytes_eq-Decides (lowercase scheme) (codes "file")).0 same))
 
 -- a scheme with a default port is special
-pub class_with_port : (scheme : List ℕ) (port : ℕ) → Some port ≡ default_port scheme → Special ≡ scheme_class scheme
+pub class_with_port : (scheme : List ℕ) (port : ℕ) → Some port ≡ default_port scheme
+    → SpecialNotFile ≡ scheme_class scheme
 unfolding scheme_class
 class_with_port scheme port has = elim (cases_Bool (bytes_eq (lowercase scheme) (codes "file"))) [
   | inl file ↦ absurd (none-some port (file_without_port scheme file ∙ sym has))

@@ -1,11 +1,13 @@
 -- Opaque paths of the parser's profile, judged from one violation of units to the next.
 use Rattle.std.proofs.Common.{◌≡◌, ◌≢◌, ℕ, ◌+◌, ◌-◌, ◌<◌, ◌≤◌, Bool, true, false, List, [], ◌∷◌, drop, length, Option}
-use Rattle.std.proofs.Common.{Some, None, sym, ap, subst, ◌∙◌, arith, inl, inr}
+use Rattle.std.proofs.Common.{Some, None, sym, ap, subst, ◌∙◌, arith, inl, inr, refl, zero, suc, eqb-true, ◌==◌}
 use Rattle.std.specs.Str.{IsUtf8, chars}
-use Rattle.std.proofs.lemmas.Bool.{cases_order, false≢true, true≢false}
+use Rattle.std.specs.List.{prefix_len}
+use Rattle.std.proofs.lemmas.Bool.{cases_Bool, cases_order, false≢true, true≢false}
 use Rattle.std.proofs.lemmas.Str.{encodes-chars}
 use Rattle.std.proofs.lemmas.Str.{encodes-chars, length-le-encodes}
 use Rattle.std.proofs.lemmas.List.{drop-drop, length-drop}
+use Rattle.std.proofs.lemmas.List.Sums.{prefix_len-le-length}
 use Rattle.uv_model.specs.declared.profile.Profile.{Profile}
 use Rattle.uv_model.specs.declared.profile.Profile.TheVariants.{Standard, Wide, Parser}
 use Rattle.uv_model.specs.declared.rule.Rule.{Rule}
@@ -14,12 +16,12 @@ use Rattle.uv_model.specs.Ascii.{space}
 use Rattle.uv_model.specs.Cut.{Cut, is_followed}
 use Rattle.uv_model.specs.Setting.{Setting}
 use Rattle.uv_model.specs.Violations.Refusal.{IsLeast}
-use Rattle.uv_model.specs.Violations.UnitViolation.{IsTakenSpace, PathUnitViolation, UnitViolation}
+use Rattle.uv_model.specs.Violations.UnitViolation.{IsTakenSpace, PathUnitViolation, UnitViolation, only_spaces}
 use Rattle.uv_model.specs.Violations.Violation.{Behind, PathContentViolation, has_opaque_path}
 use Rattle.uv_model.proofs.Violations.RefusalLemmas.{IsLeast-like}
 use Rattle.uv_model.proofs.Violations.SpacedPathLemmas.{path_violation-unit}
 use Rattle.uv_grammar.specs.Faults.{AddsViolations}
-use Rattle.uv_grammar.specs.SpacedPaths.{may_be_spaced, takes_spaces}
+use Rattle.uv_grammar.specs.SpacedPaths.{IsTakenRun, is_space, may_be_spaced, takes_spaces}
 use Rattle.uv_grammar.proofs.ScanLemmas.{adds_like, units_scan}
 
 -- ---- which violations are asked for
@@ -112,17 +114,91 @@ spaced_adds setting cut start before after takes =
     })
     before after
 
--- a space that no query or fragment follows is taken where a code point does
-pub taken_alone : (followed : Bool) (text : List ℕ) (c : ℕ) (rest : List ℕ) → text ≡ c ∷ rest → c ≡ space
-    → followed ≡ false → (rest ≢ [] → IsTakenSpace followed text 0) × (IsTakenSpace followed text 0 → rest ≢ [])
-taken_alone followed text c rest shown is alone = (
-  λ some. record { rest = rest; here = shown ∙ ap (λ d. d ∷ rest) is; behind = λ not. some },
-  λ taken nothing. (
-      let whole : c ∷ rest ≡ space ∷ taken.rest = sym shown ∙ taken.here in
-      let same : rest ≡ taken.rest = cc in
-      taken.behind alone (sym same ∙ nothing)
-      ),
-)
+-- ---- spaces at the start
+
+-- what follows the spaces of a text that begins with a space follows those after it
+after_one : (c : ℕ) (rest : List ℕ) (n : ℕ) → drop (1 + n) (c ∷ rest) ≡ drop n rest
+after_one c rest n = sym (drop-drop n 1 (c ∷ rest))
+
+-- spaces that something else follows aren't all of the text
+others_follow : (text : List ℕ) → drop (prefix_len is_space text) text ≢ [] → only_spaces text ≡ false
+others_follow [] some = absurd (some refl)
+others_follow (c ∷ rest) some = elim (cases_Bool (c == space)) [
+  | inl same ↦
+      let further = rw same at some in
+      rw same (others_follow rest (λ none. further (after_one c rest (prefix_len is_space rest) ∙ none)))
+  | inr other ↦ rw other refl
+]
+
+-- the first of the spaces is taken, and those after it are if they are of what follows
+taken_from : (followed : Bool) (c : ℕ) (rest : List ℕ) (i : ℕ) → c ≡ space → i < 1 + prefix_len is_space rest
+    → (followed ≡ false → drop (prefix_len is_space rest) rest ≢ [])
+    → ((k : ℕ) → k < prefix_len is_space rest → IsTakenSpace followed rest k) → IsTakenSpace followed (c ∷ rest) i
+taken_from followed c rest zero is within some later =
+    record { rest = rest; here = ap (λ d. d ∷ rest) is; behind = λ alone. others_follow rest (some alone) }
+taken_from followed c rest (suc i) is within some later =
+    let next = later i (omega arith) in
+    record { rest = next.rest; here = next.here; behind = next.behind }
+
+-- each of the spaces at the start is taken, if a query or a fragment follows, or another code point after them
+taken_run : (followed : Bool) (text : List ℕ) → (followed ≡ false → drop (prefix_len is_space text) text ≢ [])
+    → (i : ℕ) → i < prefix_len is_space text → IsTakenSpace followed text i
+taken_run followed [] some i within = absurd (omega arith)
+taken_run followed (c ∷ rest) some i within = elim (cases_Bool (c == space)) [
+  | inl same ↦
+      let further = rw same at some in
+      let behind : followed ≡ false → drop (prefix_len is_space rest) rest ≢ []
+      = λ alone none. further alone (after_one c rest (prefix_len is_space rest) ∙ none) in
+      taken_from followed c rest i (eqb-true c space same) (rw same at within) behind (taken_run followed rest behind)
+  | inr other ↦ (let none = rw other at within in absurd (omega arith))
+]
+
+-- a text that doesn't begin with a space has none that is taken at its start
+none_taken : (followed : Bool) (text : List ℕ) → prefix_len is_space text ≡ 0 → ¬ (IsTakenSpace followed text 0)
+none_taken followed text none taken =
+    let counted : prefix_len is_space (space ∷ taken.rest) ≡ 0 = ap (prefix_len is_space) (sym taken.here) ∙ none in
+    absurd (omega arith)
+
+-- a text that its spaces end has spaces alone
+ends_with_them : (text : List ℕ) → drop (prefix_len is_space text) text ≡ [] → only_spaces text ≡ true
+ends_with_them [] none = refl
+ends_with_them (c ∷ rest) none = elim (cases_Bool (c == space)) [
+  | inl same ↦
+      let further = rw same at none in
+      rw same (ends_with_them rest (sym (after_one c rest (prefix_len is_space rest)) ∙ further))
+  | inr other ↦ (let whole : c ∷ rest ≡ [] = rw other at none in absurd cc)
+]
+
+-- and of spaces that nothing follows none is taken
+none_taken_at_end : (followed : Bool) (text : List ℕ) → followed ≡ false → drop (prefix_len is_space text) text ≡ []
+    → ¬ (IsTakenSpace followed text 0)
+none_taken_at_end followed text alone ends taken =
+    let all : drop (prefix_len is_space (space ∷ taken.rest)) (space ∷ taken.rest) ≡ []
+    = ap (λ xs. drop (prefix_len is_space xs) xs) (sym taken.here) ∙ ends in
+    let rest = ends_with_them taken.rest (sym (after_one space taken.rest (prefix_len is_space taken.rest)) ∙ all) in
+    false≢true (sym (taken.behind alone) ∙ rest)
+
+-- all spaces at the start, where they are taken
+pub run_taken : (followed : Bool) (text : List ℕ) (count : ℕ) → count ≡ prefix_len is_space text
+    → (followed ≡ false → drop count text ≢ []) → IsTakenRun followed text count
+run_taken followed text count is some = record {
+  fits = (let within = prefix_len-le-length is_space text in omega arith);
+  taken = λ i within. taken_run followed text (rw is at some) i (rw is at within);
+  none = λ nothing. none_taken followed text (sym is ∙ nothing);
+}
+
+-- and none of them, where they end the text
+pub run_ends : (followed : Bool) (text : List ℕ) (count : ℕ) → count ≡ prefix_len is_space text → followed ≡ false
+    → ((drop count text ≢ []) → ⊥) → IsTakenRun followed text 0
+run_ends followed text count is alone none = record {
+  fits = omega arith;
+  taken = λ i within. absurd (omega arith);
+  none = λ _. none_taken_at_end followed text alone (let ends = empty (drop count text) none in rw is at ends);
+}
+  where
+    empty : (xs : List ℕ) → ((xs ≢ []) → ⊥) → xs ≡ []
+    empty [] not = refl
+    empty (c ∷ rest) not = absurd (not (λ e. cc))
 
 -- ---- from one violation of units to the next
 
@@ -177,37 +253,55 @@ spaced_found followed text here left refusal on least foreign = record {
       behind = taken.behind;
     }
 
--- behind a space that is taken
-pub spaced_goes_on : (followed : Bool) (text : List ℕ) (here : ℕ) (left next : List ℕ) (refusal : Refusal)
-    → SpacedOn followed text here left → IsLeast (UnitViolation left) (Some refusal)
-    → refusal.place < length left
-    → IsTakenSpace followed (drop refusal.place left) 0 → next ≡ drop (refusal.place + 1) left
-    → SpacedOn followed text (here + (refusal.place + 1)) next
-spaced_goes_on followed text here left next refusal on least within taken is_next = record {
-  behind = is_next ∙ ap (drop (refusal.place + 1)) on.behind ∙ drop-drop (refusal.place + 1) here text;
+-- behind spaces that are taken
+pub spaced_goes_on : (followed : Bool) (text : List ℕ) (here : ℕ) (left found next : List ℕ) (refusal : Refusal)
+    (spaces : ℕ) → SpacedOn followed text here left → IsLeast (UnitViolation left) (Some refusal)
+    → found ≡ drop refusal.place left → next ≡ drop spaces found → refusal.place < length left
+    → IsTakenRun followed found spaces
+    → SpacedOn followed text (here + (refusal.place + spaces)) next
+spaced_goes_on followed text here left found next refusal spaces on least is_found is_next within run = record {
+  behind = is_next ∙ ap (drop spaces) is_found ∙ drop-drop spaces refusal.place left
+      ∙ ap (drop (refusal.place + spaces)) on.behind ∙ drop-drop (refusal.place + spaces) here text;
   inside =
-      let shorter = ap length is_next ∙ length-drop (refusal.place + 1) left in
+      let shorter = ap length is_next ∙ length-drop spaces found in
+      let seen = ap length is_found ∙ length-drop refusal.place left in
       let all = on.inside in
+      let fits = run.fits in
       omega arith;
   quiet = λ place rule h. elim (cases_order (place - here) refusal.place) [
-    | inl same ↦ absurd (h.1 (at_space place rule h same))
+    | inl same ↦ at_or_behind place rule h (omega arith)
     | inr (inl less) ↦
         let first = least.first (place - here) rule (in_left followed text here left on place rule h) in
         absurd (omega arith)
-    | inr (inr more) ↦ let later = on.quiet place rule h in omega arith
+    | inr (inr more) ↦ at_or_behind place rule h (omega arith)
   ];
 }
   where
-    at_space : (place : ℕ) (rule : Rule) → PathUnitViolation Parser true followed text place rule
-        → place - here ≡ refusal.place → IsTakenSpace followed text place
-    at_space place rule h same =
-        let later = on.quiet place rule h in
-        let stands : place ≡ here + refusal.place = omega arith in
+    at_space : (place i : ℕ) → place ≡ here + (refusal.place + i) → i < spaces → IsTakenSpace followed text place
+    at_space place i stands less =
+        let here_taken = run.taken i less in
         rw stands (record {
-          rest = taken.rest;
-          here = sym (drop-drop refusal.place here text) ∙ ap (drop refusal.place) (sym on.behind) ∙ taken.here;
-          behind = taken.behind;
+          rest = here_taken.rest;
+          here = sym (drop-drop (refusal.place + i) here text) ∙ ap (drop (refusal.place + i)) (sym on.behind)
+              ∙ sym (drop-drop i refusal.place left) ∙ ap (drop i) (sym is_found) ∙ here_taken.here;
+          behind = here_taken.behind;
         })
+
+    not_within : (place : ℕ) (rule : Rule) → PathUnitViolation Parser true followed text place rule
+        → refusal.place ≤ place - here → place - here - refusal.place < spaces → ⊥
+    not_within place rule h far less =
+        let later = on.quiet place rule h in
+        h.1 (at_space place (place - here - refusal.place) (omega arith) less)
+
+    at_or_behind : (place : ℕ) (rule : Rule) → PathUnitViolation Parser true followed text place rule
+        → refusal.place ≤ place - here → here + (refusal.place + spaces) ≤ place
+    at_or_behind place rule h far =
+        let later = on.quiet place rule h in
+        elim (cases_order (place - here - refusal.place) spaces) [
+          | inl same ↦ omega arith
+          | inr (inl less) ↦ absurd (not_within place rule h far less)
+          | inr (inr more) ↦ omega arith
+        ]
 
 -- and where no violation of units is left
 pub spaced_ends : (followed : Bool) (text : List ℕ) (here : ℕ) (left : List ℕ) → SpacedOn followed text here left

@@ -1,4 +1,5 @@
--- The links of a special scheme: the cut of one whose host is any text is known, and what stands behind the host is valid.
+-- The links of a special scheme: the cut of one whose host is any text is known, and what stands behind the host is
+-- valid.
 use Rattle.std.proofs.Common.{◌≡◌, ℕ, Bool, true, false, ◌==◌, List, [], ◌∷◌, ◌++◌, Option, Some, None, refl, sym, ap}
 use Rattle.std.proofs.Common.{◌≢◌, take, drop, lit<, ◌+◌, ◌∙◌, subst, inl, inr, append_assoc, append-nil}
 use Rattle.std.specs.Char.{is_ascii_alphabetic, is_ascii_digit}
@@ -13,12 +14,13 @@ use Rattle.uv_model.specs.declared.profile.Profile.TheVariants.{Standard, Wide, 
 use Rattle.uv_model.specs.declared.rule.Rule.{Rule}
 use Rattle.uv_model.specs.declared.rule.Rule.TheVariants.{NoScheme, OpaqueBase, TwoSlashes, FirstSegmentEmpty}
 use Rattle.uv_model.specs.declared.rule.Rule.TheVariants.{DriveAfterHost}
-use Rattle.uv_model.specs.declared.scheme.Class.TheVariants.{Special}
+use Rattle.uv_model.specs.declared.scheme.Class.TheVariants.{SpecialNotFile}
 use Rattle.uv_model.specs.Ascii.{slash, colon, question_mark, number_sign, right_bracket}
 use Rattle.uv_model.specs.Hosts.OpaqueHost.{starts_with_bracket}
 use Rattle.uv_model.specs.Hosts.StoppedHost.{is_stopped}
 use Rattle.uv_model.specs.Valid.{IsHostText, MayBePortText}
-use Rattle.uv_model.specs.Violations.Violation.{ContentViolation, IsStarted, MayBeUnitViolation, PathStartViolation, has_opaque_path}
+use Rattle.uv_model.specs.Violations.Violation.{ContentViolation, IsStarted, MayBeUnitViolation, PathStartViolation}
+use Rattle.uv_model.specs.Violations.Violation.{has_opaque_path}
 use Rattle.uv_model.specs.Cut.{Cut, IsCut, IsHostCut, IsSchemeCut, ends_at_host, is_followed, starts_with_two_slashes}
 use Rattle.uv_model.specs.Cut.{written_start}
 use Rattle.uv_model.specs.Parts.{written_authority, written_behind, written_scheme}
@@ -100,7 +102,7 @@ special_joined (Some url) text None behind special = special.joined
 
 -- its class is that of its scheme, or of the base's
 pub special_class : (base : Option Url) (text : List ℕ) (scheme : Option (List ℕ)) (behind : List ℕ)
-    → IsSpecialStart base text scheme behind → scheme_class (scheme_or base scheme) ≡ Special
+    → IsSpecialStart base text scheme behind → scheme_class (scheme_or base scheme) ≡ SpecialNotFile
 special_class base text (Some scheme) behind special = special.special
 special_class None text None behind special = absurd special
 special_class (Some url) text None behind special = special.special
@@ -219,9 +221,10 @@ special_started profile (Some url) text None behind name port_text path query fr
     none-some name (sym h.0.2)
 special_started profile (Some url) text None behind name port_text path query fragment special place _ h = absurd h
 
-path_start_silent : (setting : Setting) (scheme : Option (List ℕ)) (name : List ℕ) (port_text : Option (List ℕ)) (path : List ℕ)
+path_start_silent : (setting : Setting) (scheme : Option (List ℕ)) (name : List ℕ) (port_text : Option (List ℕ))
+    (path : List ℕ)
     (query fragment : Option (List ℕ)) (place : ℕ) (rule : Rule)
-    → setting.class ≡ Special → starts_with_two_slashes path ≡ false
+    → setting.class ≡ SpecialNotFile → starts_with_two_slashes path ≡ false
     → PathStartViolation setting (link_cut scheme name port_text path query fragment) place rule → ⊥
 path_start_silent setting scheme name port_text path query fragment place FirstSegmentEmpty special single h =
     one_slash_start setting.profile path single h.0
@@ -250,7 +253,7 @@ units_silent setting scheme name port_text after path query fragment units place
 
 link_silent : (setting : Setting) (base : Option Url) (text : List ℕ) (scheme : Option (List ℕ)) (name : List ℕ)
     (port_text : Option (List ℕ)) (port : Option ℕ) (path : List ℕ) (query fragment : Option (List ℕ))
-    → setting.class ≡ Special → IsSpecialLink base text scheme name port_text port path query fragment
+    → setting.class ≡ SpecialNotFile → IsSpecialLink base text scheme name port_text port path query fragment
     → (place : ℕ) (rule : Rule)
     → BehindAuthority setting (link_cut scheme name port_text path query fragment) place rule → ⊥
 link_silent setting base text scheme name port_text port path query fragment special l place rule (inl h) =
@@ -259,7 +262,8 @@ link_silent setting base text scheme name port_text port path query fragment spe
 link_silent setting base text scheme name port_text port path query fragment special l place rule (inr h) =
     units_silent setting scheme name port_text l.after path query fragment l.units place rule h
 
-pub link_port : (setting : Setting) (scheme : Option (List ℕ)) (name : List ℕ) (port_text : Option (List ℕ)) (port : Option ℕ)
+pub link_port : (setting : Setting) (scheme : Option (List ℕ)) (name : List ℕ) (port_text : Option (List ℕ))
+    (port : Option ℕ)
     (path : List ℕ) (query fragment : Option (List ℕ)) (rest after : List ℕ)
     → IsPortCut setting.default_port rest port_text port after
     → FitsPortPart setting (link_cut scheme name port_text path query fragment) port
@@ -285,9 +289,9 @@ link_judged profile base text scheme name port_text port path query fragment l =
           (special_class base text scheme l.behind l.special) l;
     }
 
--- a text that is a host by each profile is that of a cut, where the class is Special
+-- a text that is a host by each profile is that of a cut, where the class is SpecialNotFile
 pub host_fits : (setting : Setting) (cut : Cut) (text : List ℕ) (host : Host) → cut.host_text ≡ Some text
-    → setting.class ≡ Special → ((profile : Profile) → IsHostText profile text host)
+    → setting.class ≡ SpecialNotFile → ((profile : Profile) → IsHostText profile text host)
     → FitsHostPart setting cut (Some host)
 host_fits setting cut text host same special is =
     rw (same, special) (inl (
@@ -298,10 +302,10 @@ host_fits setting cut text host same special is =
     last : Bool
     last = ends_at_host cut
 
-    not_stopped : (profile : Profile) → is_stopped profile Special last text ≡ false
+    not_stopped : (profile : Profile) → is_stopped profile SpecialNotFile last text ≡ false
     not_stopped Standard = refl
     not_stopped Wide = refl
-    not_stopped Parser = wide_host_not_stopped Special last text host (is Wide)
+    not_stopped Parser = wide_host_not_stopped SpecialNotFile last text host (is Wide)
 
 -- ---- the text of a host
 

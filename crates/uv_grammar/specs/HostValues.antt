@@ -7,7 +7,7 @@ use Rattle.uv_model.specs.declared.profile.Profile.TheVariants.{Parser}
 use Rattle.uv_model.specs.declared.rule.Rule.{Rule}
 use Rattle.uv_model.specs.declared.rule.Rule.TheVariants.{HostDomain, HostNumber}
 use Rattle.uv_model.specs.declared.scheme.Class.{Class}
-use Rattle.uv_model.specs.declared.scheme.Class.TheVariants.{Special, File, Other}
+use Rattle.uv_model.specs.declared.scheme.Class.TheVariants.{SpecialNotFile, File, Other}
 use Rattle.uv_model.specs.Hosts.Domain.{HasNoForm, IsNumberText}
 use Rattle.uv_model.specs.Hosts.OpaqueHost.{starts_with_bracket}
 use Rattle.uv_model.specs.Hosts.StoppedHost.{is_stopped}
@@ -18,9 +18,9 @@ use Rattle.uv_model.specs.Valid.{IsFileHostText, IsHostText, IsOpaqueHostText}
 -- A valid host that isn't empty, by the class, with the value that it gives: an opaque host gives none. At that of a
 -- special or a file URL the parser doesn't stop, where the profile asks for that.
 abbrev pub FitsSomeHost : Profile → Class → Bool → List ℕ → Option Host → Type 0
-FitsSomeHost profile Special last text None = ⊥
-FitsSomeHost profile Special last text (Some host) =
-    (is_stopped profile Special last text ≡ false) × IsHostText profile text host
+FitsSomeHost profile SpecialNotFile last text None = ⊥
+FitsSomeHost profile SpecialNotFile last text (Some host) =
+    (is_stopped profile SpecialNotFile last text ≡ false) × IsHostText profile text host
 FitsSomeHost profile File last text None = ⊥
 FitsSomeHost profile File last text (Some host) =
     (is_stopped profile File last text ≡ false) × IsFileHostText profile text host
@@ -33,7 +33,7 @@ MayBeEmptyFile _ path_text = starts_with_slash path_text ≡ true
 
 -- an empty host may stand before this path, or without a port
 abbrev pub MayBeEmpty : Profile → Class → Option (List ℕ) → List ℕ → Type 0
-MayBeEmpty profile Special port_text path_text = ⊥
+MayBeEmpty profile SpecialNotFile port_text path_text = ⊥
 MayBeEmpty profile File port_text path_text = MayBeEmptyFile profile path_text
 MayBeEmpty profile Other port_text path_text = port_text ≡ None
 

@@ -7,7 +7,7 @@ use Rattle.std.specs.List.{list_all}
 use Rattle.std.specs.Str.{chars}
 use Rattle.uv_model.specs.declared.profile.Profile.{Profile}
 use Rattle.uv_model.specs.declared.profile.Profile.TheVariants.{Wide}
-use Rattle.uv_model.specs.declared.scheme.Class.TheVariants.{Special}
+use Rattle.uv_model.specs.declared.scheme.Class.TheVariants.{SpecialNotFile}
 use Rattle.uv_model.specs.Ascii.{colon, number_sign, question_mark, slash}
 use Rattle.uv_model.specs.Cut.{starts_with_two_slashes}
 use Rattle.uv_model.specs.Hosts.Domain.{IsDomain}
@@ -37,7 +37,7 @@ pub record IsPrefixCut (bytes : List ℕ) (end : ℕ) (prefix rest : List ℕ) :
 pub record IsSpecialPrefix (bytes : List ℕ) (end : ℕ) : Type 0 where
   pub inside : end ≤ length bytes
   pub scheme : is_scheme (take end bytes) ≡ true
-  pub special : scheme_class (take end bytes) ≡ Special
+  pub special : scheme_class (take end bytes) ≡ SpecialNotFile
   pub behind : List ℕ
   pub mark : drop end bytes ≡ colon ∷ slash ∷ slash ∷ behind
 
@@ -45,12 +45,12 @@ pub record IsSpecialPrefix (bytes : List ℕ) (end : ℕ) : Type 0 where
 pub record IsSpecialCut (text scheme rest : List ℕ) : Type 0 where
   pub joined : text ≡ scheme ++ colon ∷ slash ∷ slash ∷ rest
   pub named : is_scheme scheme ≡ true
-  pub special : scheme_class scheme ≡ Special
+  pub special : scheme_class scheme ≡ SpecialNotFile
 
 -- the text is `//` and a rest, and the base has a special scheme and no opaque path
 pub record IsReferenceCut (base : Url) (text rest : List ℕ) : Type 0 where
   pub joined : text ≡ slash ∷ slash ∷ rest
-  pub special : scheme_class base.scheme ≡ Special
+  pub special : scheme_class base.scheme ≡ SpecialNotFile
   pub segments : is_opaque base.path ≡ false
 
 -- the same where there is a base
@@ -67,7 +67,7 @@ IsSpecialStart base text None rest = IsReferenceStart base text rest
 abbrev pub IsSpecialBase : Option Url → List ℕ → Type 0
 IsSpecialBase None scheme = ⊥
 IsSpecialBase (Some base) scheme =
-    (base.scheme ≡ scheme) × (scheme_class scheme ≡ Special) × (is_opaque base.path ≡ false)
+    (base.scheme ≡ scheme) × (scheme_class scheme ≡ SpecialNotFile) × (is_opaque base.path ≡ false)
 
 -- the text is by the profile a domain of this form, which it is by the wide profile too, and a rest
 pub record IsNameCut (profile : Profile) (text name form rest : List ℕ) : Type 0 where

@@ -1,9 +1,11 @@
 -- The opaque paths that may hold spaces, after the URL Standard, section 4.4, opaque path state.
-use Rattle.std.specs.Prelude.{Bool, false}
+use Rattle.std.specs.Prelude.{◌≡◌, ℕ, ◌<◌, ◌≤◌, Bool, false, ◌==◌, List, length}
 use Rattle.uv_model.specs.declared.profile.Profile.{Profile}
 use Rattle.uv_model.specs.declared.profile.Profile.TheVariants.{Parser}
+use Rattle.uv_model.specs.Ascii.{space}
 use Rattle.uv_model.specs.Cut.{Cut}
 use Rattle.uv_model.specs.Setting.{Setting}
+use Rattle.uv_model.specs.Violations.UnitViolation.{IsTakenSpace}
 use Rattle.uv_model.specs.Violations.Violation.{has_opaque_path}
 
 -- an opaque path may hold spaces by the parser's profile
@@ -14,3 +16,13 @@ may_be_spaced _ opaque = false
 -- the path of the cut may hold spaces
 abbrev pub takes_spaces : Setting → Cut → Bool
 takes_spaces setting cut = may_be_spaced setting.profile (has_opaque_path setting.class cut)
+
+-- the code point is a space
+abbrev pub is_space : ℕ → Bool
+is_space c = c == space
+
+-- so many spaces at the text's start are taken, and no space at its start is if there are none
+pub record IsTakenRun (followed : Bool) (text : List ℕ) (count : ℕ) : Type 0 where
+  pub fits : count ≤ length text
+  pub taken : (i : ℕ) → i < count → IsTakenSpace followed text i
+  pub none : count ≡ 0 → ¬ (IsTakenSpace followed text 0)

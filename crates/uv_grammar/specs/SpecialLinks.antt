@@ -1,7 +1,7 @@
 -- The cuts of texts of a special scheme with any host, after the URL Standard, sections 3.4 and 4.3.
 use Rattle.std.specs.Prelude.{◌≡◌, ℕ, false, true, List, ◌++◌, Option, None, ◌⊎◌}
 use Rattle.uv_model.specs.declared.profile.Profile.{Profile}
-use Rattle.uv_model.specs.declared.scheme.Class.TheVariants.{Special}
+use Rattle.uv_model.specs.declared.scheme.Class.TheVariants.{SpecialNotFile}
 use Rattle.uv_model.specs.Ascii.{number_sign, question_mark, slash}
 use Rattle.uv_model.specs.Cut.{Cut, EndsAtPort, IsCut, class_in}
 use Rattle.uv_model.specs.Hosts.Address.{IsBracketedIpv6}
@@ -27,7 +27,7 @@ pub record IsHostTextCut (text name rest : List ℕ) : Type 0 where
 pub record IsJudgedButHost (profile : Profile) (base : Option Url) (text : List ℕ) (cut : Cut) (port : Option ℕ)
     : Type 0 where
   pub is_cut : IsCut base text cut
-  pub special : class_in base cut.scheme ≡ Special
+  pub special : class_in base cut.scheme ≡ SpecialNotFile
   pub started : IsStarted (setting_of profile base cut.scheme) text cut
   pub fits_port : FitsPortPart (setting_of profile base cut.scheme) cut port
   pub silent : IsLeast (BehindAuthority (setting_of profile base cut.scheme) cut) None

@@ -14,10 +14,10 @@ use crate::authority::{judge_host_part, judge_port_part};
 use crate::bases::{Base, BaseKind};
 use crate::cut::{Cut, cut_text};
 use crate::marks::beginnings::{are_digits, has_bracket};
+use crate::parser_paths::{is_followed, takes_spaces};
 use crate::places::{fragment_place, host_place, path_place, port_place, query_place};
 use crate::scan::{Scan, push_scan};
 use crate::setting::Setting;
-use crate::spaced_paths::{is_followed, takes_spaces};
 use crate::start_rules::{path_start_fault, start_fault};
 use std::alloc::{AllocError, Global};
 use uv_model::{Class, Profile, Record, Refusal};
@@ -126,7 +126,7 @@ fn is_scanned(class: Class, host_text: &str) -> bool
 {
     match class {
         Class::Other => !host_text.is_empty() && !has_bracket(host_text),
-        Class::Special | Class::File => false,
+        Class::SpecialNotFile | Class::File => false,
     }
 }
 

@@ -13,11 +13,11 @@ ghost use Rattle.uv_grammar.specs.PartValues.{FitsHostPart, FitsPortPart, withou
 use crate::cut::Cut;
 use crate::host::judge_host;
 use crate::judged::Judged;
+use crate::parser_paths::is_followed;
 use crate::parts_host::PartsHost;
 use crate::places::{host_place, port_place, refusal_behind};
 use crate::port::judge_port;
 use crate::setting::Setting;
-use crate::spaced_paths::is_followed;
 use std::alloc::{AllocError, Global};
 use uv_model::{Class, Profile};
 

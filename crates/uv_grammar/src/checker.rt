@@ -1,7 +1,6 @@
 //! The checker of valid URL strings.
-ghost use Rattle.std.specs.Prelude.{◌≡◌, IfOk, IsOk, IsTrue, None, Ok, Some, option_copied, true};
+ghost use Rattle.std.specs.Prelude.{◌≡◌, IfOk, IsOk, None, Ok, Some, option_copied, true};
 ghost use Rattle.std.specs.Str.{chars};
-ghost use Rattle.uv_model.specs.declared.profile.Profile.{Profile};
 ghost use Rattle.uv_model.specs.Records.Url.{Url};
 ghost use Rattle.uv_grammar.specs.Bases.{IsOfKind, as_base};
 ghost use Rattle.uv_grammar.specs.NoMemory.{TakesNoMemoryAgainst};
@@ -20,7 +19,7 @@ use crate::parts::Parts;
 use crate::parts_host::{AsciiText, PartsHost};
 use crate::plain_links::{
     PlainStart, begins_behind, may_start_otherwise, other_start, plain_cut, plain_parts,
-    plain_start, wide_start,
+    plain_start,
 };
 use crate::setting::Setting;
 use crate::special_links::{address_of, begins_with_http_or_file, is_bracketed, special_cut};
@@ -111,8 +110,11 @@ pub(crate) fn check_started<'t>(
     ensures answer { IfOk result (IsVerdict profile (as_base base.entry) (chars text.now)) }
     ensures memory { TakesNoMemoryAgainst profile (as_base base.entry) (chars text.now) → IsOk result }
 {
-    if goes_on(start.rest.as_str(), profile) {
-        check_from(alloc, text, start, base, profile)
+    let rest = start.rest.as_str();
+    if begins_behind(rest) {
+        check_behind(text, start, base, profile)
+    } else if goes_on_wide(rest, profile) {
+        check_other_start(alloc, text, base, profile)
     } else {
         check_otherwise(alloc, text, base, profile)
     }
@@ -136,81 +138,28 @@ pub(crate) fn check_unstarted<'t>(
     }
 }
 
-// Whether what follows a plain start is judged from there. It spares other texts a verdict that is copied once more,
-// and no verdict rests on it.
-fn goes_on(rest: &str, profile: Profile) -> bool {
-    begins_behind(rest) || goes_on_wide(rest, profile)
-}
-
-/// The verdict on a text of which the start is known to be plain. It is never inlined, as plain links would then have
-/// to keep registers free for it.
-#[inline(never)]
-pub(crate) fn check_from<'t>(
-    alloc: Global,
-    text: &'t str,
-    start: PlainStart<'t>,
-    base: Option<Base<'_>>,
-    profile: Profile,
-) -> Result<Verdict<'t>, AllocError>
-    requires { IsPlainStart profile (as_base base) (chars text.now) start }
-    ensures answer { IfOk result (IsVerdict profile (as_base base.entry) (chars text.now)) }
-    ensures memory { TakesNoMemoryAgainst profile (as_base base.entry) (chars text.now) → IsOk result }
-{
-    let rest = start.rest.as_str();
-    if begins_behind(rest) {
-        Ok(check_behind(text, &start, base, profile))
-    } else if goes_on_wide(rest, profile) {
-        check_wide(alloc, text, base)
-    } else {
-        check_otherwise(alloc, text, base, profile)
-    }
-}
-
-// Whether the profile is the wide one and a low line stands here, by which a name goes on in it alone. The low line is
-// asked for to spare other texts a second look, and no verdict rests on it.
-fn goes_on_wide(rest: &str, profile: Profile) -> bool
-    ensures { IsTrue result → profile ≡ Profile.Wide }
-{
+// Whether the profile is the wide one and a low line stands here, by which a name goes on in it alone. It spares other
+// texts a second look, and no verdict rests on it.
+fn goes_on_wide(rest: &str, profile: Profile) -> bool {
     match profile {
         Profile::Wide => rest.as_bytes().first() == Some(&b'_'),
         Profile::Standard | Profile::Parser => false,
     }
 }
 
-// The verdict by the wide profile on a text in whose host low lines may stand. It is never inlined, as texts that are
-// refused behind a plain start would then have to keep registers free for it.
+/// The verdict on a text with a plain start that a path, a query or a fragment follows, or nothing: these are judged.
+/// It is never inlined, as plain links would then have to keep registers free for it.
 #[inline(never)]
-fn check_wide<'t>(
-    alloc: Global,
+pub(crate) fn check_behind<'t>(
     text: &'t str,
-    base: Option<Base<'_>>,
-) -> Result<Verdict<'t>, AllocError>
-    ensures answer { IfOk result (IsVerdict Profile.Wide (as_base base.entry) (chars text.now)) }
-    ensures memory { TakesNoMemoryAgainst Profile.Wide (as_base base.entry) (chars text.now) → IsOk result }
-{
-    let Some(start) = wide_start(text) else {
-        return check_otherwise(alloc, text, base, Profile::Wide);
-    };
-    if let Some(cut) = plain_cut(&start) {
-        return Ok(Verdict::Yes(plain_parts(text, &cut)));
-    }
-    if begins_behind(start.rest.as_str()) {
-        Ok(check_behind(text, &start, base, Profile::Wide))
-    } else {
-        check_otherwise(alloc, text, base, Profile::Wide)
-    }
-}
-
-// The same, where a path, a query or a fragment follows, or nothing: these are judged.
-fn check_behind<'t>(
-    text: &'t str,
-    start: &PlainStart<'t>,
+    start: PlainStart<'t>,
     base: Option<Base<'_>>,
     profile: Profile,
-) -> Verdict<'t>
-    requires start { IsPlainStart profile (as_base base) (chars text.now) start.now }
-    requires behind { begins_behind (chars start.now.rest) ≡ true }
-    ensures { IsVerdict profile (as_base base.entry) (chars text.now) result }
+) -> Result<Verdict<'t>, AllocError>
+    requires start { IsPlainStart profile (as_base base) (chars text.now) start }
+    requires behind { begins_behind (chars start.rest) ≡ true }
+    ensures answer { IfOk result (IsVerdict profile (as_base base.entry) (chars text.now)) }
+    ensures memory { IsOk result }
 {
     let (path_text, query, fragment) = split_marks(start.rest.as_str());
     let cut = Cut {
@@ -223,16 +172,16 @@ fn check_behind<'t>(
     };
     let setting = Setting::of(base, start.scheme, profile);
     match fault_behind_authority(&cut, &setting) {
-        Some(refusal) => Verdict::No(refusal),
+        Some(refusal) => Ok(Verdict::No(refusal)),
         None => {
             let host = PartsHost::Plain(AsciiText::of(start.name));
-            Verdict::Yes(build(text, cut, Some(host), start.port))
+            Ok(Verdict::Yes(build(text, cut, Some(host), start.port)))
         }
     }
 }
 
-/// The verdict on a text that may have a plain start without a scheme, or with a capital. It is never inlined, as other
-/// texts would then have to keep registers free for it.
+/// The verdict on a text that may have another plain start. It is never inlined, as other texts would then have to keep
+/// registers free for it.
 #[inline(never)]
 pub(crate) fn check_other_start<'t>(
     alloc: Global,
@@ -243,12 +192,16 @@ pub(crate) fn check_other_start<'t>(
     ensures answer { IfOk result (IsVerdict profile (as_base base.entry) (chars text.now)) }
     ensures memory { TakesNoMemoryAgainst profile (as_base base.entry) (chars text.now) → IsOk result }
 {
-    let Some(start) = other_start(text, base) else {
+    let Some(start) = other_start(text, base, profile) else {
         return check_otherwise(alloc, text, base, profile);
     };
-    match plain_cut(&start) {
-        Some(cut) => Ok(Verdict::Yes(plain_parts(text, &cut))),
-        None => check_from(alloc, text, start, base, profile),
+    if let Some(cut) = plain_cut(&start) {
+        return Ok(Verdict::Yes(plain_parts(text, &cut)));
+    }
+    if begins_behind(start.rest.as_str()) {
+        check_behind(text, start, base, profile)
+    } else {
+        check_otherwise(alloc, text, base, profile)
     }
 }
 
@@ -294,7 +247,7 @@ fn check_host<'t>(
     ensures answer { IfOk result (IsVerdict profile (as_base base.entry) (chars text.now)) }
     ensures memory { TakesNoMemoryAgainst profile (as_base base.entry) (chars text.now) → IsOk result }
 {
-    match judge_host_of_class(alloc, &cut, Class::Special, profile)? {
+    match judge_host_of_class(alloc, &cut, Class::SpecialNotFile, profile)? {
         Judged::Valid(host) => Ok(Verdict::Yes(build(text, cut, host, port))),
         Judged::Refused(refusal) => refused(refusal),
     }

@@ -113,7 +113,7 @@ fn split_host<'t>(authority: &'t str, class: Class) -> (&'t str, Option<&'t str>
 {
     match class {
         Class::File => (authority, None),
-        Class::Special | Class::Other => split_port(authority),
+        Class::SpecialNotFile | Class::Other => split_port(authority),
     }
 }
 

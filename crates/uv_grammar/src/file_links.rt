@@ -15,8 +15,8 @@ use crate::plain_prefixes::{has_prefix, split_prefix};
 use uv_model::Host;
 use uv_text::Tail;
 
-/// The parts of a text that is `file://`, in lower case, and a path, a query and a fragment of URL units. It is valid with
-/// these, by each profile and against any base. Where there are none, that says nothing.
+/// The parts of a text that is `file://`, in lower case, and a path, a query and a fragment of URL units. It is valid
+/// with these, by each profile and against any base. Where there are none, that says nothing.
 #[inline(always)]
 pub(crate) fn file_parts<'t>(text: &'t str) -> Option<Parts<'t>>
     ensures { IfSome result (λ parts. (profile : Profile) (base : Option Url)

@@ -42,7 +42,7 @@ pub(crate) fn judge_host<'t>(
         return Ok(judge_empty_host(class, port_text, path_text, profile));
     }
     match class {
-        Class::Special => judge_special_host(alloc, host_text, last, profile),
+        Class::SpecialNotFile => judge_special_host(alloc, host_text, last, profile),
         Class::File => judge_file_host(alloc, host_text, last, profile),
         Class::Other => Ok(judge_opaque_host(host_text)),
     }
@@ -61,7 +61,7 @@ fn judge_empty_host<'t>(
         (HostViolation profile class last [] (chars_of_option port_text.entry) (chars path_text.now)) result }
 {
     let is_missing = match class {
-        Class::Special => true,
+        Class::SpecialNotFile => true,
         Class::File => lacks_path(path_text, profile),
         Class::Other => port_text.is_some(),
     };
@@ -87,6 +87,7 @@ fn lacks_path(path_text: &str, profile: Profile) -> bool
 }
 
 // The host of a special URL, which isn't empty.
+#[inline(always)]
 fn judge_special_host<'t>(
     alloc: Global,
     text: &'t str,
@@ -94,11 +95,12 @@ fn judge_special_host<'t>(
     profile: Profile,
 ) -> Result<Judged<Option<PartsHost<'t>>>, AllocError>
     requires { chars text.now ≢ [] }
-    ensures answer { IfOk result (IsJudged (FitsPartsHost (FitsSomeHost profile Class.Special last (chars text.now)))
-        (HostContentViolation profile Class.Special last (chars text.now))) }
+    ensures answer { IfOk result (IsJudged
+        (FitsPartsHost (FitsSomeHost profile Class.SpecialNotFile last (chars text.now)))
+        (HostContentViolation profile Class.SpecialNotFile last (chars text.now))) }
     ensures memory { MakesNoForm profile (chars text.now) → IsOk result }
 {
-    match judge_host_text(alloc, text, Class::Special, last, profile)? {
+    match judge_host_text(alloc, text, Class::SpecialNotFile, last, profile)? {
         Judged::Valid(host) => Ok(Judged::Valid(Some(host))),
         Judged::Refused(refusal) => Ok(Judged::Refused(refusal)),
     }

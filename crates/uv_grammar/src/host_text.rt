@@ -14,8 +14,8 @@ ghost use Rattle.uv_grammar.specs.PartsHost.{IsPartsHostText, IsUnstoppedHostTex
 
 use crate::judged::Judged;
 use crate::marks::beginnings::has_bracket;
+use crate::parser_stops::is_stopped;
 use crate::parts_host::{AsciiText, PartsHost};
-use crate::stopped_hosts::is_stopped;
 use std::alloc::{AllocError, Global};
 use uv_host::{
     DomainAnswer, ParserHost, PlainAnswer, bracketed_ipv6, domain, ipv4, parser_host, plain_answer,
@@ -84,6 +84,7 @@ fn judge_name<'t>(
 }
 
 // By the profiles that say how a domain is written: a name that is no IPv4 text.
+#[inline(always)]
 fn judge_written_name<'t>(
     alloc: Global,
     text: &'t str,

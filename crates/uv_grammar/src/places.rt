@@ -10,11 +10,15 @@ use crate::cut::Cut;
 use crate::marks::beginnings::has_slash;
 use uv_model::Refusal;
 
-// How many code points the text has.
+// How many code points the text has: in ASCII as many as bytes.
 fn count(text: &str) -> usize
     ensures { result ≡ length (chars text.now) }
 {
-    text.chars().count()
+    if text.is_ascii() {
+        text.len()
+    } else {
+        text.chars().count()
+    }
 }
 
 /// The place behind a scheme and `:`.

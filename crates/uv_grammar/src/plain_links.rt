@@ -7,9 +7,10 @@ ghost use Rattle.uv_model.specs.declared.profile.Profile.{Profile};
 ghost use Rattle.uv_model.specs.Cut.{starts_with_two_slashes};
 ghost use Rattle.uv_model.specs.Path.{starts_with_slash};
 ghost use Rattle.uv_model.specs.Records.Url.{Url};
+ghost use Rattle.uv_model.specs.Setting.{scheme_or};
 ghost use Rattle.uv_grammar.specs.Bases.{as_base};
 ghost use Rattle.uv_grammar.specs.PlainLinks.{AreUnitsBehind, IsPartCut, IsPathCut, IsPlainCut, IsPlainStart};
-ghost use Rattle.uv_grammar.specs.PlainLinks.{IsSpecialBase, IsStartBehind, begins_behind};
+ghost use Rattle.uv_grammar.specs.PlainLinks.{IsSpecialBase, IsSpecialStart, IsStartBehind, begins_behind};
 ghost use Rattle.uv_grammar.specs.Slices.{chars_of, chars_of_option};
 ghost use Rattle.uv_grammar.specs.Verdict.{IsAccepted};
 
@@ -20,11 +21,11 @@ use crate::marks::beginnings::{has_slash, has_two_slashes};
 use crate::parts::Parts;
 use crate::parts_host::{AsciiText, PartsHost};
 use crate::plain_prefixes::{
-    begins_upper, begins_with, split_name, split_port, split_prefix, split_slashes, split_special,
-    split_upper, split_wide_name,
+    begins_upper, begins_with, split_name, split_name_by, split_port, split_prefix, split_slashes,
+    split_special, split_written,
 };
 use crate::setting::known_class;
-use uv_model::Class;
+use uv_model::{Class, Profile};
 use uv_text::{Tail, UnitClass, split_tail};
 
 /// The texts of the scheme, the domain and the port of a text, where they are those of a plain link, and what follows
@@ -85,56 +86,37 @@ pub(crate) fn plain_start<'t>(text: &'t str) -> Option<PlainStart<'t>>
     start_behind(Some(scheme), scheme, name, rest)
 }
 
-/// The same by the wide profile, in which low lines count as letters of a domain.
-#[inline(always)]
-pub(crate) fn wide_start<'t>(text: &'t str) -> Option<PlainStart<'t>>
-    ensures { IfSome result (λ start. (base : Option Url) → IsPlainStart Profile.Wide base (chars text.now) start) }
-{
-    let Some((scheme, behind)) = split_special(text) else {
-        return None;
-    };
-    let Some((name, rest)) = split_wide_name(&behind) else {
-        return None;
-    };
-    start_behind(Some(scheme), scheme, name, rest)
-}
-
 /// Whether a text may have another plain start: `//` without a scheme, or a scheme that begins with a capital.
 pub(crate) fn may_start_otherwise(text: &str) -> bool {
     has_slash(text) || begins_upper(text)
 }
 
-/// Such a start, by each profile.
+/// The same by the profile and against the base: also `//` in place of the scheme and `://`, a scheme in any case, and
+/// a domain in which low lines stand.
 #[inline(always)]
-pub(crate) fn other_start<'t>(text: &'t str, base: Option<Base<'_>>) -> Option<PlainStart<'t>>
-    ensures { IfSome result (λ start. (profile : Profile)
-        → IsPlainStart profile (as_base base.entry) (chars text.now) start) }
+pub(crate) fn other_start<'t>(
+    text: &'t str,
+    base: Option<Base<'_>>,
+    profile: Profile,
+) -> Option<PlainStart<'t>>
+    ensures { IfSome result (IsPlainStart profile (as_base base.entry) (chars text.now)) }
 {
     if has_slash(text) {
-        reference_start(text, base)
-    } else {
-        upper_start(text)
+        return reference_start(text, base, profile);
     }
-}
-
-// The same of a text whose scheme begins with a capital, against any base.
-fn upper_start<'t>(text: &'t str) -> Option<PlainStart<'t>>
-    ensures { IfSome result (λ start. (profile : Profile) (base : Option Url)
-        → IsPlainStart profile base (chars text.now) start) }
-{
-    let Some((scheme, behind)) = split_upper(text) else {
+    let Some((scheme, behind)) = split_written(text) else {
         return None;
     };
-    let Some((name, rest)) = split_name(&behind) else {
-        return None;
-    };
-    start_behind(Some(scheme), scheme, name, rest)
+    named_start(Some(scheme), scheme, &behind, profile)
 }
 
 // The same of a reference, against a base of a special scheme: `//` in place of the scheme and `://`.
-fn reference_start<'t>(text: &'t str, base: Option<Base<'_>>) -> Option<PlainStart<'t>>
-    ensures { IfSome result (λ start. (profile : Profile)
-        → IsPlainStart profile (as_base base.entry) (chars text.now) start) }
+fn reference_start<'t>(
+    text: &'t str,
+    base: Option<Base<'_>>,
+    profile: Profile,
+) -> Option<PlainStart<'t>>
+    ensures { IfSome result (IsPlainStart profile (as_base base.entry) (chars text.now)) }
 {
     let Some(behind) = split_slashes(text) else {
         return None;
@@ -142,10 +124,26 @@ fn reference_start<'t>(text: &'t str, base: Option<Base<'_>>) -> Option<PlainSta
     let Some(scheme) = special_base(base) else {
         return None;
     };
-    let Some((name, rest)) = split_name(&behind) else {
+    named_start(None, scheme, &behind, profile)
+}
+
+// The start with a scheme that is written or the base's: a name of the profile follows, and a port or none.
+#[inline(always)]
+fn named_start<'t>(
+    written: Option<&'t str>,
+    scheme: &str,
+    behind: &Tail<'t>,
+    profile: Profile,
+) -> Option<PlainStart<'t>>
+    ensures { IfSome result (λ start. (base : Option Url) (text : List ℕ)
+        → IsSpecialStart base text (chars_of_option written.entry) (chars behind.now)
+        → scheme_or base (chars_of_option written.entry) ≡ chars scheme.now
+        → IsPlainStart profile base text start) }
+{
+    let Some((name, rest)) = split_name_by(behind, profile) else {
         return None;
     };
-    start_behind(None, scheme, name, rest)
+    start_behind(written, scheme, name, rest)
 }
 
 // The start with this name and a scheme that is written or the base's: a port follows, or none.
@@ -239,7 +237,7 @@ fn special_base<'b>(base: Option<Base<'b>>) -> Option<&'b str>
     }
     let name = base.scheme();
     match known_class(name) {
-        Class::Special => Some(name),
+        Class::SpecialNotFile => Some(name),
         Class::File | Class::Other => None,
     }
 }

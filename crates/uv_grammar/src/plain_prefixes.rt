@@ -19,7 +19,7 @@ use crate::marks::beginnings::two_slashes_first;
 use crate::marks::behind_slash;
 use crate::port::judge_port;
 use uv_host::{is_plain_domain, is_plain_wide_domain, name_prefix, wide_name_prefix};
-use uv_model::{Class, class_of, default_port};
+use uv_model::{Class, Profile, class_of, default_port};
 use uv_text::Tail;
 
 /// A special scheme but `file`, in lower case, and what stands behind its `://`.
@@ -35,13 +35,22 @@ pub(crate) fn split_special<'t>(text: &'t str) -> Option<(&'t str, Tail<'t>)>
     Some((scheme, rest))
 }
 
-/// The same of a scheme that begins with a capital.
-pub(crate) fn split_upper<'t>(text: &'t str) -> Option<(&'t str, Tail<'t>)>
+/// The same of a scheme in any case. One that begins with a capital isn't compared with those in lower case.
+#[inline(always)]
+pub(crate) fn split_written<'t>(text: &'t str) -> Option<(&'t str, Tail<'t>)>
     ensures { IfSome result (λ r. IsSpecialCut (chars text.now) (chars_of r.0) (chars r.1)) }
 {
-    if !begins_upper(text) {
-        return None;
+    if begins_upper(text) {
+        split_any_case(text)
+    } else {
+        split_special(text)
     }
+}
+
+// The same, part by part.
+fn split_any_case<'t>(text: &'t str) -> Option<(&'t str, Tail<'t>)>
+    ensures { IfSome result (λ r. IsSpecialCut (chars text.now) (chars_of r.0) (chars r.1)) }
+{
     let (scheme, rest) = split_scheme(text);
     let Some(scheme) = scheme else {
         return None;
@@ -50,7 +59,7 @@ pub(crate) fn split_upper<'t>(text: &'t str) -> Option<(&'t str, Tail<'t>)>
         return None;
     };
     match class_of(scheme) {
-        Class::Special => Some((scheme, Tail::of(behind))),
+        Class::SpecialNotFile => Some((scheme, Tail::of(behind))),
         Class::File | Class::Other => None,
     }
 }
@@ -157,9 +166,20 @@ pub(crate) fn split_name<'t>(text: &Tail<'t>) -> Option<(&'t str, Tail<'t>)>
     }
 }
 
-/// The same by the wide profile, in which low lines count as letters.
+/// The same by the profile.
 #[inline(always)]
-pub(crate) fn split_wide_name<'t>(text: &Tail<'t>) -> Option<(&'t str, Tail<'t>)>
+pub(crate) fn split_name_by<'t>(text: &Tail<'t>, profile: Profile) -> Option<(&'t str, Tail<'t>)>
+    ensures { IfSome result (λ r. IsNameCut profile (chars text.now) (chars_of r.0) r.0.now (chars r.1)) }
+{
+    match profile {
+        Profile::Wide => split_wide_name(text),
+        Profile::Standard | Profile::Parser => split_name(text),
+    }
+}
+
+// The same by the wide profile, in which low lines count as letters.
+#[inline(always)]
+fn split_wide_name<'t>(text: &Tail<'t>) -> Option<(&'t str, Tail<'t>)>
     ensures { IfSome result (λ r. IsNameCut Profile.Wide (chars text.now) (chars_of r.0) r.0.now (chars r.1)) }
 {
     let Some(end) = wide_name_prefix(text) else {

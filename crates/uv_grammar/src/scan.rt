@@ -7,9 +7,9 @@ ghost use Rattle.uv_grammar.specs.Faults.{AddsViolations};
 ghost use Rattle.uv_grammar.specs.Scan.{HostUnitViolation, ScanViolation};
 
 use crate::marks::beginnings::has_bracket;
+use crate::parser_paths::first_spaced_fault;
 use crate::places::refusal_behind;
 use crate::port::digit_fault;
-use crate::spaced_paths::first_spaced_fault;
 use std::alloc::AllocError;
 use uv_host::opaque_fault;
 use uv_model::{Refusal, Rule, behind_code_points};

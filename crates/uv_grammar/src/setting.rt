@@ -90,7 +90,7 @@ fn class_beside(scheme: &str, port: Option<u16>) -> Class
     ensures { result ≡ scheme_class (chars scheme.now) }
 {
     match port {
-        Some(_) => Class::Special,
+        Some(_) => Class::SpecialNotFile,
         None => class_without_port(scheme),
     }
 }

@@ -2,7 +2,7 @@
 ghost use Rattle.std.specs.Prelude.{◌≡◌, Option, IfSome, Some, false, true};
 ghost use Rattle.std.specs.Str.{chars};
 ghost use Rattle.uv_model.specs.declared.profile.Profile.{Profile};
-ghost use Rattle.uv_model.specs.declared.scheme.Class.TheVariants.{Special};
+ghost use Rattle.uv_model.specs.declared.scheme.Class.TheVariants.{SpecialNotFile};
 ghost use Rattle.uv_model.specs.Hosts.OpaqueHost.{starts_with_bracket};
 ghost use Rattle.uv_model.specs.Records.Url.{Url};
 ghost use Rattle.uv_model.specs.Setting.{Setting};
@@ -72,7 +72,7 @@ fn may_end_host(text: &str) -> bool {
 #[inline(always)]
 pub(crate) fn address_of(cut: &Cut) -> Option<Host>
     ensures text { IfSome result (λ _. IfSome cut.now.host_text IsAddressOrBare) }
-    ensures host { IfSome result (λ host. (setting : Setting) → setting.class ≡ Special
+    ensures host { IfSome result (λ host. (setting : Setting) → setting.class ≡ SpecialNotFile
         → FitsHostPart setting cut.now (Some host)) }
 {
     let Some(text) = cut.host_text else {

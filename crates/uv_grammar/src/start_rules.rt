@@ -119,7 +119,7 @@ fn keeps_drive_out(cut: &Cut, setting: &Setting) -> bool
 {
     match setting.class {
         Class::File => has_host(cut, setting.base),
-        Class::Special | Class::Other => false,
+        Class::SpecialNotFile | Class::Other => false,
     }
 }
 

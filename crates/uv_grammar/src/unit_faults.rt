@@ -6,9 +6,9 @@ ghost use Rattle.uv_model.specs.Violations.Violation.{PathContentViolation};
 ghost use Rattle.uv_grammar.specs.PartViolations.{BehindAuthority, IsCountable, OfFragment, OfPath, OfQuery};
 
 use crate::cut::Cut;
+use crate::parser_paths::{first_spaced_fault, is_followed, takes_spaces};
 use crate::places::{fragment_place, path_place, query_place, refusal_behind};
 use crate::setting::Setting;
-use crate::spaced_paths::{first_spaced_fault, is_followed, takes_spaces};
 use crate::start_rules::path_start_fault;
 use uv_model::Refusal;
 use uv_text::first_fault;

@@ -4,9 +4,7 @@ use Rattle.std.proofs.Common.{cond, List, [], ◌∷◌, length, map, take, get_
 use Rattle.std.proofs.Common.{sym, ap, ◌∙◌, inl, inr, arith}
 use Rattle.std.specs.Prelude.{slice_index}
 use Rattle.std.specs.Int.{bit_at, trailing_ones}
-use Rattle.std.specs.Int.Bits.{and_zero_r}
 use Rattle.std.specs.Simd.Lanes.{mask_l}
-use Rattle.std.proofs.Math.ListN.{get_or-eq_default}
 use Rattle.std.proofs.lemmas.Bool.{agree_below_at, cases_Bool, cases_eq, cases_lt}
 use Rattle.std.proofs.lemmas.Bool.Decides.{nat_tests}
 use Rattle.std.proofs.lemmas.List.{get_or-map, length-take}
@@ -14,19 +12,11 @@ use Rattle.std.proofs.lemmas.Nat.{and_le_l, or_lt}
 use Rattle.std.proofs.lemmas.Simd.{bit_mask_l}
 use Rattle.std.proofs.lemmas.Nat.Bits.{bit_at-lt, bit_at-trailing_ones, bit_at_above, bit_at_and, bit_at_cat_high}
 use Rattle.std.proofs.lemmas.Nat.Bits.{bit_at_cat_low, bit_at_or}
-use Rattle.uv_text.specs.Rows.{HasBitsOf, high_bit, is_in_rows, row_at}
+use Rattle.uv_text.specs.Rows.{HasBitsOf, is_in_rows}
 use Rattle.uv_text.proofs.MaskLemmas.{bit-set, mask-small}
+use Rattle.uv_text.proofs.RowsLemmas.{beyond}
 use Rattle.uv_host.specs.declared.plain_names.TheConstants.{JOINT_ROWS, SIGN_ROWS, WIDE_SIGN_ROWS}
 use Rattle.uv_host.specs.PlainNames.{IsJoined, goes_on, is_joint, is_sign, signed_before}
-
--- no rows have a number beyond the bytes
-beyond : (rows : List ℕ) (b : ℕ) → 256 ≤ b → is_in_rows rows b ≡ false
-beyond rows b large =
-    let behind : 16 ≤ b / 16 = omega arith in
-    let none : high_bit b ≡ 0
-    = get_or-eq_default (1 ∷ 2 ∷ 4 ∷ 8 ∷ 16 ∷ 32 ∷ 64 ∷ 128 ∷ 0 ∷ 0 ∷ 0 ∷ 0 ∷ 0 ∷ 0 ∷ 0 ∷ 0 ∷ []) 0 {n = b / 16}
-    behind in
-    rw (none, and_zero_r (row_at rows b)) refl
 
 -- the rows hold the letters and digits, with low lines or without
 sign_rows : (b : ℕ) → is_in_rows SIGN_ROWS b ≡ is_sign false b

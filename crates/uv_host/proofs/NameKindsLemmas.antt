@@ -138,7 +138,8 @@ seen_ascii name seen are = seen_all 32 is_ascii name seen refl are
 pub permitted_ascii : (profile : Profile) (text : List ℕ) → list_all is_ascii text ≡ true
     → list_all (is_permitted profile) text ≡ has_permitted profile (chars text)
 unfolding has_permitted
-permitted_ascii profile text all = ap (list_all (is_permitted profile)) (sym (chars-IsAscii text (IsAscii-from_test text all)))
+permitted_ascii profile text all =
+    ap (list_all (is_permitted profile)) (sym (chars-IsAscii text (IsAscii-from_test text all)))
 
 -- ---- hyphens
 

@@ -53,7 +53,8 @@ goes_further low text end ahead prefix behind =
     }
   where
     moved : (j : ℕ)
-        → goes_on low (signed_before low (signed_before low false text end) (drop end text) j) (slice_index (drop end text) j)
+        → goes_on low (signed_before low (signed_before low false text end) (drop end text) j)
+        (slice_index (drop end text) j)
         ≡ true
         → goes_on low (signed_before low false text (end + j)) (slice_index text (end + j)) ≡ true
     moved zero goes = rw (add-zero end) (rw (get_or-drop end text 0 0, add-zero end) at goes)

@@ -54,7 +54,8 @@ parsed_byte bytes number shortest parses =
     let digits = digits_asked bytes shortest in
     let is = parse_digits decimal_numerals {E = ℕ} 8 bytes (Ok number) parses digits in
     let small : digits_value 10 bytes < 2 ^ 64 = omega (arith, is.0.1) in
-    let same = decimal-digits_value decimal_numerals bytes digits (some_asked bytes shortest) (first_asked bytes shortest) small in
+    let same = decimal-digits_value decimal_numerals bytes digits (some_asked bytes shortest)
+    (first_asked bytes shortest) small in
     (omega (arith, is.0.1, is.1), sym (ap decimal is.1 ∙ same))
 
 -- what isn't read is no number

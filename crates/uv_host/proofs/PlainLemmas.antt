@@ -78,7 +78,8 @@ plain_parsed name p = record {
       plain_byte name p.valid;
   placed =
       list_all-from_AllPass (passes_hyphens Allow) (labels_of name)
-      (All-weaker (λ label. passes_hyphens Check label ≡ true) (λ label. passes_hyphens Allow label ≡ true) allowed_hyphens
+      (All-weaker (λ label. passes_hyphens Check label ≡ true) (λ label. passes_hyphens Allow label ≡ true)
+      allowed_hyphens
       (labels_of name)
       (AllPass-from_list_all (passes_hyphens Check) (labels_of name) p.placed));
 }

@@ -5,7 +5,8 @@ use Rattle.std.specs.List.{list_all}
 use Rattle.uv_model.specs.Hosts.Domain.{is_forbidden_domain}
 use Rattle.uv_host.specs.Domains.{is_simple}
 
--- The kind of a mark or a byte beyond ASCII, as a bit: the hyphen, the low line, a byte beyond ASCII, a forbidden domain
+-- The kind of a mark or a byte beyond ASCII, as a bit: the hyphen, the low line, a byte beyond ASCII, a forbidden
+-- domain
 -- code point, and any other mark.
 abbrev pub mark_kind : ℕ → ℕ
 mark_kind b =

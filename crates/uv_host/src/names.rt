@@ -13,45 +13,54 @@ ghost use Rattle.uv_model.specs.Hosts.Domain as spec;
 use idna::uts46::Hyphens;
 use std::marker::Model;
 use uv_model::Profile;
+use uv_text::byte_table;
 
-// The kind of each byte, as a bit: 1 of the hyphen, 2 of a capital, 4 of the low line, 8 of any other mark that a form
-// by the parser's profile may hold, 16 of a forbidden domain code point, 32 of a byte beyond ASCII, and 64 of `x`, with
-// which `xn--` begins. Other lower-case letters, digits and the full stop are of no kind.
-const KINDS: [u8; 256] = [
-    16, 16, 16, 16, 16, 16, 16, 16, 16, 16, 16, 16, 16, 16, 16, 16, 16, 16, 16, 16, 16, 16, 16, 16,
-    16, 16, 16, 16, 16, 16, 16, 16, 16, 8, 8, 16, 8, 16, 8, 8, 8, 8, 8, 8, 8, 1, 0, 16, 0, 0, 0, 0,
-    0, 0, 0, 0, 0, 0, 16, 8, 16, 8, 16, 16, 16, 2, 2, 2, 2, 2, 2, 2, 2, 2, 2, 2, 2, 2, 2, 2, 2, 2,
-    2, 2, 2, 2, 2, 2, 2, 2, 2, 16, 16, 16, 16, 4, 8, 0, 0, 0, 0, 0, 0, 0, 0, 0, 0, 0, 0, 0, 0, 0,
-    0, 0, 0, 0, 0, 0, 0, 0, 64, 0, 0, 8, 16, 8, 8, 16, 32, 32, 32, 32, 32, 32, 32, 32, 32, 32, 32,
-    32, 32, 32, 32, 32, 32, 32, 32, 32, 32, 32, 32, 32, 32, 32, 32, 32, 32, 32, 32, 32, 32, 32, 32,
-    32, 32, 32, 32, 32, 32, 32, 32, 32, 32, 32, 32, 32, 32, 32, 32, 32, 32, 32, 32, 32, 32, 32, 32,
-    32, 32, 32, 32, 32, 32, 32, 32, 32, 32, 32, 32, 32, 32, 32, 32, 32, 32, 32, 32, 32, 32, 32, 32,
-    32, 32, 32, 32, 32, 32, 32, 32, 32, 32, 32, 32, 32, 32, 32, 32, 32, 32, 32, 32, 32, 32, 32, 32,
-    32, 32, 32, 32, 32, 32, 32, 32, 32, 32, 32, 32, 32, 32, 32, 32, 32, 32, 32, 32, 32,
-];
-
-// The kinds beyond letters in lower case, digits and full stops.
-const BEYOND_SIMPLE: u8 = 63;
-
-// The kinds beyond a form's code points, by each profile.
-const BEYOND_STANDARD_FORM: u8 = 62;
-
-const BEYOND_WIDE_FORM: u8 = 58;
-
-const BEYOND_PARSER_FORM: u8 = 50;
-
-// The kinds that a domain doesn't hold in any case of its letters, by each profile.
-const BEYOND_STANDARD: u8 = 28;
-
-const BEYOND_WIDE: u8 = 24;
-
-const BEYOND_PARSER: u8 = 16;
-
+// The kinds of bytes, each a bit. Lower-case letters but `x`, digits and the full stop are of no kind.
 const HYPHEN: u8 = 1;
 
-const LETTER_X: u8 = 64;
+const CAPITAL: u8 = 2;
+
+const LOW_LINE: u8 = 4;
+
+// Any other mark that a form by the parser's profile may hold.
+const OTHER_MARK: u8 = 8;
+
+// A forbidden domain code point.
+const FORBIDDEN: u8 = 16;
 
 const BEYOND_ASCII: u8 = 32;
+
+// With which `xn--` begins.
+const LETTER_X: u8 = 64;
+
+// The kind of each byte.
+const KINDS: [u8; 256] = byte_table! {
+    b'x' => LETTER_X,
+    b'a'..=b'z' | b'0'..=b'9' | b'.' => 0,
+    b'A'..=b'Z' => CAPITAL,
+    b'-' => HYPHEN,
+    b'_' => LOW_LINE,
+    0x00..=b' ' | b'#' | b'%' | b'/' | b':' | b'<' | b'>' | b'?' | b'@' | b'['..=b'^' | b'|' | 0x7F => FORBIDDEN,
+    0x80..=0xFF => BEYOND_ASCII,
+    _ => OTHER_MARK,
+};
+
+// The kinds beyond letters in lower case, digits and full stops.
+const BEYOND_SIMPLE: u8 = HYPHEN | BEYOND_STANDARD_FORM;
+
+// The kinds beyond a form's code points, by each profile.
+const BEYOND_STANDARD_FORM: u8 = BEYOND_WIDE_FORM | LOW_LINE;
+
+const BEYOND_WIDE_FORM: u8 = BEYOND_PARSER_FORM | OTHER_MARK;
+
+const BEYOND_PARSER_FORM: u8 = CAPITAL | FORBIDDEN | BEYOND_ASCII;
+
+// The kinds that a domain doesn't hold in any case of its letters, by each profile.
+const BEYOND_STANDARD: u8 = BEYOND_WIDE | LOW_LINE;
+
+const BEYOND_WIDE: u8 = BEYOND_PARSER | OTHER_MARK;
+
+const BEYOND_PARSER: u8 = FORBIDDEN;
 
 /// The bytes of a name, of which one walk has found the kinds. Contracts see the bytes.
 #[derive(Drop)]

@@ -9,20 +9,16 @@ ghost use Rattle.uv_model.specs.declared.profile.Profile.{Profile};
 ghost use Rattle.uv_model.specs.Hosts.Domain as spec;
 
 use crate::domains::{has_lengths, is_number};
-use uv_text::{Load, Tail};
+use uv_text::{Load, Tail, byte_rows};
 
 // The lower-case letters and the digits, by the low half of a byte: a bit for each high half.
-const SIGN_ROWS: [u8; 16] = [
-    136, 200, 200, 200, 200, 200, 200, 200, 200, 200, 192, 64, 64, 64, 64, 64,
-];
+const SIGN_ROWS: [u8; 16] = byte_rows!(b'a'..=b'z' | b'0'..=b'9');
 
 // The same with the low line.
-const WIDE_SIGN_ROWS: [u8; 16] = [
-    136, 200, 200, 200, 200, 200, 200, 200, 200, 200, 192, 64, 64, 64, 64, 96,
-];
+const WIDE_SIGN_ROWS: [u8; 16] = byte_rows!(b'a'..=b'z' | b'0'..=b'9' | b'_');
 
 // The hyphen and the full stop.
-const JOINT_ROWS: [u8; 16] = [0, 0, 0, 0, 0, 0, 0, 0, 0, 0, 0, 0, 0, 4, 4, 0];
+const JOINT_ROWS: [u8; 16] = byte_rows!(b'-' | b'.');
 
 /// How many bytes a name has at the start of a text: lower-case letters and digits, with single hyphens and full stops
 /// between them, and the root's full stop at its end or none. It ends where none of these follows; no verdict rests on
@@ -122,8 +118,8 @@ pub(crate) fn ends_in_word(name: &[u8]) -> bool
     }
 }
 
-// A lower-case letter between the hex digits and the `x` of a number. `y` and `z` stand in none either, but few names end
-// with them, and so one comparison does.
+// A lower-case letter between the hex digits and the `x` of a number. No number has `y` or `z` either, but few names
+// end with them, and so one comparison does.
 fn is_word_letter(b: u8) -> bool
     ensures { result ≡ is_word_letter b }
 {

@@ -7,3 +7,4 @@ pub mod RowsLemmas
 pub mod SplitsLemmas
 pub mod StopLemmas
 pub mod UnitBitsLemmas
+pub mod WebLinkLemmas

@@ -1,5 +1,6 @@
 -- Prefixes of URL units: parts of them by runs of bytes and by code points beyond ASCII, and the cut behind the whole.
-use Rattle.std.proofs.Common.{◌≡◌, ◌≢◌, ℕ, Bool, get_or, zero, suc, ◌+◌, ◌-◌, ◌<◌, ◌≤◌, ◌==◌, ◌&&◌, ◌||◌, true, false, List, []}
+use Rattle.std.proofs.Common.{◌≡◌, ◌≢◌, ℕ, Bool, get_or, zero, suc, ◌+◌, ◌-◌, ◌<◌, ◌≤◌, ◌==◌, ◌&&◌, ◌||◌, true, false}
+use Rattle.std.proofs.Common.{List, []}
 use Rattle.std.proofs.Common.{◌∷◌, ◌++◌, length, take, drop, refl, sym, ap, ◌∙◌, subst, inl, inr, arith, lit<, ne_eqb}
 use Rattle.std.specs.Prelude.{nat_le, slice_range}
 use Rattle.std.specs.Char.{is_ascii}

@@ -79,7 +79,8 @@ module _ (held : ℕ → Bool) where
       ]
 
   -- where two bytes more of a piece are there, a byte that begins no unit in it begins none in the whole
-  stops_taken : (b m : ℕ) (rest : List ℕ) → 2 ≤ m → begins_ascii_unit held b (take m rest) ≡ begins_ascii_unit held b rest
+  stops_taken : (b m : ℕ) (rest : List ℕ) → 2 ≤ m
+      → begins_ascii_unit held b (take m rest) ≡ begins_ascii_unit held b rest
   stops_taken b zero rest two = absurd (omega (arith, two))
   stops_taken b (suc zero) rest two = absurd (omega (arith, two))
   stops_taken b (suc (suc m)) [] two = refl

@@ -6,6 +6,7 @@ ghost use Rattle.std.specs.List.{prefix_len};
 ghost use Rattle.uv_text.specs.Rows.{HasBitsOf, StandsTwice, high_bit, is_in_rows, row_at, row_bit};
 ghost use Rattle.uv_text.specs.Splits.{ascii_unit_length};
 
+use crate::byte_rows;
 use std::marker::Model;
 use std::simd::prelude::*;
 
@@ -13,10 +14,10 @@ use std::simd::prelude::*;
 const HIGH_BITS: [u8; 16] = [1, 2, 4, 8, 16, 32, 64, 128, 0, 0, 0, 0, 0, 0, 0, 0];
 
 // `%`, by the low half of a byte: a bit for each high half.
-const PERCENT_ROWS: [u8; 16] = [0, 0, 0, 0, 0, 4, 0, 0, 0, 0, 0, 0, 0, 0, 0, 0];
+const PERCENT_ROWS: [u8; 16] = byte_rows!(b'%');
 
 // The hex digits.
-const HEX_ROWS: [u8; 16] = [8, 88, 88, 88, 88, 88, 88, 8, 8, 8, 0, 0, 0, 0, 0, 0];
+const HEX_ROWS: [u8; 16] = byte_rows!(b'0'..=b'9' | b'A'..=b'F' | b'a'..=b'f');
 
 // A byte that no class of ASCII bytes has.
 const BEYOND_ASCII: u8 = 128;
@@ -152,7 +153,7 @@ fn row_prefix(bytes: &[u8], place: usize, rows: &[u8; 16]) -> usize
 
 /// The place behind the longest run of bytes in the rows that begins at a place.
 #[inline(always)]
-pub(crate) fn row_end(bytes: &[u8], place: usize, rows: &[u8; 16]) -> usize
+pub fn row_end(bytes: &[u8], place: usize, rows: &[u8; 16]) -> usize
     requires { place ≤ length bytes.now }
     ensures { result ≡ place + prefix_len (is_in_rows rows.now) (drop place bytes.now) }
 {

@@ -1,18 +1,19 @@
-//! URL units in texts: the first fault, classes of bytes and their runs, and percent-encoding.
+//! URL units in texts: the first fault, sets of bytes and their runs, links by their parts, and percent-encoding.
 #![tactic(auto)]
 
-mod class;
 mod escapes;
 mod faults;
 mod lanes;
+mod rows;
 mod splits;
 mod tail;
 mod units;
+mod web_links;
 
-pub use class::{ByteClass, unit_run};
 pub use escapes::{encode, push_encoded};
 pub use faults::first_fault;
-pub use lanes::Load;
+pub use lanes::{Load, row_end};
 pub use splits::{count_code_points, split_tail, split_units};
 pub use tail::Tail;
 pub use units::UnitClass;
+pub use web_links::{WebLink, web_link};

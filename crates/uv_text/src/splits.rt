@@ -2,7 +2,8 @@
 ghost use Rattle.std.specs.Prelude.{◌≡◌, ◌<◌, ◌==◌, ◌++◌, IfSome, MatchOption, drop, false, length, true};
 ghost use Rattle.std.specs.Str.{IsUtf8, chars};
 ghost use Rattle.uv_model.specs.Ascii.{percent_sign};
-ghost use Rattle.uv_text.specs.Splits.{IsUnitSplit, PassesMarks, PassesUnits, class_has, starts_beyond_ascii, starts_in};
+ghost use Rattle.uv_text.specs.Splits.{IsUnitSplit, PassesMarks, PassesUnits, class_has, starts_beyond_ascii};
+ghost use Rattle.uv_text.specs.Splits.{starts_in};
 ghost use Rattle.uv_text.specs.Splits.{starts_with_mark, unit_length};
 
 use crate::tail::Tail;

@@ -4,8 +4,23 @@ ghost use Rattle.std.specs.List.{prefix_len};
 ghost use Rattle.uv_text.specs.Rows.{HoldClass};
 ghost use Rattle.uv_text.specs.Splits.{ascii_unit_length, class_has};
 
-use crate::class::{OPAQUE_HOST_ROWS, PATH_ROWS, URL_ROWS};
+use crate::byte_rows;
 use crate::lanes::{row_end, unit_end};
+
+// The ASCII URL code points.
+const URL_ROWS: [u8; 16] = byte_rows!(
+    b'0'..=b'9' | b'A'..=b'Z' | b'a'..=b'z' | b'!' | b'$' | b'&'..=b'/' | b':' | b';' | b'=' | b'?' | b'@' | b'_' | b'~'
+);
+
+// The ASCII URL code points but `?`.
+const PATH_ROWS: [u8; 16] = byte_rows!(
+    b'0'..=b'9' | b'A'..=b'Z' | b'a'..=b'z' | b'!' | b'$' | b'&'..=b'/' | b':' | b';' | b'=' | b'@' | b'_' | b'~'
+);
+
+// The ASCII URL code points but `/`, `:`, `?` and `@`.
+const OPAQUE_HOST_ROWS: [u8; 16] = byte_rows!(
+    b'0'..=b'9' | b'A'..=b'Z' | b'a'..=b'z' | b'!' | b'$' | b'&'..=b'.' | b';' | b'=' | b'_' | b'~'
+);
 
 /// The units that a part of a text may consist of, by their ASCII code points (URL Standard, section 4.3).
 #[derive(Clone, Copy, PartialEq, Eq)]
@@ -31,9 +46,9 @@ impl UnitClass {
         }
     }
 
-    // The place behind the longest run of bytes of the class that begins at a place.
+    /// The place behind the longest run of bytes of the class that begins at a place. These are ASCII.
     #[inline(always)]
-    pub(crate) fn run_end(self, bytes: &[u8], place: usize) -> usize
+    pub fn run_end(self, bytes: &[u8], place: usize) -> usize
         requires { place ≤ length bytes.now }
         ensures { result ≡ place + prefix_len (class_has self) (drop place bytes.now) }
     {

@@ -20,7 +20,7 @@ use Rattle.uv_grammar.proofs.checker.check_behind.Goals as goal
 
 pub fault_behind_authority-requires : goal.fault_behind_authority-requires
 fault_behind_authority-requires c =
-    let s = c.args.start.now in
+    let s = c.args.start in
     let path = chars_of c.split_marks.result.0 in
     let query = chars_of_option c.split_marks.result.1 in
     let fragment = chars_of_option c.split_marks.result.2 in
@@ -33,12 +33,12 @@ fault_behind_authority-requires c =
 
 pub of-requires : goal.of-requires
 of-requires c =
-    let name = c.args.start.now.name in
+    let name = c.args.start.name in
     IsAscii-form Wide (chars_of name) name.now c.requires.start.named.wide.0
 
 pub build-requires : goal.build-requires
 build-requires c =
-    let s = c.args.start.now in
+    let s = c.args.start in
     let base = as_base c.args.base in
     let path = chars_of c.split_marks.result.0 in
     let query = chars_of_option c.split_marks.result.1 in
@@ -51,14 +51,15 @@ build-requires c =
           c.split_marks.ensures.no_question_mark),
     )
 
-pub returns-in-Some : goal.returns-in-Some
-returns-in-Some c =
-    let s = c.args.start.now in
+pub returns-in-Some-clause-answer : goal.returns-in-Some-clause-answer
+returns-in-Some-clause-answer c =
+    let s = c.args.start in
     let path = chars_of c.split_marks.result.0 in
     let query = chars_of_option c.split_marks.result.1 in
     let fragment = chars_of_option c.split_marks.result.2 in
     let cut = link_cut (chars_of_option s.scheme) (chars_of s.name) (chars_of_option s.port_text) path query fragment in
-    start_refused c.args.profile (as_base c.args.base) (chars c.args.text.now) (chars_of_option s.scheme) (chars_of s.name)
+    start_refused c.args.profile (as_base c.args.base) (chars c.args.text.now) (chars_of_option s.scheme)
+    (chars_of s.name)
     s.name.now (chars_of_option s.port_text) s.port (chars s.rest) path query fragment c.in-Some.refusal refl
     c.requires.start
     (behind_cut (chars s.rest) (path ++ written_behind question_mark query) path query fragment c.requires.behind
@@ -67,9 +68,9 @@ returns-in-Some c =
     (subst (λ (k : Setting). IsLeast (BehindAuthority k cut) (Some c.in-Some.refusal)) c.of-setting.ensures
     c.in-Some.ensures)
 
-pub returns-in-None : goal.returns-in-None
-returns-in-None c =
-    let s = c.args.start.now in
+pub returns-in-None-clause-answer : goal.returns-in-None-clause-answer
+returns-in-None-clause-answer c =
+    let s = c.args.start in
     let path = chars_of c.split_marks.result.0 in
     let query = chars_of_option c.split_marks.result.1 in
     let fragment = chars_of_option c.split_marks.result.2 in

@@ -7,13 +7,10 @@ pub plain_parts-requires : goal.plain_parts-requires
 plain_parts-requires c =
     let profile = c.args.profile in
     let base = as_base c.args.base in
-    (profile, base, c.in-Some-plain_cut.ensures profile base (chars c.args.text.now) (c.in-Some.ensures profile))
+    (profile, base, c.in-Some-plain_cut.ensures profile base (chars c.args.text.now) c.in-Some.ensures)
 
 pub returns-in-Some-plain_cut-clause-answer : goal.returns-in-Some-plain_cut-clause-answer
 returns-in-Some-plain_cut-clause-answer c =
     let base = as_base c.args.base in
     c.plain_parts.ensures c.args.profile base
-    (c.in-Some-plain_cut.ensures c.args.profile base (chars c.args.text.now) (c.in-Some.ensures c.args.profile))
-
-pub check_from-requires : goal.check_from-requires
-check_from-requires c = c.in-Some.ensures _
+    (c.in-Some-plain_cut.ensures c.args.profile base (chars c.args.text.now) c.in-Some.ensures)

@@ -2,7 +2,7 @@
 use Rattle.std.proofs.Common.{◌∙◌, sym}
 use Rattle.std.specs.Str.{chars}
 use Rattle.std.proofs.lemmas.Result.{IfOk-weaker}
-use Rattle.uv_model.specs.declared.scheme.Class.TheVariants.{Special, File, Other}
+use Rattle.uv_model.specs.declared.scheme.Class.TheVariants.{SpecialNotFile, File, Other}
 use Rattle.uv_model.specs.Violations.Violation.{HostContentViolation, HostViolation}
 use Rattle.uv_grammar.specs.PartsHost.{FitsPartsHost}
 use Rattle.uv_grammar.specs.HostValues.{FitsHost, FitsSomeHost}
@@ -20,17 +20,19 @@ pub judge_special_host-requires : goal.judge_special_host-requires
 judge_special_host-requires c =
     some_chars c.args.host_text.now c.utf8.host_text (sym c.is_empty.ensures ∙ c.if-is_empty.false)
 
-pub returns-in-Special-clause-answer : goal.returns-in-Special-clause-answer
-returns-in-Special-clause-answer c =
+pub returns-in-SpecialNotFile-clause-answer : goal.returns-in-SpecialNotFile-clause-answer
+returns-in-SpecialNotFile-clause-answer c =
     let some = some_chars c.args.host_text.now c.utf8.host_text (sym c.is_empty.ensures ∙ c.if-is_empty.false) in
-    rw c.in-Special.is (IfOk-weaker c.judge_special_host.result
-    (IsJudged (FitsPartsHost (FitsSomeHost c.args.profile Special c.args.last (chars c.args.host_text.now)))
-    (HostContentViolation c.args.profile Special c.args.last (chars c.args.host_text.now)))
-    (IsJudged (FitsPartsHost (FitsHost c.args.profile Special c.args.last (chars c.args.host_text.now)
+    rw c.in-SpecialNotFile.is (IfOk-weaker c.judge_special_host.result
+    (IsJudged (FitsPartsHost (FitsSomeHost c.args.profile SpecialNotFile c.args.last (chars c.args.host_text.now)))
+    (HostContentViolation c.args.profile SpecialNotFile c.args.last (chars c.args.host_text.now)))
+    (IsJudged (FitsPartsHost (FitsHost c.args.profile SpecialNotFile c.args.last (chars c.args.host_text.now)
     (chars_of_option c.args.port_text) (chars c.args.path_text.now)))
-    (HostViolation c.args.profile Special c.args.last (chars c.args.host_text.now) (chars_of_option c.args.port_text)
+    (HostViolation c.args.profile SpecialNotFile c.args.last (chars c.args.host_text.now)
+    (chars_of_option c.args.port_text)
     (chars c.args.path_text.now)))
-    (content_answer c.args.profile Special c.args.last (chars c.args.host_text.now) (chars_of_option c.args.port_text)
+    (content_answer c.args.profile SpecialNotFile c.args.last (chars c.args.host_text.now)
+    (chars_of_option c.args.port_text)
     (chars c.args.path_text.now) some)
     c.judge_special_host.ensures.answer)
 
@@ -64,12 +66,12 @@ returns-in-Other-clause-answer c =
     (chars c.args.path_text.now) some
     c.judge_opaque_host.result c.judge_opaque_host.ensures)
 
-pub returns-in-Special-clause-memory : goal.returns-in-Special-clause-memory
-returns-in-Special-clause-memory c =
+pub returns-in-SpecialNotFile-clause-memory : goal.returns-in-SpecialNotFile-clause-memory
+returns-in-SpecialNotFile-clause-memory c =
     let some = some_chars c.args.host_text.now c.utf8.host_text (sym c.is_empty.ensures ∙ c.if-is_empty.false) in
     λ h. c.judge_special_host.ensures.memory
     (makes_no_form c.args.profile c.args.class (chars c.args.host_text.now)
-    (λ other. let same = sym c.in-Special.is ∙ other in cc) some h)
+    (λ other. let same = sym c.in-SpecialNotFile.is ∙ other in cc) some h)
 
 pub returns-in-File-clause-memory : goal.returns-in-File-clause-memory
 returns-in-File-clause-memory c =

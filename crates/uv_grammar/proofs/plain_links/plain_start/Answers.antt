@@ -11,4 +11,5 @@ returns c =
     IfSome_then c.start_behind.result c.start_behind.ensures
     (λ start is. λ profile base.
     start_behind profile base (chars c.args.text.now) (chars c.in-Some.behind) (chars c.in-Some-split_name.rest)
-    (chars_of c.in-Some.scheme) (Some c.in-Some.scheme) c.in-Some-split_name.name start c.in-Some.ensures refl (c.in-Some-split_name.ensures profile) is)
+    (chars_of c.in-Some.scheme) (Some c.in-Some.scheme) c.in-Some-split_name.name start c.in-Some.ensures refl
+    (c.in-Some-split_name.ensures profile) is)

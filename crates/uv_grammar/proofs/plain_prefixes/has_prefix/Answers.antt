@@ -11,7 +11,8 @@ returns-then-four_at c = λ is.
     let long : length prefix ≡ last + 4 = omega (arith, c.requires.four) in
     subst (λ (n : ℕ). bytes ≡ prefix ++ drop n bytes) (sym long)
     (prefix_ends bytes prefix last (omega (arith, c.requires.eight)) long
-    (four_alike bytes prefix 0 (omega (arith, c.requires.four, c.if-bytes-prefix.false)) c.requires.four c.type_inv.bytes
+    (four_alike bytes prefix 0 (omega (arith, c.requires.four, c.if-bytes-prefix.false)) c.requires.four
+    c.type_inv.bytes
     c.type_inv.prefix (sym c.four_at.ensures ∙ c.if-four_at.true ∙ c.four_at-2.ensures))
     (four_alike bytes prefix last (omega (arith, c.requires.four, c.if-bytes-prefix.false)) (omega (arith, long))
     c.type_inv.bytes c.type_inv.prefix

@@ -6,7 +6,8 @@ use Rattle.uv_host.proofs.plain_names.chain_end.Goals as goal
 
 pub overflow_add-end : goal.overflow_add-end
 overflow_add-end c =
-    let prefix = goes_further c.args.low c.args.text.now c.loop-ahead.end c.loop-ahead.ahead c.loop-ahead.invariant.prefix
+    let prefix = goes_further c.args.low c.args.text.now c.loop-ahead.end c.loop-ahead.ahead
+    c.loop-ahead.invariant.prefix
     c.loop-ahead.invariant.more in
     omega (arith, prefix.inside, c.chain_run-ahead.ensures.short)
 
@@ -14,7 +15,8 @@ pub loop-ahead-preserved : goal.loop-ahead-preserved
 loop-ahead-preserved c =
     let text = c.args.text.now in
     let end = c.loop-ahead.end in
-    let prefix = goes_further c.args.low text end c.loop-ahead.ahead c.loop-ahead.invariant.prefix c.loop-ahead.invariant.more in
+    let prefix = goes_further c.args.low text end c.loop-ahead.ahead c.loop-ahead.invariant.prefix
+    c.loop-ahead.invariant.more in
     let all = c.loop-ahead-test.true in
     let signed : c.loop-ahead.signed ≡ signed_before c.args.low false text (end + c.loop-ahead.ahead) =
     c.loop-ahead.invariant.behind all
@@ -27,7 +29,8 @@ loop-ahead-preserved c =
 
 pub overflow_add-result : goal.overflow_add-result
 overflow_add-result c =
-    let prefix = goes_further c.args.low c.args.text.now c.loop-ahead.end c.loop-ahead.ahead c.loop-ahead.invariant.prefix
+    let prefix = goes_further c.args.low c.args.text.now c.loop-ahead.end c.loop-ahead.ahead
+    c.loop-ahead.invariant.prefix
     c.loop-ahead.invariant.more in
     omega (arith, prefix.inside, c.chain_run-ahead.ensures.short)
 

@@ -1,6 +1,4 @@
 -- What is written behind nothing is the encoded text.
-use Rattle.std.proofs.Common.{sym, subst}
-use Rattle.std.specs.Str.{IsAscii}
 use Rattle.uv_text.proofs.EscapesLemmas.{IsAscii-encoded}
 use Rattle.uv_text.proofs.escapes.encode.Goals as goal
 

@@ -1,5 +1,5 @@
 -- The cut behind what was passed.
-use Rattle.std.proofs.Common.{◌≡◌, ◌∙◌, ℕ, List, ap, drop, false, length, subst, sym, take, ◌-◌}
+use Rattle.std.proofs.Common.{◌≡◌, ◌∙◌, ℕ, List, ap, false, length, subst, take, ◌-◌}
 use Rattle.std.specs.Str.{IsUtf8, chars}
 use Rattle.uv_text.specs.Splits.{class_has, starts_with_mark, unit_length}
 use Rattle.uv_text.proofs.SplitsLemmas.{passes_all, passes_prefix, prefix_before, prefix_slice, split_bytes}

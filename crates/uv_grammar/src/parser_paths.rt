@@ -1,0 +1,99 @@
+//! Opaque paths of the parser's profile, which may hold spaces (URL Standard, section 4.4, opaque path state).
+ghost use Rattle.std.specs.Prelude.{◌≡◌, true};
+ghost use Rattle.std.specs.List.{prefix_len};
+ghost use Rattle.std.specs.Str.{chars};
+ghost use Rattle.uv_model.specs.declared.profile.Profile.TheVariants.{Parser};
+ghost use Rattle.uv_model.specs.Cut.{is_followed};
+ghost use Rattle.uv_model.specs.Violations.Refusal.{IsLeast};
+ghost use Rattle.uv_model.specs.Violations.UnitViolation.{PathUnitViolation};
+ghost use Rattle.uv_model.specs.Violations.Violation.{has_opaque_path};
+ghost use Rattle.uv_grammar.specs.SpacedPaths.{IsTakenRun, is_space, takes_spaces};
+
+use crate::cut::Cut;
+use crate::marks::beginnings::has_slash;
+use crate::setting::Setting;
+use crate::start_rules::holds_any;
+use uv_model::{Class, Profile, Refusal, behind_code_points, first_code_point};
+use uv_text::first_fault;
+
+/// The path of the cut text may hold spaces: the profile is the parser's, and the path is opaque.
+pub(crate) fn takes_spaces(cut: &Cut, setting: &Setting) -> bool
+    ensures { result ≡ takes_spaces setting.now cut.now }
+{
+    match setting.profile {
+        Profile::Standard | Profile::Wide => false,
+        Profile::Parser => has_opaque_path(cut, setting.class),
+    }
+}
+
+// The path is opaque: behind a scheme of class Other without an authority, and it doesn't begin with `/`.
+fn has_opaque_path(cut: &Cut, class: Class) -> bool
+    ensures { result ≡ has_opaque_path class cut.now }
+{
+    match class {
+        Class::SpecialNotFile | Class::File => false,
+        Class::Other => cut.scheme.is_some()
+            && !(cut.host_text.is_some() || has_slash(cut.path_text)),
+    }
+}
+
+/// A query or a fragment follows the path.
+pub(crate) fn is_followed(cut: &Cut) -> bool
+    ensures { result ≡ is_followed cut.now }
+{
+    cut.query.is_some() || cut.fragment.is_some()
+}
+
+/// The least refusal of an opaque path of the parser's profile by what it holds, its place counted from the path's
+/// start. A query or a fragment may follow the path.
+pub(crate) fn first_spaced_fault(text: &str, followed: bool) -> Option<Refusal>
+    ensures { IsLeast (PathUnitViolation Parser true followed (chars text.now)) result }
+{
+    let mut left = text;
+    let mut here = 0;
+    while let Some(refusal) = first_fault(left) {
+        let found = behind_code_points(left, refusal.place);
+        let spaces = taken_spaces(found, followed);
+        if spaces == 0 {
+            return Some(Refusal {
+                place: here + refusal.place,
+                rule: refusal.rule,
+            });
+        }
+        here += refusal.place + spaces;
+        left = behind_code_points(found, spaces);
+    }
+    None
+}
+
+// How many spaces at the text's start the parser takes: all of them, but none where they end the text and neither a
+// query nor a fragment follows.
+fn taken_spaces(text: &str, followed: bool) -> usize
+    ensures { IsTakenRun followed (chars text.now) result }
+{
+    let spaces = count_spaces(text);
+    if followed {
+        return spaces;
+    }
+    if holds_any(behind_code_points(text, spaces)) {
+        spaces
+    } else {
+        0
+    }
+}
+
+// How many spaces the text begins with.
+fn count_spaces(text: &str) -> usize
+    ensures { result ≡ prefix_len is_space (chars text.now) }
+{
+    let mut left = text;
+    let mut count = 0;
+    while let Some((c, behind)) = first_code_point(left) {
+        if c != ' ' {
+            return count;
+        }
+        count += 1;
+        left = behind;
+    }
+    count
+}
