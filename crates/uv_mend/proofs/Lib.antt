@@ -11,3 +11,9 @@ mod EncodedLemmas
 mod PassedOver
 mod StaysPrepared
 mod ReadPrepared
+mod TurnedLemmas
+mod SchemeReadLemmas
+mod CutReadLemmas
+mod RenewedLemmas
+mod SlashedLemmas
+mod ReadSlashed

@@ -1,10 +1,12 @@
 -- What the second parser takes off its input.
-use Rattle.std.proofs.Common.{◌≡◌, ◌∙◌, ℕ, ◌-◌, ◌+◌, Bool, true, false, not, ◌||◌, ◌==◌, List, [], ◌∷◌, ◌++◌, refl, sym, ap, inl, inr}
+use Rattle.std.proofs.Common.{◌≡◌, ◌∙◌, ℕ, ◌-◌, ◌+◌, Bool, true, false, not, ◌||◌, ◌==◌, List, [], ◌∷◌, ◌++◌, refl}
+use Rattle.std.proofs.Common.{sym, ap, inl, inr}
 use Rattle.std.proofs.Common.{drop, length, one-add, reverse, take, take-append-drop, take_at}
 use Rattle.std.specs.List.{suffix_len}
 use Rattle.std.proofs.lemmas.Bool.{cases_Bool, cond-false, cond-true}
 use Rattle.std.proofs.lemmas.List.{length-drop, length-reverse, reverse-append, reverse-reverse}
-use Rattle.url.specs.Input.{is_c0_control_or_space, is_tab_or_new_line, strip_tabs_and_new_lines, trim_c0_control_and_space}
+use Rattle.url.specs.Input.{is_c0_control_or_space, is_tab_or_new_line, strip_tabs_and_new_lines}
+use Rattle.url.specs.Input.{trim_c0_control_and_space}
 use Rattle.url.specs.Input.{trim_end, trim_start}
 use Rattle.uv_mend.specs.Prepared.{before_controls, behind_controls, is_control_or_space, is_tab_or_newline}
 use Rattle.uv_mend.specs.Prepared.{on_one_line, prepared}

@@ -16,7 +16,7 @@ prepared_encoded text =
     ∙ ap on_one_line (end_encoded (behind_controls text)) ∙ lines_encoded (before_controls (behind_controls text))
 
 -- nothing more is taken off
-prepared_twice : (text : List ℕ) → prepared (prepared text) ≡ prepared text
+pub prepared_twice : (text : List ℕ) → prepared (prepared text) ≡ prepared text
 prepared_twice text = whole (prepared text) (prepared_stays text)
 
 -- bytes are read by what is left of them

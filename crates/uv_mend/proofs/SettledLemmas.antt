@@ -5,19 +5,20 @@ use Rattle.std.proofs.Common.{Option, arith, refl, sym, ap, inl, inr, subst}
 use Rattle.std.specs.List.{list_all}
 use Rattle.std.proofs.lemmas.Bool.{and_parts, cases_Bool}
 use Rattle.std.proofs.lemmas.Bool.Decides.{nat_tests}
-use Rattle.uv_model.specs.declared.scheme.Class.TheVariants.{Special}
+use Rattle.uv_model.specs.declared.scheme.Class.TheVariants.{SpecialNotFile}
 use Rattle.uv_model.specs.Ascii.{backslash}
 use Rattle.uv_model.specs.Records.Url.{Url}
 use Rattle.uv_model.specs.Scheme.{default_port, scheme_class}
 use Rattle.uv_mend.specs.declared.prefixes.Stop.TheVariants.{Authority, Start}
-use Rattle.uv_mend.specs.declared.web_links.WebLink.{WebLink}
+use Rattle.uv_text.specs.declared.web_links.WebLink.{WebLink}
+use Rattle.uv_text.specs.WebLinks.{IsWebLink, IsWebStart}
 use Rattle.uv_mend.specs.Prefixes.{before, behind_scheme, scheme_prefix, stops}
 use Rattle.uv_mend.specs.Prepared.{before_controls, behind_controls, is_tab_or_newline, on_one_line, prepared}
 use Rattle.uv_mend.specs.Settled.{EndsShown, IsSettled, stays}
 use Rattle.uv_mend.specs.Slashes.{as_slash, behind_marks, is_slash_mark, renews_slashes, slashed, slashed_behind}
 use Rattle.uv_mend.specs.Slashes.{with_slashes}
-use Rattle.uv_mend.specs.WebLinks.{IsWebLink, IsWebStart}
 use Rattle.uv_mend.proofs.PreparedLemmas.{before_controls-other}
+use Rattle.uv_mend.proofs.WebLinkLemmas.{before_is}
 
 -- ---- nothing is taken off
 
@@ -42,7 +43,7 @@ lines_stay (c ∷ rest) all =
 -- ---- the slashes are read as they stand
 
 -- no backslash
-slashes_stay : (text : List ℕ) → list_all stays text ≡ true → with_slashes Special text ≡ text
+slashes_stay : (text : List ℕ) → list_all stays text ≡ true → with_slashes SpecialNotFile text ≡ text
 unfolding as_slash
 slashes_stay [] all = refl
 slashes_stay (c ∷ rest) all =
@@ -67,7 +68,7 @@ marks_stay (c ∷ rest) some all =
 
 -- the text with its slashes
 web_slashed : (base : Option Url) (start rest : List ℕ) → IsWebStart start
-    → slashed base (start ++ rest) ≡ start ++ with_slashes Special (behind_marks rest)
+    → slashed base (start ++ rest) ≡ start ++ with_slashes SpecialNotFile (behind_marks rest)
 unfolding scheme_prefix behind_scheme slashed_behind renews_slashes scheme_class default_port as_slash
 web_slashed base start rest (inl is) = rw is refl
 web_slashed base start rest (inr is) = rw is refl
@@ -84,13 +85,14 @@ pub settled : (text : List ℕ) (link : WebLink) → IsWebLink text link → lin
     → list_all stays text ≡ true → EndsShown text → IsSettled text
 settled text link web some all ends base =
     let start = link.start.now in
-    let rest = web.rest in
+    let rest = web.onward in
     let joined = web.joined in
     let begins : behind_controls text ≡ text =
     ap behind_controls joined ∙ start_stays start rest web.starts ∙ sym joined in
     let whole : prepared text ≡ text =
     ap (λ t. on_one_line (before_controls t)) begins ∙ ap on_one_line (end_stays text ends) ∙ lines_stay text all in
     let further = rest_all start rest web.starts (subst (λ t. list_all stays t ≡ true) joined all) in
-    let marks = marks_stay rest (λ none. some (web.authority ∙ none)) further in
+    let marks = marks_stay rest (λ none. some (web.authority ∙ before_is rest ∙ none)) further in
     ap (slashed base) (whole ∙ joined) ∙ web_slashed base start rest web.starts
-    ∙ ap (λ t. start ++ with_slashes Special t) marks ∙ ap (λ t. start ++ t) (slashes_stay rest further) ∙ sym joined
+    ∙ ap (λ t. start ++ with_slashes SpecialNotFile t) marks ∙ ap (λ t. start ++ t) (slashes_stay rest further)
+    ∙ sym joined

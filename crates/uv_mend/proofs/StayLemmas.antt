@@ -24,12 +24,14 @@ none_set p (x ∷ xs) = first (p x) ∙ ap (λ rest. not (p x) && rest) (none_se
       where
         go : (n : ℕ) → ((zero + 2 * n) == 0) ≡ (n == 0)
         go zero = refl
-        go (suc n) = ne_eqb (zero + 2 * suc n) 0 (λ none. omega (arith, none)) ∙ sym (ne_eqb (suc n) 0 (λ none. omega (arith, none)))
+        go (suc n) = ne_eqb (zero + 2 * suc n) 0 (λ none. omega (arith, none))
+            ∙ sym (ne_eqb (suc n) 0 (λ none. omega (arith, none)))
 
 -- two tests of all bytes are one
 both_tests : (p q : ℕ → Bool) (xs : List ℕ) → (list_all p xs && list_all q xs) ≡ list_all (λ x. p x && q x) xs
 both_tests p q [] = refl
-both_tests p q (x ∷ xs) = turned (p x) (q x) (list_all p xs) (list_all q xs) ∙ ap (λ rest. (p x && q x) && rest) (both_tests p q xs)
+both_tests p q (x ∷ xs) =
+    turned (p x) (q x) (list_all p xs) (list_all q xs) ∙ ap (λ rest. (p x && q x) && rest) (both_tests p q xs)
   where
     turned : (a b c d : Bool) → ((a && c) && (b && d)) ≡ ((a && b) && (c && d))
     turned true true c d = refl
@@ -39,7 +41,8 @@ both_tests p q (x ∷ xs) = turned (p x) (q x) (list_all p xs) (list_all q xs) �
 
 -- no bit of the comparison of a splat with a load is set where no byte of it is meant
 pub bits_left : (t : ℕ → ℕ → Bool) (y : ℕ) (xs : List ℕ) → length xs ≡ 32
-    → mask_l (map (top 7) (zip2 (λ a b. cond (t a b) 255 0) (replicate 32 y) xs)) % 2 ^ 64 ≡ mask_l (map (λ x. t y x) xs)
+    → mask_l (map (top 7) (zip2 (λ a b. cond (t a b) 255 0) (replicate 32 y) xs)) % 2 ^ 64 ≡ mask_l
+    (map (λ x. t y x) xs)
 bits_left t y xs long =
     ap (λ ms. mask_l ms % 2 ^ 64) (tops_compared w8 t (replicate 32 y) xs ∙ zip2_splat_left t y 32 xs long)
     ∙ mask_l-mod (map (λ x. t y x) xs) 64 (omega (arith, length-map xs (λ x. t y x), long))

@@ -4,7 +4,8 @@ use Rattle.std.proofs.Common.{inl, inr, arith}
 use Rattle.std.specs.List.{list_all}
 use Rattle.std.proofs.lemmas.Bool.{and_from, and_parts, cases_Bool, not-true, true≢false}
 use Rattle.std.proofs.lemmas.Bool.Decides.{nat_tests}
-use Rattle.uv_mend.specs.Prepared.{before_controls, behind_controls, is_control_or_space, is_tab_or_newline, on_one_line}
+use Rattle.uv_mend.specs.Prepared.{before_controls, behind_controls, is_control_or_space, is_tab_or_newline}
+use Rattle.uv_mend.specs.Prepared.{on_one_line}
 use Rattle.uv_mend.specs.Prepared.{prepared}
 use Rattle.uv_mend.proofs.PreparedLemmas.{before_controls-none, before_controls-one, before_controls-other, from_ends}
 use Rattle.uv_mend.proofs.StepLemmas.{control_out, line_in, line_out, shown_in}
@@ -53,7 +54,8 @@ ends_more before (c ∷ rest) ends = ends
 end_stays : (text : List ℕ) → ends_shown true text ≡ true → before_controls text ≡ text
 end_stays text =
     from_ends (λ t. ends_shown true t ≡ true → before_controls t ≡ t) (λ _. before_controls-none)
-    (λ front c known ends. before_controls-other front c (not-true (is_control_or_space c) (sym (ends_one true front c) ∙ ends)))
+    (λ front c known ends. before_controls-other front c
+    (not-true (is_control_or_space c) (sym (ends_one true front c) ∙ ends)))
     text
 
 end_taken : (text : List ℕ) → ends_shown true (before_controls text) ≡ true
@@ -86,13 +88,16 @@ start_taken (c ∷ rest) = elim (cases_Bool (is_control_or_space c)) [
 pub before_more : (c : ℕ) (rest : List ℕ) → is_shown c ≡ true → before_controls (c ∷ rest) ≡ c ∷ before_controls rest
 before_more c rest shown =
     from_ends (λ t. before_controls (c ∷ t) ≡ c ∷ before_controls t)
-    (before_controls-other [] c (not-true (is_control_or_space c) shown) ∙ ap (λ t. c ∷ t) (sym before_controls-none)) one rest
+    (before_controls-other [] c (not-true (is_control_or_space c) shown) ∙ ap (λ t. c ∷ t) (sym before_controls-none))
+    one rest
   where
     one : (front : List ℕ) (d : ℕ) → before_controls (c ∷ front) ≡ c ∷ before_controls front
         → before_controls (c ∷ (front ++ d ∷ [])) ≡ c ∷ before_controls (front ++ d ∷ [])
     one front d known = elim (cases_Bool (is_control_or_space d)) [
-      | inl control ↦ before_controls-one (c ∷ front) d control ∙ known ∙ ap (λ t. c ∷ t) (sym (before_controls-one front d control))
-      | inr other ↦ before_controls-other (c ∷ front) d other ∙ ap (λ t. c ∷ t) (sym (before_controls-other front d other))
+      | inl control ↦ before_controls-one (c ∷ front) d control ∙ known
+          ∙ ap (λ t. c ∷ t) (sym (before_controls-one front d control))
+      | inr other ↦ before_controls-other (c ∷ front) d other
+          ∙ ap (λ t. c ∷ t) (sym (before_controls-other front d other))
     ]
 
 start_kept : (text : List ℕ) → starts_shown text ≡ true → starts_shown (before_controls text) ≡ true
@@ -133,7 +138,8 @@ end_in_line known other [] ends more = more ends
 end_in_line known other (c ∷ rest) ends more = elim (cases_Bool (is_tab_or_newline c)) [
   | inl tab ↦
       ap (ends_shown other) (line_out c rest tab)
-      ∙ end_in_line false other rest (ap (λ b. ends_shown b rest) (sym (tab_is_control c tab)) ∙ ends) (λ is. absurd (true≢false (sym is)))
+      ∙ end_in_line false other rest (ap (λ b. ends_shown b rest) (sym (tab_is_control c tab)) ∙ ends)
+      (λ is. absurd (true≢false (sym is)))
   | inr line ↦ ap (ends_shown other) (line_in c rest line) ∙ end_in_line (is_shown c) (is_shown c) rest ends (λ is. is)
 ]
 

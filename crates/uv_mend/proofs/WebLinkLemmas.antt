@@ -1,49 +1,32 @@
 -- The parts of a text that begins with `https://` or `http://`, and its escapes.
-use Rattle.std.proofs.Common.{◌≡◌, ◌∙◌, ℕ, suc, Bool, true, not, List, [], ◌∷◌, ◌++◌, refl, sym, ap, inl, inr, subst, chars}
+use Rattle.std.proofs.Common.{◌≡◌, ◌∙◌, ℕ, suc, Bool, true, not, List, [], ◌∷◌, ◌++◌, refl, sym, ap, inl, inr, subst}
+use Rattle.std.proofs.Common.{chars}
 use Rattle.std.proofs.Common.{encode_utf8_all}
 use Rattle.std.proofs.Common.{◌+◌, ◌-◌, append_assoc, arith, false, drop, drop_at, length, take, take_at}
-use Rattle.std.proofs.lemmas.List.{length-append}
-use Rattle.std.specs.List.{prefix_len}
 use Rattle.std.specs.Str.{IsAscii}
-use Rattle.std.proofs.lemmas.Bool.{and_parts, cases_Bool}
-use Rattle.std.proofs.lemmas.Bool.Decides.{nat_tests}
+use Rattle.std.specs.Prelude.{if◌then◌else◌}
 use Rattle.std.proofs.lemmas.Str.{IsAscii-drop, IsAscii-take, chars-IsAscii, encodes-IsAscii, encodes-append}
 use Rattle.uv_mend.specs.declared.prefixes.Stop.TheVariants.{Authority}
-use Rattle.uv_mend.specs.declared.web_links.WebLink.{WebLink}
+use Rattle.uv_text.specs.declared.web_links.WebLink.{WebLink}
 use Rattle.uv_mend.specs.Escapes.{as_units, escaped}
-use Rattle.std.specs.Char.{is_ascii}
-use Rattle.uv_model.specs.Hosts.OpaqueHost.{is_forbidden_host}
-use Rattle.uv_model.specs.Units.{is_url_code_point}
-use Rattle.uv_text.specs.Class.{HoldsOpaqueHostBytes, in_class}
 use Rattle.uv_mend.specs.Prefixes.{authority_prefix, before, behind_authority, behind_scheme, onward, scheme_prefix}
 use Rattle.uv_mend.specs.Prefixes.{stops}
-use Rattle.uv_mend.specs.WebLinks.{IsWebLink, IsWebStart}
+use Rattle.uv_mend.specs.WebLinks.{IsAsciiLink}
+use Rattle.uv_text.specs.WebLinks.{IsWebStart, authority_of, ends_authority}
+use Rattle.uv_text.specs.WebLinks as links
 use Rattle.uv_mend.proofs.EscapeLemmas.{prefix_parts}
 
 -- ---- the authority's end
 
--- where what stands before it ends
-front_length : (text : List ℕ) → length (before Authority text) ≡ length text - length (onward Authority text)
-front_length text =
-    let long : length text ≡ length (before Authority text) + length (onward Authority text) =
-    ap length (sym (prefix_parts Authority text)) ∙ length-append (before Authority text) (onward Authority text) in
-    omega (arith, long)
-
 -- what stands before it
-pub front_is : (text : List ℕ)
-    → take (length text - length (onward Authority text)) text ≡ before Authority text
-front_is text =
-    let place = length text - length (onward Authority text) in
-    ap (take place) (sym (prefix_parts Authority text))
-    ∙ take_at (before Authority text) (onward Authority text) place (front_length text)
+pub before_is : (text : List ℕ) → authority_of text ≡ before Authority text
+before_is [] = refl
+before_is (c ∷ rest) = ap (λ t. if ends_authority c then [] else c ∷ t) (before_is rest)
 
 -- and from there on
-pub rest_is : (text : List ℕ)
-    → drop (length text - length (onward Authority text)) text ≡ onward Authority text
-rest_is text =
-    let place = length text - length (onward Authority text) in
-    ap (drop place) (sym (prefix_parts Authority text))
-    ∙ drop_at (before Authority text) (onward Authority text) place (front_length text)
+onward_is : (text : List ℕ) → links.behind_authority text ≡ onward Authority text
+onward_is [] = refl
+onward_is (c ∷ rest) = ap (λ t. if ends_authority c then c ∷ rest else t) (onward_is rest)
 
 -- ---- ASCII
 
@@ -67,51 +50,28 @@ escaped_web start rest (inl is) = rw is refl
 escaped_web start rest (inr is) = rw is refl
 
 -- the bytes of the parts with their escapes are those of the text with its escapes
-pub web_escapes : (text : List ℕ) (link : WebLink) → IsWebLink text link
-    → (link.start.now ++ link.authority.now) ++ encode_utf8_all (as_units false (chars link.behind.now))
+pub web_escapes : (text : List ℕ) (link : WebLink) → IsAsciiLink text link
+    → (link.start.now ++ link.authority.now) ++ encode_utf8_all (as_units false (chars link.rest.now))
     ≡ encode_utf8_all (escaped (chars text))
 web_escapes text link web =
     let start = link.start.now in
-    let rest = web.rest in
+    let rest = web.1.onward in
     let front = before Authority rest in
     let behind = onward Authority rest in
-    let ascii : IsAscii (start ++ rest) = subst IsAscii web.joined web.ascii in
+    let ascii : IsAscii (start ++ rest) = subst IsAscii web.1.joined web.0 in
     let ascii_start = ascii_front start rest ascii in
     let ascii_parts : IsAscii (front ++ behind) =
     subst IsAscii (sym (prefix_parts Authority rest)) (ascii_behind start rest ascii) in
-    let points : chars text ≡ start ++ rest = chars-IsAscii text web.ascii ∙ web.joined in
+    let points : chars text ≡ start ++ rest = chars-IsAscii text web.0 ∙ web.1.joined in
     let units = as_units false behind in
     let written : encode_utf8_all (escaped (chars text)) ≡ start ++ (front ++ encode_utf8_all units) =
-    ap (λ t. encode_utf8_all (escaped t)) points ∙ ap encode_utf8_all (escaped_web start rest web.starts)
+    ap (λ t. encode_utf8_all (escaped t)) points ∙ ap encode_utf8_all (escaped_web start rest web.1.starts)
     ∙ encodes-append start (front ++ units)
     ∙ ap (λ t. t ++ encode_utf8_all (front ++ units)) (encodes-IsAscii start ascii_start)
     ∙ ap (λ t. start ++ t) (encodes-append front units
     ∙ ap (λ t. t ++ encode_utf8_all units) (encodes-IsAscii front (ascii_front front behind ascii_parts))) in
-    let plain : chars link.behind.now ≡ behind =
-    ap chars web.behind ∙ chars-IsAscii behind (ascii_behind front behind ascii_parts) in
+    let plain : chars link.rest.now ≡ behind =
+    ap chars (web.1.rest ∙ onward_is rest) ∙ chars-IsAscii behind (ascii_behind front behind ascii_parts) in
     ap (λ t. (start ++ link.authority.now) ++ encode_utf8_all (as_units false t)) plain
-    ∙ ap (λ t. (start ++ t) ++ encode_utf8_all units) web.authority
+    ∙ ap (λ t. (start ++ t) ++ encode_utf8_all units) (web.1.authority ∙ before_is rest)
     ∙ append_assoc start front (encode_utf8_all units) ∙ sym written
-
--- ---- the authority by lanes
-
--- what goes on behind bytes that don't end it
-onward_behind : (p : ℕ → Bool) → ((b : ℕ) → p b ≡ true → stops Authority b ≡ false) → (xs : List ℕ)
-    → onward Authority (drop (prefix_len p xs) xs) ≡ onward Authority xs
-onward_behind p each [] = refl
-onward_behind p each (x ∷ xs) = elim (cases_Bool (p x)) [
-  | inl passes ↦
-      let more : 1 + prefix_len p xs ≡ suc (prefix_len p xs) = omega arith in
-      rw (passes, more, each x passes) (onward_behind p each xs)
-  | inr fails ↦ rw fails refl
-]
-
--- no byte of an opaque host does
-pub onward_run : (class : List (ℕ × ℕ)) (xs : List ℕ) → HoldsOpaqueHostBytes (in_class class)
-    → onward Authority (drop (prefix_len (in_class class) xs) xs) ≡ onward Authority xs
-onward_run class xs holds =
-    onward_behind (in_class class)
-    (λ b held. held_stays b (and_parts (is_url_code_point b) _ (and_parts (is_ascii b) _ (sym (holds b) ∙ held)).1).1) xs
-  where
-    held_stays : (b : ℕ) → not (is_forbidden_host b) ≡ true → stops Authority b ≡ false
-    held_stays b held = grind (arith, nat_tests)

@@ -1,9 +1,10 @@
--- The slashes of a text of class Special or File, as the URL parser reads them (URL Standard, section 4.4, the special
+-- The slashes of a text of class SpecialNotFile or File, as the URL parser reads them (URL Standard, section 4.4, the
+-- special
 -- authority states and the file states): `\` is `/` before the query, and behind a special scheme come any number.
 use Rattle.std.specs.Prelude.{ℕ, Bool, false, not, ◌&&◌, ◌||◌, ◌==◌, List, [], ◌∷◌, ◌++◌, codes, Option}
 use Rattle.std.specs.Prelude.{if◌then◌else◌}
 use Rattle.uv_model.specs.declared.scheme.Class.{Class}
-use Rattle.uv_model.specs.declared.scheme.Class.TheVariants.{Special, File, Other}
+use Rattle.uv_model.specs.declared.scheme.Class.TheVariants.{SpecialNotFile, File, Other}
 use Rattle.uv_model.specs.Ascii.{slash, backslash}
 use Rattle.uv_model.specs.Records.Url.{Url}
 use Rattle.uv_model.specs.Scheme.{starts_with_scheme}
@@ -34,16 +35,17 @@ abbrev pub with_slashes : Class → List ℕ → List ℕ
 with_slashes class [] = []
 with_slashes class (c ∷ rest) = if stops Start c then c ∷ rest else as_slash class c ∷ with_slashes class rest
 
--- The slashes at the start of what follows a scheme, or of a text without one, are written anew: in class Special
+-- The slashes at the start of what follows a scheme, or of a text without one, are written anew: in class
+-- SpecialNotFile
 -- behind a scheme, and where there are two or more; in class File where there are fewer than two behind a scheme.
 unfoldable pub renews_slashes : Class → Bool → List ℕ → Bool
-renews_slashes Special has_scheme text = has_scheme || starts_with_two_marks text
+renews_slashes SpecialNotFile has_scheme text = has_scheme || starts_with_two_marks text
 renews_slashes File has_scheme text = has_scheme && not (starts_with_two_marks text)
 renews_slashes Other has_scheme text = false
 
 -- what is written there: `//`, and for class File an empty authority's `//` and the path's `/`
 abbrev pub new_slashes : Class → List ℕ
-new_slashes Special = codes "//"
+new_slashes SpecialNotFile = codes "//"
 new_slashes File = codes "///"
 new_slashes Other = []
 

@@ -1,14 +1,14 @@
 //! A text with what is no unit of its path, query and fragment written as escapes.
 ghost use Rattle.std.specs.Prelude.{◌≡◌, ℕ, List, IfOk, chars, string_bytes};
 ghost use Rattle.uv_mend.specs.Escapes.{escaped};
-ghost use Rattle.uv_mend.specs.WebLinks.{IsWebLink};
+ghost use Rattle.uv_mend.specs.WebLinks.{IsAsciiLink};
 
 use crate::code_points::{code_points, text_of};
 use crate::escapes::push_units;
 use crate::prefixes::{push_authority, push_scheme};
 use crate::unit_text::push_unit_text;
-use crate::web_links::{WebLink, web_link};
 use std::alloc::{AllocError, Global};
+use uv_text::{WebLink, web_link};
 
 /// The text with each code point of the path, the query and the fragment that is no unit written as escapes. The scheme
 /// and the authority stay. The error is out of memory.
@@ -29,8 +29,8 @@ pub(crate) fn escaped_text(alloc: Global, text: &str) -> Result<String, AllocErr
     ensures { IfOk result (λ out. chars (string_bytes out) ≡ escaped (chars text.now)) }
 {
     match web_link(text) {
-        Some(link) => escaped_link(alloc, link),
-        None => escaped_list(alloc, text),
+        Some(link) if text.is_ascii() => escaped_link(alloc, link),
+        _ => escaped_list(alloc, text),
     }
 }
 
@@ -45,19 +45,19 @@ fn escaped_list(alloc: Global, text: &str) -> Result<String, AllocError>
 
 /// The same of a text by its parts.
 pub(crate) fn escaped_link(alloc: Global, link: WebLink<'_>) -> Result<String, AllocError>
-    ensures { (text : List ℕ) → IsWebLink text link.entry
+    ensures { (text : List ℕ) → IsAsciiLink text link.entry
         → IfOk result (λ out. chars (string_bytes out) ≡ escaped (chars text)) }
 {
     // Room for some escapes.
     let room = link
         .authority
         .len()
-        .saturating_add(link.behind.len())
+        .saturating_add(link.rest.len())
         .saturating_add(40);
     let mut out = String::with_capacity(alloc, room)?;
     out.push_str(link.start)?;
     out.push_str(link.authority)?;
-    push_unit_text(&mut out, link.behind)?;
+    push_unit_text(&mut out, link.rest)?;
     let _seen = out.as_str();
     Ok(out)
 }

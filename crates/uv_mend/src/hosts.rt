@@ -87,7 +87,7 @@ fn ends_host(class: Class, within: bool, c: char) -> bool
 {
     match class {
         Class::File => Stop::Authority.is_at(c),
-        Class::Special | Class::Other => Stop::Authority.is_at(c) || (c == ':' && !within),
+        Class::SpecialNotFile | Class::Other => Stop::Authority.is_at(c) || (c == ':' && !within),
     }
 }
 

@@ -1,7 +1,7 @@
 //! Laws over edited texts, each as the clause of a function that does nothing. What the crate `url` makes of a text is
 //! the definition that its contract names.
 ghost use Rattle.uv_mend.specs.Escapes.{EscapedTextsAreEscapings};
-ghost use Rattle.uv_mend.specs.Readings.{PreparedTextsAreReadAlike};
+ghost use Rattle.uv_mend.specs.Readings.{PreparedTextsAreReadAlike, SlashedTextsAreReadAlike};
 
 /// A text in which what is no unit is written as escapes is the text with some of its code points as the escapes of
 /// their UTF-8, and nothing else.
@@ -14,4 +14,12 @@ pub fn escaped_texts_are_escapings()
 /// first steps of the basic URL parser).
 pub fn prepared_texts_are_read_alike()
     ensures { PreparedTextsAreReadAlike }
+{}
+
+/// Of every text the crate `url`, alone or against any base of its own, makes what it makes of the text with its
+/// slashes as they are read: the same URL, or the same error. The record by which the slashes are written has a scheme
+/// of the class that the base's scheme has. Excepted is a text that has the special scheme of its base and fewer than
+/// two slash marks after that: it is read as one without a scheme (URL Standard, section 4.4, the scheme state).
+pub fn slashed_texts_are_read_alike()
+    ensures { SlashedTextsAreReadAlike }
 {}

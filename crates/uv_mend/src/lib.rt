@@ -19,7 +19,6 @@ mod settled;
 mod slashes;
 mod staying;
 mod unit_text;
-mod web_links;
 
 pub use answer::Mending;
 pub use mender::{mend, mend_refused};

@@ -4,21 +4,21 @@ ghost use Rattle.std.specs.List.{list_all};
 ghost use Rattle.std.specs.Str.{IsAscii};
 ghost use Rattle.uv_mend.specs.Settled as spec;
 ghost use Rattle.uv_mend.specs.Settled.{EndsShown, IsSettled};
-ghost use Rattle.uv_mend.specs.WebLinks.{IsWebLink};
+ghost use Rattle.uv_mend.specs.WebLinks.{IsAsciiLink};
 
 use crate::staying::all_stay;
-use crate::web_links::{WebLink, ascii_link};
+use uv_text::{WebLink, web_link};
 
 /// The parts of a text that is seen to be one of which the URL parser takes nothing off and in which it reads each
 /// slash as it stands; none of another one. Of some such texts that isn't seen.
 pub(crate) fn settled_link(text: &str) -> Option<WebLink<'_>>
-    ensures link { IfSome result (IsWebLink text.now) }
+    ensures link { IfSome result (IsAsciiLink text.now) }
     ensures settled { IfSome result (λ link. IsSettled (chars text.now)) }
 {
     if !stays_whole(text.as_bytes()) {
         return None;
     }
-    let link = ascii_link(text)?;
+    let link = web_link(text)?;
     if link.authority.is_empty() {
         return None;
     }

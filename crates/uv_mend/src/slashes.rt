@@ -8,8 +8,8 @@ use crate::prefixes::{Stop, class_against, push_scheme, starts_with_scheme};
 use std::alloc::{AllocError, Global};
 use uv_model::{Class, Record};
 
-/// The text with its slashes as they are read, which changes one of class Special or File alone. The error is out of
-/// memory.
+/// The text with its slashes as they are read, which changes one of class SpecialNotFile or File alone. The error is
+/// out of memory.
 pub(crate) fn slashed(
     alloc: Global,
     text: &[char],
@@ -48,7 +48,7 @@ fn renews_slashes(class: Class, has_scheme: bool, text: &[char]) -> bool
     ensures { result ≡ renews_slashes class has_scheme text.now }
 {
     match class {
-        Class::Special => has_scheme || starts_with_two_marks(text),
+        Class::SpecialNotFile => has_scheme || starts_with_two_marks(text),
         Class::File => has_scheme && !starts_with_two_marks(text),
         Class::Other => false,
     }
@@ -59,7 +59,7 @@ fn new_slashes(class: Class) -> &'static [char]
     ensures { result.now ≡ new_slashes class }
 {
     match class {
-        Class::Special => &['/', '/'],
+        Class::SpecialNotFile => &['/', '/'],
         Class::File => &['/', '/', '/'],
         Class::Other => &[],
     }
@@ -86,7 +86,7 @@ fn as_slash(class: Class, c: char) -> char
     ensures { result ≡ as_slash class c }
 {
     match class {
-        Class::Special | Class::File => if c == '\\' { '/' } else { c },
+        Class::SpecialNotFile | Class::File => if c == '\\' { '/' } else { c },
         Class::Other => c,
     }
 }

@@ -1,5 +1,6 @@
 -- Two texts compared byte by byte.
-use Rattle.std.proofs.Common.{◌≡◌, ◌≢◌, ◌∙◌, ℕ, Bool, true, false, ◌&&◌, not, List, [], ◌∷◌, ◌++◌, append-nil, append_assoc, ap}
+use Rattle.std.proofs.Common.{◌≡◌, ◌≢◌, ◌∙◌, ℕ, Bool, true, false, ◌&&◌, not, List, [], ◌∷◌, ◌++◌, append-nil}
+use Rattle.std.proofs.Common.{append_assoc, ap}
 use Rattle.std.proofs.Common.{◌||◌, zero, suc, nat_le, ◌<◌, ◌==◌, arith, ◌-◌, ◌≤◌, All}
 use Rattle.std.proofs.Common.{drop, length, take, take_all, get_or, inl, inr, refl, subst, sym}
 use Rattle.std.proofs.lemmas.Bool.{and_from, and_parts, cases_Bool, not-true, true≢false}

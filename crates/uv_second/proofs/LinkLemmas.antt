@@ -22,7 +22,8 @@ use Rattle.url.specs.Head.{with_authority}
 use Rattle.url.specs.Host.{parse_host}
 use Rattle.url.specs.Input.{is_c0_control_or_space, is_empty, is_tab_or_new_line, lowercase, rsplit_once, split_once}
 use Rattle.url.specs.Input.{strip_tabs_and_new_lines, trim_c0_control_and_space}
-use Rattle.url.specs.Parser.{Parsed, after_double_slash, and_then, base_for_scheme, before_tail, lacks_host, leading_slashes}
+use Rattle.url.specs.Parser.{Parsed, after_double_slash, and_then, base_for_scheme, before_tail, lacks_host}
+use Rattle.url.specs.Parser.{leading_slashes}
 use Rattle.url.specs.Parser.{parse_authority, parse_relative}
 use Rattle.url.specs.Parser.{parse_body, parse_by_scheme, parse_parts}
 use Rattle.url.specs.Parser.{parse_port, parse_url, skip_slashes, split_port, split_scheme, with_path, with_tail}
@@ -36,8 +37,10 @@ use Rattle.url.proofs.ParsedCanonical.{before_special}
 use Rattle.url.proofs.SetLemmas.{All_kept_differs, outside_pass}
 use Rattle.url.proofs.TextLemmas.{All_kept}
 use Rattle.uv_second.specs.declared.written.Part.TheVariants.{Path}
-use Rattle.uv_second.specs.declared.links.Link.{Link}
-use Rattle.uv_second.specs.Links.{IsBehindStart, IsBounded, IsLink, IsName, IsNameCut, IsWebScheme, is_plain}
+use Rattle.uv_text.specs.declared.web_links.WebLink.{WebLink}
+use Rattle.uv_text.specs.WebLinks.{IsWebLink, IsWebStart}
+use Rattle.uv_text.proofs.WebLinkLemmas.{authority_parts}
+use Rattle.uv_second.specs.Links.{IsBounded, IsLink, IsName, IsWebScheme, is_plain}
 use Rattle.uv_second.specs.Links.{is_plain_at, link_front, written}
 use Rattle.uv_second.specs.Second.{ReadsSame, parsed, reading, second_serial, text_against}
 use Rattle.uv_second.proofs.PlainLemmas.{plain_at, plain_front, plain_path}
@@ -288,7 +291,8 @@ not_empty rest = grind (arith, nat_tests)
 -- so they leave a base no say
 no_base : (base : Option Parts) (scheme name rest : List ℕ) (query fragment : Option (List ℕ)) → IsWebScheme scheme
     → let behind = slash ∷ slash ∷ (name ++ rest) in
-    parse_parts scheme (base_for_scheme base scheme) behind query fragment ≡ parse_parts scheme None behind query fragment
+    parse_parts scheme (base_for_scheme base scheme) behind query fragment ≡ parse_parts scheme None behind query
+    fragment
 unfolding parse_parts
 no_base None scheme name rest query fragment web = refl
 no_base (Some base) scheme name rest query fragment web =
@@ -377,42 +381,50 @@ same_links front first second text other reads other_reads = (
       (same_Some (front ++ first) (front ++ second) (sym reads ∙ same.first ∙ sym same.second ∙ other_reads)),
 )
 
--- so it is with a link and another text that begins with its front
-pub seen_same : (text other : List ℕ) (link : Link) (other_behind : List ℕ) → IsLink text link
-    → other ≡ link.front.now ++ other_behind → IsBounded link.behind.now → IsBounded other_behind
-    → is_plain link.behind.now ≡ true → is_plain other_behind ≡ true → (same : Bool)
-    → IsTrue same ↔ (written Path link.behind.now ≡ written Path other_behind)
+-- ---- links by their parts
+
+-- what stands before the path, and what follows it
+pub link_joined : (text : List ℕ) (link : WebLink) (is : IsLink text link) (rest : List ℕ)
+    → link.start.now ++ (link.authority.now ++ rest) ≡ link_front is.scheme link.authority.now ++ rest
+link_joined text link is rest =
+    let name = link.authority.now in
+    ap (λ s. s ++ (name ++ rest)) is.start ∙ append_assoc is.scheme (codes "://") (name ++ rest)
+    ∙ sym (append_assoc is.scheme (codes "://" ++ name) rest)
+
+-- so it is with a link and another text that begins with its start and its name
+pub seen_same : (text other named : List ℕ) (link : WebLink) (other_rest : List ℕ) → IsLink text link
+    → other ≡ link.start.now ++ named → named ≡ link.authority.now ++ other_rest
+    → IsBounded link.rest.now → IsBounded other_rest
+    → is_plain link.rest.now ≡ true → is_plain other_rest ≡ true → (same : Bool)
+    → IsTrue same ↔ (written Path link.rest.now ≡ written Path other_rest)
     → IsTrue same ↔ ReadsSame None text other
-seen_same text other link other_behind is other_is bounded other_bounded plain other_plain same told =
-    let front = link_front is.scheme is.name in
-    let behind = link.behind.now in
-    let joined : text ≡ front ++ behind = is.joined ∙ ap (λ t. t ++ behind) is.front in
-    let first = read_bounded None is.scheme is.name text behind is.web is.named joined bounded plain in
-    let second = read_bounded None is.scheme is.name other other_behind is.web is.named
-    (other_is ∙ ap (λ t. t ++ other_behind) is.front) other_bounded other_plain in
-    let both = same_links front (written Path behind) (written Path other_behind) text other first second in
+seen_same text other named link other_rest is other_is named_is bounded other_bounded plain other_plain same told =
+    let name = link.authority.now in
+    let front = link_front is.scheme name in
+    let rest = link.rest.now in
+    let joined : text ≡ front ++ rest = is.joined ∙ link_joined text link is rest in
+    let other_joined : other ≡ front ++ other_rest =
+    other_is ∙ ap (λ t. link.start.now ++ t) named_is ∙ link_joined text link is other_rest in
+    let first = read_bounded None is.scheme name text rest is.web is.named joined bounded plain in
+    let second = read_bounded None is.scheme name other other_rest is.web is.named other_joined other_bounded
+    other_plain in
+    let both = same_links front (written Path rest) (written Path other_rest) text other first second in
     (λ yes. both.0 (told.0 yes), λ reads. told.1 (both.1 reads))
 
--- ---- the cut
-
--- a text cut where its name ends is a link
-pub link_cut : (text rest name behind : List ℕ) (link : Link) (place : ℕ) → IsBehindStart text rest
-    → IsNameCut rest name behind → place ≡ length text - length behind → link.front.now ≡ take place text
-    → link.behind.now ≡ drop place text → IsLink text link
-link_cut text rest name behind link place start cut place_is front_is behind_is =
-    let scheme = start.0 in
-    let front = link_front scheme name in
-    let whole : text ≡ front ++ behind =
-    start.2 ∙ ap (λ t. scheme ++ (codes "://" ++ t)) cut.1 ∙ sym (append_assoc scheme (codes "://" ++ name) behind) in
-    let long : place ≡ length front =
-    omega (arith, place_is, ap length whole, length-append front behind) in
-    let first : link.front.now ≡ front = front_is ∙ ap (take place) whole ∙ take_at front behind place (sym long) in
-    let second : link.behind.now ≡ behind = behind_is ∙ ap (drop place) whole ∙ drop_at front behind place (sym long) in
+-- a text by its parts, whose authority is a name, is a link
+pub named_link : (text : List ℕ) (link : WebLink) → IsWebLink text link → IsName link.authority.now → IsLink text link
+named_link text link web named =
+    let begun = started link.start.now web.starts in
     record {
-      scheme = scheme;
-      name = name;
-      web = start.1;
-      named = cut.0;
-      front = first;
-      joined = whole ∙ (λ i. sym first i ++ sym second i);
+      scheme = begun.0;
+      web = begun.1;
+      start = begun.2;
+      named = named;
+      joined = web.joined ∙ ap (λ t. link.start.now ++ t)
+          (sym (authority_parts web.onward) ∙ (λ i. sym web.authority i ++ sym web.rest i));
     }
+  where
+    started : (start : List ℕ) → IsWebStart start
+        → (scheme : List ℕ) × IsWebScheme scheme × (start ≡ scheme ++ codes "://")
+    started start (inl is) = (codes "https", inl refl, is)
+    started start (inr is) = (codes "http", inr refl, is)

@@ -1,15 +1,12 @@
 -- A plain name is a domain, which the second parser writes as it stands.
-use Rattle.std.proofs.Common.{◌≡◌, ◌∙◌, ℕ, suc, ◌+◌, ◌/◌, ◌≤◌, ◌<◌, Bool, true, false, not, ◌&&◌, ◌||◌, ◌==◌, List, [], ◌∷◌, length}
-use Rattle.std.proofs.Common.{get_or, Option, Some, None, All, ap, arith, inl, inr, refl, subst, sym, take}
+use Rattle.std.proofs.Common.{◌≡◌, ◌∙◌, ℕ, suc, ◌+◌, ◌<◌, Bool, true, false, not, ◌&&◌, ◌||◌, ◌==◌, List}
+use Rattle.std.proofs.Common.{[], ◌∷◌, length}
+use Rattle.std.proofs.Common.{get_or, Option, Some, None, All, ap, arith, inl, inr, refl, subst, sym, take, take_all}
 use Rattle.std.specs.Char.{is_ascii_digit, is_digit, is_ascii_lowercase, to_ascii_lowercase}
 use Rattle.std.specs.List.{list_all, prefix_len}
-use Rattle.std.specs.Int.Bits.{and_zero_r}
-use Rattle.std.proofs.Math.ListN.{get_or-eq_default}
-use Rattle.std.proofs.lemmas.Bool.{agree_below_at, cases_Bool, cases_lt, true≢false}
+use Rattle.std.proofs.lemmas.Bool.{agree_below_at, cases_Bool, true≢false}
 use Rattle.std.proofs.lemmas.Bool.Decides.{nat_tests}
-use Rattle.std.proofs.lemmas.List.{length-take, take-take}
 use Rattle.std.proofs.lemmas.List.Elements.{All-cons, All-nil, All-weaker}
-use Rattle.std.proofs.lemmas.List.Sums.{prefix_len-le-length}
 use Rattle.percent_encoding.specs.Percent.{IsKept}
 use Rattle.url.specs.declared.sets.TheConstants.{FORBIDDEN_DOMAIN}
 use Rattle.url.specs.Ascii.{digit_zero, dot}
@@ -17,7 +14,8 @@ use Rattle.url.specs.Input.{is_empty, rsplit_once}
 use Rattle.url.specs.Ipv4.{ends_in_a_number, is_number, last_label_of, parse_number}
 use Rattle.url.proofs.InputLemmas.{Passes, is_empty_nonempty, lowercase_other, map_fixed}
 use Rattle.url.proofs.SetLemmas.{kept_from_passes}
-use Rattle.uv_text.specs.Rows.{high_bit, is_in_rows, row_at}
+use Rattle.uv_text.specs.Rows.{is_in_rows}
+use Rattle.uv_text.proofs.RowsLemmas.{of_rows}
 use Rattle.uv_second.specs.declared.links.TheConstants.{NAME_ROWS}
 use Rattle.uv_second.specs.Links.{IsName, is_name_byte}
 
@@ -77,7 +75,7 @@ is_name name each letter = (
   nonempty name letter,
 )
 
--- ---- the bytes of a name, by lanes
+-- ---- the bytes of a name, by rows
 
 -- the first bytes that pass a test pass another one that each of them passes
 prefix_all : (p q : ℕ → Bool) → ((b : ℕ) → p b ≡ true → q b ≡ true) → (xs : List ℕ)
@@ -90,32 +88,14 @@ prefix_all p q each (x ∷ xs) = elim (cases_Bool (p x)) [
   | inr fails ↦ rw fails (All-nil (Passes q))
 ]
 
--- no rows have a number beyond the bytes
-pub beyond : (rows : List ℕ) (b : ℕ) → 256 ≤ b → is_in_rows rows b ≡ false
-beyond rows b large =
-    let behind : 16 ≤ b / 16 = omega arith in
-    let none : high_bit b ≡ 0
-    = get_or-eq_default (1 ∷ 2 ∷ 4 ∷ 8 ∷ 16 ∷ 32 ∷ 64 ∷ 128 ∷ 0 ∷ 0 ∷ 0 ∷ 0 ∷ 0 ∷ 0 ∷ 0 ∷ 0 ∷ []) 0 {n = b / 16}
-    behind in
-    rw (none, and_zero_r (row_at rows b)) refl
-
 -- a byte in the rows is one of a name
 in_name_rows : (b : ℕ) → is_in_rows NAME_ROWS b ≡ true → is_name_byte b ≡ true
-in_name_rows b held = elim (cases_lt b 256) [
-  | inl small ↦ sym (agree_below_at (is_in_rows NAME_ROWS) is_name_byte 256 b refl small) ∙ held
-  | inr large ↦ absurd (true≢false (sym held ∙ beyond NAME_ROWS b large))
-]
+in_name_rows =
+    of_rows is_name_byte NAME_ROWS
+    (λ b small. agree_below_at (is_in_rows NAME_ROWS) is_name_byte 256 b refl small)
 
--- so are the bytes before the first one of 32 that isn't in them
-pub run_named : (text : List ℕ) (n : ℕ) → n ≡ prefix_len (is_in_rows NAME_ROWS) (take 32 text)
-    → (n ≤ length text) × All (Passes is_name_byte) (take n text)
-run_named text n is =
-    let front = take 32 text in
-    let run = prefix_len (is_in_rows NAME_ROWS) front in
-    let within : run ≤ length front = prefix_len-le-length (is_in_rows NAME_ROWS) front in
-    let few = length-take 32 text in
-    let same : take run front ≡ take run text = take-take run 32 text (omega (arith, within, few)) in (
-      omega (arith, is, within, few),
-      subst (λ m. All (Passes is_name_byte) (take m text)) (sym is)
-          (subst (All (Passes is_name_byte)) same (prefix_all (is_in_rows NAME_ROWS) is_name_byte in_name_rows front)),
-    )
+-- so bytes that are all in the rows are those of a name
+pub all_named : (name : List ℕ) → prefix_len (is_in_rows NAME_ROWS) name ≡ length name → All (Passes is_name_byte) name
+all_named name whole =
+    subst (All (Passes is_name_byte)) (ap (λ n. take n name) whole ∙ take_all (length name) name (omega arith))
+    (prefix_all (is_in_rows NAME_ROWS) is_name_byte in_name_rows name)

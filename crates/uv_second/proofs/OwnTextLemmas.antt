@@ -6,13 +6,13 @@ use Rattle.std.proofs.lemmas.Bool.{and_from, and_parts, cases_Bool, cond-false, 
 use Rattle.std.proofs.lemmas.Bool.Decides.{nat_tests}
 use Rattle.url.specs.Parts.{Parts}
 use Rattle.url.proofs.SetLemmas.{kept_from_passes, passing_outside}
-use Rattle.uv_second.specs.declared.links.Link.{Link}
+use Rattle.uv_text.specs.declared.web_links.WebLink.{WebLink}
 use Rattle.uv_second.specs.declared.written.Part.{Part}
 use Rattle.uv_second.specs.declared.written.Part.TheVariants.{Path, Query, Fragment}
 use Rattle.uv_second.specs.Links.{IsBounded, IsLink, escape_set, is_kept, is_mark, is_plain, link_front, part_behind}
 use Rattle.uv_second.specs.Links.{written, written_byte}
 use Rattle.uv_second.specs.Second.{text_against}
-use Rattle.uv_second.proofs.LinkLemmas.{read_bounded}
+use Rattle.uv_second.proofs.LinkLemmas.{link_joined, read_bounded}
 
 -- a kept byte that ends no part
 abbrev stands : Part → ℕ → Bool
@@ -44,13 +44,14 @@ written_kept part (b ∷ rest) all =
     ∙ ap (λ t. b ∷ t) (written_kept (part_behind part b) rest parts.1)
 
 -- and so is a link, against any base
-pub own_link : (text : List ℕ) (link : Link) (base : Option Parts) → IsLink text link → IsBounded link.behind.now
-    → is_plain link.behind.now ≡ true → list_all is_kept link.behind.now ≡ true
+pub own_link : (text : List ℕ) (link : WebLink) (base : Option Parts) → IsLink text link → IsBounded link.rest.now
+    → is_plain link.rest.now ≡ true → list_all is_kept link.rest.now ≡ true
     → text_against base text ≡ Some text
 own_link text link base is bounded plain kept =
-    let front = link_front is.scheme is.name in
-    let behind = link.behind.now in
-    let joined : text ≡ front ++ behind = is.joined ∙ ap (λ t. t ++ behind) is.front in
-    read_bounded base is.scheme is.name text behind is.web is.named joined bounded plain
-    ∙ ap (λ t. Some (front ++ t)) (written_kept Path behind kept)
+    let name = link.authority.now in
+    let front = link_front is.scheme name in
+    let rest = link.rest.now in
+    let joined : text ≡ front ++ rest = is.joined ∙ link_joined text link is rest in
+    read_bounded base is.scheme name text rest is.web is.named joined bounded plain
+    ∙ ap (λ t. Some (front ++ t)) (written_kept Path rest kept)
     ∙ ap Some (sym joined)

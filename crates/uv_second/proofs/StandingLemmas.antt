@@ -8,7 +8,7 @@ use Rattle.std.specs.Int.{bit_at, trailing_ones}
 use Rattle.std.specs.List.{list_all, prefix_len}
 use Rattle.std.specs.Simd.Lanes.{mask_l}
 use Rattle.std.proofs.lemmas.Bool.{agree_below_at, and_from, and_parts, cases_Bool, cases_eq, cases_lt, ne_eqb}
-use Rattle.std.proofs.lemmas.Bool.{or_parts, or_right, true≢false}
+use Rattle.std.proofs.lemmas.Bool.{or_parts, or_right}
 use Rattle.std.proofs.lemmas.Bool.Decides.{nat_tests}
 use Rattle.std.proofs.lemmas.List.{drop-map, get_or-drop, get_or-map, length-drop, length-take}
 use Rattle.std.proofs.lemmas.List.Elements.{All-from_get_or}
@@ -23,26 +23,20 @@ use Rattle.uv_second.specs.declared.standing.TheConstants.{DOT_ROWS, SLASH_ROWS,
 use Rattle.uv_second.specs.Links.{is_kept, is_plain, is_plain_at}
 use Rattle.uv_second.specs.Standing.{EndsWith, StandsAt, StandsBetween, StandsUncoloned, StandsWhole}
 use Rattle.uv_second.specs.Standing.{is_no_colon, is_standing, is_standing_uncoloned, may_be_dot}
-use Rattle.uv_second.proofs.NameLemmas.{beyond}
+use Rattle.uv_text.proofs.RowsLemmas.{of_rows}
 use Rattle.uv_second.proofs.PlainLemmas.{plain_at}
 
 -- ---- rows
 
 -- a byte in the rows passes the test that they were made of
-in_rows : (rows : List ℕ) (test : ℕ → Bool) → ((b : ℕ) → b < 256 → is_in_rows rows b ≡ test b) → (b : ℕ)
-    → is_in_rows rows b ≡ true → test b ≡ true
-in_rows rows test same b held = elim (cases_lt b 256) [
-  | inl small ↦ sym (same b small) ∙ held
-  | inr large ↦ absurd (true≢false (sym held ∙ beyond rows b large))
-]
-
--- so it is with each of the rows
 in_standing_rows : (b : ℕ) → is_in_rows STANDING_ROWS b ≡ true → is_standing b ≡ true
-in_standing_rows = in_rows STANDING_ROWS is_standing
+in_standing_rows =
+    of_rows is_standing STANDING_ROWS
     (λ b small. agree_below_at (is_in_rows STANDING_ROWS) is_standing 256 b refl small)
 
 in_uncoloned_rows : (b : ℕ) → is_in_rows UNCOLONED_ROWS b ≡ true → is_standing_uncoloned b ≡ true
-in_uncoloned_rows = in_rows UNCOLONED_ROWS is_standing_uncoloned
+in_uncoloned_rows =
+    of_rows is_standing_uncoloned UNCOLONED_ROWS
     (λ b small. agree_below_at (is_in_rows UNCOLONED_ROWS) is_standing_uncoloned 256 b refl small)
 
 -- the slash is in its rows

@@ -11,7 +11,7 @@ use Rattle.url.specs.declared.sets.TheConstants.{FRAGMENT, PATH, SPECIAL_QUERY}
 use Rattle.url.specs.Ascii.{backslash, dot, hyphen, number_sign, percent_sign, question_mark, slash, space}
 use Rattle.url.specs.Host.{IsDomain}
 use Rattle.url.specs.Path.{dot_len}
-use Rattle.uv_second.specs.declared.links.Link.{Link}
+use Rattle.uv_text.specs.declared.web_links.WebLink.{WebLink}
 use Rattle.uv_second.specs.declared.written.Part.{Part}
 use Rattle.uv_second.specs.declared.written.Part.TheVariants.{Path, Query, Fragment}
 
@@ -21,10 +21,6 @@ use Rattle.uv_second.specs.declared.written.Part.TheVariants.{Path, Query, Fragm
 abbrev pub IsWebScheme : List ℕ → Type 0
 IsWebScheme scheme = (scheme ≡ codes "https") ⊎ (scheme ≡ codes "http")
 
--- what follows the start of such a text
-abbrev pub IsBehindStart : List ℕ → List ℕ → Type 0
-IsBehindStart text rest = (scheme : List ℕ) × IsWebScheme scheme × (text ≡ scheme ++ (codes "://" ++ rest))
-
 -- the byte may stand in a plain name: a small letter, a digit, `-`, `.` or `_`
 abbrev pub is_name_byte : ℕ → Bool
 is_name_byte b = is_ascii_lowercase b || (is_ascii_digit b || ((b == hyphen) || ((b == dot) || (b == 0x5F))))
@@ -32,10 +28,6 @@ is_name_byte b = is_ascii_lowercase b || (is_ascii_digit b || ((b == hyphen) || 
 -- the domain of a link, which is written as it stands
 abbrev pub IsName : List ℕ → Type 0
 IsName name = IsDomain name × (0 < length name)
-
--- bytes cut behind a name
-abbrev pub IsNameCut : List ℕ → List ℕ → List ℕ → Type 0
-IsNameCut bytes name behind = IsName name × (bytes ≡ name ++ behind)
 
 -- the bytes begin with a slash, and don't end with a space
 pub record IsBounded (bytes : List ℕ) : Type 0 where
@@ -83,14 +75,13 @@ GoesOnPlain before bytes =
     (rest : List ℕ) → is_plain_behind (last_behind before bytes) rest ≡ true
     → is_plain_behind before (bytes ++ rest) ≡ true
 
--- a text cut behind its name
-pub record IsLink (text : List ℕ) (link : Link) : Type 0 where
+-- the parts of a text whose authority is a name
+pub record IsLink (text : List ℕ) (link : WebLink) : Type 0 where
   pub scheme : List ℕ
-  pub name : List ℕ
   pub web : IsWebScheme scheme
-  pub named : IsName name
-  pub front : link.front.now ≡ link_front scheme name
-  pub joined : text ≡ link.front.now ++ link.behind.now
+  pub start : link.start.now ≡ scheme ++ codes "://"
+  pub named : IsName link.authority.now
+  pub joined : text ≡ link.start.now ++ (link.authority.now ++ link.rest.now)
 
 -- ---- what the second parser writes of what stands behind the name
 

@@ -8,13 +8,15 @@ use Rattle.url.specs.Parts.{IsValid, Parts}
 use Rattle.url.specs.Path.{parse_path, without_last_segment}
 use Rattle.uv_second.specs.Links.{IsWebScheme}
 
--- the parts of a reference without a scheme and an authority
+-- the parts of a reference without a scheme and an authority: its path, before the first `?` and the first `#`
 abbrev pub reference_path : List ℕ → List ℕ
 reference_path text = (split_once question_mark (split_once number_sign text).0).0
 
+-- its query: what follows the first `?` before the first `#`, where there is one
 abbrev pub reference_query : List ℕ → Option (List ℕ)
 reference_query text = (split_once question_mark (split_once number_sign text).0).1
 
+-- its fragment: what follows the first `#`, where there is one
 abbrev pub reference_fragment : List ℕ → Option (List ℕ)
 reference_fragment text = (split_once number_sign text).1
 

@@ -4,7 +4,7 @@ ghost use Rattle.uv_second.specs.Second.{IsOwnBase, ReadsSame, SameAgainst};
 
 use crate::answer::{read_as, second_url};
 use crate::fault::RoomFault;
-use crate::links::{behind, cut_link, is_bounded};
+use crate::links::{behind_text, is_bounded, plain_link};
 use crate::written::writes_same;
 use std::alloc::Global;
 use url::Url;
@@ -49,10 +49,13 @@ fn same_alone(alloc: Global, text: &str, other: &str) -> Result<bool, RoomFault>
 fn seen_same(text: &str, other: &str) -> Option<bool>
     ensures { IfSome result (λ same. IsTrue same ↔ ReadsSame None text.now other.now) }
 {
-    let link = cut_link(text)?;
-    let other_behind = behind(other.as_bytes(), link.front)?;
-    if is_bounded(link.behind) && is_bounded(other_behind) {
-        let same = writes_same(link.behind, other_behind)?;
+    let link = plain_link(text)?;
+    let named = behind_text(other, link.start)?;
+    let other_rest = behind_text(named, link.authority)?;
+    let rest = link.rest.as_bytes();
+    let other_bytes = other_rest.as_bytes();
+    if is_bounded(rest) && is_bounded(other_bytes) {
+        let same = writes_same(rest, other_bytes)?;
         Some(same)
     } else {
         None

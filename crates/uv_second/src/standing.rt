@@ -3,24 +3,26 @@ ghost use Rattle.std.specs.Prelude.{◌∷◌, ◌≤◌, IsTrue, length};
 ghost use Rattle.url.specs.Ascii.{slash};
 ghost use Rattle.uv_second.specs.Standing.{EndsWith, StandsAt, StandsBetween, StandsUncoloned, StandsWhole};
 
-use uv_text::Tail;
+use uv_text::{Tail, byte_rows};
 
 // The bytes that are written as they stand in each part, without the backslash, by the low half of a byte: a bit for
 // each high half.
-const STANDING_ROWS: [u8; 16] = [
-    184, 252, 248, 252, 252, 252, 252, 248, 252, 252, 252, 124, 212, 124, 212, 124,
-];
+const STANDING_ROWS: [u8; 16] = byte_rows!(
+    b'0'..=b'9' | b'A'..=b'Z' | b'a'..=b'z' | b'!' | b'#'..=b'&' | b'('..=b'/' | b':' | b';' | b'=' | b'?' | b'@' | b'['
+    | b']' | b'_' | b'|' | b'~'
+);
 
 // The same without the colon.
-const UNCOLONED_ROWS: [u8; 16] = [
-    184, 252, 248, 252, 252, 252, 252, 248, 252, 252, 244, 124, 212, 124, 212, 124,
-];
+const UNCOLONED_ROWS: [u8; 16] = byte_rows!(
+    b'0'..=b'9' | b'A'..=b'Z' | b'a'..=b'z' | b'!' | b'#'..=b'&' | b'('..=b'/' | b';' | b'=' | b'?' | b'@' | b'['
+    | b']' | b'_' | b'|' | b'~'
+);
 
 // The slash.
-const SLASH_ROWS: [u8; 16] = [0, 0, 0, 0, 0, 0, 0, 0, 0, 0, 0, 0, 0, 0, 0, 4];
+const SLASH_ROWS: [u8; 16] = byte_rows!(b'/');
 
 // The full stop, and the percent sign, with which its escape begins.
-const DOT_ROWS: [u8; 16] = [0, 0, 0, 0, 0, 4, 0, 0, 0, 0, 0, 0, 0, 0, 4, 0];
+const DOT_ROWS: [u8; 16] = byte_rows!(b'.' | b'%');
 
 /// Whether the end of a text is seen to be written as it stands.
 pub(crate) fn ends_whole(text: &str, end: &[u8]) -> bool

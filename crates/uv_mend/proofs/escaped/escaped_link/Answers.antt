@@ -9,7 +9,7 @@ use Rattle.uv_mend.proofs.escaped.escaped_link.Goals as goal
 pub returns : goal.returns
 returns c = λ text web.
     let link = c.args.link in
-    let units = encode_utf8_all (as_units false (chars link.behind.now)) in
+    let units = encode_utf8_all (as_units false (chars link.rest.now)) in
     let is : string_bytes c.push_unit_text.new.out ≡ encode_utf8_all (escaped (chars text)) =
     c.in_ok-push_unit_text.ensures
     ∙ ap (λ t. t ++ units) (c.in_ok-push_str-2.ensures.bytes ∙ ap (λ t. t ++ link.authority.now)

@@ -16,7 +16,8 @@ loop-byte-preserved c =
     record {
       last = ap (last_behind before) (sym more) ∙ c.loop-byte.invariant.last;
       follow = λ none rest plain.
-          let parts = and_parts (c.loop-byte.seen == 0) (may_follow before byte) (sym c.behind_pair-seen.ensures ∙ none) in
+          let parts = and_parts (c.loop-byte.seen == 0) (may_follow before byte)
+          (sym c.behind_pair-seen.ensures ∙ none) in
           c.loop-byte.invariant.follow parts.0 rest
           (subst (λ l. is_plain_behind before (l ++ rest) ≡ true) (sym more)
           (plain_follows before byte (drop (place + 1) bytes ++ rest) parts.1 plain));
