@@ -1,17 +1,21 @@
 -- What the faults of a run leave.
 use Rattle.std.proofs.Common.{◌≡◌, ℕ, ◌+◌, Bool, true, false, List, [], ◌∷◌, ◌++◌, Option, length, take, refl}
-use Rattle.std.proofs.Common.{sym, ap, ◌∙◌, subst, arith, append_assoc, append-nil, inl}
+use Rattle.std.proofs.Common.{sym, ap, ◌∙◌, subst, arith, append-nil, inl, inr}
 use Rattle.std.proofs.KnownBytes.{Appends-trans, Appends-nil}
 use Rattle.std.proofs.Math.Seq.{take-append-add, take-length}
 use Rattle.std.specs.Io.KnownBytes.{Appends}
+use Rattle.uv_lines.specs.declared.fault.ListFault.{ListFault}
+use Rattle.uv_lines.specs.declared.fault.ListFault.TheVariants as list
 use Rattle.uv_lines.specs.Lines.{line_feed, split}
+use Rattle.uv_lines.specs.Taking.{Left, Way, reads_of, writes_of}
 use Rattle.uv_lines.proofs.FramedLemmas.{prefix_of}
 use Rattle.uv_filter.specs.declared.fault.FilterFault.{FilterFault}
 use Rattle.uv_filter.specs.declared.fault.FilterFault.TheVariants.{Memory, Read, Write, Endless}
 use Rattle.uv_filter.specs.Filtered.{Filtered, Filtering}
 use Rattle.uv_filter.specs.Lines.{Line, all_lines, ended_line, ended_lines, is_over, ready_lines, whole}
 use Rattle.uv_filter.specs.Progress.{Ends, Stands, passed, passing, with_over}
-use Rattle.uv_filter.specs.Run.{Cut, Leaves, Stops, TakeFault, Wrote, WrotePrefix, reads_failed}
+use Rattle.uv_filter.specs.Run.{Cut, Leaves, Stops, TakeFault, Wrote, WrotePrefix, fault_of_list, reads_failed}
+use Rattle.uv_filter.specs.Run.{writes_failed}
 use Rattle.uv_filter.proofs.FilteredLemmas.{with_ready}
 use Rattle.uv_filter.proofs.LineLemmas.{ended-growing, ended_few, first_few, first_lines, last-growing, over_long}
 use Rattle.uv_filter.proofs.LineLemmas.{prefix_count, ready_first}
@@ -130,13 +134,6 @@ end-cut start old read prefix part rest now after begun is_long text new newer n
           (filtered_over start old read now after begun is_long text new prefix none h over counted)),
     )
 
--- what is read behind a line's LF is more of the list
-pub line_joined : (read prefix rest : List ℕ)
-    → (read ++ (prefix ++ line_feed ∷ [])) ++ rest ≡ read ++ (prefix ++ line_feed ∷ rest)
-line_joined read prefix rest =
-    append_assoc read (prefix ++ line_feed ∷ []) rest
-    ∙ ap (λ t. read ++ t) (append_assoc prefix (line_feed ∷ []) rest)
-
 -- a write failed behind the last piece that was read, in the midst of a list
 pub piece-cut : (start : Filtering) (old : Option (List ℕ)) (read : List ℕ) (now after : Filtering)
     (begun : List ℕ) (is_long : Bool) (text : List ℕ) (new newer : Option (List ℕ)) (n : ℕ)
@@ -215,7 +212,7 @@ ready-wrote start old read now begun is_long text new h empty = record {
 }
 
 -- what a piece's fault leaves is what the run's fault leaves
-pub take_to_run : (e : FilterFault) (start : Filtering) (old : Option (List ℕ)) (read : List ℕ) (at_end : Type 0)
+take_to_run : (e : FilterFault) (start : Filtering) (old : Option (List ℕ)) (read : List ℕ) (at_end : Type 0)
     (now : Filtering) (new : Option (List ℕ)) → TakeFault e start old read now new
     → Leaves e start old read at_end now new
 take_to_run Memory start old read at_end now new left =
@@ -225,7 +222,7 @@ take_to_run Read start old read at_end now new left = absurd left
 take_to_run Endless start old read at_end now new left = absurd left
 
 -- such a fault is no failed read
-pub taking_reads : (e : FilterFault) (start : Filtering) (old : Option (List ℕ)) (read : List ℕ) (now : Filtering)
+taking_reads : (e : FilterFault) (start : Filtering) (old : Option (List ℕ)) (read : List ℕ) (now : Filtering)
     (new : Option (List ℕ)) → TakeFault e start old read now new → reads_failed e ≡ 0
 taking_reads Memory start old read now new left = refl
 taking_reads Write start old read now new left = refl
@@ -233,7 +230,7 @@ taking_reads Read start old read now new left = absurd left
 taking_reads Endless start old read now new left = absurd left
 
 -- before the first read nothing is written
-pub nothing_written : (start : Filtering) (old : Option (List ℕ)) (at_end : Type 0)
+nothing_written : (start : Filtering) (old : Option (List ℕ)) (at_end : Type 0)
     → Leaves Memory start old [] at_end start old
 nothing_written start old at_end = (
   0,
@@ -241,3 +238,31 @@ nothing_written start old at_end = (
   inl (omega arith),
   record { text = []; filtered = (refl, refl); wrote = Appends-nil old },
 )
+
+-- what is left where a list is taken by the filter is what the run's fault leaves
+pub list_to_run : {P : Type 0} (p : P) (of : P → Filtering) (stands : Way P) (rests : P → Type 0)
+    (stops : FilterFault → Way P) (e : ListFault FilterFault) (old : Option (List ℕ)) (read : List ℕ)
+    (at_end : Type 0) (q : P) (new : Option (List ℕ))
+    → ((fault : FilterFault) → stops fault p old read q new → TakeFault fault (of p) old read (of q) new)
+    → (stands p old read q new → rests q → Wrote (of p) (ready_lines read) old new (of q))
+    → Left stands rests stops stops e p old read at_end q new
+    → Leaves (fault_of_list e) (of p) old read at_end (of q) new
+    × (reads_failed (fault_of_list e) ≡ reads_of e) × (writes_failed (fault_of_list e) ≡ writes_of writes_failed e)
+list_to_run p of stands rests stops (list.Taken fault) old read at_end q new stopped ready (inl left) =
+    let is = stopped fault left in (
+      take_to_run fault (of p) old read at_end (of q) new is,
+      taking_reads fault (of p) old read (of q) new is,
+      refl,
+    )
+list_to_run p of stands rests stops (list.Taken fault) old read at_end q new stopped ready (inr left) =
+    let is = stopped fault left.1 in (
+      take_to_run fault (of p) old read at_end (of q) new is,
+      taking_reads fault (of p) old read (of q) new is,
+      refl,
+    )
+list_to_run p of stands rests stops list.Memory old read at_end q new stopped ready left =
+    (rw (left.0, left.1, left.2) (nothing_written (of p) old at_end), refl, refl)
+list_to_run p of stands rests stops list.Read old read at_end q new stopped ready left =
+    (ready left.0 left.1, refl, refl)
+list_to_run p of stands rests stops list.Endless old read at_end q new stopped ready left =
+    ((ready left.0 left.1, left.2), refl, refl)

@@ -1,11 +1,11 @@
 -- The lines of a list, with their ends, as more of it is read.
-use Rattle.std.proofs.Common.{◌≡◌, ℕ, ◌+◌, ◌-◌, ◌<◌, ◌≤◌, Bool, true, false, List, [], ◌∷◌, ◌++◌, length, take, map}
-use Rattle.std.proofs.Common.{drop, refl}
+use Rattle.std.proofs.Common.{◌≡◌, ℕ, ◌<◌, ◌≤◌, Bool, true, false, List, [], ◌∷◌, ◌++◌, length, take, map}
+use Rattle.std.proofs.Common.{refl}
 use Rattle.std.proofs.Common.{sym, ap, ◌∙◌, subst, arith, append_assoc, append-nil, inl, inr}
 use Rattle.std.proofs.lemmas.Grind.{common_steps}
 use Rattle.std.proofs.lemmas.Bool.{cases_lt}
 use Rattle.std.proofs.lemmas.List.{length-append, map-append}
-use Rattle.std.proofs.Math.Seq.{take-add, take-append_seam, take-length}
+use Rattle.std.proofs.Math.Seq.{take-append_seam, take-length}
 use Rattle.uv_lines.specs.Lines.{line_feed, split}
 use Rattle.uv_lines.specs.Progress.{ended}
 use Rattle.uv_lines.proofs.LineLemmas.{join, split-append, split-closing, split-growing, strip_at_most}
@@ -126,15 +126,3 @@ pub all_ready : (read : List ℕ) → (is_over (split read).1 ≡ false → (spl
 all_ready read none = ready_whole (is_over (split read).1) read [] refl none
 
 -- ---- the parts of a piece
-
--- a line with its LF
-pub part_is : (piece : List ℕ) (start size : ℕ)
-    → drop size (drop start piece) ≡ line_feed ∷ drop (size + 1) (drop start piece)
-    → take (start + size + 1 - start) (drop start piece)
-    ≡ take (start + size - start) (drop start piece) ++ line_feed ∷ []
-part_is piece start size at =
-    let rest = drop start piece in
-    let more : start + size + 1 - start ≡ size + 1 = omega arith in
-    let same : size ≡ start + size - start = omega arith in
-    ap (λ n. take n rest) more ∙ take-add size 1 rest ∙ ap (λ l. take size rest ++ take 1 l) at
-    ∙ ap (λ n. take n rest ++ line_feed ∷ []) same

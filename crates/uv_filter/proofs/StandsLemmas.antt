@@ -4,6 +4,7 @@ use Rattle.std.proofs.Common.{ap, ◌∙◌, subst, arith, append_assoc, append-
 use Rattle.std.proofs.KnownBytes.{Appends-trans, Appends-nil}
 use Rattle.std.specs.Io.KnownBytes.{Appends}
 use Rattle.uv_lines.specs.Lines.{line_feed, split}
+use Rattle.uv_lines.specs.Waiting.{Passes}
 use Rattle.uv_filter.specs.declared.fate.Fate.TheVariants.{TooLong}
 use Rattle.uv_filter.specs.Filtered.{Filtered, Filtering, Filters, with_fate}
 use Rattle.uv_filter.specs.Lines.{ended_line, ended_lines, is_over, open_line, ready_lines, whole}
@@ -51,23 +52,22 @@ Stands-make start old read now begun is_long text new last b closed before writt
       counted = counted ∙ ap (λ c. with_over c before) (sym over);
     }
 
--- what waited was written
-pub Stands-written : (start : Filtering) (old : Option (List ℕ)) (read : List ℕ) (now after : Filtering)
-    (begun left : List ℕ) (is_long long : Bool) (text none : List ℕ) (new newer : Option (List ℕ))
-    → Stands start old read now begun is_long text new → Appends new newer text → after ≡ now → left ≡ begun
-    → long ≡ is_long → none ≡ [] → Stands start old read after left long none newer
-Stands-written start old read now after begun left is_long long text none new newer h wrote same kept still empty =
-    record {
-      closed = h.closed;
-      before = h.before;
-      filtered = h.filtered;
-      written = h.written ++ text;
-      wrote = Appends-trans old new newer h.written text h.wrote wrote;
-      out = ap (λ t. (h.written ++ text) ++ t) empty ∙ append-nil (h.written ++ text) ∙ h.out;
-      kept = kept ∙ h.kept;
-      long = still ∙ h.long;
-      counted = same ∙ h.counted;
-    }
+-- what waited was written, or a beginning of it
+pub Stands-written : (start : Filtering) (old : Option (List ℕ)) (read : List ℕ) (now : Filtering) (begun : List ℕ)
+    (is_long : Bool) (text waits : List ℕ) (new newer : Option (List ℕ))
+    → Stands start old read now begun is_long text new → Passes text new newer waits
+    → Stands start old read now begun is_long waits newer
+Stands-written start old read now begun is_long text waits new newer h passes = record {
+  closed = h.closed;
+  before = h.before;
+  filtered = h.filtered;
+  written = h.written ++ passes.written;
+  wrote = Appends-trans old new newer h.written passes.written h.wrote passes.wrote;
+  out = append_assoc h.written passes.written waits ∙ ap (λ t. h.written ++ t) (sym passes.rest) ∙ h.out;
+  kept = h.kept;
+  long = h.long;
+  counted = h.counted;
+}
 
 -- ---- a line goes on
 

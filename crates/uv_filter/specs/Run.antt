@@ -3,6 +3,8 @@ use Rattle.std.specs.Prelude.{ℕ, ◌-◌, ◌^◌, ◌≤◌, ◌⊎◌, List,
 use Rattle.std.specs.Io.KnownBytes.{Appends}
 use Rattle.uv_filter.specs.declared.fault.FilterFault.{FilterFault}
 use Rattle.uv_filter.specs.declared.fault.FilterFault.TheVariants.{Memory, Read, Write, Endless}
+use Rattle.uv_lines.specs.declared.fault.ListFault.{ListFault}
+use Rattle.uv_lines.specs.declared.fault.ListFault.TheVariants as list
 use Rattle.uv_filter.specs.Filtered.{Filtered, Filtering}
 use Rattle.uv_filter.specs.Lines.{Line, all_lines, ended_lines, ready_lines}
 
@@ -61,3 +63,10 @@ reads_failed _ = 0
 abbrev pub writes_failed : FilterFault → ℕ
 writes_failed Write = 1
 writes_failed _ = 0
+
+-- the fault of a run, where one comes while its list is read
+abbrev pub fault_of_list : ListFault FilterFault → FilterFault
+fault_of_list (list.Taken fault) = fault
+fault_of_list list.Memory = Memory
+fault_of_list list.Read = Read
+fault_of_list list.Endless = Endless

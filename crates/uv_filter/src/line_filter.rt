@@ -1,11 +1,11 @@
 //! What becomes of the lines of a list, one after the other.
-ghost use Rattle.std.specs.Prelude.{◌≡◌, ◌≢◌, ◌++◌, [], IfOk, OnErr, OnOk, option_copied};
+ghost use Rattle.std.specs.Prelude.{◌≡◌, ◌≢◌, [], IfOk, OnErr, OnOk};
 ghost use Rattle.uv_filter.specs.declared.fate.Fate.TheVariants as became;
 ghost use Rattle.uv_filter.specs.Fates.{IsFate, IsTextFate, mender_of};
 ghost use Rattle.uv_filter.specs.Fates as spec;
 ghost use Rattle.uv_filter.specs.Filtered.{starting, with_fate};
 ghost use Rattle.uv_filter.specs.Lines.{line_view};
-ghost use Rattle.uv_filter.specs.Progress.{Adds};
+ghost use Rattle.uv_filter.specs.Progress.{Adds, passing};
 
 use crate::counts::FilterCounts;
 use crate::fate::Fate;
@@ -61,11 +61,13 @@ impl<'b> LineFilter<'b> {
         self.counts
     }
 
-    /// Counts a line that is too long, and isn't kept.
-    pub(crate) fn count_long(&mut self)
-        ensures { self.new ≡ with_fate self.old became.TooLong }
+    /// Counts a line that is too long, and isn't kept, where it isn't counted already.
+    pub(crate) fn count_long(&mut self, is_counted: bool)
+        ensures { self.new ≡ passing is_counted self.old }
     {
-        self.count(&Fate::TooLong);
+        if !is_counted {
+            self.count(&Fate::TooLong);
+        }
     }
 
     /// Appends what is written of the next line, and counts it. The error is out of memory: then nothing has changed.

@@ -1,5 +1,5 @@
 //! A run between two parts of a list.
-ghost use Rattle.std.specs.Prelude.{◌≡◌, ◌≤◌, [], false, true, vec_len};
+ghost use Rattle.std.specs.Prelude.{◌≡◌, ◌≤◌, [], false, vec_len};
 ghost use Rattle.uv_filter.specs.Fates.{mender_of};
 ghost use Rattle.uv_filter.specs.Filtered.{starting};
 

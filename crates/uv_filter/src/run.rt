@@ -1,6 +1,5 @@
 //! A run of the filter over a list.
-ghost use Rattle.std.specs.Prelude.{◌≡◌, ℕ, ◌+◌, ◌-◌, ◌^◌, ◌<◌, List, [], IfErr, IfOk, OnErr, OnOk, false, length};
-ghost use Rattle.std.specs.Prelude.{vec_len};
+ghost use Rattle.std.specs.Prelude.{◌≡◌, ℕ, ◌+◌, ◌-◌, ◌^◌, ◌<◌, List, IfErr, OnOk};
 ghost use Rattle.std.specs.Io.KnownBytes.{Consumes, IsAtEnd};
 ghost use Rattle.uv_filter.specs.Fates.{mender_of};
 ghost use Rattle.uv_filter.specs.Filtered.{Filtering, starting};
@@ -8,14 +7,12 @@ ghost use Rattle.uv_filter.specs.Lines.{all_lines};
 ghost use Rattle.uv_filter.specs.Run.{Leaves, Wrote, reads_failed, writes_failed};
 
 use crate::counts::FilterCounts;
-use crate::fault::FilterFault;
+use crate::fault::{FilterFault, fault_of_list};
 use crate::progress::Progress;
 use crate::setting::FilterSetting;
-use std::alloc::{AllocError, Global};
-use uv_model::{DeviceFault, Sink, Source};
-
-// How many bytes of the list are read at a time.
-const PIECE_BYTES: usize = 65_536;
+use std::alloc::Global;
+use uv_io::{Sink, Source};
+use uv_lines::take_list;
 
 /// Writes each line of a list: with a mended text in place of a refused one, where there is one of a kind that is
 /// wanted, and else as it was, byte for byte.
@@ -48,61 +45,8 @@ pub fn run_filter<R: Source, W: Sink>(
         × (W.failed writer.new ≡ W.failed writer.old)) }
 {
     let mut progress = Progress::new(alloc, setting);
-    let answer = match empty_piece(alloc) {
-        Ok(piece) => {
-            let mut piece = piece;
-            run_pieces(alloc, reader, writer, &mut progress, piece.as_mut_slice())
-        }
-        Err(AllocError) => Err(FilterFault::Memory),
-    };
-    (progress.counts(), answer)
-}
-
-// Room for a piece.
-fn empty_piece(alloc: Global) -> Result<Vec<u8>, AllocError>
-    ensures { IfOk result (λ piece. 0 < vec_len piece) }
-{
-    vec![in alloc; 0; PIECE_BYTES]
-}
-
-// Reads the list piece by piece, and writes its lines.
-#[tactic(none)]
-fn run_pieces<R: Source, W: Sink>(
-    alloc: Global,
-    reader: &mut R,
-    writer: &mut W,
-    progress: &mut Progress<'_>,
-    piece: &mut [u8],
-) -> Result<(), FilterFault>
-    requires reads { R.failed reader.old < 2 ^ 64 - 1 }
-    requires writes { W.failed writer.old < 2 ^ 64 - 1 }
-    requires room { 0 < length piece.old }
-    requires none { (progress.old.begun.items ≡ []) × (progress.old.is_long ≡ false)
-        × (progress.old.text.items ≡ []) }
-    ensures filtered { OnOk result ((read : List ℕ)
-        × Consumes (R.remaining reader.old) (R.remaining reader.new) read × IsAtEnd (R.remaining reader.new)
-        × Wrote progress.old.filter (all_lines read) (W.contents writer.old) (W.contents writer.new)
-        progress.new.filter) }
-    ensures fault { IfErr result (λ e. (read : List ℕ)
-        × Consumes (R.remaining reader.old) (R.remaining reader.new) read
-        × Leaves e progress.old.filter (W.contents writer.old) read (IsAtEnd (R.remaining reader.new))
-        progress.new.filter (W.contents writer.new)
-        × (R.failed reader.new ≡ R.failed reader.old + reads_failed e)
-        × (W.failed writer.new ≡ W.failed writer.old + writes_failed e)) }
-    ensures quiet { OnOk result ((R.failed reader.new ≡ R.failed reader.old)
-        × (W.failed writer.new ≡ W.failed writer.old)) }
-{
-    for _turn in 0..u64::MAX {
-        let count = match reader.read(piece) {
-            Err(DeviceFault) => return Err(FilterFault::Read),
-            Ok(count) => count,
-        };
-        if count == 0 {
-            return progress.finish(alloc, writer);
-        }
-        if let Err(fault) = progress.pass(alloc, writer, &piece[..count]) {
-            return Err(fault);
-        }
+    match take_list(alloc, reader, writer, &mut progress) {
+        Ok(()) => (progress.counts(), Ok(())),
+        Err(fault) => (progress.counts(), Err(fault_of_list(fault))),
     }
-    Err(FilterFault::Endless)
 }

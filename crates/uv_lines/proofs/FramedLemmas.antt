@@ -1,9 +1,9 @@
 -- A report in its frame: from a run over lines to one with what stands around them.
-use Rattle.std.proofs.Common.{◌≡◌, ◌≢◌, ℕ, ◌+◌, ◌<◌, ◌≤◌, Bool, true, false, List, [], ◌++◌, Option, Result, Ok}
+use Rattle.std.proofs.Common.{◌≡◌, ◌≢◌, ℕ, ◌+◌, ◌<◌, ◌≤◌, Bool, true, false, List, [], ◌++◌, drop, Option, Result, Ok}
 use Rattle.std.proofs.Common.{Err, OnOk, IfErr, length, take, refl, sym, ap, ◌∙◌, subst, arith, inl, inr, take_all}
 use Rattle.std.proofs.lemmas.Bool.{cases_lt}
 use Rattle.std.proofs.lemmas.List.{take-append-le}
-use Rattle.std.proofs.Math.Seq.{take-append-add, take-append_seam, take-length}
+use Rattle.std.proofs.Math.Seq.{drop-append_seam, drop-nil, take-append-add, take-append_seam, take-length, take-nil}
 use Rattle.std.proofs.KnownBytes.{Appends-trans}
 use Rattle.std.specs.Io.KnownBytes.{Appends}
 use Rattle.uv_lines.specs.declared.fault.LineFault.{LineFault}
@@ -15,7 +15,6 @@ use Rattle.uv_lines.specs.Reported.{Cut, Wrote}
 use Rattle.uv_lines.specs.Run.{Leaves, WroteAll, WroteFirst, WrotePrefix, reads_failed, writes_failed}
 use Rattle.uv_lines.specs.Framed.{Ends, FailsReads, Follows, FollowsFault, Framed, LeavesPart}
 use Rattle.uv_lines.proofs.PassLemmas.{closed_few, quiet_writes}
-use Rattle.uv_model.proofs.Texts.MarkLemmas.{append_none}
 
 -- ---- what a fault leaves of another report
 
@@ -181,7 +180,7 @@ follows_more first piece reported result old now new before between after wrote 
 })
 follows_more first piece reported result old now new before between after wrote same (inr cuts) = inr (record {
   reported = cuts.reported;
-  some = λ none. cuts.some (append_none first piece none).1;
+  some = λ none. cuts.some (sym (drop-append_seam first piece) ∙ ap (drop (length first)) none ∙ drop-nil _);
   prefix = length first + cuts.prefix;
   wrote = rw (take-append-add first piece cuts.prefix)
       (Appends-trans old now new first (take cuts.prefix piece) wrote cuts.wrote);
@@ -196,7 +195,7 @@ follows_cut first piece reported old new before after n some cut failed =
     let prefix = prefix_of n first piece in
     inr (record {
       reported = refl;
-      some = λ none. some (append_none first piece none).0;
+      some = λ none. some (sym (take-append_seam first piece) ∙ ap (take (length first)) none ∙ take-nil _);
       prefix = prefix.0;
       wrote = rw prefix.1 cut;
       failed = failed;
@@ -264,17 +263,15 @@ ended_fault P P' limits begin end W e result old mid now new read at_end q befor
           first.2 cuts.wrote,
     ))
 
--- what was written after the lines makes the report on them whole, or leaves a part of it
-pub ended : {S F : Type 0} (P P' : List (List ℕ) → List ℕ → S → Type 0) (limits : LineLimits)
-    (begin end : List ℕ) (last : S → List ℕ) (answer result : Result (Unit {0}) (LineFault F))
+-- after the last line, of which all was said
+ended_whole : {S F : Type 0} (P P' : List (List ℕ) → List ℕ → S → Type 0) (limits : LineLimits)
+    (begin end : List ℕ) (last : S → List ℕ) (u : Unit {0}) (result : Result (Unit {0}) (LineFault F))
     (old mid now new : Option (List ℕ)) (read : List ℕ) (at_end : Type 0) (q : S) (before after : ℕ)
-    → ((lines : List (List ℕ)) (text : List ℕ) → P lines text q → P' lines text q)
-    → Appends old mid begin → Ran P P' limits answer mid read at_end q now
-    → Ends (last q) end answer result now new before after
+    → Appends old mid begin → at_end × WroteAll P limits mid read q now
+    → Follows (last q ++ end) (Ok u) result now new before after
     → Ended (Framed P begin (λ _. end)) (Framed P' begin (λ _. end)) (Framed P begin (λ s. last s ++ end)) limits result
     old read at_end q new
-ended P P' limits begin end last (Ok u) result old mid now new read at_end q before after lift begun ran
-    (inl (inl writes)) =
+ended_whole P P' limits begin end last u result old mid now new read at_end q before after begun ran (inl writes) =
     let R = Framed P begin (λ _. end) in
     let R' = Framed P' begin (λ _. end) in
     let W = Framed P begin (λ s. last s ++ end) in
@@ -286,8 +283,7 @@ ended P P' limits begin end last (Ok u) result old mid now new read at_end q bef
         few = ran.1.few;
       },
     )
-ended P P' limits begin end last (Ok u) result old mid now new read at_end q before after lift begun ran
-    (inl (inr cuts)) =
+ended_whole P P' limits begin end last u result old mid now new read at_end q before after begun ran (inr cuts) =
     let R = Framed P begin (λ _. end) in
     let R' = Framed P' begin (λ _. end) in
     let W = Framed P begin (λ s. last s ++ end) in
@@ -296,11 +292,20 @@ ended P P' limits begin end last (Ok u) result old mid now new read at_end q bef
       framed_cut P begin (λ s. last s ++ end) (lines_of read) old mid now new q cuts.prefix begun
           ran.1.wrote cuts.wrote,
     ))
-ended P P' limits begin end last (Ok u) result old mid now new read at_end q before after lift begun ran
-    (inr (fault, inl writes)) =
+
+-- after the last line, where the reporter can't say what comes after it
+ended_unsaid : {S F : Type 0} (P P' : List (List ℕ) → List ℕ → S → Type 0) (limits : LineLimits)
+    (begin end : List ℕ) (W : List (List ℕ) → List ℕ → S → Type 0) (fault : F)
+    (result : Result (Unit {0}) (LineFault F)) (old mid now new : Option (List ℕ)) (read : List ℕ) (at_end : Type 0)
+    (q : S) (before after : ℕ)
+    → ((lines : List (List ℕ)) (text : List ℕ) → P lines text q → P' lines text q)
+    → Appends old mid begin → at_end × WroteAll P limits mid read q now
+    → Follows end (Err (Report fault)) result now new before after
+    → Ended (Framed P begin (λ _. end)) (Framed P' begin (λ _. end)) W limits result old read at_end q new
+ended_unsaid P P' limits begin end W fault result old mid now new read at_end q before after lift begun ran
+    (inl writes) =
     let R = Framed P begin (λ _. end) in
     let R' = Framed P' begin (λ _. end) in
-    let W = Framed P begin (λ s. last s ++ end) in
     subst (λ r. Ended R R' W limits r old read at_end q new) (sym writes.reported) (inl (
       length (lines_of read),
       omega arith,
@@ -308,17 +313,32 @@ ended P P' limits begin end last (Ok u) result old mid now new read at_end q bef
       framed_wrote P' begin (λ _. end) (take (length (lines_of read)) (lines_of read)) old mid now new q
           begun (all_first P P' limits mid now read q lift ran.1) writes.wrote,
     ))
-ended P P' limits begin end last (Ok u) result old mid now new read at_end q before after lift begun ran
-    (inr (fault, inr cuts)) =
+ended_unsaid P P' limits begin end W fault result old mid now new read at_end q before after lift begun ran
+    (inr cuts) =
     let R = Framed P begin (λ _. end) in
     let R' = Framed P' begin (λ _. end) in
-    let W = Framed P begin (λ s. last s ++ end) in
     subst (λ r. Ended R R' W limits r old read at_end q new) (sym cuts.reported) (inl (
       length (lines_of read),
       omega arith,
       framed_cut P' begin (λ _. end) (take (length (lines_of read)) (lines_of read)) old mid now new q
           cuts.prefix begun (all_first P P' limits mid now read q lift ran.1) cuts.wrote,
     ))
+
+-- what was written after the lines makes the report on them whole, or leaves a part of it
+pub ended : {S F : Type 0} (P P' : List (List ℕ) → List ℕ → S → Type 0) (limits : LineLimits)
+    (begin end : List ℕ) (last : S → List ℕ) (answer result : Result (Unit {0}) (LineFault F))
+    (old mid now new : Option (List ℕ)) (read : List ℕ) (at_end : Type 0) (q : S) (before after : ℕ)
+    → ((lines : List (List ℕ)) (text : List ℕ) → P lines text q → P' lines text q)
+    → Appends old mid begin → Ran P P' limits answer mid read at_end q now
+    → Ends (last q) end answer result now new before after
+    → Ended (Framed P begin (λ _. end)) (Framed P' begin (λ _. end)) (Framed P begin (λ s. last s ++ end)) limits result
+    old read at_end q new
+ended P P' limits begin end last (Ok u) result old mid now new read at_end q before after lift begun ran (inl follows) =
+    ended_whole P P' limits begin end last u result old mid now new read at_end q before after begun ran follows
+ended P P' limits begin end last (Ok u) result old mid now new read at_end q before after lift begun ran
+    (inr (fault, follows)) =
+    ended_unsaid P P' limits begin end (Framed P begin (λ s. last s ++ end)) fault result old mid now new read at_end q
+    before after lift begun ran follows
 ended P P' limits begin end last (Err e) result old mid now new read at_end q before after lift begun ran follows =
     ended_fault P P' limits begin end (Framed P begin (λ s. last s ++ end)) e
     result old mid now new read at_end q before after (is_write e) lift refl begun ran follows

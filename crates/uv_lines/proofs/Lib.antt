@@ -4,3 +4,4 @@ mod ReportedLemmas
 mod StandsLemmas
 pub mod PassLemmas
 pub mod FramedLemmas
+pub mod TakingLemmas

@@ -192,6 +192,18 @@ pub prefix_is : (piece : List ℕ) (start size : ℕ)
     → take (start + size - start) (drop start piece) ≡ take size (drop start piece)
 prefix_is piece start size = ap (λ n. take n (drop start piece)) (omega arith)
 
+-- a line with its LF
+pub part_is : (piece : List ℕ) (start size : ℕ)
+    → drop size (drop start piece) ≡ line_feed ∷ drop (size + 1) (drop start piece)
+    → take (start + size + 1 - start) (drop start piece)
+    ≡ take (start + size - start) (drop start piece) ++ line_feed ∷ []
+part_is piece start size at =
+    let rest = drop start piece in
+    let more : start + size + 1 - start ≡ size + 1 = omega arith in
+    let same : size ≡ start + size - start = omega arith in
+    ap (λ n. take n rest) more ∙ take-add size 1 rest ∙ ap (λ l. take size rest ++ take 1 l) at
+    ∙ ap (λ n. take n rest ++ line_feed ∷ []) same
+
 -- a piece is what was taken of it, a line with its LF, and the rest
 pub piece_joined : (read piece : List ℕ) (start size : ℕ)
     → drop size (drop start piece) ≡ line_feed ∷ drop (size + 1) (drop start piece)
@@ -213,3 +225,10 @@ piece_taken read piece start size at =
     ∙ ap (λ l. read ++ l) (sym (take-add start (size + 1) piece
     ∙ ap (λ l. take start piece ++ l) (take-add size 1 (drop start piece)
     ∙ ap (λ l. take size (drop start piece) ++ take 1 l) at)))
+
+-- what is read after a line's LF is more of the list
+pub line_joined : (read prefix rest : List ℕ)
+    → (read ++ (prefix ++ line_feed ∷ [])) ++ rest ≡ read ++ (prefix ++ line_feed ∷ rest)
+line_joined read prefix rest =
+    append_assoc read (prefix ++ line_feed ∷ []) rest
+    ∙ ap (λ t. read ++ t) (append_assoc prefix (line_feed ∷ []) rest)

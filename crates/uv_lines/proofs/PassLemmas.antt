@@ -1,38 +1,37 @@
 -- What is written between two pieces and at the end of the list.
-use Rattle.std.proofs.Common.{◌≡◌, ℕ, ◌+◌, ◌<◌, ◌≤◌, Bool, true, false, not, Result, Ok, Err, List, [], ◌∷◌, ◌++◌}
-use Rattle.std.proofs.Common.{Option}
-use Rattle.std.proofs.Common.{IfErr, OnOk, length, take, refl, subst, arith, append-nil, inl, inr}
+use Rattle.std.proofs.Common.{◌≡◌, ℕ, ◌+◌, ◌<◌, ◌≤◌, true, false, List, [], ◌∷◌, ◌++◌, Option}
+use Rattle.std.proofs.Common.{length, take, refl, subst, arith, append-nil, inl, inr}
 use Rattle.std.proofs.lemmas.List.{length-append}
 use Rattle.std.proofs.Math.Seq.{take-length}
-use Rattle.std.proofs.KnownBytes.{Appends-nil, Consumes-trans}
-use Rattle.std.specs.Io.KnownBytes.{Appends, Consumes, IsAtEnd}
+use Rattle.std.proofs.KnownBytes.{Appends-nil}
+use Rattle.std.specs.Io.KnownBytes.{Appends}
 use Rattle.uv_lines.specs.declared.fault.LineFault.{LineFault}
 use Rattle.uv_lines.specs.declared.fault.LineFault.TheVariants.{Report, Memory, Read, Write, TooManyLines, Endless}
+use Rattle.uv_lines.specs.declared.fault.ListFault.{ListFault}
+use Rattle.uv_lines.specs.declared.fault.ListFault.TheVariants as list
 use Rattle.uv_lines.specs.declared.fault.ReportFault.{ReportFault}
 use Rattle.uv_lines.specs.declared.fault.ReportFault.TheVariants as within
 use Rattle.uv_lines.specs.declared.limits.LineLimits.{LineLimits}
-use Rattle.uv_lines.specs.Fault.{failed_within, fault_of_run, is_write, may_write}
+use Rattle.uv_lines.specs.Fault.{failed_within, fault_of_list, fault_of_run, is_write}
 use Rattle.uv_lines.specs.Lines.{line_feed, short_line, split, closed_lines, open_lines, lines_of}
 use Rattle.uv_lines.specs.Progress.{Stands, IsPartOfFirst, IsReportOfFirst, TakeFault}
 use Rattle.uv_lines.specs.Reported.{Reported, ReportedPart, Wrote}
-use Rattle.uv_lines.specs.Run.{At, EndFault, WaitFault, Waits, WroteFirst, WrotePrefix, WroteLines, Leaves, PassFault}
+use Rattle.uv_lines.specs.Run.{EndFault, WaitFault, Waits, WroteFirst, WrotePrefix, WroteLines, Leaves, PassFault}
 use Rattle.uv_lines.specs.Run.{FinishFault, reads_failed, writes_failed}
+use Rattle.uv_lines.specs.Taking.{Left, Way, reads_of, writes_of}
 use Rattle.uv_lines.specs.Waiting.{Adds, AreFirstParts, CutsOff, LeavesLine, Passes}
 use Rattle.uv_lines.proofs.StandsLemmas.{Ends-begun, Ends-empty, Stands-closed, Stands-growing, Stands-start, closing}
 use Rattle.uv_lines.proofs.StandsLemmas.{closing-left, end-left, many-left, prefix_count, prefix_report, room-left}
 use Rattle.uv_lines.proofs.WaitingLemmas.{cuts_more, cuts_on, passes_more, passes_none, passes_on, passes_written}
 
 -- before the first piece
-pub At-start : {S : Type 0} (reports : S → Option (List ℕ) → List ℕ → S → Type 0) (lines : S → ℕ) (n : ℕ) (p : S)
+pub Waits-start : {S : Type 0} (reports : S → Option (List ℕ) → List ℕ → S → Type 0) (lines : S → ℕ) (n : ℕ) (p : S)
     (old : Option (List ℕ)) (begun text : List ℕ) → lines p ≡ 0 → begun ≡ [] → text ≡ []
-    → At reports lines n p old [] p begun text old
-At-start reports lines n p old begun text count none empty = record {
-  waits = record {
-    said = [];
-    passes = rw empty (passes_none [] old);
-    stands = Stands-start reports lines n p begun count none;
-  };
-  none = empty;
+    → Waits reports lines n p old [] p begun text old
+Waits-start reports lines n p old begun text count none empty = record {
+  said = [];
+  passes = rw empty (passes_none [] old);
+  stands = Stands-start reports lines n p begun count none;
 }
 
 -- what waited was written, or a beginning of it
@@ -255,43 +254,9 @@ pub waits_ended : {S : Type 0} (reports : S → Option (List ℕ) → List ℕ �
 waits_ended reports begins n start read q text all =
     (length (lines_of read), omega arith, inl (rw (take-length (lines_of read)) all))
 
--- ---- answers
+-- ---- what a fault leaves
 
--- what holds of each answer
-pub of_answer : {E : Type 0} (answer : Result (Unit {0}) E) (A : Type 0) (B : E → Type 0)
-    (C : Result (Unit {0}) E → Type 0) → ((u : Unit {0}) → A → C (Ok u)) → ((e : E) → B e → C (Err e))
-    → OnOk answer A → IfErr answer B → C answer
-of_answer (Ok u) A B C ok err a b = ok u a
-of_answer (Err e) A B C ok err a b = err e b
-
--- what a piece has come to, by the answer of what has taken it
-abbrev pub Taken : {S F : Type 0} → (S → Option (List ℕ) → List ℕ → S → Type 0)
-    → (S → Option (List ℕ) → List ℕ → Type 0) → (S → ℕ) → LineLimits → S → Result (Unit {0}) (LineFault F)
-    → Option (List ℕ) → List ℕ → S → List ℕ → List ℕ → Option (List ℕ) → Type 0
-Taken reports begins lines limits start (Ok u) old read q begun text now =
-    Waits reports lines limits.line_bytes start old read q begun text now
-Taken reports begins lines limits start (Err e) old read q begun text now =
-    WaitFault (is_write e) reports begins limits start e old read q text now
-
--- how many writes have failed by then, of so many before
-abbrev pub Failed : {F : Type 0} → ℕ → ℕ → Result (Unit {0}) (LineFault F) → Type 0
-Failed before after (Ok u) = after ≡ before
-Failed before after (Err e) = after ≡ before + writes_failed e
-
--- what isn't false is true
-not_false : (b : Bool) → not b ≡ false → b ≡ true
-not_false true is = refl
-not_false false is = cc
-
-not_true : (b : Bool) → not b ≡ true → b ≡ false
-not_true true is = cc
-not_true false is = refl
-
--- a fault behind which a write may come is none of a write
-pub no_write : {F : Type 0} (e : LineFault F) → may_write (Err e) ≡ true → is_write e ≡ false
-no_write e may = not_true (is_write e) may
-
--- such a fault fails none
+-- a fault but one of a write fails none
 pub quiet_writes : {F : Type 0} (e : LineFault F) → is_write e ≡ false → writes_failed e ≡ 0
 quiet_writes (Report fault) is = refl
 quiet_writes Memory is = refl
@@ -299,53 +264,6 @@ quiet_writes Read is = refl
 quiet_writes Write is = cc
 quiet_writes TooManyLines is = refl
 quiet_writes Endless is = refl
-
--- nor does such an answer
-pub failed_none : {F : Type 0} (before after : ℕ) (answer : Result (Unit {0}) (LineFault F)) → may_write answer ≡ true
-    → Failed before after answer → after ≡ before
-failed_none before after (Ok u) may failed = failed
-failed_none before after (Err e) may failed =
-    let none = quiet_writes e (no_write e may) in omega (arith, failed, none)
-
--- each other one fails one
-pub failed_one : {F : Type 0} (before after : ℕ) (answer : Result (Unit {0}) (LineFault F)) → may_write answer ≡ false
-    → Failed before after answer → after ≡ before + 1
-failed_one before after (Ok u) may failed = cc
-failed_one before after (Err Write) may failed = failed
-failed_one before after (Err (Report fault)) may failed = cc
-failed_one before after (Err Memory) may failed = cc
-failed_one before after (Err Read) may failed = cc
-failed_one before after (Err TooManyLines) may failed = cc
-failed_one before after (Err Endless) may failed = cc
-
--- a write failed
-pub taken_cut : {S F : Type 0} (reports : S → Option (List ℕ) → List ℕ → S → Type 0)
-    (begins : S → Option (List ℕ) → List ℕ → Type 0) (lines : S → ℕ) (limits : LineLimits) (start : S)
-    (answer : Result (Unit {0}) (LineFault F)) (old : Option (List ℕ)) (read : List ℕ) (q : S) (begun text : List ℕ)
-    (now : Option (List ℕ)) → may_write answer ≡ false
-    → Taken reports begins lines limits start answer old read q begun text now
-    → WrotePrefix (ReportedPart reports begins limits.line_bytes start) old read q now
-taken_cut reports begins lines limits start (Ok u) old read q begun text now none taken = cc
-taken_cut reports begins lines limits start (Err e) old read q begun text now none taken =
-    subst (λ b. WaitFault b reports begins limits start e old read q text now) (not_false (is_write e) none) taken
-
--- none did
-pub taken_waits : {S F : Type 0} (reports : S → Option (List ℕ) → List ℕ → S → Type 0)
-    (begins : S → Option (List ℕ) → List ℕ → Type 0) (lines : S → ℕ) (limits : LineLimits) (start : S)
-    (answer : Result (Unit {0}) (LineFault F)) (old : Option (List ℕ)) (read : List ℕ) (q : S) (begun text : List ℕ)
-    (now : Option (List ℕ)) → may_write answer ≡ true
-    → Taken reports begins lines limits start answer old read q begun text now
-    → (said : List ℕ) × Passes said old now text × IsPartOfSome reports begins limits.line_bytes start read q said
-taken_waits reports begins lines limits start (Ok u) old read q begun text now may taken = (
-  taken.said,
-  taken.passes,
-  waits_standing reports begins lines limits.line_bytes start taken.said read q begun taken.stands,
-)
-taken_waits reports begins lines limits start (Err e) old read q begun text now may taken =
-    let left = subst (λ b. WaitFault b reports begins limits start e old read q text now) (no_write e may) taken in
-    (left.0, left.1, waits_faulty reports begins limits start e read q left.0 left.2)
-
--- ---- what a fault leaves
 
 -- a write failed
 pub write-left : {S : Type 0} (reports : S → Option (List ℕ) → List ℕ → S → Type 0)
@@ -482,22 +400,89 @@ nothing_written reports limits start old at_end = (
   record { text = []; reported = (refl, refl); wrote = Appends-nil old },
 )
 
--- between two pieces the report on the closed lines was written
-pub at_first : {S : Type 0} (reports : S → Option (List ℕ) → List ℕ → S → Type 0) (lines : S → ℕ) (limits : LineLimits)
-    (start : S) (old new : Option (List ℕ)) (read : List ℕ) (p : S) (begun text : List ℕ)
-    → At reports lines limits.line_bytes start old read p begun text new
+-- where nothing waits the report on the closed lines was written
+pub waits_first : {S : Type 0} (reports : S → Option (List ℕ) → List ℕ → S → Type 0) (lines : S → ℕ)
+    (limits : LineLimits) (start : S) (old new : Option (List ℕ)) (read : List ℕ) (p : S) (begun text : List ℕ)
+    → Waits reports lines limits.line_bytes start old read p begun text new → text ≡ []
     → WroteFirst (Reported reports limits.line_bytes start) old read (length (closed_lines read)) p new
-at_first reports lines limits start old new read p begun text at = record {
-  text = at.waits.said;
-  reported = stands_first reports lines limits.line_bytes start at.waits.said read p begun at.waits.stands;
-  wrote = passes_written at.waits.said old new new text at.waits.passes (rw at.none (Appends-nil new));
+waits_first reports lines limits start old new read p begun text waits none = record {
+  text = waits.said;
+  reported = stands_first reports lines limits.line_bytes start waits.said read p begun waits.stands;
+  wrote = passes_written waits.said old new new text waits.passes (rw none (Appends-nil new));
 }
 
--- a read that gives nothing has come to the end
-pub read_end : (a b c : Option (List ℕ)) (read into : List ℕ) (n : ℕ) → n ≡ 0 → 0 < length into → Consumes a b read
-    → Consumes b c (take n into) → (n ≡ 0 → 0 < length into → IsAtEnd c) → Consumes a c read × IsAtEnd c
-read_end a b c read into n none room before given ends = (
-  subst (λ l. Consumes a c l) (append-nil read)
-      (Consumes-trans a b c read [] before (subst (λ k. Consumes b c (take k into)) none given)),
-  ends none room,
-)
+-- what is left where a list is taken by a run over lines is what the run's fault leaves
+pub list_to_run : {P S F : Type 0} (p : P) (of : P → S) (stands : Way P) (rests : P → Type 0)
+    (stops fails : LineFault F → Way P) (reports : S → Option (List ℕ) → List ℕ → S → Type 0)
+    (begins : S → Option (List ℕ) → List ℕ → Type 0) (limits : LineLimits) (e : ListFault (LineFault F))
+    (old : Option (List ℕ)) (read : List ℕ) (at_end : Type 0) (q : P) (new : Option (List ℕ))
+    → ((fault : LineFault F) → stops fault p old read q new
+    → PassFault reports begins limits (of p) fault old read (of q) new)
+    → ((fault : LineFault F) → fails fault p old read q new
+    → FinishFault reports begins limits (of p) fault old read (of q) new)
+    → (stands p old read q new → rests q
+    → WroteFirst (Reported reports limits.line_bytes (of p)) old read (length (closed_lines read)) (of q) new)
+    → Left stands rests stops fails e p old read at_end q new
+    → Leaves (Reported reports limits.line_bytes (of p)) (ReportedPart reports begins limits.line_bytes (of p)) limits
+    (fault_of_list e) old read at_end (of q) new
+    × (reads_failed (fault_of_list e) ≡ reads_of e) × (writes_failed (fault_of_list e) ≡ writes_of writes_failed e)
+list_to_run p of stands rests stops fails reports begins limits (list.Taken fault) old read at_end q new stopped failed
+    first (inl left) =
+    let is = stopped fault left in (
+      pass_to_run reports begins limits (of p) fault old read at_end (of q) new is,
+      passing_reads reports begins limits (of p) fault old read (of q) new is,
+      refl,
+    )
+list_to_run p of stands rests stops fails reports begins limits (list.Taken fault) old read at_end q new stopped failed
+    first (inr left) =
+    let is = failed fault left.1 in (
+      finish_to_run reports begins limits (of p) fault old read at_end (of q) new left.0 is,
+      finishing_reads reports begins limits (of p) fault old read (of q) new is,
+      refl,
+    )
+list_to_run p of stands rests stops fails reports begins limits list.Memory old read at_end q new stopped failed first
+    left = (
+      rw (left.0, left.1, left.2) (nothing_written reports limits (of p) old at_end),
+      refl,
+      refl,
+    )
+list_to_run p of stands rests stops fails reports begins limits list.Read old read at_end q new stopped failed first
+    left = (first left.0 left.1, refl, refl)
+list_to_run p of stands rests stops fails reports begins limits list.Endless old read at_end q new stopped failed first
+    left = ((first left.0 left.1, left.2), refl, refl)
+
+-- ---- what is written where a fault came
+
+-- none was that of a write, and what waited was written
+pub stop-wrote : {S F : Type 0} (reports : S → Option (List ℕ) → List ℕ → S → Type 0)
+    (begins : S → Option (List ℕ) → List ℕ → Type 0) (limits : LineLimits) (start : S) (fault : LineFault F)
+    (old now new : Option (List ℕ)) (read text : List ℕ) (q r : S) → is_write fault ≡ false
+    → WaitFault (is_write fault) reports begins limits start fault old read q text now → r ≡ q → Appends now new text
+    → PassFault reports begins limits start fault old read r new
+stop-wrote reports begins limits start fault old now new read text q r is all same wrote =
+    let left = subst (λ b. WaitFault b reports begins limits start fault old read q text now) is all in
+    pass-left reports begins limits start fault old now new left.0 read text q r left.1 left.2 same wrote
+
+-- or a prefix of it was
+pub stop-cut : {S F : Type 0} (reports : S → Option (List ℕ) → List ℕ → S → Type 0)
+    (begins : S → Option (List ℕ) → List ℕ → Type 0) (limits : LineLimits) (start : S) (fault : LineFault F)
+    (old now new : Option (List ℕ)) (read text : List ℕ) (q r : S) → is_write fault ≡ false
+    → WaitFault (is_write fault) reports begins limits start fault old read q text now → r ≡ q
+    → CutsOff text now new → WrotePrefix (ReportedPart reports begins limits.line_bytes start) old read r new
+stop-cut reports begins limits start fault old now new read text q r is all same cut =
+    let left = subst (λ b. WaitFault b reports begins limits start fault old read q text now) is all in
+    write-left reports begins limits.line_bytes start old now new left.0 read text q r left.1
+    (waits_faulty reports begins limits start fault read q left.0 left.2) same cut
+
+-- a write had failed
+pub stop-write : {S F : Type 0} (reports : S → Option (List ℕ) → List ℕ → S → Type 0)
+    (begins : S → Option (List ℕ) → List ℕ → Type 0) (limits : LineLimits) (start : S) (fault : LineFault F)
+    (old now : Option (List ℕ)) (read text : List ℕ) (q : S) → is_write fault ≡ true
+    → WaitFault (is_write fault) reports begins limits start fault old read q text now
+    → PassFault reports begins limits start fault old read q now
+stop-write reports begins limits start Write old now read text q is left = left
+stop-write reports begins limits start (Report fault) old now read text q is left = cc
+stop-write reports begins limits start Memory old now read text q is left = cc
+stop-write reports begins limits start Read old now read text q is left = cc
+stop-write reports begins limits start TooManyLines old now read text q is left = cc
+stop-write reports begins limits start Endless old now read text q is left = cc

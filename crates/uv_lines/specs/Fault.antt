@@ -1,7 +1,9 @@
 -- Which faults of a run are those of a write, after which nothing more is written.
 use Rattle.std.specs.Prelude.{ℕ, Bool, true, false, not, Result, Ok, Err}
 use Rattle.uv_lines.specs.declared.fault.LineFault.{LineFault}
-use Rattle.uv_lines.specs.declared.fault.LineFault.TheVariants.{Report, Write}
+use Rattle.uv_lines.specs.declared.fault.LineFault.TheVariants.{Endless, Memory, Read, Report, Write}
+use Rattle.uv_lines.specs.declared.fault.ListFault.{ListFault}
+use Rattle.uv_lines.specs.declared.fault.ListFault.TheVariants as list
 use Rattle.uv_lines.specs.declared.fault.ReportFault.{ReportFault}
 use Rattle.uv_lines.specs.declared.fault.ReportFault.TheVariants as within
 
@@ -24,3 +26,10 @@ fault_of_run within.Write = Write
 abbrev pub failed_within : {F : Type 0} → ReportFault F → ℕ
 failed_within (within.Reporter fault) = 0
 failed_within within.Write = 1
+
+-- a run's fault where one comes while its list is read
+abbrev pub fault_of_list : {F : Type 0} → ListFault (LineFault F) → LineFault F
+fault_of_list (list.Taken fault) = fault
+fault_of_list list.Memory = Memory
+fault_of_list list.Read = Read
+fault_of_list list.Endless = Endless

@@ -5,3 +5,5 @@ pub mod Reported
 pub mod Progress
 pub mod Run
 pub mod Framed
+pub mod Taking
+pub mod Ways

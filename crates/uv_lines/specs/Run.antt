@@ -1,5 +1,5 @@
 -- What a run has written, and what its faults leave.
-use Rattle.std.specs.Prelude.{◌≡◌, ℕ, ◌-◌, ◌^◌, ◌≤◌, ◌<◌, ◌⊎◌, Bool, true, false, List, [], Option, length, take}
+use Rattle.std.specs.Prelude.{ℕ, ◌-◌, ◌^◌, ◌≤◌, ◌<◌, ◌⊎◌, Bool, true, false, List, Option, length, take}
 use Rattle.uv_lines.specs.declared.fault.LineFault.{LineFault}
 use Rattle.uv_lines.specs.declared.fault.LineFault.TheVariants.{Report, Memory, Read, Write, TooManyLines, Endless}
 use Rattle.uv_lines.specs.declared.fault.ReportFault.{ReportFault}
@@ -66,13 +66,6 @@ pub record Waits {S : Type 0} (reports : S → Option (List ℕ) → List ℕ �
   pub said : List ℕ
   pub passes : Passes said old new text
   pub stands : Stands reports lines line_bytes start said read now begun
-
--- between two pieces nothing waits to be written
-pub record At {S : Type 0} (reports : S → Option (List ℕ) → List ℕ → S → Type 0) (lines : S → ℕ) (line_bytes : ℕ)
-    (start : S) (old : Option (List ℕ)) (read : List ℕ) (now : S) (begun text : List ℕ) (new : Option (List ℕ))
-    : Type 0 where
-  pub waits : Waits reports lines line_bytes start old read now begun text new
-  pub none : text ≡ []
 
 -- What a fault leaves while lines are taken: behind a failed write a prefix of a part of the report was written, behind
 -- each other one such a part was written or waits to be.

@@ -21,6 +21,19 @@ pub enum LineFault<F> {
     Endless,
 }
 
+/// Why a run over a list stopped. How far the reader was read is open.
+#[derive(Clone, Copy, Debug, PartialEq, Eq)]
+pub enum ListFault<F> {
+    /// What takes the list takes no more of it.
+    Taken(F),
+    /// An allocation failed before the first read.
+    Memory,
+    /// A read failed.
+    Read,
+    /// 2^64 - 1 reads gave bytes, and none the end.
+    Endless,
+}
+
 /// Why a line wasn't reported on whole.
 #[derive(Clone, Copy, Debug, PartialEq, Eq)]
 pub enum ReportFault<F> {
@@ -42,9 +55,21 @@ impl<F> ReportFault<F> {
     }
 }
 
-/// Whether a further write may come behind this answer: none does behind a failed one.
-pub(crate) fn may_write<F>(answer: &Result<(), LineFault<F>>) -> bool
-    ensures { result ≡ spec.may_write answer.now }
+/// Whether the fault is that of a write.
+pub(crate) fn is_write<F>(fault: &LineFault<F>) -> bool
+    ensures { result ≡ spec.is_write fault.now }
 {
-    !matches!(answer, Err(LineFault::Write))
+    matches!(fault, LineFault::Write)
+}
+
+/// The same fault of a run over lines.
+pub(crate) fn fault_of_list<F>(fault: ListFault<LineFault<F>>) -> LineFault<F>
+    ensures { result ≡ spec.fault_of_list fault }
+{
+    match fault {
+        ListFault::Taken(fault) => fault,
+        ListFault::Memory => LineFault::Memory,
+        ListFault::Read => LineFault::Read,
+        ListFault::Endless => LineFault::Endless,
+    }
 }

@@ -1,5 +1,5 @@
 //! A run over the lines of a list, with what stands around the report.
-ghost use Rattle.std.specs.Prelude.{◌≡◌, ◌≢◌, ℕ, ◌+◌, ◌-◌, ◌^◌, ◌<◌, ◌≤◌, ◌++◌, List, [], true, IfErr, IfOk, Ok, OnErr};
+ghost use Rattle.std.specs.Prelude.{◌≡◌, ◌≢◌, ℕ, ◌+◌, ◌-◌, ◌^◌, ◌<◌, ◌≤◌, ◌++◌, List, [], true, IfErr, Ok, OnErr};
 ghost use Rattle.std.specs.Prelude.{OnOk, take};
 ghost use Rattle.std.specs.Io.KnownBytes.{Appends, Consumes, IsAtEnd};
 ghost use Rattle.uv_lines.specs.Fault.{may_write};
@@ -12,7 +12,7 @@ use crate::limits::LineLimits;
 use crate::reporter::Reporter;
 use crate::run::run_between;
 use std::alloc::Global;
-use uv_model::{DeviceFault, Sink, Source, write_whole};
+use uv_io::{DeviceFault, Sink, Source, write_whole};
 
 /// What stands around the report on a list.
 #[derive(Clone, Copy)]

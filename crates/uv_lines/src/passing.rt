@@ -1,73 +1,78 @@
-//! Pieces of a list passed on: what is said of the lines of a piece is written before the next one is read.
-ghost use Rattle.std.specs.Prelude.{◌≡◌, ℕ, ◌+◌, ◌-◌, ◌^◌, ◌<◌, ◌++◌, List, Option, IfErr, OnOk, OnErr, length};
+//! The lines of a list passed on: what is said of the lines of a piece is written before the next one is read.
+ghost use Rattle.std.specs.Prelude.{◌≡◌, ℕ, ◌+◌, ◌-◌, ◌^◌, ◌<◌, [], false};
+ghost use Rattle.uv_lines.specs.declared.limits.LineLimits.{LineLimits};
+ghost use Rattle.uv_lines.specs.Fault as spec;
 ghost use Rattle.uv_lines.specs.Reported.{Reported};
-ghost use Rattle.uv_lines.specs.Run.{At, FinishFault, PassFault, Waits, WroteAll, writes_failed};
-ghost use Rattle.uv_lines.specs.Waiting.{CutsOff};
+ghost use Rattle.uv_lines.specs.Run.{FinishFault, WroteAll, writes_failed};
+ghost use Rattle.uv_lines.specs.Taking.{Turns};
+ghost use Rattle.uv_lines.specs.Ways.{PassingFault, Waiting, WaitingFault};
 
-use crate::fault::{LineFault, ReportFault, may_write};
+use crate::fault::{LineFault, ReportFault, is_write};
 use crate::progress::Progress;
 use crate::reporter::Reporter;
+use crate::taker::Taker;
 use crate::waiting::{end_part, write_out};
 use std::alloc::Global;
-use uv_model::{DeviceFault, Sink};
+use uv_io::{DeviceFault, Sink};
 
-impl<R: Reporter> Progress<R> {
-    /// Takes a piece and writes what is said of its lines, also where a line can't be reported on.
-    pub(crate) fn pass<W: Sink>(
+impl<R: Reporter> Taker for Progress<R> {
+    type Fault = LineFault<R::Fault>;
+
+    ghost writes = { writes_failed };
+
+    ghost stands = { λ start old read now new. Waiting start.limits start.reporter old read now new
+        × (now.limits ≡ start.limits) };
+
+    ghost rests = { λ now. now.text.items ≡ [] };
+
+    ghost stops = { λ fault start. PassingFault start.limits fault start.reporter };
+
+    ghost ends = { λ start old read now new. WroteAll (Reported R.reports start.limits.line_bytes start.reporter)
+        start.limits old read now.reporter new };
+
+    ghost fails = { λ fault start old read now new. FinishFault R.reports R.begins start.limits start.reporter fault old
+        read now.reporter new };
+
+    fn take_line<W: Sink>(
         &mut self,
         alloc: Global,
         writer: &mut W,
-        piece: &[u8],
-    ) -> Result<(), LineFault<R::Fault>>
-        requires { W.failed writer.old < 2 ^ 64 - 1 }
-        ensures setting { self.new.limits ≡ self.old.limits }
-        ensures at { OnOk result ((start : R) (old : Option (List ℕ)) (read : List ℕ)
-            → At R.reports R.lines self.old.limits.line_bytes start old read self.old.reporter self.old.begun.items
-            self.old.text.items (W.contents writer.old)
-            → At R.reports R.lines self.old.limits.line_bytes start old (read ++ piece.now) self.new.reporter
-            self.new.begun.items self.new.text.items (W.contents writer.new)) }
-        ensures quiet { OnOk result (W.failed writer.new ≡ W.failed writer.old) }
-        ensures fault { IfErr result (λ e. (start : R) (old : Option (List ℕ)) (read : List ℕ)
-            → At R.reports R.lines self.old.limits.line_bytes start old read self.old.reporter self.old.begun.items
-            self.old.text.items (W.contents writer.old)
-            → PassFault R.reports R.begins self.old.limits start e old (read ++ piece.now) self.new.reporter
-            (W.contents writer.new)
-            × (W.failed writer.new ≡ W.failed writer.old + writes_failed e)) }
-    {
-        let taken = self.take_piece(alloc, writer, piece);
-        if !may_write(&taken) {
-            return Err(LineFault::Write);
+        line: &[u8],
+        _whole: &[u8],
+    ) -> Result<(), LineFault<R::Fault>> {
+        if let Err(fault) = self.close_line(alloc, writer, line) {
+            return Err(self.stop(writer, fault));
         }
-        if let Err(DeviceFault) = write_out(&mut self.text, writer) {
-            return Err(LineFault::Write);
-        }
-        match taken {
+        match end_part(&mut self.text, writer) {
             Ok(()) => Ok(()),
-            Err(fault) => Err(fault),
+            Err(DeviceFault) => Err(LineFault::Write),
         }
     }
 
-    /// Takes the end of the list and writes what is said of the last line, also where it can't be reported on.
-    pub(crate) fn finish<W: Sink>(
+    fn take_part<W: Sink>(
+        &mut self,
+        writer: &mut W,
+        part: &[u8],
+    ) -> Result<(), LineFault<R::Fault>> {
+        match self.begin_line(part) {
+            Ok(()) => Ok(()),
+            Err(fault) => Err(self.stop(writer, fault)),
+        }
+    }
+
+    fn end_piece<W: Sink>(&mut self, writer: &mut W) -> Result<(), LineFault<R::Fault>> {
+        match write_out(&mut self.text, writer) {
+            Ok(()) => Ok(()),
+            Err(DeviceFault) => Err(LineFault::Write),
+        }
+    }
+
+    // What is said of the last line is written also where it can't be reported on whole.
+    fn end_list<W: Sink>(
         &mut self,
         alloc: Global,
         writer: &mut W,
-    ) -> Result<(), LineFault<R::Fault>>
-        requires { W.failed writer.old < 2 ^ 64 - 1 }
-        ensures setting { self.new.limits ≡ self.old.limits }
-        ensures report { OnOk result ((start : R) (old : Option (List ℕ)) (read : List ℕ)
-            → At R.reports R.lines self.old.limits.line_bytes start old read self.old.reporter self.old.begun.items
-            self.old.text.items (W.contents writer.old)
-            → WroteAll (Reported R.reports self.old.limits.line_bytes start) self.old.limits old read
-            self.new.reporter (W.contents writer.new)) }
-        ensures quiet { OnOk result (W.failed writer.new ≡ W.failed writer.old) }
-        ensures fault { IfErr result (λ e. (start : R) (old : Option (List ℕ)) (read : List ℕ)
-            → At R.reports R.lines self.old.limits.line_bytes start old read self.old.reporter self.old.begun.items
-            self.old.text.items (W.contents writer.old)
-            → FinishFault R.reports R.begins self.old.limits start e old read self.new.reporter
-            (W.contents writer.new)
-            × (W.failed writer.new ≡ W.failed writer.old + writes_failed e)) }
-    {
+    ) -> Result<(), LineFault<R::Fault>> {
         match self.take_end(alloc, writer) {
             Ok(()) => match write_out(&mut self.text, writer) {
                 Ok(()) => Ok(()),
@@ -80,25 +85,23 @@ impl<R: Reporter> Progress<R> {
             Err(ReportFault::Write) => Err(LineFault::Write),
         }
     }
+}
 
-    /// Writes what waits to be written, where that is much.
-    pub(crate) fn write_much<W: Sink>(&mut self, writer: &mut W) -> Result<(), DeviceFault>
-        requires { W.failed writer.old < 2 ^ 64 - 1 }
-        ensures rest { (self.new.reporter ≡ self.old.reporter) × (self.new.limits ≡ self.old.limits)
-            × (self.new.begun.items ≡ self.old.begun.items) }
-        ensures much { OnOk result (length self.new.text.items < 262144) }
-        ensures waits { OnOk result ((start : R) (old : Option (List ℕ)) (read : List ℕ)
-            → Waits R.reports R.lines self.old.limits.line_bytes start old read self.old.reporter
-            self.old.begun.items self.old.text.items (W.contents writer.old)
-            → Waits R.reports R.lines self.old.limits.line_bytes start old read self.new.reporter
-            self.new.begun.items self.new.text.items (W.contents writer.new)) }
-        ensures quiet { OnOk result (W.failed writer.new ≡ W.failed writer.old) }
-        ensures prefix { OnErr result (CutsOff self.old.text.items (W.contents writer.old) (W.contents writer.new)) }
-        ensures failed { OnErr result (W.failed writer.new ≡ W.failed writer.old + 1) }
+impl<R: Reporter> Progress<R> {
+    // Writes what waits to be written, where a fault came that isn't of a write, and gives the fault.
+    fn stop<W: Sink>(&mut self, writer: &mut W, fault: LineFault<R::Fault>) -> LineFault<R::Fault>
+        requires { spec.is_write fault ≡ false → W.failed writer.old < 2 ^ 64 - 1 }
+        ensures left { (limits : LineLimits) → Turns (WaitingFault limits fault) (PassingFault limits result)
+            self.old (W.contents writer.old) self.new (W.contents writer.new) }
+        ensures failed { (before : ℕ) → W.failed writer.old ≡ before + writes_failed fault
+            → W.failed writer.new ≡ before + writes_failed result }
     {
-        match end_part(&mut self.text, writer) {
-            Ok(()) => Ok(()),
-            Err(DeviceFault) => Err(DeviceFault),
+        if is_write(&fault) {
+            return fault;
+        }
+        match write_out(&mut self.text, writer) {
+            Ok(()) => fault,
+            Err(DeviceFault) => LineFault::Write,
         }
     }
 }

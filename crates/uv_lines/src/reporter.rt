@@ -6,7 +6,7 @@ ghost use Rattle.uv_lines.specs.Waiting.{Adds, LeavesLine};
 
 use crate::fault::ReportFault;
 use std::alloc::Global;
-use uv_model::Sink;
+use uv_io::Sink;
 
 /// What reports on the lines of a list, one after the other. What it says of a line may depend on those before it.
 pub trait Reporter: Drop {

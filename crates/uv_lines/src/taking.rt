@@ -1,65 +1,24 @@
-//! The lines of a piece, each reported on where it ends.
-ghost use Rattle.std.specs.Prelude.{◌≡◌, ℕ, ◌+◌, ◌-◌, ◌^◌, ◌<◌, List, [], ◌∷◌, ◌++◌, IfErr, IfSome, None, OnOk, OnErr};
-ghost use Rattle.std.specs.Prelude.{Option, drop, false, length, take, vec_len};
-ghost use Rattle.std.specs.Str.Lines.{strip_carriage_return};
+//! The lines of a list, each reported on where it ends.
+ghost use Rattle.std.specs.Prelude.{◌≡◌, ℕ, ◌+◌, ◌-◌, ◌^◌, ◌<◌, List, [], ◌∷◌, ◌++◌, IfErr, OnOk, OnErr};
+ghost use Rattle.std.specs.Prelude.{Option, false, take, vec_len};
 ghost use Rattle.uv_lines.specs.Lines.{line_feed, short_line, split};
 ghost use Rattle.uv_lines.specs.Fault.{failed_within, is_write};
 ghost use Rattle.uv_lines.specs.Progress.{ended};
-ghost use Rattle.uv_lines.specs.Run.{WaitFault, Waits, writes_failed};
+ghost use Rattle.uv_lines.specs.Run.{writes_failed};
+ghost use Rattle.uv_lines.specs.Taking.{Keeps, Leads};
 ghost use Rattle.uv_lines.specs.Waiting.{Adds, LeavesLine};
+ghost use Rattle.uv_lines.specs.Ways.{Waiting, WaitingFault};
 
 use crate::fault::{LineFault, ReportFault};
-use crate::line_parts::{line_end, line_text, without_return};
+use crate::line_parts::{line_text, without_return};
 use crate::progress::Progress;
 use crate::reporter::Reporter;
 use std::alloc::{AllocError, Global};
-use uv_model::{DeviceFault, Sink};
+use uv_io::Sink;
 
 impl<R: Reporter> Progress<R> {
-    /// Takes a piece of the list: reports on each line that ends in it, writes what was said where that is much, and
-    /// keeps what of the next line decides what is said of it.
-    ///
-    /// After a fault but one of a write the text that waits ends what is said of lines: of as many as may come, where a
-    /// further line began.
-    pub(crate) fn take_piece<W: Sink>(
-        &mut self,
-        alloc: Global,
-        writer: &mut W,
-        piece: &[u8],
-    ) -> Result<(), LineFault<R::Fault>>
-        requires { W.failed writer.old < 2 ^ 64 - 1 }
-        ensures setting { self.new.limits ≡ self.old.limits }
-        ensures waits { OnOk result ((start : R) (old : Option (List ℕ)) (read : List ℕ)
-            → Waits R.reports R.lines self.old.limits.line_bytes start old read self.old.reporter
-            self.old.begun.items self.old.text.items (W.contents writer.old)
-            → Waits R.reports R.lines self.old.limits.line_bytes start old (read ++ piece.now) self.new.reporter
-            self.new.begun.items self.new.text.items (W.contents writer.new)) }
-        ensures quiet { OnOk result (W.failed writer.new ≡ W.failed writer.old) }
-        ensures fault { IfErr result (λ e. (start : R) (old : Option (List ℕ)) (read : List ℕ)
-            → Waits R.reports R.lines self.old.limits.line_bytes start old read self.old.reporter
-            self.old.begun.items self.old.text.items (W.contents writer.old)
-            → WaitFault (is_write e) R.reports R.begins self.old.limits start e old (read ++ piece.now)
-            self.new.reporter self.new.text.items (W.contents writer.new)) }
-        ensures failed { IfErr result (λ e. W.failed writer.new ≡ W.failed writer.old + writes_failed e) }
-    {
-        let mut start = 0;
-        while let Some(length) = line_end(&piece[start..]) {
-            if let Err(fault) = self.close_line(alloc, writer, &piece[start..start + length]) {
-                return Err(fault);
-            }
-            if let Err(DeviceFault) = self.write_much(writer) {
-                return Err(LineFault::Write);
-            }
-            start += length + 1;
-        }
-        match self.begin_line(&piece[start..]) {
-            Ok(()) => Ok(()),
-            Err(fault) => Err(fault),
-        }
-    }
-
-    // Reports on the line that an LF ends behind this prefix of a piece.
-    fn close_line<W: Sink>(
+    /// Reports on the line that an LF ends behind this prefix of a piece.
+    pub(crate) fn close_line<W: Sink>(
         &mut self,
         alloc: Global,
         writer: &mut W,
@@ -68,31 +27,30 @@ impl<R: Reporter> Progress<R> {
         requires line { split prefix.now ≡ ([], prefix.now) }
         requires writes { W.failed writer.old < 2 ^ 64 - 1 }
         ensures setting { self.new.limits ≡ self.old.limits }
-        ensures waits { OnOk result ((start : R) (old : Option (List ℕ)) (read : List ℕ)
-            → Waits R.reports R.lines self.old.limits.line_bytes start old read self.old.reporter
-            self.old.begun.items self.old.text.items (W.contents writer.old)
-            → Waits R.reports R.lines self.old.limits.line_bytes start old
-            (read ++ (prefix.now ++ line_feed ∷ [])) self.new.reporter self.new.begun.items self.new.text.items
-            (W.contents writer.new)) }
+        ensures waits { OnOk result (Keeps (Waiting self.old.limits) self.old (W.contents writer.old)
+            (prefix.now ++ line_feed ∷ []) self.new (W.contents writer.new)) }
         ensures quiet { OnOk result (W.failed writer.new ≡ W.failed writer.old) }
-        ensures fault { IfErr result (λ e. (start : R) (old : Option (List ℕ)) (read rest : List ℕ)
-            → Waits R.reports R.lines self.old.limits.line_bytes start old read self.old.reporter
-            self.old.begun.items self.old.text.items (W.contents writer.old)
-            → WaitFault (is_write e) R.reports R.begins self.old.limits start e old
-            (read ++ (prefix.now ++ line_feed ∷ rest)) self.new.reporter self.new.text.items
-            (W.contents writer.new)) }
+        ensures fault { IfErr result (λ e. (rest : List ℕ) → Leads (Waiting self.old.limits)
+            (WaitingFault self.old.limits e) self.old (W.contents writer.old) (prefix.now ++ line_feed ∷ rest)
+            self.new (W.contents writer.new)) }
         ensures failed { IfErr result (λ e. W.failed writer.new ≡ W.failed writer.old + writes_failed e) }
     {
         if !self.begun.is_empty() {
-            return match self.close_begun_line(alloc, writer, prefix) {
-                Ok(()) => Ok(()),
-                Err(fault) => Err(fault),
-            };
+            return self.close_begun_line(alloc, writer, prefix);
         }
         if self.reporter.line_count() == self.limits.lines {
             return Err(LineFault::TooManyLines);
         }
-        match self.report_whole(alloc, writer, without_return(prefix)) {
+        let line_bytes = self.limits.line_bytes;
+        let line = without_return(prefix);
+        match report_on(
+            alloc,
+            &mut self.reporter,
+            line_bytes,
+            line,
+            &mut self.text,
+            writer,
+        ) {
             Ok(()) => Ok(()),
             Err(fault) => Err(fault.of_run()),
         }
@@ -109,19 +67,12 @@ impl<R: Reporter> Progress<R> {
         requires line { split prefix.now ≡ ([], prefix.now) }
         requires writes { W.failed writer.old < 2 ^ 64 - 1 }
         ensures setting { self.new.limits ≡ self.old.limits }
-        ensures waits { OnOk result ((start : R) (old : Option (List ℕ)) (read : List ℕ)
-            → Waits R.reports R.lines self.old.limits.line_bytes start old read self.old.reporter
-            self.old.begun.items self.old.text.items (W.contents writer.old)
-            → Waits R.reports R.lines self.old.limits.line_bytes start old
-            (read ++ (prefix.now ++ line_feed ∷ [])) self.new.reporter self.new.begun.items self.new.text.items
-            (W.contents writer.new)) }
+        ensures waits { OnOk result (Keeps (Waiting self.old.limits) self.old (W.contents writer.old)
+            (prefix.now ++ line_feed ∷ []) self.new (W.contents writer.new)) }
         ensures quiet { OnOk result (W.failed writer.new ≡ W.failed writer.old) }
-        ensures fault { IfErr result (λ e. (start : R) (old : Option (List ℕ)) (read rest : List ℕ)
-            → Waits R.reports R.lines self.old.limits.line_bytes start old read self.old.reporter
-            self.old.begun.items self.old.text.items (W.contents writer.old)
-            → WaitFault (is_write e) R.reports R.begins self.old.limits start e old
-            (read ++ (prefix.now ++ line_feed ∷ rest)) self.new.reporter self.new.text.items
-            (W.contents writer.new)) }
+        ensures fault { IfErr result (λ e. (rest : List ℕ) → Leads (Waiting self.old.limits)
+            (WaitingFault self.old.limits e) self.old (W.contents writer.old) (prefix.now ++ line_feed ∷ rest)
+            self.new (W.contents writer.new)) }
         ensures failed { IfErr result (λ e. W.failed writer.new ≡ W.failed writer.old + writes_failed e) }
     {
         if let Err(AllocError) = self.keep(prefix) {
@@ -133,21 +84,15 @@ impl<R: Reporter> Progress<R> {
         }
     }
 
-    // Keeps the end of a piece, in which a line goes on or begins.
-    fn begin_line(&mut self, rest: &[u8]) -> Result<(), LineFault<R::Fault>>
+    /// Keeps the end of a piece, in which a line goes on or begins.
+    pub(crate) fn begin_line(&mut self, rest: &[u8]) -> Result<(), LineFault<R::Fault>>
         requires { split rest.now ≡ ([], rest.now) }
         ensures kind { IfErr result (λ e. is_write e ≡ false) }
         ensures setting { self.new.limits ≡ self.old.limits }
-        ensures waits { OnOk result ((start : R) (old new : Option (List ℕ)) (read : List ℕ)
-            → Waits R.reports R.lines self.old.limits.line_bytes start old read self.old.reporter
-            self.old.begun.items self.old.text.items new
-            → Waits R.reports R.lines self.old.limits.line_bytes start old (read ++ rest.now) self.new.reporter
-            self.new.begun.items self.new.text.items new) }
-        ensures fault { IfErr result (λ e. (start : R) (old new : Option (List ℕ)) (read : List ℕ)
-            → Waits R.reports R.lines self.old.limits.line_bytes start old read self.old.reporter
-            self.old.begun.items self.old.text.items new
-            → WaitFault (is_write e) R.reports R.begins self.old.limits start e old (read ++ rest.now)
-            self.new.reporter self.new.text.items new) }
+        ensures waits { OnOk result ((written : Option (List ℕ))
+            → Keeps (Waiting self.old.limits) self.old written rest.now self.new written) }
+        ensures fault { IfErr result (λ e. (written : Option (List ℕ)) → Leads (Waiting self.old.limits)
+            (WaitingFault self.old.limits e) self.old written rest.now self.new written) }
     {
         if rest.is_empty() {
             return Ok(());
@@ -179,39 +124,6 @@ impl<R: Reporter> Progress<R> {
         }
     }
 
-    // Reports on a line of which no prefix is kept.
-    fn report_whole<W: Sink>(
-        &mut self,
-        alloc: Global,
-        writer: &mut W,
-        line: &[u8],
-    ) -> Result<(), ReportFault<R::Fault>>
-        requires few { R.lines self.old.reporter < self.old.limits.lines }
-        requires none { vec_len self.old.begun ≡ 0 }
-        requires writes { W.failed writer.old < 2 ^ 64 - 1 }
-        ensures setting { self.new.limits ≡ self.old.limits }
-        ensures begun { self.new.begun.items ≡ self.old.begun.items }
-        ensures added { OnOk result (Adds R.reports R.lines self.old.reporter self.old.text.items
-            (W.contents writer.old) (short_line self.old.limits.line_bytes line.now) self.new.reporter
-            self.new.text.items (W.contents writer.new)) }
-        ensures quiet { OnOk result (W.failed writer.new ≡ W.failed writer.old) }
-        ensures same { OnErr result (self.new.reporter ≡ self.old.reporter) }
-        ensures fault { IfErr result (λ e. LeavesLine R.begins e self.old.reporter self.old.text.items
-            (W.contents writer.old) (short_line self.old.limits.line_bytes line.now) self.new.text.items
-            (W.contents writer.new)) }
-        ensures failed { IfErr result (λ e. W.failed writer.new ≡ W.failed writer.old + failed_within e) }
-    {
-        let line_bytes = self.limits.line_bytes;
-        report_on(
-            alloc,
-            &mut self.reporter,
-            line_bytes,
-            line,
-            &mut self.text,
-            writer,
-        )
-    }
-
     /// Reports on the line that has begun, which an LF has ended or the end of the list.
     pub(crate) fn report_begun<W: Sink>(
         &mut self,
@@ -235,20 +147,16 @@ impl<R: Reporter> Progress<R> {
     {
         let line_bytes = self.limits.line_bytes;
         let line = line_text(self.begun.as_slice(), is_closed);
-        match report_on(
+        report_on(
             alloc,
             &mut self.reporter,
             line_bytes,
             line,
             &mut self.text,
             writer,
-        ) {
-            Ok(()) => {
-                self.begun.clear();
-                Ok(())
-            }
-            Err(fault) => Err(fault),
-        }
+        )?;
+        self.begun.clear();
+        Ok(())
     }
 }
 

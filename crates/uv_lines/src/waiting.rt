@@ -3,7 +3,7 @@ ghost use Rattle.std.specs.Prelude.{◌≡◌, ℕ, ◌+◌, ◌-◌, ◌^◌, �
 ghost use Rattle.std.specs.Io.KnownBytes.{Appends};
 ghost use Rattle.uv_lines.specs.Waiting.{Passes};
 
-use uv_model::{DeviceFault, Sink, write_whole};
+use uv_io::{DeviceFault, Sink, write_whole};
 
 // How many bytes may wait to be written where a part has ended, less than so many.
 const MUCH_BYTES: usize = 262_144;
@@ -27,14 +27,11 @@ pub fn end_part<W: Sink>(text: &mut Vec<u8>, writer: &mut W) -> Result<(), Devic
     if text.len() < MUCH_BYTES {
         return Ok(());
     }
-    match write_out(text, writer) {
-        Ok(()) => Ok(()),
-        Err(DeviceFault) => Err(DeviceFault),
-    }
+    write_out(text, writer)
 }
 
 /// Writes what waits to be written.
-pub(crate) fn write_out<W: Sink>(text: &mut Vec<u8>, writer: &mut W) -> Result<(), DeviceFault>
+pub fn write_out<W: Sink>(text: &mut Vec<u8>, writer: &mut W) -> Result<(), DeviceFault>
     requires { W.failed writer.old < 2 ^ 64 - 1 }
     ensures whole { OnOk result (Appends (W.contents writer.old) (W.contents writer.new) text.old.items) }
     ensures none { OnOk result (text.new.items ≡ []) }
@@ -43,11 +40,7 @@ pub(crate) fn write_out<W: Sink>(text: &mut Vec<u8>, writer: &mut W) -> Result<(
         × Appends (W.contents writer.old) (W.contents writer.new) (take n text.old.items)) }
     ensures failed { OnErr result (W.failed writer.new ≡ W.failed writer.old + 1) }
 {
-    match write_whole(writer, text.as_slice()) {
-        Ok(()) => {
-            text.clear();
-            Ok(())
-        }
-        Err(DeviceFault) => Err(DeviceFault),
-    }
+    write_whole(writer, text.as_slice())?;
+    text.clear();
+    Ok(())
 }

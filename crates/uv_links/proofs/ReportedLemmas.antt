@@ -8,6 +8,7 @@ use Rattle.std.proofs.lemmas.List.Sums.{sum_by-append}
 use Rattle.std.proofs.KnownBytes.{Appends-nil, Keeps-refl}
 use Rattle.uv_lines.specs.declared.fault.LineFault.{LineFault}
 use Rattle.uv_lines.specs.declared.fault.LineFault.TheVariants as stopped
+use Rattle.uv_lines.specs.declared.limits.LineLimits.{LineLimits}
 use Rattle.uv_lines.specs.Lines.{short_line, closed_lines, lines_of}
 use Rattle.uv_lines.specs.Framed.{FailsReads, Framed, LeavesPart}
 use Rattle.uv_lines.specs.Reported.{Reported, ReportedPart}
@@ -141,6 +142,26 @@ Parts s = Framed (ReportedPart Says begins_none s.line_bytes (fresh s)) [] (λ _
 abbrev pub Whole : ListSetting → List (List ℕ) → List ℕ → Reporting → Type 0
 Whole s = Framed (Reported Says s.line_bytes (fresh s)) [] (λ r. count_line r.counts ++ [])
 
+-- what a fault leaves of a run by these limits, in this frame, by what reports on the lines from this state on
+abbrev pub LeavesBy : LineLimits → List ℕ → List ℕ → Reporting → LineFault RoomFault → Option (List ℕ) → List ℕ
+    → Type 0 → Reporting → Option (List ℕ) → Type 0
+LeavesBy limits begin end start e old read at_end q new =
+    LeavesPart (Framed (Reported Says limits.line_bytes start) begin (λ _. end))
+    (Framed (ReportedPart Says begins_none limits.line_bytes start) begin (λ _. end))
+    (Framed (Reported Says limits.line_bytes start) begin (λ r. count_line r.counts ++ end)) limits e old read at_end q
+    new
+
+-- the same by what these are
+pub leaves_by : (given limits : LineLimits) (begin end : List ℕ) (start p : Reporting) (e : LineFault RoomFault)
+    (old : Option (List ℕ)) (read : List ℕ) (at_end : Type 0) (q : Reporting) (new : Option (List ℕ))
+    → given ≡ limits → begin ≡ [] → end ≡ [] → start ≡ p
+    → LeavesBy given begin end start e old read at_end q new → LeavesBy limits [] [] p e old read at_end q new
+leaves_by given limits begin end start p e old read at_end q new same none no_end starts left =
+    subst (λ s. LeavesBy limits [] [] s e old read at_end q new) starts
+    (subst (λ t. LeavesBy limits [] t start e old read at_end q new) no_end
+    (subst (λ b. LeavesBy limits b end start e old read at_end q new) none
+    (subst (λ l. LeavesBy l begin end start e old read at_end q new) same left)))
+
 -- since no line is begun, a part is the report on whole lines
 reported_lines : (n : ℕ) (p q : Reporting) (lines : List (List ℕ)) (text : List ℕ)
     → ReportedPart Says begins_none n p lines text q → Reported Says n p lines text q
@@ -236,7 +257,8 @@ part-left stopped.Endless s most old read at_end q new left =
 -- or of the whole report
 pub run-left : (e : LineFault RoomFault) (s : ListSetting) (most : ℕ) (old : Option (List ℕ)) (read : List ℕ)
     (at_end : Type 0) (q : Reporting) (new : Option (List ℕ))
-    → LeavesPart (Lines s) (Parts s) (Whole s) (record { line_bytes = s.line_bytes; lines = most }) e old read at_end q new
+    → LeavesPart (Lines s) (Parts s) (Whole s) (record { line_bytes = s.line_bytes; lines = most }) e old read at_end q
+    new
     → Leaves (fault_of_run e) s most old read at_end new
 run-left e s most old read at_end q new (inl left) = part-left e s most old read at_end q new left
 run-left e s most old read at_end q new (inr (is, cut)) =

@@ -1,16 +1,16 @@
-//! The judgement of a line.
+//! What is said of a line, found.
 ghost use Rattle.std.specs.Cow.{cow_str_bytes};
 ghost use Rattle.std.specs.Prelude.{◌≡◌, ◌≤◌, ◌↔◌, IfOk, IfErr, IsTrue, None, Some, length, option_copied};
 ghost use Rattle.std.specs.Str.{IsUtf8, chars};
 ghost use Rattle.uv_grammar.specs.Verdict.{IsVerdict};
 ghost use Rattle.uv_links.specs.Fault.{IsBaseFault};
-ghost use Rattle.uv_links.specs.Judgement.{judged_said};
 ghost use Rattle.uv_links.specs.Report.{IsSaid};
+ghost use Rattle.uv_links.specs.Said.{said_of};
 ghost use Rattle.uv_resolve.specs.Resolve.{DenotesText};
 ghost use Rattle.uv_second.specs.Second.{AgreesOnBase, second_base, second_text};
 
 use crate::fault::{LinkFault, fault_of_room};
-use crate::judgement::Judgement;
+use crate::said::Said;
 use std::alloc::{AllocError, Global};
 use std::borrow::CowStr;
 use std::marker::Model;
@@ -78,26 +78,22 @@ impl<'b> Judge<'b> {
     }
 
     /// What is said of a line.
-    pub(crate) fn judge<'l>(
-        &self,
-        alloc: Global,
-        line: &'l [u8],
-    ) -> Result<Judgement<'l>, RoomFault>
-        ensures { IfOk result (λ j. IsSaid self.now line.now (judged_said j)) }
+    pub(crate) fn judge<'l>(&self, alloc: Global, line: &'l [u8]) -> Result<Said<'l>, RoomFault>
+        ensures { IfOk result (λ said. IsSaid self.now line.now (said_of said)) }
     {
         if line.len() > self.line_bytes {
-            return Ok(Judgement::TooLong);
+            return Ok(Said::TooLong);
         }
         match from_utf8(line) {
             Ok(text) => self.judge_text(alloc, text),
-            Err(_) => Ok(Judgement::NotUtf8),
+            Err(_) => Ok(Said::NotUtf8),
         }
     }
 
     // What is said of a line that isn't too long and is UTF-8.
-    fn judge_text<'l>(&self, alloc: Global, text: &'l str) -> Result<Judgement<'l>, RoomFault>
+    fn judge_text<'l>(&self, alloc: Global, text: &'l str) -> Result<Said<'l>, RoomFault>
         requires { length text.now ≤ self.now.line_bytes }
-        ensures { IfOk result (λ j. IsSaid self.now text.now (judged_said j)) }
+        ensures { IfOk result (λ said. IsSaid self.now text.now (said_of said)) }
     {
         match self.base {
             None => self.judge_alone(alloc, text),
@@ -106,10 +102,10 @@ impl<'b> Judge<'b> {
     }
 
     // The same without a base. No one else calls `check_alone`, so the compiler puts it here.
-    fn judge_alone<'l>(&self, alloc: Global, text: &'l str) -> Result<Judgement<'l>, RoomFault>
+    fn judge_alone<'l>(&self, alloc: Global, text: &'l str) -> Result<Said<'l>, RoomFault>
         requires short { length text.now ≤ self.now.line_bytes }
         requires alone { self.now.base ≡ None }
-        ensures { IfOk result (λ j. IsSaid self.now text.now (judged_said j)) }
+        ensures { IfOk result (λ said. IsSaid self.now text.now (said_of said)) }
     {
         self.judge_answer(alloc, text, &check_alone(alloc, text, self.profile))
     }
@@ -120,10 +116,10 @@ impl<'b> Judge<'b> {
         alloc: Global,
         text: &'l str,
         base: &Record,
-    ) -> Result<Judgement<'l>, RoomFault>
+    ) -> Result<Said<'l>, RoomFault>
         requires short { length text.now ≤ self.now.line_bytes }
         requires base { self.now.base ≡ Some base.now }
-        ensures { IfOk result (λ j. IsSaid self.now text.now (judged_said j)) }
+        ensures { IfOk result (λ said. IsSaid self.now text.now (said_of said)) }
     {
         self.judge_answer(alloc, text, &check(alloc, text, Some(base), self.profile))
     }
@@ -134,17 +130,17 @@ impl<'b> Judge<'b> {
         alloc: Global,
         text: &'l str,
         answer: &Result<Verdict<'_>, AllocError>,
-    ) -> Result<Judgement<'l>, RoomFault>
+    ) -> Result<Said<'l>, RoomFault>
         requires short { length text.now ≤ self.now.line_bytes }
         requires answer { IfOk answer.now (IsVerdict self.now.profile self.now.base (chars text.now)) }
-        ensures { IfOk result (λ j. IsSaid self.now text.now (judged_said j)) }
+        ensures { IfOk result (λ said. IsSaid self.now text.now (said_of said)) }
     {
         match answer {
             Ok(Verdict::Yes(parts)) => {
                 let written = serialized_text(alloc, text, parts, self.base)?;
                 self.compare(alloc, text, written)
             }
-            Ok(Verdict::No(refusal)) => Ok(Judgement::Refused(*refusal)),
+            Ok(Verdict::No(refusal)) => Ok(Said::Refused(*refusal)),
             Err(AllocError) => Err(RoomFault::Memory),
         }
     }
@@ -155,15 +151,15 @@ impl<'b> Judge<'b> {
         alloc: Global,
         text: &str,
         written: CowStr<'l>,
-    ) -> Result<Judgement<'l>, RoomFault>
+    ) -> Result<Said<'l>, RoomFault>
         requires short { length text.now ≤ self.now.line_bytes }
         requires denotes { DenotesText self.now.profile self.now.base text.now (cow_str_bytes written) }
-        ensures { IfOk result (λ j. IsSaid self.now text.now (judged_said j)) }
+        ensures { IfOk result (λ said. IsSaid self.now text.now (said_of said)) }
     {
         if self.agrees(alloc, text, written.as_str())? {
-            Ok(Judgement::Same(written))
+            Ok(Said::Same(written))
         } else {
-            Ok(Judgement::Differs)
+            Ok(Said::Differs)
         }
     }
 

@@ -1,18 +1,17 @@
 //! The report on the lines of a list.
 ghost use Rattle.std.specs.Prelude.{◌≡◌, ℕ, ◌+◌, ◌-◌, ◌^◌, ◌<◌, ◌++◌, List, OnOk, IfErr, IfOk, OnErr, option_copied};
 ghost use Rattle.std.specs.Prelude.{string_bytes};
-ghost use Rattle.uv_links.specs.Judgement.{judged_said};
 ghost use Rattle.uv_links.specs.Report.{counted, report_line};
 ghost use Rattle.uv_links.specs.Reporting.{IsSaidOf, Says, none_counted};
+ghost use Rattle.uv_links.specs.Said.{said_of};
 
 use crate::counts::{Counts, count_text};
 use crate::judge::Judge;
-use crate::judgement::Judgement;
-use crate::outcome::push_line;
+use crate::said::{Said, push_line};
 use std::alloc::{AllocError, Global};
 use std::marker::Model;
+use uv_io::Sink;
 use uv_lines::{ReportFault, Reporter};
-use uv_model::Sink;
 use uv_second::RoomFault;
 
 /// What reports on a list of links: the judge of its lines, and the counts of the lines before.
@@ -66,26 +65,26 @@ impl<'b> LinkReporter<'b> {
             × (text.new.items ≡ text.old.items ++ said)) }
         ensures none { OnErr result ((self.new ≡ self.old) × (text.new.items ≡ text.old.items)) }
     {
-        let judgement = judge_line(alloc, &self.judge, line)?;
-        match self.add(judgement, text) {
+        let said = judge_line(alloc, &self.judge, line)?;
+        match self.add(said, text) {
             Ok(()) => Ok(()),
             Err(AllocError) => Err(RoomFault::Memory),
         }
     }
 
     // Appends the line of the report, and counts it.
-    fn add(&mut self, judgement: Judgement<'_>, text: &mut Vec<u8>) -> Result<(), AllocError>
+    fn add(&mut self, said: Said<'_>, text: &mut Vec<u8>) -> Result<(), AllocError>
         requires { self.old.counts.lines < 2 ^ 64 - 1 }
         ensures text { OnOk result (text.new.items
-            ≡ text.old.items ++ report_line (self.old.counts.lines + 1) (judged_said judgement.entry)) }
+            ≡ text.old.items ++ report_line (self.old.counts.lines + 1) (said_of said.entry)) }
         ensures counted { OnOk result (self.new
-            ≡ record { setting = self.old.setting; counts = counted self.old.counts (judged_said judgement.entry) }) }
+            ≡ record { setting = self.old.setting; counts = counted self.old.counts (said_of said.entry) }) }
         ensures none { OnErr result ((self.new ≡ self.old) × (text.new.items ≡ text.old.items)) }
     {
         let start = text.len();
-        match push_line(text, self.counts.lines + 1, &judgement.outcome()) {
+        match push_line(text, self.counts.lines + 1, &said) {
             Ok(()) => {
-                self.counts = with_line(self.counts, &judgement);
+                self.counts = with_line(self.counts, &said);
                 Ok(())
             }
             Err(AllocError) => {
@@ -141,27 +140,27 @@ fn judge_line<'l>(
     alloc: Global,
     judge: &Judge<'_>,
     line: Option<&'l [u8]>,
-) -> Result<Judgement<'l>, RoomFault>
-    ensures { IfOk result (λ j. IsSaidOf judge.now (option_copied line.entry) (judged_said j)) }
+) -> Result<Said<'l>, RoomFault>
+    ensures { IfOk result (λ said. IsSaidOf judge.now (option_copied line.entry) (said_of said)) }
 {
     match line {
         Some(line) => judge.judge(alloc, line),
-        None => Ok(Judgement::TooLong),
+        None => Ok(Said::TooLong),
     }
 }
 
 // The counts with a further line.
-fn with_line(counts: Counts, judgement: &Judgement<'_>) -> Counts
+fn with_line(counts: Counts, said: &Said<'_>) -> Counts
     requires few { counts.lines < 2 ^ 64 - 1 }
     requires whole { counts.ok + counts.bad + counts.differs ≡ counts.lines }
-    ensures { result ≡ counted counts (judged_said judgement.now) }
+    ensures { result ≡ counted counts (said_of said.now) }
 {
     let mut counts = counts;
     counts.lines += 1;
-    match judgement {
-        Judgement::Same(_) => counts.ok += 1,
-        Judgement::Refused(_) | Judgement::NotUtf8 | Judgement::TooLong => counts.bad += 1,
-        Judgement::Differs => counts.differs += 1,
+    match said {
+        Said::Same(_) => counts.ok += 1,
+        Said::Refused(_) | Said::NotUtf8 | Said::TooLong => counts.bad += 1,
+        Said::Differs => counts.differs += 1,
     }
     counts
 }

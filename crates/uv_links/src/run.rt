@@ -11,8 +11,9 @@ use crate::judge::Judge;
 use crate::limits::LinkLimits;
 use crate::reporter::LinkReporter;
 use std::alloc::Global;
+use uv_io::{Sink, Source};
 use uv_lines::{Frame, LineFault, LineLimits, run_lines};
-use uv_model::{Profile, Record, Sink, Source};
+use uv_model::{Profile, Record};
 use uv_second::RoomFault;
 
 /// Reports on a list of links: each of its lines is judged by the profile, against the base where there is one, and

@@ -1,28 +1,29 @@
 -- The text of a diagnostic is that of its texts, wherever those stand.
-use Rattle.std.proofs.Common.{◌≡◌, ℕ, Bool, true, false, if◌then◌else◌, List, [], ◌∷◌, ◌++◌, Option, Some, None, refl, sym, ap, ◌∙◌}
+use Rattle.std.proofs.Common.{◌≡◌, ℕ, Bool, true, false, if◌then◌else◌, List, [], ◌∷◌, ◌++◌, Option, Some, None, refl}
+use Rattle.std.proofs.Common.{sym, ap, ◌∙◌}
 use Rattle.std.proofs.Common.{◌+◌, ◌<◌, append_assoc, append-nil, get_or, inl, inr, length, take}
 use Rattle.std.specs.Borrow.{Bor}
 use Rattle.std.proofs.lemmas.List.{take_more}
 use Rattle.uv_model.specs.declared.profile.Profile.{Profile}
-use Rattle.uv_report.specs.declared.column.Columns.{Columns}
+use Rattle.uv_report.specs.declared.places.column.Columns.{Columns}
 use Rattle.uv_report.specs.declared.diagnostic.Diagnostic.{Diagnostic}
 use Rattle.uv_report.specs.declared.line_violation.LineViolation.{LineViolation}
 use Rattle.uv_report.specs.declared.format.Format.{Format}
 use Rattle.uv_report.specs.declared.format.Format.TheVariants.{Gnu, Caret, Json, Github, Sarif, Checkstyle}
 use Rattle.uv_report.specs.declared.format.Format.TheVariants.{Junit, Gitlab, Rdjson}
 use Rattle.uv_report.specs.declared.mended.Mended.{Mended}
-use Rattle.uv_report.specs.Caret.{caret_text}
-use Rattle.uv_report.specs.Checkstyle.{checkstyle_text, error_place}
-use Rattle.uv_report.specs.Fingerprint.{place_key}
-use Rattle.uv_report.specs.Github.{github_text, command_place}
-use Rattle.uv_report.specs.Gitlab.{gitlab_text, issue_text}
-use Rattle.uv_report.specs.Gnu.{gnu_text, gnu_position}
-use Rattle.uv_report.specs.Json.{json_text}
-use Rattle.uv_report.specs.Intention.{is_offered}
-use Rattle.uv_report.specs.Junit.{case_begin, junit_text}
-use Rattle.uv_report.specs.Rdjson.{object_text, rdjson_line, rdjson_text}
-use Rattle.uv_report.specs.Sarif.{sarif_text, sarif_with}
-use Rattle.uv_report.specs.Column.{column_at}
+use Rattle.uv_report.specs.Formats.Caret.{caret_text}
+use Rattle.uv_report.specs.Formats.Checkstyle.{checkstyle_text, error_place}
+use Rattle.uv_report.specs.Formats.Fingerprint.{place_key}
+use Rattle.uv_report.specs.Formats.Github.{github_text, command_place}
+use Rattle.uv_report.specs.Formats.Gitlab.{gitlab_text, issue_text}
+use Rattle.uv_report.specs.Formats.Gnu.{gnu_text, gnu_position}
+use Rattle.uv_report.specs.Formats.Json.{json_text}
+use Rattle.uv_report.specs.Sentences.Intention.{is_offered}
+use Rattle.uv_report.specs.Formats.Junit.{case_begin, junit_text}
+use Rattle.uv_report.specs.Formats.Rdjson.{object_text, rdjson_line, rdjson_text}
+use Rattle.uv_report.specs.Formats.Sarif.{sarif_text, sarif_with}
+use Rattle.uv_report.specs.Places.Column.{column_at}
 use Rattle.uv_report.specs.LineViolation.{violation_end, violation_place}
 use Rattle.uv_report.specs.Report.{diagnostic_text}
 use Rattle.uv_lint.specs.declared.setting.LineForm.{LineForm}
@@ -114,7 +115,8 @@ push_one form format columns profile file text line start column end is_first me
     let more = diagnostics_text form format columns profile reported false None rest in
     ap (λ t. t ++ more) (pushed ∙ ap (λ t. old ++ framed_text form format file.now t)
     (rw (here, behind) (diagnostic_text-lent format is_first file text line (column_at columns start text.now
-    (violation_place violation)) (column_at columns start text.now (violation_end violation)) profile violation mended)))
+    (violation_place violation)) (column_at columns start text.now
+    (violation_end violation)) profile violation mended)))
     ∙ append_assoc old one more
 
 -- ---- the diagnostics so far, and what follows them

@@ -20,7 +20,8 @@ use Rattle.uv_lint.specs.Report.{IsReport, IsReportBegun, first_found}
 use Rattle.uv_lint.specs.Report.{counted, judged_line, judged_lines, judged_of, line_text, lines_text}
 use Rattle.uv_lint.specs.Report.{lines_within, list_begin_text, list_end_text, none_counted, refused_in, tally}
 use Rattle.uv_lint.specs.Reporting.{Begins, Linting, Says, with_line}
-use Rattle.uv_lint.specs.Run.{FailsReads, IsPartWithin, IsReportWithin, Leaves, answer_of_run, fault_of_run, writes_failed}
+use Rattle.uv_lint.specs.Run.{FailsReads, IsPartWithin, IsReportWithin, Leaves, answer_of_run, fault_of_run}
+use Rattle.uv_lint.specs.Run.{writes_failed}
 
 -- ---- what is said of lines
 

@@ -3,8 +3,8 @@
 use Rattle.std.specs.Prelude.{◌≡◌, ℕ, ◌++◌, true, List, [], ◌∷◌, Option, Some, None, codes, map}
 use Rattle.uv_model.specs.declared.extent.Extent.TheVariants.{First}
 use Rattle.uv_model.specs.declared.rule.Rule.TheVariants.{NoScheme, CodePoint}
-use Rattle.uv_report.specs.declared.column.Columns.{Columns}
-use Rattle.uv_report.specs.declared.column.Columns.TheVariants.{CodePoints, Bytes, Utf16}
+use Rattle.uv_report.specs.declared.places.column.Columns.{Columns}
+use Rattle.uv_report.specs.declared.places.column.Columns.TheVariants.{CodePoints, Bytes, Utf16}
 use Rattle.uv_report.specs.declared.line_violation.LineViolation.{LineViolation}
 use Rattle.uv_report.specs.declared.line_violation.LineViolation.TheVariants.{Refused, NotUtf8, TooLong, NotLocated}
 use Rattle.uv_report.specs.declared.located_fault.LocatedFault.TheVariants.{NoFile, NoLine, LineRange, NoColumn}
@@ -102,7 +102,7 @@ wide_text columns =
 pub record LocatedReportRows : Type 0 where
   pub gnu : lines_text (located_setting Gnu CodePoints) 1 true (lines_within 24 (lines_of located_list))
       located_findings
-      ≡ codes "a.html:3:15: error: U+0020 SPACE may not stand in a URL [code-point]\n"
+      ≡ codes "a.html:3:15: error: U+0020 SPACE is not allowed in a URL [code-point]\n"
       ++ (codes "b:c:7:8: error: there is no scheme and no base [no-scheme]\n"
       ++ (codes "a.html:5:2: error: this line isn't UTF-8 [not-utf8]\n"
       ++ (codes "list:5:1: error: this line isn't FILE:LINE:COLUMN:LINK, since LINE is missing [not-located]\n"
@@ -115,6 +115,6 @@ pub record LocatedReportRows : Type 0 where
   pub foreign : lines_text (located_setting Gnu Bytes) 1 true
       (lines_within 24 (lines_of (codes "a:3:10:" ++ (0xC3 ∷ 0xA9 ∷ 255 ∷ codes "b"))))
       (unmended (NotUtf8 1 ∷ []) ∷ []) ≡ codes "a:3:12: error: this line isn't UTF-8 [not-utf8]\n"
-  pub points : wide_text CodePoints ≡ codes "a:3:15: error: U+0020 SPACE may not stand in a URL [code-point]\n"
-  pub bytes : wide_text Bytes ≡ codes "a:3:18: error: U+0020 SPACE may not stand in a URL [code-point]\n"
-  pub utf16 : wide_text Utf16 ≡ codes "a:3:16: error: U+0020 SPACE may not stand in a URL [code-point]\n"
+  pub points : wide_text CodePoints ≡ codes "a:3:15: error: U+0020 SPACE is not allowed in a URL [code-point]\n"
+  pub bytes : wide_text Bytes ≡ codes "a:3:18: error: U+0020 SPACE is not allowed in a URL [code-point]\n"
+  pub utf16 : wide_text Utf16 ≡ codes "a:3:16: error: U+0020 SPACE is not allowed in a URL [code-point]\n"

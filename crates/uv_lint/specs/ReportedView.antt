@@ -1,11 +1,14 @@
 -- What the code's values of a text and its place denote.
-use Rattle.std.specs.Prelude.{ℕ, List, Option, option_copied, option_map, string_bytes}
+use Rattle.std.specs.Prelude.{◌≡◌, ℕ, Bool, List, Option, option_copied, option_map, string_bytes, take}
+use Rattle.uv_report.specs.declared.line_violation.LineViolation.{LineViolation}
 use Rattle.uv_report.specs.declared.mended.Mended.{Mended}
 use Rattle.uv_lint.specs.declared.mended_line.MendedLine.{MendedLine}
 use Rattle.uv_lint.specs.declared.reported_line.Place.{Place}
 use Rattle.uv_lint.specs.declared.reported_line.ReportedLine.{ReportedLine}
+use Rattle.uv_lint.specs.declared.setting.LintSetting.{LintSetting}
 use Rattle.uv_lint.specs.Findings.{MendedText, shown}
-use Rattle.uv_lint.specs.Report.{ReportedText, lent}
+use Rattle.uv_lint.specs.LineViolations.{file_setting}
+use Rattle.uv_lint.specs.Report.{ReportedText, lent, text_diagnostics}
 
 -- a text that isn't shown yet
 abbrev pub place_view : Place → ReportedText
@@ -37,3 +40,14 @@ lent_mended mended =
 -- the same where there is one
 abbrev pub lent_if_mended : Option Mended → Option Mended
 lent_if_mended mended = option_map lent_mended mended
+
+-- what is said of a text of which this was found
+abbrev pub text_said : ReportedLine → LintSetting → Bool → Option MendedLine → List LineViolation → List ℕ
+text_said line setting is_first mended violations =
+    text_diagnostics (file_setting line.file.now setting) (reported_view line) is_first
+    (record { violations = violations; mended = option_map mended_line_view mended })
+
+-- some of its first diagnostics
+abbrev pub AreFirstSaid : ReportedLine → LintSetting → Bool → Option MendedLine → List LineViolation → List ℕ → Type 0
+AreFirstSaid line setting is_first mended violations text =
+    (count : ℕ) × (text ≡ text_said line setting is_first mended (take count violations))

@@ -7,9 +7,9 @@ ghost use Rattle.uv_lines.specs.Waiting.{LeavesParts, Passes};
 ghost use Rattle.uv_report.specs.Report.{diagnostic_text};
 ghost use Rattle.uv_lint.specs.LocatedViews.{link_view};
 ghost use Rattle.uv_lint.specs.Findings.{IsUtf8WhereRefused, bytes_by, is_refused, shown};
-ghost use Rattle.uv_lint.specs.Report.{AreFirstDiagnostics, diagnostics_text, framed_text, mended_on, reported_by};
+ghost use Rattle.uv_lint.specs.Report.{framed_text, reported_by};
 ghost use Rattle.uv_lint.specs.Reporting.{IsNoneOr};
-ghost use Rattle.uv_lint.specs.ReportedView.{mended_line_view, place_view, reported_view};
+ghost use Rattle.uv_lint.specs.ReportedView.{AreFirstSaid, place_view, text_said};
 
 use crate::located::LocatedLink;
 use crate::mended_line::{MendedLine, mended_in_place};
@@ -17,8 +17,9 @@ use crate::setting::{LineForm, LintSetting};
 use std::alloc::{AllocError, Global};
 use std::borrow::CowStr;
 use std::str::{from_utf8, from_utf8_unchecked};
+use uv_io::{DeviceFault, Sink};
 use uv_lines::{ReportFault, end_part};
-use uv_model::{DeviceFault, Profile, Sink};
+use uv_model::Profile;
 use uv_report::{
     ColumnCounter, Diagnostic, LineViolation, Mended, SeenText, push_file_begin, push_file_end,
     push_seen_diagnostic, put_seen_diagnostic,
@@ -92,17 +93,11 @@ impl<'l> ReportedLine<'l> {
         writer: &mut W,
     ) -> Result<(), ReportFault<AllocError>>
         requires { W.failed writer.old < 2 ^ 64 - 1 }
-        ensures text { OnOk result (Passes (text.old.items
-            ++ diagnostics_text setting.entry.form setting.entry.format setting.entry.columns setting.entry.profile
-            (reported_view self.now) is_first (mended_on setting.entry.columns (reported_view self.now)
-            (option_map mended_line_view mended.entry.now)) violations.now)
-            (W.contents writer.old) (W.contents writer.new) text.new.items) }
+        ensures text { OnOk result (Passes (text.old.items ++ text_said self.now setting.entry is_first
+            mended.entry.now violations.now) (W.contents writer.old) (W.contents writer.new) text.new.items) }
         ensures quiet { OnOk result (W.failed writer.new ≡ W.failed writer.old) }
-        ensures fault { IfErr result (λ e. LeavesParts (AreFirstDiagnostics setting.entry.form setting.entry.format
-            setting.entry.columns setting.entry.profile (reported_view self.now) is_first
-            (mended_on setting.entry.columns
-            (reported_view self.now) (option_map mended_line_view mended.entry.now)) violations.now) e text.old.items
-            (W.contents writer.old) text.new.items (W.contents writer.new)) }
+        ensures fault { IfErr result (λ e. LeavesParts (AreFirstSaid self.now setting.entry is_first mended.entry.now
+            violations.now) e text.old.items (W.contents writer.old) text.new.items (W.contents writer.new)) }
         ensures failed { IfErr result (λ e. W.failed writer.new ≡ W.failed writer.old + failed_within e) }
     {
         let mut counter = ColumnCounter::new(setting.columns, self.start, self.text);
@@ -222,8 +217,8 @@ fn append_framed(
     text.extend_from_slice(reported.as_bytes())
 }
 
-// Puts a diagnostic whose text was seen in the place of what stands in a text. Where lines say where their links stand, what stands round
-// the diagnostics of its file stands round it.
+// Puts a diagnostic whose text was seen in the place of what a text has. Where lines say where their links are, what
+// is round the diagnostics of its file is round it.
 fn put_framed(
     alloc: Global,
     reported: &mut String,

@@ -17,8 +17,9 @@ use crate::reported_line::{Place, ReportedLine, shown_text};
 use crate::setting::{LineForm, LintSetting};
 use std::alloc::{AllocError, Global};
 use std::marker::Model;
-use uv_lines::{ReportFault, Reporter};
-use uv_model::{Extent, Profile, Record, Sink};
+use uv_io::Sink;
+use uv_lines::{ReportFault, Reporter, without_mark};
+use uv_model::{Extent, Profile, Record};
 use uv_report::LineViolation;
 
 /// What reports on the lines of a file: what they are judged by, whether no diagnostic of the report was written yet,
@@ -262,15 +263,5 @@ fn judged_line(before: u64, line: Option<&[u8]>) -> Option<&[u8]>
     match line {
         Some(line) if before == 0 => Some(without_mark(line)),
         _ => line,
-    }
-}
-
-// A line without a byte order mark before it.
-fn without_mark(line: &[u8]) -> &[u8]
-    ensures { result.now ≡ spec.without_mark line.now }
-{
-    match line.strip_prefix(b"\xef\xbb\xbf") {
-        Some(rest) => rest,
-        None => line,
     }
 }

@@ -10,8 +10,8 @@ use crate::fault::{LintFault, answer_of_run};
 use crate::reporter::LintReporter;
 use crate::setting::{LineForm, LintSetting};
 use std::alloc::{AllocError, Global};
+use uv_io::{Sink, Source};
 use uv_lines::{Frame, LineLimits, run_lines};
-use uv_model::{Sink, Source};
 use uv_report::{push_file_begin, push_file_end};
 
 // How many bytes a line may have, and how many lines may come.

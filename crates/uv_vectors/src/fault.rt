@@ -1,33 +1,25 @@
-//! Why a command's output is not whole.
+//! Why the report on a vector file is not whole.
 ghost use Rattle.std.specs.Prelude.{◌≡◌};
-ghost use Rattle.uv_vectors.specs.declared.fault.CliFault.TheVariants as cli;
+ghost use Rattle.uv_vectors.specs.declared.fault.VectorFault.TheVariants as vector;
 
-use std::alloc::{AllocError, AllocFailed};
+use std::alloc::AllocError;
 use thiserror::Error;
 
-/// Why a command's output is not whole.
+/// Why the report on a vector file is not whole.
 #[derive(Clone, Copy, Debug, PartialEq, Eq, Error)]
-pub enum CliFault {
-    /// An allocation failed. Nothing of the output was written.
+pub enum VectorFault {
+    /// An allocation failed. Nothing of the report was written.
     #[error("memory")]
     Memory,
-    /// A write failed. A beginning of the output was written.
+    /// A write failed. A beginning of the report was written.
     #[error("write")]
     Write,
 }
 
-impl From<AllocError> for CliFault {
-    ghost from_gives = { λ _ fault. fault ≡ cli.Memory };
+impl From<AllocError> for VectorFault {
+    ghost from_gives = { λ _ fault. fault ≡ vector.Memory };
 
-    fn from(_error: AllocError) -> CliFault {
-        CliFault::Memory
-    }
-}
-
-impl<T: Drop> From<AllocFailed<T>> for CliFault {
-    ghost from_gives = { λ _ fault. fault ≡ cli.Memory };
-
-    fn from(_error: AllocFailed<T>) -> CliFault {
-        CliFault::Memory
+    fn from(_error: AllocError) -> VectorFault {
+        VectorFault::Memory
     }
 }

@@ -11,6 +11,6 @@ mod run;
 
 pub use case_fault::CaseFault;
 pub use ends::{CasesEnd, VectorEnd};
-pub use fault::CliFault;
+pub use fault::VectorFault;
 pub use json_fault::{FilePlace, JsonFault};
-pub use run::{MOST_BYTES, run_cases, run_vectors};
+pub use run::{MOST_BYTES, run_cases};

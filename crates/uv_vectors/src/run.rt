@@ -3,18 +3,17 @@ ghost use Rattle.std.specs.Prelude.{◌≡◌, ◌+◌, ◌-◌, ◌^◌, ◌<�
 ghost use Rattle.std.specs.Prelude.{position, string_bytes};
 ghost use Rattle.serde_json.specs.View.{items_view, view};
 ghost use Rattle.uv_vectors.specs.Case.{is_malformed, list_of};
-ghost use Rattle.uv_vectors.specs.Ends.{IsEndOf};
 ghost use Rattle.uv_vectors.specs.Run.{EndsBytes, EndsValue, WritesVectors, WritesVectorsPrefix, is_judged};
 
 use crate::case::VectorCase;
 use crate::case_fault::fault_at;
-use crate::ends::{CasesEnd, VectorEnd};
-use crate::fault::CliFault;
+use crate::ends::CasesEnd;
+use crate::fault::VectorFault;
 use crate::json_fault::JsonFault;
 use crate::report::report_on;
 use serde_json::Value;
 use std::alloc::{AllocError, Global};
-use uv_model::{DeviceFault, Sink, write_whole};
+use uv_io::{DeviceFault, Sink, write_whole};
 
 /// The most bytes that a vector file may have.
 pub const MOST_BYTES: usize = 16_777_216;
@@ -27,45 +26,28 @@ enum Ending {
 }
 
 /// Runs the cases of a vector file, each by the profile that it names or the standard one, and writes the report:
-/// `fail N` for each case that fails, in order and numbered from 1, and `vectors L pass P fail F`.
+/// `fail N` for each case that fails, in order and numbered from 1, and `vectors L pass P fail F`. The answer also says
+/// why the bytes are no JSON text, or a value is no case.
 ///
 /// A case passes where its base, if it has one, is valid alone, and where its input against it has the record's text,
 /// or the refusal, that the case expects. No case is judged before all of them have been read. A fault of memory leaves
 /// the output as it was; a fault of a write leaves a beginning of the report.
-pub fn run_vectors<S: Sink>(alloc: Global, bytes: &[u8], out: &mut S) -> Result<VectorEnd, CliFault>
-    requires { S.failed out.old < 2 ^ 64 - 1 }
-    ensures written { IfOk result (λ end. IsEndOf end (λ told.
-        WritesVectors bytes.now told (S.contents out.old) (S.contents out.new))) }
-    ensures unjudged { IfOk result (λ end. IsEndOf end (λ told. is_judged told ≡ false → out.new ≡ out.old)) }
-    ensures quiet { OnOk result (S.failed out.new ≡ S.failed out.old) }
-    ensures memory { result ≡ Err CliFault.Memory → out.new ≡ out.old }
-    ensures prefix { result ≡ Err CliFault.Write →
-        WritesVectorsPrefix bytes.now (S.contents out.old) (S.contents out.new) }
-    ensures failed { result ≡ Err CliFault.Write → S.failed out.new ≡ S.failed out.old + 1 }
-{
-    match run_cases(alloc, bytes, out) {
-        Ok(end) => Ok(end.without_reason()),
-        Err(fault) => Err(fault),
-    }
-}
-
-/// The same, and why the bytes are no JSON text, or a value is no case.
-pub fn run_cases<S: Sink>(alloc: Global, bytes: &[u8], out: &mut S) -> Result<CasesEnd, CliFault>
+pub fn run_cases<S: Sink>(alloc: Global, bytes: &[u8], out: &mut S) -> Result<CasesEnd, VectorFault>
     requires { S.failed out.old < 2 ^ 64 - 1 }
     ensures written { IfOk result (λ end.
         WritesVectors bytes.now end (S.contents out.old) (S.contents out.new)) }
     ensures unjudged { IfOk result (λ end. is_judged end ≡ false → out.new ≡ out.old) }
     ensures quiet { OnOk result (S.failed out.new ≡ S.failed out.old) }
-    ensures memory { result ≡ Err CliFault.Memory → out.new ≡ out.old }
-    ensures prefix { result ≡ Err CliFault.Write →
+    ensures memory { result ≡ Err VectorFault.Memory → out.new ≡ out.old }
+    ensures prefix { result ≡ Err VectorFault.Write →
         WritesVectorsPrefix bytes.now (S.contents out.old) (S.contents out.new) }
-    ensures failed { result ≡ Err CliFault.Write → S.failed out.new ≡ S.failed out.old + 1 }
+    ensures failed { result ≡ Err VectorFault.Write → S.failed out.new ≡ S.failed out.old + 1 }
 {
     match ending_of_bytes(alloc, bytes)? {
         Ending::Unjudged(end) => Ok(end),
         Ending::Report(end, text) => match write_whole(out, text.as_bytes()) {
             Ok(()) => Ok(end),
-            Err(DeviceFault) => Err(CliFault::Write),
+            Err(DeviceFault) => Err(VectorFault::Write),
         },
     }
 }

@@ -1,23 +1,8 @@
--- Room for a piece first, and then the pieces.
-use Rattle.std.proofs.Common.{◌≡◌, ◌+◌, ℕ, List, [], Ok, Err, IfErr, arith, sym, add-zero}
-use Rattle.std.proofs.KnownBytes.{Consumes-nil}
-use Rattle.std.specs.Io.KnownBytes.{Consumes, IsAtEnd}
-use Rattle.uv_lines.specs.Reported.{Reported, ReportedPart}
-use Rattle.uv_lines.specs.Run.{Leaves, reads_failed, writes_failed}
-use Rattle.uv_lines.proofs.PassLemmas.{nothing_written}
+-- The list, taken line by line.
+use Rattle.std.proofs.Common.{◌+◌, ◌∙◌, ap, refl, sym}
+use Rattle.std.specs.Io.KnownBytes.{IsAtEnd}
+use Rattle.uv_lines.proofs.PassLemmas.{Waits-start, list_to_run, waits_first}
 use Rattle.uv_lines.proofs.run.run_between.Goals as goal
-
-pub returns-in_default-clause-fault : goal.returns-in_default-clause-fault
-returns-in_default-clause-fault g c = (
-  [],
-  Consumes-nil (g.R.Source.remaining c.args.reader.now),
-  nothing_written g.T.Reporter.reports c.args.limits c.args.reporter (g.W.Sink.contents c.args.writer.now)
-      (IsAtEnd (g.R.Source.remaining c.args.reader.now)),
-)
-
-pub returns-in_default-clause-failed : goal.returns-in_default-clause-failed
-returns-in_default-clause-failed g c =
-    (sym (add-zero (g.R.Source.failed c.args.reader.now)), sym (add-zero (g.W.Sink.failed c.args.writer.now)))
 
 pub new-progress-requires-clause-short : goal.new-progress-requires-clause-short
 new-progress-requires-clause-short g c = c.requires.short
@@ -28,69 +13,63 @@ new-progress-requires-clause-bounded g c = c.requires.few
 pub new-progress-requires-clause-start : goal.new-progress-requires-clause-start
 new-progress-requires-clause-start g c = c.requires.start
 
-pub run_pieces-answer-requires-clause-reads : goal.run_pieces-answer-requires-clause-reads
-run_pieces-answer-requires-clause-reads g c = c.requires.reads
+pub take_list-requires-clause-reads : goal.take_list-requires-clause-reads
+take_list-requires-clause-reads g c = c.requires.reads
 
-pub run_pieces-answer-requires-clause-writes : goal.run_pieces-answer-requires-clause-writes
-run_pieces-answer-requires-clause-writes g c = c.requires.writes
+pub take_list-requires-clause-writes : goal.take_list-requires-clause-writes
+take_list-requires-clause-writes g c = c.requires.writes
 
-pub run_pieces-answer-requires-clause-room : goal.run_pieces-answer-requires-clause-room
-run_pieces-answer-requires-clause-room g c =
-    let size = c.as_mut_slice.ensures.len in
-    let some = c.in-Ok.ensures in
-    omega (arith, size, some)
+pub take_list-requires-clause-start : goal.take_list-requires-clause-start
+take_list-requires-clause-start g c =
+    let p = c.new-progress.result in (
+      Waits-start g.T.Reporter.reports g.T.Reporter.lines p.limits.line_bytes p.reporter
+          (g.W.Sink.contents c.args.writer.now) p.begun.items p.text.items
+          (rw c.new-progress.ensures.setting.0 c.requires.start) c.new-progress.ensures.begun
+          c.new-progress.ensures.text,
+      refl,
+    )
 
-pub run_pieces-answer-requires-clause-start : goal.run_pieces-answer-requires-clause-start
-run_pieces-answer-requires-clause-start g c = rw c.new-progress.ensures.setting.0 c.requires.start
+pub take_list-requires-clause-rests : goal.take_list-requires-clause-rests
+take_list-requires-clause-rests g c = c.new-progress.ensures.text
 
-pub run_pieces-answer-requires-clause-none : goal.run_pieces-answer-requires-clause-none
-run_pieces-answer-requires-clause-none g c = (c.new-progress.ensures.begun, c.new-progress.ensures.text)
-
-pub returns-clause-report : goal.returns-clause-report
-returns-clause-report g c =
+pub returns-in-Ok-clause-report : goal.returns-in-Ok-clause-report
+returns-in-Ok-clause-report g c =
     rw (c.into_reporter.ensures, ← c.new-progress.ensures.setting.0, ← c.new-progress.ensures.setting.1)
-    c.run_pieces-answer.ensures.report
+    c.in-Ok.ensures.ends
 
-pub returns-clause-quiet : goal.returns-clause-quiet
-returns-clause-quiet g c = c.run_pieces-answer.ensures.quiet
+pub returns-in-Ok-clause-quiet : goal.returns-in-Ok-clause-quiet
+returns-in-Ok-clause-quiet g c = c.in-Ok.ensures.quiet
 
-pub returns-clause-fault : goal.returns-clause-fault
-returns-clause-fault g c =
-    rw (c.into_reporter.ensures, ← c.new-progress.ensures.setting.0, ← c.new-progress.ensures.setting.1)
-    (elim c.run_pieces-answer.result as (λ answer. IfErr answer (λ e. (read : List ℕ)
-    × Consumes (g.R.Source.remaining c.args.reader.now) (g.R.Source.remaining c.run_pieces-answer.new.reader) read
-    × Leaves (Reported g.T.Reporter.reports c.new-progress.result.limits.line_bytes c.new-progress.result.reporter)
-    (ReportedPart g.T.Reporter.reports g.T.Reporter.begins c.new-progress.result.limits.line_bytes
-    c.new-progress.result.reporter) c.new-progress.result.limits e
-    (g.W.Sink.contents c.args.writer.now) read (IsAtEnd (g.R.Source.remaining c.run_pieces-answer.new.reader))
-    c.run_pieces-answer.new.progress.reporter (g.W.Sink.contents c.run_pieces-answer.new.writer)
-    × (g.R.Source.failed c.run_pieces-answer.new.reader ≡ g.R.Source.failed c.args.reader.now + reads_failed e)
-    × (g.W.Sink.failed c.run_pieces-answer.new.writer ≡ g.W.Sink.failed c.args.writer.now + writes_failed e))
-    → IfErr answer (λ e. (read : List ℕ)
-    × Consumes (g.R.Source.remaining c.args.reader.now) (g.R.Source.remaining c.run_pieces-answer.new.reader) read
-    × Leaves (Reported g.T.Reporter.reports c.new-progress.result.limits.line_bytes c.new-progress.result.reporter)
-    (ReportedPart g.T.Reporter.reports g.T.Reporter.begins c.new-progress.result.limits.line_bytes
-    c.new-progress.result.reporter) c.new-progress.result.limits e
-    (g.W.Sink.contents c.args.writer.now) read (IsAtEnd (g.R.Source.remaining c.run_pieces-answer.new.reader))
-    c.run_pieces-answer.new.progress.reporter (g.W.Sink.contents c.run_pieces-answer.new.writer))) [
-      | Ok _ ↦ λ left. tt
-      | Err e ↦ λ left. (left.0, left.1, left.2)
-    ] c.run_pieces-answer.ensures.fault)
+pub returns-in-Err-clause-fault : goal.returns-in-Err-clause-fault
+returns-in-Err-clause-fault g c =
+    let p = c.new-progress.result in
+    let q = c.take_list.new.taker in
+    let old = g.W.Sink.contents c.args.writer.now in
+    let new = g.W.Sink.contents c.take_list.new.writer in
+    let left = c.in-Err.ensures.fault in
+    let is = list_to_run p (λ s. s.reporter) _ _ _ _ g.T.Reporter.reports g.T.Reporter.begins p.limits c.in-Err.fault
+    old left.0 (IsAtEnd (g.R.Source.remaining c.take_list.new.reader)) q new (λ fault left. left) (λ fault left. left)
+    (λ stands rests. waits_first g.T.Reporter.reports g.T.Reporter.lines p.limits p.reporter old new left.0 q.reporter
+    q.begun.items q.text.items stands.0 rests) left.2 in
+    rw (
+      c.into_reporter-in-Err.ensures,
+      c.fault_of_list.ensures,
+      ← c.new-progress.ensures.setting.0,
+      ← c.new-progress.ensures.setting.1,
+    ) (left.0, left.1, is.0)
 
-pub returns-clause-failed : goal.returns-clause-failed
-returns-clause-failed g c =
-    elim c.run_pieces-answer.result as (λ answer. IfErr answer (λ e. (read : List ℕ)
-    × Consumes (g.R.Source.remaining c.args.reader.now) (g.R.Source.remaining c.run_pieces-answer.new.reader) read
-    × Leaves (Reported g.T.Reporter.reports c.new-progress.result.limits.line_bytes c.new-progress.result.reporter)
-    (ReportedPart g.T.Reporter.reports g.T.Reporter.begins c.new-progress.result.limits.line_bytes
-    c.new-progress.result.reporter) c.new-progress.result.limits e
-    (g.W.Sink.contents c.args.writer.now) read (IsAtEnd (g.R.Source.remaining c.run_pieces-answer.new.reader))
-    c.run_pieces-answer.new.progress.reporter (g.W.Sink.contents c.run_pieces-answer.new.writer)
-    × (g.R.Source.failed c.run_pieces-answer.new.reader ≡ g.R.Source.failed c.args.reader.now + reads_failed e)
-    × (g.W.Sink.failed c.run_pieces-answer.new.writer ≡ g.W.Sink.failed c.args.writer.now + writes_failed e))
-    → IfErr answer (λ e.
-    (g.R.Source.failed c.run_pieces-answer.new.reader ≡ g.R.Source.failed c.args.reader.now + reads_failed e)
-    × (g.W.Sink.failed c.run_pieces-answer.new.writer ≡ g.W.Sink.failed c.args.writer.now + writes_failed e))) [
-      | Ok _ ↦ λ left. tt
-      | Err e ↦ λ left. (left.3, left.4)
-    ] c.run_pieces-answer.ensures.fault
+pub returns-in-Err-clause-failed : goal.returns-in-Err-clause-failed
+returns-in-Err-clause-failed g c =
+    let p = c.new-progress.result in
+    let q = c.take_list.new.taker in
+    let old = g.W.Sink.contents c.args.writer.now in
+    let new = g.W.Sink.contents c.take_list.new.writer in
+    let left = c.in-Err.ensures.fault in
+    let is = list_to_run p (λ s. s.reporter) _ _ _ _ g.T.Reporter.reports g.T.Reporter.begins p.limits c.in-Err.fault
+    old left.0 (IsAtEnd (g.R.Source.remaining c.take_list.new.reader)) q new (λ fault left. left) (λ fault left. left)
+    (λ stands rests. waits_first g.T.Reporter.reports g.T.Reporter.lines p.limits p.reporter old new left.0 q.reporter
+    q.begun.items q.text.items stands.0 rests) left.2 in
+    let before = g.R.Source.failed c.args.reader.now in
+    let written = g.W.Sink.failed c.args.writer.now in
+    rw c.fault_of_list.ensures
+    (left.3 ∙ ap (λ n. before + n) (sym is.1), left.4 ∙ ap (λ n. written + n) (sym is.2))

@@ -3,14 +3,13 @@ use Rattle.std.proofs.Common.{◌≡◌, ◌+◌, ◌∙◌, [], ◌++◌, optio
 use Rattle.std.proofs.KnownBytes.{Consumes-nil}
 use Rattle.std.specs.Io.KnownBytes.{IsAtEnd}
 use Rattle.uv_lines.specs.declared.limits.LineLimits.{LineLimits}
-use Rattle.uv_lines.specs.Framed.{Framed, LeavesPart}
-use Rattle.uv_lines.specs.Reported.{Reported, ReportedPart}
+use Rattle.uv_lines.specs.Framed.{Framed}
+use Rattle.uv_lines.specs.Reported.{Reported}
 use Rattle.uv_lines.specs.Run as run
 use Rattle.uv_links.specs.Report.{ListSetting, count_line}
 use Rattle.uv_links.specs.Reporting.{Says}
 use Rattle.uv_links.specs.Run.{Leaves, Reports}
-use Rattle.uv_links.proofs.ReportedLemmas.{Lines, Parts, Whole, base-left, begins_none, fresh, run-failed, run-left}
-use Rattle.uv_links.proofs.ReportedLemmas.{run-reports}
+use Rattle.uv_links.proofs.ReportedLemmas.{Whole, base-left, fresh, leaves_by, run-failed, run-left, run-reports}
 use Rattle.uv_links.proofs.run.run_links.Goals as goal
 
 pub new-requires : goal.new-requires
@@ -118,23 +117,8 @@ returns-clause-fault g c =
     let start = c.new-reporter.result in
     let e = c.in-Err-answer.fault in
     let r = rw c.in-Err-answer.is at c.run_lines-reporter.ensures.fault in
-    let left : LeavesPart (Lines setting) (Parts setting) (Whole setting) limits e old r.0 at_end q new =
-    subst (λ p. LeavesPart (Framed (Reported Says setting.line_bytes p) [] (λ _. []))
-    (Framed (ReportedPart Says begins_none setting.line_bytes p) [] (λ _. []))
-    (Framed (Reported Says setting.line_bytes p) [] (λ s. count_line s.counts ++ [])) limits e old r.0 at_end q new)
-    starts
-    (subst (λ t. LeavesPart (Framed (Reported Says setting.line_bytes start) [] (λ _. t))
-    (Framed (ReportedPart Says begins_none setting.line_bytes start) [] (λ _. t))
-    (Framed (Reported Says setting.line_bytes start) [] (λ s. count_line s.counts ++ t)) limits e old r.0 at_end q
-    new) c.none.ensures.end
-    (subst (λ b. LeavesPart (Framed (Reported Says setting.line_bytes start) b (λ _. end))
-    (Framed (ReportedPart Says begins_none setting.line_bytes start) b (λ _. end))
-    (Framed (Reported Says setting.line_bytes start) b (λ s. count_line s.counts ++ end)) limits e old r.0 at_end q
-    new) c.none.ensures.begin
-    (subst (λ l. LeavesPart (Framed (Reported Says l.line_bytes start) begin (λ _. end))
-    (Framed (ReportedPart Says begins_none l.line_bytes start) begin (λ _. end))
-    (Framed (Reported Says l.line_bytes start) begin (λ s. count_line s.counts ++ end)) l e old r.0 at_end q new)
-    same_limits r.2))) in (
+    let left = leaves_by given limits begin end start (fresh setting) e old r.0 at_end q new same_limits
+    c.none.ensures.begin c.none.ensures.end starts r.2 in (
       r.0,
       r.1,
       subst (λ f. Leaves f setting c.args.limits.lines old r.0 at_end new) (sym c.fault_of_run.ensures)

@@ -1,6 +1,6 @@
 -- Before the place of the first byte that isn't UTF-8 the text before that byte is shown.
 use Rattle.std.proofs.Common.{◌+◌, ◌-◌, ◌^◌, ap, min}
-use Rattle.uv_report.specs.Column.{width}
+use Rattle.uv_report.specs.Places.Column.{width}
 use Rattle.uv_lint.proofs.ForeignLemmas.{shown_before}
 use Rattle.uv_lint.proofs.laws.foreign_columns.Goals as goal
 

@@ -9,7 +9,8 @@ use Rattle.uv_lint.proofs.reported_line.shown_text.Goals as goal
 pub returns-in-Ok : goal.returns-in-Ok
 returns-in-Ok c =
     let read = c.in-Ok.ensures.cases in
-    read.0 ∙ sym (utf8_lossy-IsUtf8 c.in-Some.line.now read.1) ∙ ap (λ line. shown (option_copied line)) (sym c.in-Some.is)
+    read.0 ∙ sym (utf8_lossy-IsUtf8 c.in-Some.line.now read.1)
+    ∙ ap (λ line. shown (option_copied line)) (sym c.in-Some.is)
 
 -- One of which a rule is violated is UTF-8.
 pub from_utf8_unchecked-requires : goal.from_utf8_unchecked-requires

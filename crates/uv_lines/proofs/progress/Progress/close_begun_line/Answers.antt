@@ -8,7 +8,7 @@ use Rattle.uv_lines.proofs.StandsLemmas.{kept_line}
 use Rattle.uv_lines.proofs.progress.Progress.close_begun_line.Goals as goal
 
 pub returns-in-Err-clause-fault : goal.returns-in-Err-clause-fault
-returns-in-Err-clause-fault g c = λ start old read rest h.
+returns-in-Err-clause-fault g c = λ rest start old read h.
     let p = c.args.self.now in
     let q = c.keep.new.self in
     let same = c.keep.ensures.rest in
@@ -35,7 +35,7 @@ returns-in-Ok-clause-waits g c = λ start old read h.
     k.begun.items h.stands c.in_default.ensures.kept) adds c.in-Ok.ensures.begun
 
 pub returns-in-Err-report_begun-clause-fault : goal.returns-in-Err-report_begun-clause-fault
-returns-in-Err-report_begun-clause-fault g c = λ start old read rest h.
+returns-in-Err-report_begun-clause-fault g c = λ rest start old read h.
     let p = c.args.self.now in
     let k = c.keep.new.self in
     let q = c.report_begun.new.self in

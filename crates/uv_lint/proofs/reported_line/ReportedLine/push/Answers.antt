@@ -51,7 +51,8 @@ loop-violation-preserved g c =
     let mended = mended_on setting.columns (reported_view line) (option_map mended_line_view c.args.mended.now) in
     let one = framed_text setting.form setting.format line.file.now (diagnostic_text setting.format
     c.loop-violation.is_first
-    (diagnostic_in line.file line.text line.line c.column-column.result c.column_ahead-end.result setting.profile violation told)) in
+    (diagnostic_in line.file line.text line.line c.column-column.result c.column_ahead-end.result setting.profile
+    violation told)) in
     let old = g.W.Sink.contents c.args.writer.now in
     let new = g.W.Sink.contents c.say_framed.new.writer in
     record {
@@ -74,7 +75,8 @@ loop-violation-preserved g c =
 
 pub say_framed-requires-clause-seen : goal.say_framed-requires-clause-seen
 say_framed-requires-clause-seen g c =
-    c.go_to.ensures ∙ c.loop-violation.invariant.seen ∙ ap (λ (found : Diagnostic). found.text.now) (sym c.diagnostic_in-found.ensures)
+    c.go_to.ensures ∙ c.loop-violation.invariant.seen
+    ∙ ap (λ (found : Diagnostic). found.text.now) (sym c.diagnostic_in-found.ensures)
 
 pub returns-in-Err-clause-fault : goal.returns-in-Err-clause-fault
 returns-in-Err-clause-fault g c =
@@ -91,7 +93,8 @@ returns-in-Err-clause-fault g c =
     let mended = mended_on setting.columns (reported_view line) (option_map mended_line_view c.args.mended.now) in
     let one = framed_text setting.form setting.format line.file.now (diagnostic_text setting.format
     c.loop-violation.is_first
-    (diagnostic_in line.file line.text line.line c.column-column.result c.column_ahead-end.result setting.profile violation told)) in
+    (diagnostic_in line.file line.text line.line c.column-column.result c.column_ahead-end.result setting.profile
+    violation told)) in
     let with_one = said_next setting.form setting.format setting.columns setting.profile line.file line.text line.line
     line.start c.column-column.result c.column_ahead-end.result c.args.is_first c.loop-violation.is_first mended told
     violations i none said.0 c.loop-violation-test.true
