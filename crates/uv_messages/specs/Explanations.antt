@@ -6,7 +6,7 @@ use Rattle.std.specs.List.{join_by, list_all}
 use Rattle.uv_model.specs.declared.rule.Rule.{Rule}
 use Rattle.uv_model.specs.declared.rule.Rule.TheVariants.{HostMissing, FirstSegmentEmpty, DriveAfterHost, Percent}
 use Rattle.uv_model.specs.Violations.Rule.{named_rule, rule_name, rule_sentence, rules_in_order}
-use Rattle.uv_report.specs.Explanation.{rule_asks, rule_base, rule_mended, rule_place, rule_section, rule_wrong}
+use Rattle.uv_report.specs.Rules.Explanation.{rule_asks, rule_base, rule_mended, rule_place, rule_section, rule_wrong}
 use Rattle.uv_report.specs.declared.line_violation.LineViolation.{LineViolation}
 use Rattle.uv_report.specs.LineViolation.{violation_help, violation_name, violation_sentence, named_violation}
 use Rattle.uv_words.specs.declared.words.Told.{Told}

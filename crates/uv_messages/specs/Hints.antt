@@ -7,7 +7,7 @@ use Rattle.clap.specs.declared.error.kind.ErrorKind.{ErrorKind}
 use Rattle.clap.specs.declared.error.kind.ErrorKind.TheVariants.{InvalidSubcommand, MissingRequiredArgument}
 use Rattle.clap.specs.declared.error.kind.ErrorKind.TheVariants.{UnknownArgument}
 use Rattle.uv_model.specs.Ascii.{colon, slash}
-use Rattle.uv_report.specs.Escapes.{shown_text}
+use Rattle.uv_report.specs.Escaping.Escapes.{shown_text}
 use Rattle.uv_messages.specs.FileNames.{has_document_end, names_file}
 use Rattle.uv_messages.specs.Messages.{unknown_text}
 use Rattle.uv_messages.specs.Names.{command_names, meant}
@@ -23,10 +23,11 @@ text_line text instead =
 -- what is said of the name of a file: of a document's the one, of a list's these words
 abbrev pub of_file : List ℕ → List ℕ → List ℕ
 of_file name of_list =
-    if has_document_end name then codes "urlcheck-documents --check FILE judges the links of a document" else of_list
+    if has_document_end name then codes "urlcheck-documents --check FILE checks the links of a document" else of_list
 
 -- the hint of a text that is refused against a base or alone: these words where it is `-`, which is no name of standard
--- input there, and where it looks like the name of a file those, or what is said of a document; against a base it may be
+-- input there, and where it looks like the name of a file those, or what is said of a document; against a base it may
+-- be
 -- right
 unfoldable pub text_hint : List ℕ → Bool → List ℕ → List ℕ → List ℕ
 text_hint text has_base of_input of_list =
@@ -46,10 +47,10 @@ names_link name = starts_with_slashes (after_first (λ b. b == colon) name)
 -- such file of a name that looks like a link
 abbrev pub file_hint : List ℕ → Unread → List ℕ
 file_hint name unread.Folder =
-    codes "urlcheck: lint takes no folder; urlcheck-documents --check FOLDER judges the documents in it\n"
+    codes "urlcheck: lint reads files, not folders; urlcheck-documents --check FOLDER checks the documents in it\n"
 file_hint name unread.Missing =
     if names_link name
-    then codes "urlcheck: lint takes files; check TEXT judges one text, and lint - the lines of standard input\n"
+    then codes "urlcheck: lint reads files; check TEXT checks one text, and lint - the lines of standard input\n"
     else []
 file_hint name _ = []
 
@@ -70,7 +71,7 @@ takes_one_text command = bytes_eq command (codes "check") || bytes_eq command (c
 -- the line of such a command
 abbrev pub one_text_line : List ℕ → List ℕ
 one_text_line command =
-    codes "urlcheck: " ++ (command ++ codes " takes one TEXT: write it in single quotes where it has spaces\n")
+    codes "urlcheck: " ++ (command ++ codes " accepts one TEXT: put it in single quotes if it has spaces\n")
 
 -- the hint where such a command is given a word too many, whose last one doesn't look like an option: what was meant as
 -- one text may be cut at its spaces
@@ -108,10 +109,10 @@ near_hint command option kind = option_hint command option
 -- whose last ones may be pieces of one text; and of `lint` without a file
 abbrev pub words_hint : Option (List ℕ) → Option (List ℕ) → ErrorKind → List ℕ
 words_hint command last InvalidSubcommand =
-    codes "urlcheck: check TEXT judges one text, and lint FILE the lines of a file\n"
+    codes "urlcheck: check TEXT checks one text, and lint FILE the lines of a file\n"
 words_hint command last UnknownArgument =
     if is_file_of command last
-    then codes "urlcheck: links reads standard input, and takes no file: urlcheck links <FILE\n"
+    then codes "urlcheck: links reads standard input, not a file: urlcheck links <FILE\n"
     else one_text_hint command last
 words_hint command last MissingRequiredArgument =
     if is_lint command then codes "urlcheck: lint reads standard input as the FILE -\n" else []

@@ -3,7 +3,7 @@ use Rattle.std.specs.Prelude.{ℕ, ◌==◌, ◌&&◌, Bool, List, [], ◌++◌,
 use Rattle.std.specs.Prelude.{Some, None, if◌then◌else◌}
 use Rattle.std.specs.List.{starts_with}
 use Rattle.std.specs.Str.Lines.{lines}
-use Rattle.uv_report.specs.Escapes.{shown_text}
+use Rattle.uv_report.specs.Escaping.Escapes.{shown_text}
 use Rattle.uv_report.specs.declared.format.Format.{Format}
 use Rattle.uv_report.specs.Format.{format_name}
 use Rattle.uv_messages.specs.Names.{longer_names, nearest, rule_names, unit_names, unknown_rules}
@@ -81,7 +81,7 @@ unknown_rules_text rules =
 -- what is reported of what columns count where the format with this name doesn't take it, by the names of what it takes
 abbrev pub refused_unit_text : List ℕ → List ℕ → List (List ℕ) → List ℕ
 refused_unit_text format name names =
-    codes "urlcheck: " ++ (format ++ (codes " doesn't take the column unit " ++ (shown_text name
+    codes "urlcheck: " ++ (format ++ (codes " doesn't support the column unit " ++ (shown_text name
     ++ (codes "\n" ++ names_text (codes "column units of " ++ format) [] names))))
 
 -- the same of a format, where one is named

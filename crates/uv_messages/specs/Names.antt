@@ -7,10 +7,10 @@ use Rattle.std.specs.Str.{bytes_eq, str_to_ascii_lowercase}
 use Rattle.strsim.specs.Edits.{osa_table}
 use Rattle.uv_model.specs.ProfileName.{profile_name, profiles_in_order}
 use Rattle.uv_model.specs.Violations.Rule.{rule_name, rules_in_order}
-use Rattle.uv_report.specs.Column.{columns_name}
+use Rattle.uv_report.specs.Places.Column.{columns_name}
 use Rattle.uv_report.specs.Format.{format_name, formats, takes_columns}
-use Rattle.uv_report.specs.declared.column.Columns.{Columns}
-use Rattle.uv_report.specs.declared.column.Columns.TheVariants as columns
+use Rattle.uv_report.specs.declared.places.column.Columns.{Columns}
+use Rattle.uv_report.specs.declared.places.column.Columns.TheVariants as columns
 use Rattle.uv_report.specs.declared.format.Format.{Format}
 use Rattle.uv_words.specs.Commands.{urlcheck}
 use Rattle.uv_words.specs.Arguments.{without_hyphen}

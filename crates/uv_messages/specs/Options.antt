@@ -7,7 +7,7 @@ use Rattle.std.specs.Str.{bytes_eq}
 use Rattle.clap.specs.Words.{Rule, Shape, Text}
 use Rattle.clap.specs.declared.error.kind.ErrorKind.{ErrorKind}
 use Rattle.clap.specs.declared.error.kind.ErrorKind.TheVariants.{UnknownArgument}
-use Rattle.uv_report.specs.Escapes.{shown_text}
+use Rattle.uv_report.specs.Escaping.Escapes.{shown_text}
 use Rattle.uv_words.specs.Commands.{urlcheck}
 use Rattle.uv_messages.specs.Names.{meant}
 
@@ -81,7 +81,7 @@ listed (first ∷ rest) = first ++ behind_first rest
 
 -- behind that, where the option stands in the command's place
 abbrev pub place_note : Text → Text
-place_note command = if looks_like_option command then codes ", and stands behind the command" else []
+place_note command = if looks_like_option command then codes ", and is written after the command" else []
 
 -- the line of the commands that take the option with this name, and of its place where that isn't behind a command
 abbrev pub option_text : Text → Text → List ℕ

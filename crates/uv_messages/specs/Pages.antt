@@ -5,7 +5,7 @@ use Rattle.uv_model.specs.Violations.Rule.{named_rule}
 use Rattle.uv_report.specs.declared.line_violation.LineViolation.{LineViolation}
 use Rattle.uv_report.specs.declared.line_violation.LineViolation.TheVariants.{Refused}
 use Rattle.uv_report.specs.LineViolation.{named_violation}
-use Rattle.uv_report.specs.Page.{rule_page}
+use Rattle.uv_report.specs.Rules.Page.{rule_page}
 
 -- the line of the page about what is wrong with a line
 abbrev pub page_line : LineViolation → List ℕ

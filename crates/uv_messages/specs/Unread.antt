@@ -4,7 +4,7 @@ use Rattle.std.specs.declared.io.ErrorKind.{ErrorKind}
 use Rattle.std.specs.declared.io.ErrorKind.TheVariants.{NotFound, PermissionDenied, NotADirectory, IsADirectory}
 use Rattle.std.specs.declared.io.ErrorKind.TheVariants.{FilesystemLoop, InvalidFilename, ResourceBusy, TimedOut}
 use Rattle.std.specs.declared.io.ErrorKind.TheVariants.{StaleNetworkFileHandle}
-use Rattle.uv_report.specs.Escapes.{shown_text}
+use Rattle.uv_report.specs.Escaping.Escapes.{shown_text}
 use Rattle.uv_messages.specs.declared.unread.Unread.{Unread}
 use Rattle.uv_messages.specs.declared.unread.Unread.TheVariants as unread
 

@@ -13,9 +13,9 @@ use uv_model::{Refusal, Rule};
 use uv_report::{LineViolation, explain};
 use uv_words::Told;
 
-/// What is written where the rules with these names, or each rule, are to be told of: what they ask, where they stand and
-/// an example of each, or the addresses of their pages. It is `None` where one of the names is that of no rule, nor of
-/// another violation.
+/// What is written where the rules with these names, or each rule, are to be told of: what they ask, where they stand
+/// and an example of each, or the addresses of their pages. It is `None` where one of the names is that of no rule, nor
+/// of another violation.
 pub fn explained(alloc: Global, names: &[String], told: Told) -> Result<Option<String>, AllocError>
     ensures { IfOk result (λ text. option_map string_bytes text ≡ explained told (map string_bytes names.now)) }
 {

@@ -17,23 +17,23 @@ use std::alloc::{AllocError, Global};
 use uv_report::push_shown;
 
 // What both are told where their text looks like the name of a document.
-const DOCUMENT: &str = "urlcheck-documents --check FILE judges the links of a document";
+const DOCUMENT: &str = "urlcheck-documents --check FILE checks the links of a document";
 
 // What is said where a lint is given a folder.
 const OF_FOLDERS: &str =
-    "urlcheck: lint takes no folder; urlcheck-documents --check FOLDER judges the documents in it\n";
+    "urlcheck: lint reads files, not folders; urlcheck-documents --check FOLDER checks the documents in it\n";
 
 // What is said where a lint is given a link.
 const OF_LINKS: &str =
-    "urlcheck: lint takes files; check TEXT judges one text, and lint - the lines of standard input\n";
+    "urlcheck: lint reads files; check TEXT checks one text, and lint - the lines of standard input\n";
 
 // What is said where `links` is given a file.
 const NO_FILE_OF_LINKS: &str =
-    "urlcheck: links reads standard input, and takes no file: urlcheck links <FILE\n";
+    "urlcheck: links reads standard input, not a file: urlcheck links <FILE\n";
 
 // What is said where the first word is no command.
 const OF_NO_COMMAND: &str =
-    "urlcheck: check TEXT judges one text, and lint FILE the lines of a file\n";
+    "urlcheck: check TEXT checks one text, and lint FILE the lines of a file\n";
 
 // What is said where the first word is the name of an option.
 const OF_VERSION: &str = "urlcheck: version is no command: write urlcheck --version\n";
@@ -215,7 +215,7 @@ fn one_text_line(alloc: Global, command: &str) -> Result<String, AllocError>
 {
     let mut line = String::from_str(alloc, "urlcheck: ")?;
     line.push_str(command)?;
-    line.push_str(" takes one TEXT: write it in single quotes where it has spaces\n")?;
+    line.push_str(" accepts one TEXT: put it in single quotes if it has spaces\n")?;
     Ok(line)
 }
 

@@ -188,7 +188,7 @@ fn place_note(command: &str) -> &'static str
     ensures { result.now ≡ place_note command.now }
 {
     if looks_like_option(command) {
-        ", and stands behind the command"
+        ", and is written after the command"
     } else {
         ""
     }

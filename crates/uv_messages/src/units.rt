@@ -67,7 +67,7 @@ fn refused_unit_lines(
     noun.push_str(format)?;
     let mut text = String::from_str(alloc, "urlcheck: ")?;
     text.push_str(format)?;
-    text.push_str(" doesn't take the column unit ")?;
+    text.push_str(" doesn't support the column unit ")?;
     push_shown(&mut text, name)?;
     text.push_str("\n")?;
     push_names(&mut text, noun.as_str(), "", names)?;

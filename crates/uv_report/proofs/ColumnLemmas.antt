@@ -8,12 +8,12 @@ use Rattle.std.proofs.lemmas.Bool.{cases_lt}
 use Rattle.std.proofs.lemmas.Grind.{flat_map-append}
 use Rattle.std.proofs.lemmas.List.{drop-drop, length-append}
 use Rattle.std.proofs.lemmas.List.Sums.{sum_by-append}
-use Rattle.uv_report.specs.declared.column.Columns.{Columns}
-use Rattle.uv_report.specs.declared.column.Columns.TheVariants.{CodePoints, Bytes, Utf16, Screen}
-use Rattle.uv_report.specs.declared.column_counter.Mark.{Mark}
-use Rattle.uv_report.specs.Column.{column_behind, point_width, screen_width, text_screen_width, utf16_units}
-use Rattle.uv_report.specs.Column.{width}
-use Rattle.uv_report.specs.ColumnCounter.{IsMark, Tells}
+use Rattle.uv_report.specs.declared.places.column.Columns.{Columns}
+use Rattle.uv_report.specs.declared.places.column.Columns.TheVariants.{CodePoints, Bytes, Utf16, Screen}
+use Rattle.uv_report.specs.declared.places.column_counter.Mark.{Mark}
+use Rattle.uv_report.specs.Places.Column.{column_behind, point_width, screen_width, text_screen_width, utf16_units}
+use Rattle.uv_report.specs.Places.Column.{width}
+use Rattle.uv_report.specs.Places.ColumnCounter.{IsMark, Tells}
 
 -- ---- the width of a text and a code point more
 

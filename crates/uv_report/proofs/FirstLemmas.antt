@@ -1,6 +1,7 @@
 -- What stands before and behind the first element that passes, by where that is.
 use Rattle.std.proofs.Common.{◌≡◌, ◌≤◌, ◌+◌, ◌==◌, ℕ, Bool, true, false, List, [], length, take, nat_lt, Option, Some}
-use Rattle.std.proofs.Common.{None, ap, arith, refl, if◌then◌else◌, sym, take_all, ◌∷◌, ◌⊎◌, drop, find, inl, inr, suc, zero}
+use Rattle.std.proofs.Common.{None, ap, arith, refl, if◌then◌else◌, sym, take_all, ◌∷◌, ◌⊎◌, drop, find, inl, inr}
+use Rattle.std.proofs.Common.{suc, zero}
 use Rattle.std.proofs.lemmas.Bool.{cases_Bool}
 use Rattle.std.proofs.lemmas.List.{drop_all}
 use Rattle.std.specs.List.{after_first, before_first, position_or_len}

@@ -1,7 +1,8 @@
--- A piece stands in a text where the library's search finds it, and a text without its first `/`.
-use Rattle.std.proofs.Common.{◌≡◌, ◌∙◌, ℕ, Bool, true, false, ◌||◌, ◌==◌, List, [], ◌∷◌, ◌++◌, ◌↔◌, ap, refl, sym, drop, inl, inr, length}
+-- A text has a piece where the search of the library finds it; and a text without its first `/`.
+use Rattle.std.proofs.Common.{◌≡◌, ◌∙◌, ℕ, Bool, true, false, ◌||◌, ◌==◌, List, [], ◌∷◌, ◌++◌, ◌↔◌, ap, refl, sym}
+use Rattle.std.proofs.Common.{drop, inl, inr, length}
 use Rattle.std.proofs.Common.{Option, Some, None, arith, ne_eqb, not}
-use Rattle.std.specs.Prelude.{nat_eq, ◌≢◌, MatchOption}
+use Rattle.std.specs.Prelude.{codes, nat_eq, ◌≢◌, MatchOption}
 use Rattle.std.specs.Bool.{Decides}
 use Rattle.std.specs.Borrow.{Bor}
 use Rattle.std.specs.List.{list_any, starts_with}
@@ -9,7 +10,8 @@ use Rattle.std.specs.Str.Iter.{HasSubslice}
 use Rattle.std.proofs.lemmas.Bool.{cases_Bool, cases_eq, false≢true, or_cases, or_left, or_right}
 use Rattle.std.proofs.lemmas.Bool.Decides.{Decides-eqb, nat_tests, same_from_decides}
 use Rattle.std.proofs.lemmas.Slice.Eq.{starts_is}
-use Rattle.uv_report.specs.Intention.{has_piece, lacks_start, without_slash}
+use Rattle.uv_report.specs.Sentences.Drive.{without_slash}
+use Rattle.uv_report.specs.Sentences.Intention.{has_brace_mark, has_percent_mark, has_piece}
 
 -- a text begins with a piece
 begins_with : (text piece : List ℕ) → starts_with nat_eq text piece ≡ true → text ≡ piece ++ drop (length piece) text
@@ -44,29 +46,48 @@ piece_found : (piece text : List ℕ) → HasSubslice text piece → has_piece p
 piece_found piece text (before, behind, split) = ap (has_piece piece) split ∙ piece_behind piece before behind
 
 -- what the library's search answers
-pub found_is : (piece text : List ℕ) (found : Bool) → ((found ≡ true) ↔ HasSubslice text piece) → found ≡ has_piece piece text
+pub found_is : (piece text : List ℕ) (found : Bool) → ((found ≡ true) ↔ HasSubslice text piece)
+    → found ≡ has_piece piece text
 found_is piece text found is =
     same_from_decides found (has_piece piece text) (is.0, is.1) (piece_stands piece text, piece_found piece text)
 
--- a text that lacks the first byte of a piece has no such piece
-any_behind : (p : ℕ → Bool) (before behind : List ℕ) → list_any p behind ≡ true → list_any p (before ++ behind) ≡ true
-any_behind p [] behind is = is
-any_behind p (b ∷ before) behind is = or_right (p b) (list_any p (before ++ behind)) (any_behind p before behind is)
+any_after : (p : ℕ → Bool) (before after : List ℕ) → list_any p after ≡ true → list_any p (before ++ after) ≡ true
+any_after p [] after is = is
+any_after p (b ∷ before) after is = or_right (p b) (list_any p (before ++ after)) (any_after p before after is)
 
-pub piece_lacks : (piece text : List ℕ) → lacks_start text piece ≡ true → has_piece piece text ≡ false
-piece_lacks [] text lacks = absurd (false≢true lacks)
-piece_lacks (first ∷ rest) text lacks = elim (cases_Bool (has_piece (first ∷ rest) text)) [
+any_before : (p : ℕ → Bool) (before after : List ℕ) → list_any p before ≡ true → list_any p (before ++ after) ≡ true
+any_before p [] after is = absurd (false≢true is)
+any_before p (b ∷ before) after is = elim (or_cases (p b) (list_any p before) is) [
+  | inl here ↦ or_left (p b) (list_any p (before ++ after)) here
+  | inr later ↦ or_right (p b) (list_any p (before ++ after)) (any_before p before after later)
+]
+
+-- a text that lacks a byte of a piece has no such piece
+pub piece_lacks : (byte : ℕ) (piece text : List ℕ) → list_any (λ b. b == byte) piece ≡ true
+    → list_any (λ b. b == byte) text ≡ false → has_piece piece text ≡ false
+piece_lacks byte piece text held lacks = elim (cases_Bool (has_piece piece text)) [
   | inl there ↦
-      let (before, behind, split) = piece_stands (first ∷ rest) text there in
-      let is_first : ℕ → Bool = λ b. b == first in
-      let same : (first == first) ≡ true = grind (arith, nat_tests) in
-      let found : list_any is_first text ≡ true = ap (list_any is_first) split
-      ∙ any_behind is_first before ((first ∷ rest) ++ behind)
-      (or_left (first == first) (list_any is_first (rest ++ behind)) same) in
-      let none : not true ≡ true = sym (ap not found) ∙ lacks in
-      absurd (false≢true none)
+      let (before, after, split) = piece_stands piece text there in
+      let is_byte : ℕ → Bool = λ b. b == byte in
+      let found : list_any is_byte text ≡ true = ap (list_any is_byte) split
+      ∙ any_after is_byte before (piece ++ after) (any_before is_byte piece after held) in
+      absurd (false≢true (sym lacks ∙ found))
   | inr other ↦ other
 ]
+
+-- a text without `{` has no mark with it
+pub lacks_brace_marks : (text : List ℕ) → list_any (λ b. b == 0x7B) text ≡ false → has_brace_mark text ≡ false
+lacks_brace_marks text lacks =
+    rw (
+      piece_lacks 0x7B (codes "{{") text refl lacks,
+      piece_lacks 0x7B (codes "{%") text refl lacks,
+      piece_lacks 0x7B (codes "${") text refl lacks,
+    ) refl
+
+-- a text without `%` has no other mark
+pub lacks_percent_marks : (text : List ℕ) → list_any (λ b. b == 0x25) text ≡ false → has_percent_mark text ≡ false
+lacks_percent_marks text lacks =
+    rw (piece_lacks 0x25 (codes "<%") text refl lacks, piece_lacks 0x25 (codes "%s") text refl lacks) refl
 
 -- what follows a `/`, or all where there is none
 pub without_slash-is : (text : List ℕ) (rest : Bor (List ℕ)) → text ≡ 0x2F ∷ rest.now → rest.now ≡ without_slash text

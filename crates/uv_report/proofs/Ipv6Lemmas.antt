@@ -9,7 +9,7 @@ use Rattle.std.specs.Net.Grammar.{IsColonHex, Parses}
 use Rattle.std.specs.Net.Reader.{read_ipv6, whole_value}
 use Rattle.std.proofs.NetLemmas.Ipv6.{EndsGroups-nil, read_ipv6_complete, read_ipv6_sound}
 use Rattle.uv_model.proofs.Addresses.AddressLemmas.{colon_hex_from_ipv6, ipv6_from_colon_hex}
-use Rattle.uv_report.specs.Ipv6.{IsIpv6Text, is_ipv6}
+use Rattle.uv_report.specs.Sentences.Ipv6.{IsIpv6Text, is_ipv6}
 
 -- a text that writes no address isn't read as a whole
 unread : (text : List ℕ) (read : Option (List ℕ × List ℕ)) → read_ipv6 text ≡ read

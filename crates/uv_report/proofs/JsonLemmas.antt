@@ -1,5 +1,6 @@
 -- The object of a diagnostic, piece by piece, and texts that stand in JSON as they are.
-use Rattle.std.proofs.Common.{◌≡◌, ◌∙◌, ℕ, List, [], ◌∷◌, ◌++◌, true, false, ap, append_assoc, arith, codes, decimal, drop, refl, sym}
+use Rattle.std.proofs.Common.{◌≡◌, ◌∙◌, ℕ, List, [], ◌∷◌, ◌++◌, true, false, ap, append_assoc, arith, codes, decimal}
+use Rattle.std.proofs.Common.{drop, refl, sym}
 use Rattle.std.proofs.Common.{◌==◌, nat_lt}
 use Rattle.std.proofs.Common.{Option, Some, None}
 use Rattle.std.specs.List.{list_all}
@@ -11,12 +12,13 @@ use Rattle.serde_json.specs.Written.{compact_text}
 use Rattle.uv_model.specs.MendKindName.{kind_name}
 use Rattle.uv_report.specs.declared.diagnostic.Diagnostic.{Diagnostic}
 use Rattle.uv_report.specs.declared.mended.Mended.{Mended}
-use Rattle.uv_report.specs.Json.{cut_member, json_members, line_member, mended_member, offered_member, told_members}
+use Rattle.uv_report.specs.Formats.Json.{cut_member, json_members, line_member, mended_member, offered_member}
+use Rattle.uv_report.specs.Formats.Json.{told_members}
 use Rattle.uv_report.specs.LineViolation.{violation_name, violation_place}
-use Rattle.uv_report.specs.Message.{message}
-use Rattle.uv_report.specs.Quoted.{is_plain, quoted}
-use Rattle.uv_report.specs.RuleTexts.{rule_member}
-use Rattle.uv_report.specs.Window.{carried, is_cut}
+use Rattle.uv_report.specs.Sentences.Message.{message}
+use Rattle.uv_report.specs.Escaping.Quoted.{is_plain, quoted}
+use Rattle.uv_report.specs.Rules.RuleTexts.{rule_member}
+use Rattle.uv_report.specs.Places.Window.{carried, is_cut}
 
 -- ---- plain texts
 

@@ -4,7 +4,7 @@ use Rattle.std.proofs.Common.{List, [], ◌∷◌, ap, arith, drop, map, refl, s
 use Rattle.std.specs.List.{list_all}
 use Rattle.std.proofs.lemmas.Bool.{ne_eqb}
 use lib.Lanes.{mask_l}
-use Rattle.uv_report.specs.Quoted.{is_plain}
+use Rattle.uv_report.specs.Escaping.Quoted.{is_plain}
 
 -- ---- lanes
 
@@ -19,12 +19,14 @@ none_set p (x ∷ xs) = first (p x) ∙ ap (λ rest. not (p x) && rest) (none_se
       where
         go : (n : ℕ) → ((zero + 2 * n) == 0) ≡ (n == 0)
         go zero = refl
-        go (suc n) = ne_eqb (zero + 2 * suc n) 0 (λ none. omega (arith, none)) ∙ sym (ne_eqb (suc n) 0 (λ none. omega (arith, none)))
+        go (suc n) = ne_eqb (zero + 2 * suc n) 0 (λ none. omega (arith, none))
+            ∙ sym (ne_eqb (suc n) 0 (λ none. omega (arith, none)))
 
 -- two tests of all bytes are one
 both_tests : (p q : ℕ → Bool) (xs : List ℕ) → (list_all p xs && list_all q xs) ≡ list_all (λ x. p x && q x) xs
 both_tests p q [] = refl
-both_tests p q (x ∷ xs) = turned (p x) (q x) (list_all p xs) (list_all q xs) ∙ ap (λ rest. (p x && q x) && rest) (both_tests p q xs)
+both_tests p q (x ∷ xs) =
+    turned (p x) (q x) (list_all p xs) (list_all q xs) ∙ ap (λ rest. (p x && q x) && rest) (both_tests p q xs)
   where
     turned : (a b c d : Bool) → ((a && c) && (b && d)) ≡ ((a && b) && (c && d))
     turned true true c d = refl

@@ -1,7 +1,7 @@
 -- The ASCII code points by their numbers and names, in their order.
 use Rattle.std.proofs.Common.{◌≡◌, ◌∙◌, ◌+◌, ℕ, zero, suc, List, [], ◌∷◌, ◌++◌, Option, Some, None, Bor}
 use Rattle.std.proofs.Common.{arith, codes, refl, MatchOption, ap, option_map, slice_get, subst}
-use Rattle.uv_report.specs.CodePoint.{ascii_names, glyph, hex_number, name_or_glyph, point_name, point_text}
+use Rattle.uv_report.specs.Sentences.CodePoint.{ascii_names, glyph, hex_number, name_or_glyph, point_name, point_text}
 
 -- a code point by its number and this name
 abbrev named_text : ℕ → List ℕ → List ℕ

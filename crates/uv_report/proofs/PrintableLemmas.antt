@@ -9,11 +9,11 @@ use Rattle.std.proofs.lemmas.Bool.Decides.{nat_tests}
 use Rattle.std.proofs.lemmas.Str.{chars-IsAscii, encode_ascii}
 use Rattle.std.proofs.lemmas.Str.Ascii.{IsAscii-cons, IsAscii-nil}
 use Rattle.unicode_width.specs.Width.{char_width}
-use Rattle.uv_report.specs.declared.escapes.Escapes.TheVariants.{Shown}
-use Rattle.uv_report.specs.Caret.{below, padding}
-use Rattle.uv_report.specs.Column.{shown_width}
-use Rattle.uv_report.specs.Escapes.{escape, escaped, is_hidden, replacement, shown_text}
-use Rattle.uv_report.specs.Printable.{is_printable}
+use Rattle.uv_report.specs.declared.escaping.escapes.Escapes.TheVariants.{Shown}
+use Rattle.uv_report.specs.Formats.Caret.{below, padding}
+use Rattle.uv_report.specs.Places.Column.{shown_width}
+use Rattle.uv_report.specs.Escaping.Escapes.{escape, escaped, is_hidden, replacement, shown_text}
+use Rattle.uv_report.specs.Escaping.Printable.{is_printable}
 use Rattle.uv_report.proofs.PlaceLemmas.{chars_of_ascii}
 
 -- ---- a byte

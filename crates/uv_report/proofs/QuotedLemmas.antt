@@ -1,7 +1,7 @@
 -- What is reported of a line, pushed where it is to stand.
 use Rattle.std.proofs.Common.{◌≡◌, ◌∙◌, ℕ, List, [], ◌∷◌, ◌++◌, ap, append_assoc, true}
 use Rattle.std.specs.List.{list_all}
-use Rattle.uv_report.specs.Quoted.{is_plain, quoted}
+use Rattle.uv_report.specs.Escaping.Quoted.{is_plain, quoted}
 use Rattle.uv_report.proofs.JsonLemmas.{plain_quoted}
 
 -- a plain text behind a quotation mark is closed by another one

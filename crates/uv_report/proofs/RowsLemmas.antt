@@ -8,16 +8,18 @@ use Rattle.idna.specs.Validity.{has_ace_prefix}
 use Rattle.percent_encoding.specs.Percent.{percent_encode_byte}
 use Rattle.unicode_width.specs.Width.{char_width}
 use Rattle.uv_model.specs.Scheme.{default_port, scheme_class}
-use Rattle.uv_report.specs.CodePoint.{ascii_names, capital_names, control_names, digit_names, last_names, mark_names}
-use Rattle.uv_report.specs.CodePoint.{point_name, point_text, sign_names, small_names}
-use Rattle.uv_report.specs.Domain.{domain_sentence, foreign_note}
-use Rattle.uv_report.specs.Intention.{intention, meant_note, shown_intention}
-use Rattle.uv_report.specs.Ipv6.{is_ipv6}
-use Rattle.uv_report.specs.Message.{refusal_sentence}
-use Rattle.uv_report.specs.Rows.{ColumnRows, DomainRows, IntentionRows, MessageRows, PointRows, UriRows, WindowRows}
-use Rattle.uv_report.specs.Start.{missing_note}
-use Rattle.uv_report.specs.Uri.{uri_part, uri_path}
-use Rattle.uv_report.specs.Window.{cut_out, window, window_place, window_points}
+use Rattle.uv_report.specs.Sentences.CodePoint.{ascii_names, capital_names, control_names, digit_names, last_names}
+use Rattle.uv_report.specs.Sentences.CodePoint.{mark_names}
+use Rattle.uv_report.specs.Sentences.CodePoint.{point_name, point_text, sign_names, small_names}
+use Rattle.uv_report.specs.Sentences.Domain.{domain_sentence, foreign_note}
+use Rattle.uv_report.specs.Sentences.Intention.{intention, meant_note, shown_intention}
+use Rattle.uv_report.specs.Sentences.Ipv6.{is_ipv6}
+use Rattle.uv_report.specs.Sentences.Message.{refusal_sentence}
+use Rattle.uv_report.specs.Rows.{AuthorityRows, ColumnRows, DomainRows, IntentionRows, MeantRows, MessageRows}
+use Rattle.uv_report.specs.Rows.{PointRows, StartRows, UriRows, WindowRows}
+use Rattle.uv_report.specs.Sentences.Start.{missing_note}
+use Rattle.uv_report.specs.Escaping.Uri.{uri_part, uri_path}
+use Rattle.uv_report.specs.Places.Window.{cut_out, window, window_points}
 
 -- code points by name
 pub point_rows : PointRows
@@ -55,12 +57,24 @@ column_rows = record {
 
 -- messages
 pub message_rows : MessageRows
-unfolding refusal_sentence missing_note meant_note shown_intention scheme_class default_port point_text point_name ascii_names control_names sign_names digit_names capital_names
-    mark_names small_names last_names digits padded_integral char_count encode_utf8 chars
+unfolding refusal_sentence missing_note meant_note shown_intention scheme_class default_port
+    point_text point_name ascii_names control_names sign_names digit_names capital_names mark_names small_names
+    last_names digits padded_integral char_count encode_utf8 chars
     is_ipv6 read_ipv6 read_segments read_segment read_number read_ipv4 read_octet
 message_rows = record {
   point = refl;
   port = refl;
+  bar = refl;
+  located = refl;
+}
+
+-- messages on a text without a scheme
+pub start_rows : StartRows
+unfolding refusal_sentence missing_note meant_note shown_intention scheme_class default_port
+    point_text point_name ascii_names control_names sign_names digit_names capital_names mark_names small_names
+    last_names digits padded_integral char_count encode_utf8 chars
+    is_ipv6 read_ipv6 read_segments read_segment read_number read_ipv4 read_octet
+start_rows = record {
   space = refl;
   byte_order_mark = refl;
   no_break_space = refl;
@@ -72,20 +86,36 @@ message_rows = record {
   domain = refl;
   dots = refl;
   relative = refl;
+}
+
+-- messages on an authority
+pub authority_rows : AuthorityRows
+unfolding refusal_sentence missing_note meant_note shown_intention scheme_class default_port
+    point_text point_name ascii_names control_names sign_names digit_names capital_names mark_names small_names
+    last_names digits padded_integral char_count encode_utf8 chars
+    is_ipv6 read_ipv6 read_segments read_segment read_number read_ipv4 read_octet
+authority_rows = record {
   user = refl;
   password = refl;
   path = refl;
   address = refl;
   two_colons = refl;
-  drive = refl;
-  bar = refl;
-  template = refl;
-  windows = refl;
-  twice = refl;
-  joined = refl;
   zone = refl;
   open_bracket = refl;
-  located = refl;
+}
+
+-- messages that end with an intention
+pub meant_rows : MeantRows
+unfolding refusal_sentence missing_note meant_note shown_intention scheme_class default_port
+    point_text point_name ascii_names control_names sign_names digit_names capital_names mark_names small_names
+    last_names digits padded_integral char_count encode_utf8 chars
+    is_ipv6 read_ipv6 read_segments read_segment read_number read_ipv4 read_octet
+meant_rows = record {
+  template = refl;
+  windows = refl;
+  drive = refl;
+  twice = refl;
+  joined = refl;
 }
 
 -- what texts show of their author's intention
@@ -102,6 +132,10 @@ intention_rows = record {
   drive = refl;
   server = refl;
   two_letters = refl;
+  letter = refl;
+  no_slash = refl;
+  longer = refl;
+  no_file = refl;
   twice = refl;
   no_slashes = refl;
   no_colon = refl;
@@ -116,8 +150,9 @@ intention_rows = record {
 
 -- messages on hosts
 pub domain_rows : DomainRows
-unfolding refusal_sentence missing_note meant_note shown_intention scheme_class default_port domain_sentence foreign_note has_ace_prefix point_text point_name ascii_names control_names sign_names
-    digit_names capital_names mark_names small_names last_names digits padded_integral char_count encode_utf8 chars
+unfolding refusal_sentence missing_note meant_note shown_intention scheme_class default_port domain_sentence
+    foreign_note has_ace_prefix point_text point_name ascii_names control_names sign_names digit_names capital_names
+    mark_names small_names last_names digits padded_integral char_count encode_utf8 chars
     is_ipv6 read_ipv6 read_segments read_segment read_number read_ipv4 read_octet
 domain_rows = record {
   mark = refl;
@@ -138,7 +173,7 @@ domain_rows = record {
 
 -- windows
 pub window_rows : WindowRows
-unfolding window window_place cut_out window_points chars encode_utf8
+unfolding window cut_out window_points chars encode_utf8
 window_rows = record {
   short = refl;
   whole = refl;

@@ -1,7 +1,7 @@
 -- The end of a result by the digits of the index.
 use Rattle.std.proofs.Common.{◌≡◌, ℕ, ◌+◌, ◌<◌, ◌≤◌, ◌/◌, ◌%◌, List, [], ◌∷◌, ◌++◌, ap, codes, sym}
-use Rattle.uv_report.specs.Quoted.{quoted}
-use Rattle.uv_report.specs.RuleTexts.{end_of}
+use Rattle.uv_report.specs.Escaping.Quoted.{quoted}
+use Rattle.uv_report.specs.Rules.RuleTexts.{end_of}
 use Rattle.uv_report.proofs.NumberLemmas.{one_digit_is, two_digits_are}
 
 -- the end with these digits

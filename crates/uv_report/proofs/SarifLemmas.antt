@@ -6,17 +6,18 @@ use Rattle.serde_json.specs.Data.{Data, boolean}
 use Rattle.serde_json.specs.Written.{compact_text}
 use Rattle.uv_report.specs.declared.diagnostic.Diagnostic.{Diagnostic}
 use Rattle.uv_report.specs.declared.mended.Mended.{Mended}
-use Rattle.uv_report.specs.Fingerprint.{text_fingerprint}
+use Rattle.uv_report.specs.Formats.Fingerprint.{text_fingerprint}
 use Rattle.uv_report.specs.LineViolation.{violation_index, violation_name, violation_place}
-use Rattle.uv_report.specs.Message as reported
-use Rattle.uv_report.specs.Quoted.{quoted}
-use Rattle.uv_report.specs.RuleTexts.{result_end}
-use Rattle.uv_report.specs.Sarif.{artifact_value, change_value, deleted_region_value, fix_sentence, fix_value}
-use Rattle.uv_report.specs.Sarif.{fingerprints_value, link_value, location_value, message, physical_value}
-use Rattle.uv_report.specs.Sarif.{region_pieces, region_value}
-use Rattle.uv_report.specs.Sarif.{fix_begin, location_begin, replacement_value, result_begin, result_with, single}
-use Rattle.uv_report.specs.Uri.{uri_path}
-use Rattle.uv_report.specs.Window.{carried, is_cut}
+use Rattle.uv_report.specs.Sentences.Message as reported
+use Rattle.uv_report.specs.Escaping.Quoted.{quoted}
+use Rattle.uv_report.specs.Rules.RuleTexts.{result_end}
+use Rattle.uv_report.specs.Formats.Sarif.{artifact_value, change_value, deleted_region_value, fix_sentence, fix_value}
+use Rattle.uv_report.specs.Formats.Sarif.{fingerprints_value, link_value, location_value, message, physical_value}
+use Rattle.uv_report.specs.Formats.Sarif.{region_pieces, region_value}
+use Rattle.uv_report.specs.Formats.Sarif.{fix_begin, location_begin, replacement_value, result_begin, result_with}
+use Rattle.uv_report.specs.Formats.Sarif.{single}
+use Rattle.uv_report.specs.Escaping.Uri.{uri_path}
+use Rattle.uv_report.specs.Places.Window.{carried, is_cut}
 use Rattle.uv_report.proofs.JsonLemmas.{plain_quoted}
 use Rattle.uv_report.proofs.UriLemmas.{uri_path_plain}
 
@@ -92,7 +93,8 @@ unfolding serde_json_on_literals
 location_text d rest =
     array_text (location_value d) rest
     ∙ ap (λ t. codes "[{\"physicalLocation\":" ++ t)
-    (behind_one (compact_text (physical_value d)) (codes "}") (codes "]" ++ rest) ∙ physical_text d (codes "}]" ++ rest))
+    (behind_one (compact_text (physical_value d)) (codes "}")
+    (codes "]" ++ rest) ∙ physical_text d (codes "}]" ++ rest))
 
 -- the fingerprint
 fingerprints_text : (d : Diagnostic) (rest : List ℕ)

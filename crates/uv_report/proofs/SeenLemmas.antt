@@ -8,18 +8,18 @@ use Rattle.uv_report.specs.declared.format.Format.TheVariants.{Gnu, Caret, Json,
 use Rattle.uv_report.specs.declared.format.Format.TheVariants.{Junit, Gitlab, Rdjson}
 use Rattle.uv_report.specs.declared.line_violation.LineViolation.{LineViolation}
 use Rattle.uv_report.specs.declared.mended.Mended.{Mended}
-use Rattle.uv_report.specs.Caret.{caret_text}
-use Rattle.uv_report.specs.Checkstyle.{checkstyle_text, error_place}
-use Rattle.uv_report.specs.Fingerprint.{place_key}
-use Rattle.uv_report.specs.Github.{github_text, command_place}
-use Rattle.uv_report.specs.Gitlab.{gitlab_text, issue_text}
-use Rattle.uv_report.specs.Gnu.{gnu_text, gnu_position}
-use Rattle.uv_report.specs.Intention.{is_offered}
-use Rattle.uv_report.specs.Json.{json_text}
-use Rattle.uv_report.specs.Junit.{case_begin, junit_text}
-use Rattle.uv_report.specs.Rdjson.{object_text, rdjson_line, rdjson_text}
+use Rattle.uv_report.specs.Formats.Caret.{caret_text}
+use Rattle.uv_report.specs.Formats.Checkstyle.{checkstyle_text, error_place}
+use Rattle.uv_report.specs.Formats.Fingerprint.{place_key}
+use Rattle.uv_report.specs.Formats.Github.{github_text, command_place}
+use Rattle.uv_report.specs.Formats.Gitlab.{gitlab_text, issue_text}
+use Rattle.uv_report.specs.Formats.Gnu.{gnu_text, gnu_position}
+use Rattle.uv_report.specs.Sentences.Intention.{is_offered}
+use Rattle.uv_report.specs.Formats.Json.{json_text}
+use Rattle.uv_report.specs.Formats.Junit.{case_begin, junit_text}
+use Rattle.uv_report.specs.Formats.Rdjson.{object_text, rdjson_line, rdjson_text}
 use Rattle.uv_report.specs.Report.{diagnostic_text}
-use Rattle.uv_report.specs.Sarif.{sarif_text, sarif_with}
+use Rattle.uv_report.specs.Formats.Sarif.{sarif_text, sarif_with}
 
 -- a diagnostic, with its text behind this reference
 abbrev pub diagnostic_of : Bor (List ℕ) → Bor (List ℕ) → ℕ → ℕ → ℕ → Profile → LineViolation → Option Mended

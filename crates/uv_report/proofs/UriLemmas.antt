@@ -11,9 +11,9 @@ use Rattle.std.proofs.lemmas.List.Elements.{All-head, All-tail}
 use Rattle.std.proofs.lemmas.List.Folds.{list_all-append}
 use Rattle.percent_encoding.specs.AsciiSet.{contains, should_percent_encode}
 use Rattle.percent_encoding.specs.Percent.{percent_encode_byte, encode_byte, percent_encode}
-use Rattle.uv_report.specs.declared.uri.TheConstants.{ESCAPED}
-use Rattle.uv_report.specs.Quoted.{is_plain}
-use Rattle.uv_report.specs.Uri.{behind_slash, behind_slashes, path_of, stays, uri_byte, uri_part, uri_path}
+use Rattle.uv_report.specs.declared.escaping.uri.TheConstants.{ESCAPED}
+use Rattle.uv_report.specs.Escaping.Quoted.{is_plain}
+use Rattle.uv_report.specs.Escaping.Uri.{behind_slash, behind_slashes, path_of, stays, uri_byte, uri_part, uri_path}
 
 -- below 128 the set holds just the bytes that don't stay
 escaped-ascii : (b : ℕ) → b < 128 → contains ESCAPED b ≡ not (stays b)

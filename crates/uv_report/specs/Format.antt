@@ -1,8 +1,8 @@
 -- The formats by their names, the columns that they take, and which of them say what to write in place of a text.
 use Rattle.std.specs.Prelude.{ℕ, Bool, true, false, List, [], ◌∷◌, codes, Option, find}
 use Rattle.std.specs.Str.{bytes_eq}
-use Rattle.uv_report.specs.declared.column.Columns.{Columns}
-use Rattle.uv_report.specs.declared.column.Columns.TheVariants.{CodePoints, Bytes, Utf16}
+use Rattle.uv_report.specs.declared.places.column.Columns.{Columns}
+use Rattle.uv_report.specs.declared.places.column.Columns.TheVariants.{CodePoints, Bytes, Utf16}
 use Rattle.uv_report.specs.declared.format.Format.{Format}
 use Rattle.uv_report.specs.declared.format.Format.TheVariants.{Gnu, Caret, Json, Github, Sarif, Checkstyle}
 use Rattle.uv_report.specs.declared.format.Format.TheVariants.{Junit, Gitlab, Rdjson}

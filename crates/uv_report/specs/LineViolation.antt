@@ -3,7 +3,7 @@ use Rattle.std.specs.Prelude.{ℕ, ◌+◌, ◌-◌, ◌^◌, List, [], ◌∷�
 use Rattle.std.specs.Str.{bytes_eq}
 use Rattle.uv_model.specs.Violations.Rule.{rule_name, rule_number, rule_sentence}
 use Rattle.uv_report.specs.declared.line_violation.LineViolation.{LineViolation}
-use Rattle.uv_report.specs.Explanation.{rule_asks, rule_uri}
+use Rattle.uv_report.specs.Rules.Explanation.{rule_asks, rule_uri}
 use Rattle.uv_report.specs.declared.line_violation.LineViolation.TheVariants.{Refused, NotUtf8, TooLong, NotLocated}
 use Rattle.uv_report.specs.declared.located_fault.LocatedFault.TheVariants.{NoFile}
 

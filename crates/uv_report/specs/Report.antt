@@ -1,21 +1,21 @@
 -- What a report is made of, in each format: a beginning, for each file a beginning of its own, its diagnostics and an
 -- end, and then an end.
 use Rattle.std.specs.Prelude.{ℕ, Bool, List, []}
-use Rattle.uv_report.specs.declared.column.Columns.{Columns}
+use Rattle.uv_report.specs.declared.places.column.Columns.{Columns}
 use Rattle.uv_report.specs.declared.completion.Completion.{Completion}
 use Rattle.uv_report.specs.declared.diagnostic.Diagnostic.{Diagnostic}
 use Rattle.uv_report.specs.declared.format.Format.{Format}
 use Rattle.uv_report.specs.declared.format.Format.TheVariants.{Gnu, Caret, Json, Github, Sarif, Checkstyle}
 use Rattle.uv_report.specs.declared.format.Format.TheVariants.{Junit, Gitlab, Rdjson}
-use Rattle.uv_report.specs.Caret.{caret_text}
-use Rattle.uv_report.specs.Checkstyle.{checkstyle_text, document_begin, document_end, file_begin, file_end}
-use Rattle.uv_report.specs.Github.{github_text}
-use Rattle.uv_report.specs.Gitlab.{gitlab_begin, gitlab_end, gitlab_text}
-use Rattle.uv_report.specs.Gnu.{gnu_text}
-use Rattle.uv_report.specs.Json.{json_text}
-use Rattle.uv_report.specs.Junit.{junit_begin, junit_end, junit_text, suite_begin, suite_end}
-use Rattle.uv_report.specs.Rdjson.{rdjson_begin, rdjson_end, rdjson_text}
-use Rattle.uv_report.specs.Sarif.{sarif_begin, sarif_end, sarif_text}
+use Rattle.uv_report.specs.Formats.Caret.{caret_text}
+use Rattle.uv_report.specs.Formats.Checkstyle.{checkstyle_text, document_begin, document_end, file_begin, file_end}
+use Rattle.uv_report.specs.Formats.Github.{github_text}
+use Rattle.uv_report.specs.Formats.Gitlab.{gitlab_begin, gitlab_end, gitlab_text}
+use Rattle.uv_report.specs.Formats.Gnu.{gnu_text}
+use Rattle.uv_report.specs.Formats.Json.{json_text}
+use Rattle.uv_report.specs.Formats.Junit.{junit_begin, junit_end, junit_text, suite_begin, suite_end}
+use Rattle.uv_report.specs.Formats.Rdjson.{rdjson_begin, rdjson_end, rdjson_text}
+use Rattle.uv_report.specs.Formats.Sarif.{sarif_begin, sarif_end, sarif_text}
 
 -- what a report begins with; in SARIF that says what its columns count
 abbrev pub begin_text : Format → Columns → List ℕ

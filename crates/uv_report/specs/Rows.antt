@@ -5,18 +5,19 @@ use Rattle.uv_model.specs.declared.profile.Profile.TheVariants.{Standard, Wide, 
 use Rattle.uv_model.specs.declared.rule.Rule.TheVariants.{NoScheme, HostMissing, HostDomain, PortDigit, CodePoint}
 use Rattle.uv_model.specs.declared.rule.Rule.TheVariants.{FirstSegmentEmpty, HostIpv6, Percent}
 use Rattle.uv_model.specs.Violations.Rule.{rule_sentence}
-use Rattle.uv_report.specs.declared.intention.Intention.TheVariants.{Template, WindowsPath, TwoSchemes, JoinedSlashes}
+use Rattle.uv_report.specs.declared.sentences.intention.Intention.TheVariants.{Template, WindowsPath, DriveLetter}
+use Rattle.uv_report.specs.declared.sentences.intention.Intention.TheVariants.{TwoSchemes, JoinedSlashes}
 use Rattle.uv_report.specs.declared.line_violation.LineViolation.TheVariants.{Refused, NotLocated}
 use Rattle.uv_report.specs.declared.located_fault.LocatedFault.TheVariants.{NoColumn}
-use Rattle.uv_report.specs.declared.column.Columns.TheVariants.{CodePoints, Bytes, Utf16, Screen}
-use Rattle.uv_report.specs.CodePoint.{point_text}
-use Rattle.uv_report.specs.Column.{column_at, width}
-use Rattle.uv_report.specs.Drive.{drive_sentence}
-use Rattle.uv_report.specs.Intention.{intention, is_offered}
-use Rattle.uv_report.specs.Ipv6.{has_bare_ipv6}
-use Rattle.uv_report.specs.Message.{credentials_sentence, has_credentials, message}
-use Rattle.uv_report.specs.Uri.{uri_path}
-use Rattle.uv_report.specs.Window.{cut_mark, is_cut, window, window_place}
+use Rattle.uv_report.specs.declared.places.column.Columns.TheVariants.{CodePoints, Bytes, Utf16, Screen}
+use Rattle.uv_report.specs.Sentences.CodePoint.{point_text}
+use Rattle.uv_report.specs.Places.Column.{column_at, width}
+use Rattle.uv_report.specs.Sentences.Drive.{drive_sentence}
+use Rattle.uv_report.specs.Sentences.Intention.{intention, is_offered}
+use Rattle.uv_report.specs.Sentences.Ipv6.{has_bare_ipv6}
+use Rattle.uv_report.specs.Sentences.Message.{credentials_sentence, has_credentials, message}
+use Rattle.uv_report.specs.Escaping.Uri.{uri_path}
+use Rattle.uv_report.specs.Places.Window.{cut_mark, is_cut, window, window_place}
 
 -- code points: a control, a space, a letter, one beyond ASCII, some of which nothing is seen, noncharacters, and one of
 -- five digits
@@ -51,29 +52,35 @@ pub record ColumnRows : Type 0 where
   pub first : column_at Bytes 40 (codes "ab") 0 ≡ 40
   pub second : column_at Screen 40 (codes "a\tb") 2 ≡ 49
 
--- messages: of a code point, of one before a scheme, of credentials where an `@` follows in the authority, of an
--- address without brackets, of a drive letter that is written with `|`, and of a line that doesn't say where its link
--- stands
+-- messages: of a code point, and of a line that doesn't say where its link stands
 pub record MessageRows : Type 0 where
   pub point : message Standard (codes "urn:a b") (Refused (record { place = 5; rule = CodePoint }))
-      ≡ codes "U+0020 SPACE may not stand in a URL"
+      ≡ codes "U+0020 SPACE is not allowed in a URL"
   pub port : message Standard (codes "http://h:8x#@") (Refused (record { place = 10; rule = PortDigit }))
       ≡ codes "U+0078 LATIN SMALL LETTER X is no digit of a port"
+  pub bar : message Standard (codes "file:///x/C|/") (Refused (record { place = 11; rule = CodePoint }))
+      ≡ codes "U+007C VERTICAL LINE is not allowed in a URL"
+  pub located : message Standard (codes "a:1:x") (NotLocated NoColumn)
+      ≡ codes "this line isn't FILE:LINE:COLUMN:LINK, since COLUMN is missing"
+
+-- messages on a text without a scheme and without a base: of a code point before a scheme, and of what is likely
+-- missing
+pub record StartRows : Type 0 where
   pub space : message Standard (codes " https://a/") (Refused (record { place = 0; rule = NoScheme }))
-      ≡ codes "U+0020 SPACE stands before the scheme"
+      ≡ codes "U+0020 SPACE is before the scheme"
   pub byte_order_mark : message Standard (0xEF ∷ 0xBB ∷ 0xBF ∷ codes "a:")
       (Refused (record { place = 0; rule = NoScheme }))
-      ≡ codes "U+FEFF stands before the scheme"
+      ≡ codes "U+FEFF is before the scheme"
   pub no_break_space : message Standard (0xC2 ∷ 0xA0 ∷ codes "a:") (Refused (record { place = 0; rule = NoScheme }))
-      ≡ codes "U+00A0 stands before the scheme"
+      ≡ codes "U+00A0 is before the scheme"
   pub quotation : message Standard (codes "\"https://a/\"") (Refused (record { place = 0; rule = NoScheme }))
-      ≡ codes "U+0022 QUOTATION MARK stands before the scheme"
+      ≡ codes "U+0022 QUOTATION MARK is before the scheme"
   pub bracket : message Standard (codes "<https://a/>") (Refused (record { place = 0; rule = NoScheme }))
-      ≡ codes "U+003C LESS-THAN SIGN stands before the scheme"
+      ≡ codes "U+003C LESS-THAN SIGN is before the scheme"
   pub no_scheme : message Standard (codes "(a b: c)") (Refused (record { place = 0; rule = NoScheme }))
       ≡ codes "there is no scheme and no base"
   pub colon : message Standard (codes "HTTP//a/") (Refused (record { place = 0; rule = NoScheme }))
-      ≡ codes "there is no scheme and no base; write : behind the scheme"
+      ≡ codes "there is no scheme and no base; write : after the scheme"
   pub slashes : message Standard (codes "//a/") (Refused (record { place = 0; rule = NoScheme }))
       ≡ codes "there is no scheme and no base; write https: before it, or name its base (--base)"
   pub domain : message Standard (codes "www.a.b/c d") (Refused (record { place = 0; rule = NoScheme }))
@@ -82,35 +89,42 @@ pub record MessageRows : Type 0 where
       ≡ codes "there is no scheme and no base"
   pub relative : message Standard (codes "a b") (Refused (record { place = 0; rule = NoScheme }))
       ≡ codes "there is no scheme and no base"
+
+-- messages on an authority: of credentials where an `@` follows in it, and of an IPv6 address without brackets or
+-- with a zone
+pub record AuthorityRows : Type 0 where
   pub user : message Standard (codes "http://u@h/") (Refused (record { place = 7; rule = HostDomain }))
       ≡ credentials_sentence
   pub password : has_credentials (codes "http://user:pw@h/") 12 ≡ true
   pub path : has_credentials (codes "http://x_y/@") 7 ≡ false
   pub address : message Standard (codes "http://::1/") (Refused (record { place = 7; rule = HostMissing }))
-      ≡ codes "a host that is an IPv6 address stands in brackets"
+      ≡ codes "a host that is an IPv6 address is written in brackets"
   pub two_colons : has_bare_ipv6 (codes "http://h:1:2/") ≡ false
-  pub drive : message Standard (codes "file:///C|/x") (Refused (record { place = 9; rule = CodePoint }))
-      ≡ codes "U+007C VERTICAL LINE may not stand in a URL: a drive letter is written with :"
-  pub bar : message Standard (codes "file:///x/C|/") (Refused (record { place = 11; rule = CodePoint }))
-      ≡ codes "U+007C VERTICAL LINE may not stand in a URL"
-  pub template : message Standard (codes "https://h/%s") (Refused (record { place = 10; rule = Percent }))
-      ≡ codes "U+0025 PERCENT SIGN has to be followed by two hex digits; this looks like a template: check what it makes"
-  pub windows : message Standard (codes "C:\\x") (Refused (record { place = 2; rule = CodePoint }))
-      ≡ codes "U+005C REVERSE SOLIDUS may not stand in a URL; this looks like a path of Windows, whose URL begins with file:///"
-  pub twice : message Standard (codes "http://http://x") (Refused (record { place = 13; rule = FirstSegmentEmpty }))
-      ≡ codes "the path's first segment is empty, and others follow it; this has two schemes: write one of them"
-  pub joined : message Standard (codes "https://h//a") (Refused (record { place = 10; rule = FirstSegmentEmpty }))
-      ≡ codes "the path's first segment is empty, and others follow it; --profile wide takes it; write one slash where two weren't meant"
   pub zone : message Standard (codes "http://[fe80::1%25eth0]/") (Refused (record { place = 7; rule = HostIpv6 }))
       ≡ codes "an IPv6 address in a URL has no zone: leave out the % and what follows it"
   pub open_bracket : message Standard (codes "http://[::1/%") (Refused (record { place = 7; rule = HostIpv6 }))
       ≡ rule_sentence HostIpv6
-  pub located : message Standard (codes "a:1:x") (NotLocated NoColumn)
-      ≡ codes "this line isn't FILE:LINE:COLUMN:LINK, since COLUMN is missing"
+
+-- messages that end with what a text shows of its author's intention
+pub record MeantRows : Type 0 where
+  pub template : message Standard (codes "https://h/%s") (Refused (record { place = 10; rule = Percent }))
+      ≡ codes "U+0025 PERCENT SIGN has to be followed by two hex digits"
+      ++ codes "; this looks like a template: check what it makes"
+  pub windows : message Standard (codes "C:\\x") (Refused (record { place = 2; rule = CodePoint }))
+      ≡ codes "U+005C REVERSE SOLIDUS is not allowed in a URL"
+      ++ codes "; this looks like a path of Windows, whose URL begins with file:///"
+  pub drive : message Standard (codes "file:///C|/x") (Refused (record { place = 9; rule = CodePoint }))
+      ≡ codes "U+007C VERTICAL LINE is not allowed in a URL; a drive letter is written with :"
+  pub twice : message Standard (codes "http://http://x") (Refused (record { place = 13; rule = FirstSegmentEmpty }))
+      ≡ codes "the path's first segment is empty, and others follow it"
+      ++ codes "; this has two schemes: write one of them"
+  pub joined : message Standard (codes "https://h//a") (Refused (record { place = 10; rule = FirstSegmentEmpty }))
+      ≡ codes "the path's first segment is empty, and others follow it"
+      ++ codes "; --profile wide allows it; write one slash where two weren't meant"
 
 -- what texts show of their author's intention, beside what they are mended to: templates; paths of Windows, and what is
--- none; two schemes, the second one without its colon too, and names of hosts that are none; two slashes that a mended
--- text keeps; and texts that show nothing
+-- none; drive letters with `|`, and what is none; two schemes, the second one without its colon too, and names of hosts
+-- that are none; two slashes that a mended text keeps; and texts that show nothing
 pub record IntentionRows : Type 0 where
   pub braces : intention (codes "{{ url }}") (codes "%7B%7B%20url%20%7D%7D") ≡ Some Template
   pub block : intention (codes "{% url 'a' %}") (codes "%7B%25%20url%20'a'%20%25%7D") ≡ Some Template
@@ -122,6 +136,10 @@ pub record IntentionRows : Type 0 where
   pub drive : intention (codes "C:\\Users") (codes "C:%5CUsers") ≡ Some WindowsPath
   pub server : intention (codes "\\\\server\\x") (codes "//server/x") ≡ Some WindowsPath
   pub two_letters : is_offered (codes "ab:\\x") (codes "ab:%5Cx") ≡ true
+  pub letter : intention (codes "file:///C|/x") (codes "file:///C%7C/x") ≡ Some DriveLetter
+  pub no_slash : intention (codes "FILE:z|?q") (codes "FILE:///z%7C?q") ≡ Some DriveLetter
+  pub longer : is_offered (codes "file:///C|x") (codes "file:///C%7Cx") ≡ true
+  pub no_file : is_offered (codes "http:///C|/") (codes "http://C%7C/") ≡ true
   pub twice : intention (codes "http://http://x") (codes "http://http:/.//x") ≡ Some TwoSchemes
   pub no_slashes : intention (codes "HTTP:https://x") (codes "HTTP://https:/.//x") ≡ Some TwoSchemes
   pub no_colon : intention (codes "https://https//x/") (codes "https://https/.//x/") ≡ Some TwoSchemes
@@ -141,25 +159,27 @@ of_host profile line = message profile line (Refused (record { place = 7; rule =
 -- empty, too long, or have hyphens where the standard profile permits none; a port and a drive letter of a `file` link;
 -- and hosts of which nothing is shown
 pub record DomainRows : Type 0 where
-  pub mark : of_host Standard (codes "http://x_y!/") ≡ codes "U+005F LOW LINE may not stand in a domain; --profile wide takes it"
+  pub mark : of_host Standard (codes "http://x_y!/") ≡ codes
+      "U+005F LOW LINE is not allowed in a domain; --profile wide allows it"
   pub wide : of_host Wide (codes "http://x_y!/")
-      ≡ codes "U+0021 EXCLAMATION MARK may not stand in a domain; --profile parser takes it"
-  pub parser : of_host Parser (codes "http://x_y!%20\\z/") ≡ codes "U+005C REVERSE SOLIDUS may not stand in a domain"
+      ≡ codes "U+0021 EXCLAMATION MARK is not allowed in a domain; --profile parser allows it"
+  pub parser : of_host Parser (codes "http://x_y!%20\\z/") ≡ codes "U+005C REVERSE SOLIDUS is not allowed in a domain"
   pub percent : of_host Standard (codes "http://a%41/")
-      ≡ codes "U+0025 PERCENT SIGN may not stand in a domain; --profile parser takes it"
-  pub empty : of_host Wide (codes "http://a..b/") ≡ codes "a label of this domain is empty; --profile parser takes it"
-  pub root : of_host Standard (codes "http://.:80") ≡ codes "a label of this domain is empty; --profile parser takes it"
+      ≡ codes "U+0025 PERCENT SIGN is not allowed in a domain; --profile parser allows it"
+  pub empty : of_host Wide (codes "http://a..b/") ≡ codes "a label of this domain is empty; --profile parser allows it"
+  pub root : of_host Standard (codes "http://.:80") ≡ codes
+      "a label of this domain is empty; --profile parser allows it"
   pub long : of_host Standard (codes "http://b." ++ (replicate 64 97 ++ codes "./"))
-      ≡ codes "a label of this domain has more than 63 code points; --profile parser takes it"
+      ≡ codes "a label of this domain has more than 63 code points; --profile parser allows it"
   pub outer : of_host Standard (codes "http://a.b-?c--d")
-      ≡ codes "a label of this domain begins or ends with -; --profile wide takes it"
+      ≡ codes "a label of this domain begins or ends with -; --profile wide allows it"
   pub inner : of_host Standard (codes "http://XM--a.b/")
-      ≡ codes "a label of this domain has -- in its third and fourth place; --profile wide takes it"
+      ≡ codes "a label of this domain has -- in its third and fourth place; --profile wide allows it"
   pub punycode : of_host Standard (codes "http://Xn--a-/") ≡ rule_sentence HostDomain
   pub hyphens : of_host Wide (codes "http://-a--b/") ≡ rule_sentence HostDomain
   pub port : of_host Standard (codes "File://h:80/")
-      ≡ codes "U+003A COLON may not stand in a domain: a file URL has no port"
-  pub drive : of_host Parser (codes "file://C|/x") ≡ drive_sentence
+      ≡ codes "U+003A COLON is not allowed in a domain: a file URL has no port"
+  pub drive : of_host Parser (codes "file://C|/x") ≡ drive_sentence ++ codes "; a drive letter is written with :"
   pub decoded : of_host Parser (codes "http://a..%20/") ≡ rule_sentence HostDomain
 
 -- windows of a line of 250 letters, and of a short one

@@ -3,7 +3,7 @@ ghost use Rattle.std.specs.Prelude.{◌≡◌};
 ghost use Rattle.uv_report.specs.Format.{format_name, named_format, own_columns, takes_columns};
 ghost use Rattle.uv_report.specs.Format as spec;
 
-use crate::column::Columns;
+use crate::places::column::Columns;
 
 /// How diagnostics are written.
 #[derive(Clone, Copy, Debug, PartialEq, Eq)]

@@ -2,7 +2,7 @@
 
 use crate::line_violation::LineViolation;
 use crate::mended::Mended;
-use crate::seen_text::SeenText;
+use crate::places::seen_text::SeenText;
 use uv_model::Profile;
 
 /// What a diagnostic says, with a text that was seen in the place of its text.

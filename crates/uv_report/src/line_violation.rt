@@ -3,8 +3,8 @@ ghost use Rattle.std.specs.Prelude.{◌≡◌};
 ghost use Rattle.uv_report.specs.LineViolation.{violation_end, violation_help, violation_index, violation_name};
 ghost use Rattle.uv_report.specs.LineViolation.{violation_place, violation_sentence, violation_uri, named_violation};
 
-use crate::explanation::{explain, section_uri};
 use crate::located_fault::LocatedFault;
+use crate::rules::explanation::{explain, section_uri};
 use uv_model::Refusal;
 
 /// What is wrong with a line of a file: as a text it is refused, or it is no text that is judged.
@@ -66,7 +66,8 @@ impl LineViolation {
             LineViolation::Refused(refusal) => explain(refusal.rule).asks,
             LineViolation::NotUtf8(_) => "A line is a text in UTF-8.",
             LineViolation::TooLong => {
-                "A line has at most 65536 bytes. A longer link may be valid: check and the libraries have no such limit."
+                "A line has at most 65536 bytes. A longer link may be valid: \
+                check and the libraries have no such limit."
             }
             LineViolation::NotLocated(_) => {
                 "A located line is FILE:LINE:COLUMN:LINK. FILE isn't empty; LINE and COLUMN are from 1 to 4294967295."

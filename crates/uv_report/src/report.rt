@@ -4,21 +4,21 @@ ghost use Rattle.std.specs.Prelude.{◌≡◌, ◌++◌, [], IfOk, OnErr, OnOk, 
 ghost use Rattle.uv_report.specs.Found.{told};
 ghost use Rattle.uv_report.specs.Report.{begin_text, diagnostic_text, end_text, file_begin_text, file_end_text};
 
-use crate::caret::push_caret;
-use crate::checkstyle::{push_checkstyle, push_checkstyle_file};
-use crate::column::Columns;
 use crate::completion::Completion;
 use crate::diagnostic::Diagnostic;
 use crate::format::Format;
+use crate::formats::caret::push_caret;
+use crate::formats::checkstyle::{push_checkstyle, push_checkstyle_file};
+use crate::formats::github::push_github;
+use crate::formats::gitlab::push_gitlab;
+use crate::formats::gnu::push_gnu;
+use crate::formats::json::push_json;
+use crate::formats::junit::{JUNIT_BEGIN, junit_end, push_junit, push_junit_file};
+use crate::formats::rdjson::{push_rdjson, push_rdjson_begin};
+use crate::formats::sarif::{push_sarif, push_sarif_begin, sarif_end};
 use crate::found::Found;
-use crate::github::push_github;
-use crate::gitlab::push_gitlab;
-use crate::gnu::push_gnu;
-use crate::json::push_json;
-use crate::junit::{JUNIT_BEGIN, junit_end, push_junit, push_junit_file};
-use crate::rdjson::{push_rdjson, push_rdjson_begin};
-use crate::sarif::{push_sarif, push_sarif_begin, sarif_end};
-use crate::seen_text::SeenText;
+use crate::places::column::Columns;
+use crate::places::seen_text::SeenText;
 use std::alloc::{AllocError, Global};
 
 /// Pushes what a report begins with. In SARIF that says what columns count, where SARIF has a word for it. Where an
@@ -108,8 +108,8 @@ pub fn push_diagnostic(
     push_seen_diagnostic(alloc, text, format, diagnostic, &seen, is_first)
 }
 
-/// The same of a diagnostic whose text was seen. Several diagnostics on one text take no more time than the text and what
-/// is written of it, where they come in the order of their places, and the text is led to each place before.
+/// The same of a diagnostic whose text was seen. Several diagnostics on one text take no more time than the text and
+/// what is written of it, where they come in the order of their places, and the text is led to each place before.
 pub fn push_seen_diagnostic(
     alloc: Global,
     text: &mut String,

@@ -1,7 +1,7 @@
 -- The pieces behind the program's name.
 use Rattle.std.proofs.Common.{◌++◌, ap, ◌∙◌, codes, string_bytes}
 use Rattle.uv_report.proofs.PieceLemmas.{six_pieces}
-use Rattle.uv_report.specs.Escapes.{shown_text}
+use Rattle.uv_report.specs.Escaping.Escapes.{shown_text}
 use Rattle.uv_messages.proofs.options.near_option_line.Goals as goal
 
 pub returns : goal.returns

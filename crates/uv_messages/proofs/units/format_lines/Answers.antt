@@ -8,6 +8,7 @@ pub returns : goal.returns
 returns c =
     subst
     (λ (names : List (List ℕ)).
-    IfOk c.refused_unit_lines.result (λ text. string_bytes text ≡ refused_unit_text (format_name c.args.format) c.args.name.now names))
+    IfOk c.refused_unit_lines.result (λ text. string_bytes text ≡ refused_unit_text (format_name c.args.format)
+    c.args.name.now names))
     (ap (map (λ n. n.now)) c.as_slice.ensures.value ∙ c.in_ok-names.ensures)
     (rw c.name.ensures at c.refused_unit_lines.ensures)

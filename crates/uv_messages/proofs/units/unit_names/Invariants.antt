@@ -1,6 +1,6 @@
 -- The names so far.
 use Rattle.std.proofs.Common.{◌≡◌, filter, map, take}
-use Rattle.uv_report.specs.Column.{columns_name}
+use Rattle.uv_report.specs.Places.Column.{columns_name}
 use Rattle.uv_messages.specs.Names.{takes_unit}
 use Rattle.uv_messages.proofs.units.unit_names.Given as goal
 

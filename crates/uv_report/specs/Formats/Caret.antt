@@ -1,0 +1,72 @@
+-- A diagnostic with the line that it is about, a caret below the place, and what to write in place of the line. Of a
+-- line that isn't judged and of which no text is carried, as of one that is too long, the diagnostic stands alone.
+use Rattle.std.specs.Prelude.{ℕ, Bool, true, false, not, ◌==◌, List, [], ◌++◌, codes, if◌then◌else◌, length, replicate}
+use Rattle.std.specs.Prelude.{take, Option, Some, None}
+use Rattle.std.specs.List.{flat_map}
+use Rattle.std.specs.Str.{chars}
+use Rattle.uv_model.specs.declared.mend_kind.MendKind.{MendKind}
+use Rattle.uv_model.specs.declared.mend_kind.MendKind.TheVariants.{Same, Escaped, Changed}
+use Rattle.uv_report.specs.declared.diagnostic.Diagnostic.{Diagnostic}
+use Rattle.uv_report.specs.declared.escaping.escapes.Escapes.TheVariants.{Shown}
+use Rattle.uv_report.specs.declared.line_violation.LineViolation.{LineViolation}
+use Rattle.uv_report.specs.declared.line_violation.LineViolation.TheVariants.{Refused}
+use Rattle.uv_report.specs.declared.mended.Mended.{Mended}
+use Rattle.uv_report.specs.Places.Column.{shown_width}
+use Rattle.uv_report.specs.Escaping.Escapes.{escaped}
+use Rattle.uv_report.specs.Sentences.Intention.{is_offered}
+use Rattle.uv_report.specs.LineViolation.{violation_place}
+use Rattle.uv_report.specs.Formats.Gnu.{gnu_text}
+use Rattle.uv_report.specs.Places.Window.{window, window_place}
+
+-- what stands below a code point: a tab below a tab, else spaces
+abbrev pub below : ℕ → List ℕ
+below c = if c == 9 then codes "\t" else replicate (shown_width c) 32
+
+-- what stands below a text
+abbrev pub padding : List ℕ → List ℕ
+padding text = flat_map below text
+
+-- the line as it is shown, and a caret below a place
+unfoldable pub caret_lines : List ℕ → ℕ → List ℕ
+caret_lines line place = escaped Shown line ++ (codes "\n" ++ (padding (take place (chars line)) ++ codes "^\n"))
+
+-- these two of what is shown of a line
+unfoldable pub window_lines : List ℕ → ℕ → List ℕ
+window_lines line place = caret_lines (window line place) (window_place line place)
+
+-- the diagnostic carries the text that is wrong: one that is refused, also an empty one, or else what isn't empty
+abbrev pub shows_line : LineViolation → List ℕ → Bool
+shows_line (Refused refusal) line = true
+shows_line violation line = not (length line == 0)
+
+-- the two lines, where it carries that
+abbrev pub shown_lines : LineViolation → List ℕ → List ℕ
+shown_lines violation line =
+    if shows_line violation line then window_lines line (violation_place violation) else []
+
+-- how a mended text is named that isn't offered, by how it stands to the refused one
+abbrev pub named_as : MendKind → List ℕ
+named_as Same = codes "note: the same URL, written validly, is "
+named_as Escaped = codes "note: the same text, percent-encoded, is "
+named_as Changed = codes "note: a valid URL string that is near it is "
+
+-- what stands before a mended text, which is offered or isn't
+abbrev pub help_words : Bool → MendKind → List ℕ
+help_words true kind = codes "help: write "
+help_words false kind = named_as kind
+
+-- these words, and what is shown of a mended text around a place
+unfoldable pub help_line : List ℕ → ℕ → List ℕ → List ℕ
+help_line words place mended = words ++ (escaped Shown (window mended place) ++ codes "\n")
+
+-- the line of what to write in place of a line, where there is such a text
+abbrev pub help_text : List ℕ → ℕ → Option Mended → List ℕ
+help_text line place None = []
+help_text line place (Some mended) =
+    help_line (help_words (is_offered line mended.text.now) mended.kind) place mended.text.now
+
+-- the line of the format `gnu`, these two, and that one
+unfoldable pub caret_text : Diagnostic → List ℕ
+caret_text diagnostic =
+    gnu_text diagnostic ++ (shown_lines diagnostic.violation diagnostic.text.now
+    ++ help_text diagnostic.text.now (violation_place diagnostic.violation) diagnostic.mended)

@@ -1,0 +1,63 @@
+-- A diagnostic as a failed test of a document of JUnit, in XML 1.0, and the tests that stand round it.
+use Rattle.std.specs.Prelude.{ℕ, List, ◌++◌, codes, decimal}
+use Rattle.uv_model.specs.declared.profile.Profile.{Profile}
+use Rattle.uv_report.specs.declared.completion.Completion.{Completion}
+use Rattle.uv_report.specs.declared.completion.Completion.TheVariants.{Whole, Unread, Stopped}
+use Rattle.uv_report.specs.declared.diagnostic.Diagnostic.{Diagnostic}
+use Rattle.uv_report.specs.declared.escaping.escapes.Escapes.TheVariants.{Attribute}
+use Rattle.uv_report.specs.declared.line_violation.LineViolation.{LineViolation}
+use Rattle.uv_report.specs.Escaping.Escapes.{escaped}
+use Rattle.uv_report.specs.LineViolation.{violation_name, violation_place}
+use Rattle.uv_report.specs.Sentences.Message.{message}
+use Rattle.uv_report.specs.Places.Window.{carried}
+
+-- ---- the document
+
+-- what it begins with
+abbrev pub junit_begin : List ℕ
+junit_begin = codes "<?xml version=\"1.0\" encoding=\"UTF-8\"?>\n<testsuites name=\"urlcheck\">\n"
+
+-- The suite of the run has one test: whether every file was read to its end. What was in the way is an error.
+abbrev pub run_end : Completion → List ℕ
+run_end Whole = codes "/>"
+run_end Unread = codes "><error message=\"a file can't be read, which standard error names\"/></testcase>"
+run_end Stopped = codes "><error message=\"the run stopped, and standard error says why\"/></testcase>"
+
+-- that suite, and what the document ends with
+abbrev pub junit_end : Completion → List ℕ
+junit_end completion =
+    codes "<testsuite name=\"urlcheck\">\n<testcase classname=\"urlcheck\" name=\"run\""
+    ++ (run_end completion ++ codes "\n</testsuite>\n</testsuites>\n")
+
+-- ---- a file
+
+-- the start tag of a suite, and a test that passes: so the suite of a file has one even where nothing is wrong
+unfoldable pub suite_begin : List ℕ → List ℕ
+suite_begin file =
+    codes "<testsuite name=\"" ++ (escaped Attribute file ++ (codes "\">\n<testcase classname=\""
+    ++ (escaped Attribute file ++ codes "\" name=\"file\"/>\n")))
+
+-- the end tag
+abbrev pub suite_end : List ℕ
+suite_end = codes "</testsuite>\n"
+
+-- ---- a diagnostic
+
+-- the start tag of its test, which is named by the place and the rule
+unfoldable pub case_begin : Diagnostic → List ℕ
+case_begin diagnostic =
+    codes "<testcase classname=\"" ++ (escaped Attribute diagnostic.file.now ++ (codes "\" name=\""
+    ++ (decimal diagnostic.line ++ (codes ":" ++ (decimal diagnostic.column ++ (codes " "
+    ++ (violation_name diagnostic.violation ++ codes "\">")))))))
+
+-- the failure: its rule, its message, and the text that is wrong, as far as a report carries it
+unfoldable pub failure : Profile → List ℕ → LineViolation → List ℕ
+failure profile text violation =
+    codes "<failure type=\"" ++ (violation_name violation ++ (codes "\" message=\""
+    ++ (escaped Attribute (message profile text violation) ++ (codes "\">"
+    ++ (escaped Attribute (carried text (violation_place violation)) ++ codes "</failure></testcase>\n")))))
+
+-- the test
+unfoldable pub junit_text : Diagnostic → List ℕ
+junit_text diagnostic =
+    case_begin diagnostic ++ failure diagnostic.profile diagnostic.text.now diagnostic.violation

@@ -1,0 +1,12 @@
+//! The formats: each writes a diagnostic in its own way, and some a document round the diagnostics. In `fingerprint` is
+//! what tells one diagnostic from another.
+pub(crate) mod caret;
+pub(crate) mod checkstyle;
+pub(crate) mod fingerprint;
+pub(crate) mod github;
+pub(crate) mod gitlab;
+pub(crate) mod gnu;
+pub(crate) mod json;
+pub(crate) mod junit;
+pub(crate) mod rdjson;
+pub(crate) mod sarif;

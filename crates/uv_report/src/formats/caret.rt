@@ -1,0 +1,233 @@
+//! Diagnostics with the line that they are about, a caret below the place, and what to write in place of the line.
+ghost use Rattle.std.specs.Prelude.{◌≡◌, ◌++◌, OnOk, replicate, string_bytes, take};
+ghost use Rattle.std.specs.List.{flat_map};
+ghost use Rattle.std.specs.Str.{chars};
+ghost use Rattle.uv_report.specs.Escaping.Escapes.{shown_text};
+ghost use Rattle.uv_report.specs.Found.{told};
+ghost use Rattle.uv_report.specs.Places.Window.{window};
+ghost use Rattle.uv_report.specs.Formats.Caret.{below, caret_lines, caret_text, help_line, help_text, help_words};
+ghost use Rattle.uv_report.specs.Formats.Caret.{named_as};
+ghost use Rattle.uv_report.specs.Formats.Caret.{padding, shown_lines, shows_line, window_lines};
+
+use crate::escaping::escapes::push_shown as push_shown_text;
+use crate::escaping::printable::is_printable_text;
+use crate::formats::gnu::push_gnu;
+use crate::found::Found;
+use crate::line_violation::LineViolation;
+use crate::mended::Mended;
+use crate::places::column::shown_width;
+use crate::places::seen_text::SeenText;
+use crate::places::window::cut_out;
+use crate::sentences::intention::is_offered;
+use std::alloc::{AllocError, Global};
+use uv_model::MendKind;
+
+// Spaces, in one piece.
+const SPACES: &str =
+    "                                                                                                ";
+
+/// Pushes the line of `gnu`, what is shown of the line that it is about and the line of the caret where a text is
+/// carried, and where there is a mended text `help: write TEXT`, or a note that names one that isn't offered.
+#[tactic(auto, unfolding(crate::specs::Formats::Caret::caret_text))]
+pub(crate) fn push_caret(
+    alloc: Global,
+    text: &mut String,
+    diagnostic: &Found<'_>,
+) -> Result<(), AllocError>
+    ensures { OnOk result (string_bytes text.new ≡ string_bytes text.old ++ caret_text (told diagnostic.now)) }
+{
+    push_gnu(alloc, text, diagnostic)?;
+    push_shown(alloc, text, diagnostic.text, diagnostic.violation)?;
+    push_help(
+        alloc,
+        text,
+        diagnostic.text,
+        diagnostic.violation.place(),
+        diagnostic.mended,
+    )?;
+    Ok(())
+}
+
+// Pushes what is shown of a line, and a caret below the place, where the text that is wrong is carried.
+fn push_shown(
+    alloc: Global,
+    text: &mut String,
+    line: &SeenText<'_>,
+    violation: LineViolation,
+) -> Result<(), AllocError>
+    ensures { OnOk result (string_bytes text.new ≡ string_bytes text.old ++ shown_lines violation line.now) }
+{
+    if !shows_line(line, violation) {
+        return Ok(());
+    }
+    push_window(alloc, text, line, violation.place())
+}
+
+// Whether the text that is wrong is carried: one that is refused, also an empty one, or else what isn't empty.
+fn shows_line(line: &SeenText<'_>, violation: LineViolation) -> bool
+    ensures { result ≡ shows_line violation line.now }
+{
+    match violation {
+        LineViolation::Refused(_) => true,
+        LineViolation::NotUtf8(_) | LineViolation::TooLong | LineViolation::NotLocated(_) => {
+            !line.as_str().is_empty()
+        }
+    }
+}
+
+// Pushes what is shown of a line, and a caret below one of the line's places. A line that is shown whole isn't copied.
+#[tactic(auto, unfolding(crate::specs::Formats::Caret::window_lines, crate::specs::Places::Window::window))]
+fn push_window(
+    alloc: Global,
+    text: &mut String,
+    line: &SeenText<'_>,
+    place: usize,
+) -> Result<(), AllocError>
+    ensures { OnOk result (string_bytes text.new ≡ string_bytes text.old ++ window_lines line.now place) }
+{
+    if line.is_longer_than_window() {
+        let shown = cut_out(alloc, line, place.saturating_sub(99))?;
+        push_lines(text, shown.as_str(), place.min(100))
+    } else {
+        push_lines(text, line.as_str(), place)
+    }
+}
+
+// Pushes what to write in place of a line of which this place is reported, where there is such a text.
+fn push_help(
+    alloc: Global,
+    text: &mut String,
+    line: &SeenText<'_>,
+    place: usize,
+    mended: Option<Mended<'_>>,
+) -> Result<(), AllocError>
+    ensures { OnOk result (string_bytes text.new ≡ string_bytes text.old ++ help_text line.now place mended.entry) }
+{
+    match mended {
+        Some(mended) => {
+            let words = help_words(is_offered(line, mended.text), mended.kind);
+            push_help_line(alloc, text, words, place, mended.text)
+        }
+        None => Ok(()),
+    }
+}
+
+// What stands before a mended text, which is offered or isn't.
+fn help_words(offered: bool, kind: MendKind) -> &'static str
+    ensures { result.now ≡ help_words offered kind }
+{
+    if offered {
+        "help: write "
+    } else {
+        named_as(kind)
+    }
+}
+
+// How a mended text is named that isn't offered.
+fn named_as(kind: MendKind) -> &'static str
+    ensures { result.now ≡ named_as kind }
+{
+    match kind {
+        MendKind::Same => "note: the same URL, written validly, is ",
+        MendKind::Escaped => "note: the same text, percent-encoded, is ",
+        MendKind::Changed => "note: a valid URL string that is near it is ",
+    }
+}
+
+// Pushes these words, and what is shown of a mended text around a place.
+#[tactic(auto, unfolding(crate::specs::Formats::Caret::help_line))]
+fn push_help_line(
+    alloc: Global,
+    text: &mut String,
+    words: &str,
+    place: usize,
+    mended: &str,
+) -> Result<(), AllocError>
+    ensures { OnOk result (string_bytes text.new ≡ string_bytes text.old ++ help_line words.now place mended.now) }
+{
+    text.push_str(words)?;
+    push_part(alloc, text, &SeenText::new(mended), place)?;
+    text.push_str("\n")?;
+    Ok(())
+}
+
+// Pushes what is shown of a text around a place.
+#[tactic(auto, unfolding(crate::specs::Places::Window::window))]
+fn push_part(
+    alloc: Global,
+    text: &mut String,
+    source: &SeenText<'_>,
+    place: usize,
+) -> Result<(), AllocError>
+    ensures { OnOk result (string_bytes text.new ≡ string_bytes text.old ++ shown_text (window source.now place)) }
+{
+    if source.is_longer_than_window() {
+        let shown = cut_out(alloc, source, place.saturating_sub(99))?;
+        push_shown_text(text, shown.as_str())
+    } else {
+        push_shown_text(text, source.as_str())
+    }
+}
+
+// Pushes a line, and a caret below one of its places.
+#[tactic(auto, unfolding(crate::specs::Formats::Caret::caret_lines))]
+fn push_lines(text: &mut String, line: &str, place: usize) -> Result<(), AllocError>
+    ensures { OnOk result (string_bytes text.new ≡ string_bytes text.old ++ caret_lines line.now place) }
+{
+    push_shown_text(text, line)?;
+    text.push_str("\n")?;
+    push_padding(text, line, place)?;
+    text.push_str("^\n")?;
+    Ok(())
+}
+
+// Pushes what stands below the code points of a line before a place: below printable ASCII as many spaces.
+fn push_padding(text: &mut String, line: &str, place: usize) -> Result<(), AllocError>
+    ensures { OnOk result (string_bytes text.new ≡ string_bytes text.old ++ padding (take place (chars line.now))) }
+{
+    match line.split_at_checked(place) {
+        Some((front, _)) if is_printable_text(front.as_bytes()) => push_spaces(text, place),
+        _ => push_each_below(text, line, place),
+    }
+}
+
+// The same code point by code point.
+fn push_each_below(text: &mut String, line: &str, place: usize) -> Result<(), AllocError>
+    ensures { OnOk result (string_bytes text.new ≡ string_bytes text.old ++ padding (take place (chars line.now))) }
+{
+    for c in line.chars().take(place) {
+        push_below(text, c)?;
+    }
+    Ok(())
+}
+
+// Pushes what stands below a code point.
+fn push_below(text: &mut String, c: char) -> Result<(), AllocError>
+    ensures { OnOk result (string_bytes text.new ≡ string_bytes text.old ++ below c) }
+{
+    if c == '\t' {
+        text.push_str("\t")
+    } else {
+        push_spaces(text, shown_width(c))
+    }
+}
+
+// Pushes so many spaces, mostly in one piece.
+fn push_spaces(text: &mut String, count: usize) -> Result<(), AllocError>
+    ensures { OnOk result (string_bytes text.new ≡ string_bytes text.old ++ replicate count 32) }
+{
+    match SPACES.split_at_checked(count) {
+        Some((spaces, _)) => text.push_str(spaces),
+        None => push_each_space(text, count),
+    }
+}
+
+// The same space by space.
+fn push_each_space(text: &mut String, count: usize) -> Result<(), AllocError>
+    ensures { OnOk result (string_bytes text.new ≡ string_bytes text.old ++ replicate count 32) }
+{
+    for _column in 0..count {
+        text.push(' ')?;
+    }
+    Ok(())
+}
