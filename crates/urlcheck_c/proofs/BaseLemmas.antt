@@ -12,7 +12,8 @@ use Rattle.uv_grammar.specs.Bases.{IsOfKind}
 use Rattle.urlcheck_c.specs.declared.bases.Base.{Base}
 use Rattle.urlcheck_c.specs.declared.finding.Finding.{Finding}
 use Rattle.urlcheck_c.specs.declared.finding.CallOutcome.TheVariants.{NoUtf8}
-use Rattle.urlcheck_c.specs.Base.{IsBaseOfKind, IsPreparedBase, IsUnread, flag_number, held_base, kind_in, scheme_number}
+use Rattle.urlcheck_c.specs.Base.{IsBaseOfKind, IsPreparedBase, IsUnread, flag_number, held_base, kind_in}
+use Rattle.urlcheck_c.specs.Base.{scheme_number}
 use Rattle.urlcheck_c.specs.Base.{base_fault, scheme_with}
 use Rattle.urlcheck_c.specs.Finding.{profile_of}
 use Rattle.urlcheck_c.specs.Request.{IsBase, IsNoText, IsRequest, IsUnjudged}

@@ -41,7 +41,8 @@ closed_text rest at within =
     strip_prefix line ∙ take-take (length (strip_carriage_return line)) at rest long
 
 -- an LF that ends a line, and what stands before and behind it
-joined_one : (line : List ℕ) (lines : List (List ℕ)) (last : List ℕ) → join (line ∷ []) [] lines last ≡ (line ∷ lines, last)
+joined_one : (line : List ℕ) (lines : List (List ℕ)) (last : List ℕ)
+    → join (line ∷ []) [] lines last ≡ (line ∷ lines, last)
 joined_one line [] last = refl
 joined_one line (l ∷ lines) last = refl
 

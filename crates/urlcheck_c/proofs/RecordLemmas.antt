@@ -5,7 +5,7 @@ use Rattle.std.specs.Str.{chars}
 use Rattle.uv_model.specs.declared.profile.Profile.{Profile}
 use Rattle.uv_model.specs.Records.Url.{Url}
 use Rattle.uv_resolve.specs.Resolve.{Denotes}
-use Rattle.urlcheck_c.specs.declared.placed_records.PlacedRecord.{PlacedRecord}
+use Rattle.urlcheck_c.specs.declared.records.placed_records.PlacedRecord.{PlacedRecord}
 use Rattle.urlcheck_c.specs.declared.records.Resolved.{Resolved}
 use Rattle.urlcheck_c.specs.PlacedRecord.{IsPlacedJudged, IsPlacedOrWanting, no_record}
 use Rattle.urlcheck_c.specs.Resolved.{IsRecordAnswer, IsRecordWritten}

@@ -21,7 +21,8 @@ behind mark None = []
 behind mark (Some text) = mark ++ text
 
 -- how long it is
-behind_length : (mark : List ℕ) (text : Option (List ℕ)) → length (behind mark text) ≡ reach (length mark) (length_in text)
+behind_length : (mark : List ℕ) (text : Option (List ℕ))
+    → length (behind mark text) ≡ reach (length mark) (length_in text)
 behind_length mark None = refl
 behind_length mark (Some text) = length-append mark text
 

@@ -143,6 +143,13 @@ offsets_more from (first ∷ rest) text =
 
 -- ---- the rows
 
+-- a value is put, where the column's length and the value are written otherwise
+put_alike : (entries count row end value : ℕ) (now new : List ℕ) → count ≡ entries → end ≡ value
+    → IsPut (count + 1) row end now new → IsPut (entries + 1) row value now new
+put_alike entries count row end value now new counted ended put =
+    subst (λ (n : ℕ). IsPut (entries + 1) row n now new) ended
+    (subst (λ (n : ℕ). IsPut (n + 1) row end now new) counted put)
+
 -- a text more is resolved
 pub resolved_more : (number : ℕ) (texts offsets : List ℕ) (row : ℕ) (old now new : ResolvedColumns)
     (bytes text after : List ℕ) (valid more : ℕ) (last : Finding) → row < row_count offsets
@@ -161,11 +168,8 @@ resolved_more number texts offsets row old now new bytes text after valid more l
     let rows = row_count offsets in
     let joined : after ≡ concat made.written ++ text = appended ∙ ap (λ b. b ++ text) made.bytes_are in
     let end_is : 0 + length (concat made.written ++ text) ≡ length after = omega (arith, ap length joined) in
-    let ends_put : IsPut (rows + 1) (row + 1) (length after) now.ends new.ends
-    = subst (λ (n : ℕ). IsPut (rows + 1) (row + 1) n now.ends new.ends) ended
-    (subst (λ (n : ℕ). IsPut (n + 1) (row + 1) end now.ends new.ends) counted put) in
-    let ends_before : length (text_offsets 0 made.written) ≡ row + 1
-    = offsets_length 0 made.written ∙ ap (λ n. n + 1) made.count_written in
+    let ends_put = put_alike rows count (row + 1) end (length after) now.ends new.ends counted ended put in
+    let ends_before = offsets_length 0 made.written ∙ ap (λ n. n + 1) made.count_written in
     subst (λ n. AreRowsResolved number texts offsets n old new after more) next
     (record {
       found = made.found ++ (last ∷ []);
@@ -174,7 +178,8 @@ resolved_more number texts offsets row old now new bytes text after valid more l
       count = length-append made.found (last ∷ []) ∙ omega (arith, made.count);
       count_written = length-append made.written (text ∷ []) ∙ omega (arith, made.count_written);
       few = omega (arith, made.few, is, one_at_most last);
-      bytes_are = joined ∙ sym (concat-append made.written (text ∷ []) ∙ ap (λ t. concat made.written ++ t) (append-nil text));
+      bytes_are =
+          joined ∙ sym (concat-append made.written (text ∷ []) ∙ ap (λ t. concat made.written ++ t) (append-nil text));
       verdicts = mapped_more (λ f. f.verdict) rows row made.found last old.found.verdicts now.found.verdicts
           new.found.verdicts made.count below made.verdicts verdict;
       rules = mapped_more (λ f. f.rule) rows row made.found last old.found.rules now.found.rules new.found.rules

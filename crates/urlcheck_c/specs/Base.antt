@@ -12,7 +12,8 @@ use Rattle.urlcheck_c.specs.declared.bases.Base.{Base}
 use Rattle.urlcheck_c.specs.declared.bases.HeldBase.{HeldBase}
 use Rattle.urlcheck_c.specs.declared.bases.HeldRequest.{HeldRequest}
 use Rattle.urlcheck_c.specs.declared.finding.Finding.{Finding}
-use Rattle.urlcheck_c.specs.declared.finding.CallOutcome.TheVariants.{BaseRefused, BaseNoUtf8, Memory, NoBase, NoProfile}
+use Rattle.urlcheck_c.specs.declared.finding.CallOutcome.TheVariants.{BaseRefused, BaseNoUtf8, Memory, NoBase}
+use Rattle.urlcheck_c.specs.declared.finding.CallOutcome.TheVariants.{NoProfile}
 use Rattle.urlcheck_c.specs.declared.finding.CallOutcome.TheVariants.{NoUtf8, Valid as valid_outcome}
 use Rattle.urlcheck_c.specs.Finding.{outcome_number, plain_finding, profile_of}
 use Rattle.urlcheck_c.specs.Request.{IsBase, IsNoBase, IsNoText, IsRequest, IsUnjudged}
@@ -109,7 +110,8 @@ IsHeld number bytes found None = IsUnread number bytes found
 abbrev pub IsPreparedWith : ℕ → List ℕ → List ℕ → Result HeldRequest Finding → Type 0
 IsPreparedWith number base bytes (Ok request) =
     (request.text.now ≡ bytes)
-    × ((url : Url) × IsRequest number (Some base) bytes request.base.profile (Some url) × IsOfKind url request.base.kind)
+    × ((url : Url) × IsRequest number (Some base) bytes request.base.profile (Some url) × IsOfKind url
+    request.base.kind)
 IsPreparedWith number base bytes (Err finding) = IsUnjudged number (Some base) bytes finding
 
 -- ---- a base that was never prepared

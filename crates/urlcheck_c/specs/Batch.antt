@@ -1,5 +1,6 @@
 -- Many texts in one call: what was found of each, in columns.
-use Rattle.std.specs.Prelude.{◌≡◌, ℕ, ◌⊎◌, ◌+◌, ◌≤◌, ◌<◌, ◌==◌, if◌then◌else◌, List, [], ◌∷◌, ◌++◌, length, drop, map, set}
+use Rattle.std.specs.Prelude.{◌≡◌, ℕ, ◌⊎◌, ◌+◌, ◌≤◌, ◌<◌, ◌==◌, if◌then◌else◌, List, [], ◌∷◌, ◌++◌, length, drop, map}
+use Rattle.std.specs.Prelude.{set}
 use Rattle.std.specs.Prelude.{Some, None, zero, suc}
 use Rattle.uv_model.specs.declared.profile.Profile.{Profile}
 use Rattle.urlcheck_c.specs.declared.batches.Batch.{Batch}

@@ -1,8 +1,8 @@
 -- The column of a place of a text, by numbers.
 use Rattle.std.specs.Prelude.{◌≡◌, ℕ, ◌⊎◌, ◌≤◌, ◌<◌, List, length, Some, None, IsUtf8}
 use Rattle.std.specs.Str.{chars}
-use Rattle.uv_report.specs.declared.column.Columns.{Columns}
-use Rattle.uv_report.specs.Column.{column_at}
+use Rattle.uv_report.specs.declared.places.column.Columns.{Columns}
+use Rattle.uv_report.specs.Places.Column.{column_at}
 use Rattle.urlcheck_c.specs.declared.columns.Counted.{Counted}
 use Rattle.urlcheck_c.specs.declared.finding.Finding.{Finding}
 use Rattle.urlcheck_c.specs.declared.finding.CallOutcome.TheVariants.{Done, NoUtf8, NoUnit, NoColumn, NoPlace}

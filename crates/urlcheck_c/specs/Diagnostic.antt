@@ -5,7 +5,7 @@ use Rattle.uv_report.specs.declared.format.Format.{Format}
 use Rattle.uv_report.specs.declared.mended.Mended.{Mended}
 use Rattle.uv_report.specs.Format.{writes_edits}
 use Rattle.uv_report.specs.Report.{diagnostic_text}
-use Rattle.urlcheck_c.specs.declared.diagnostics.Violation.{Violation}
+use Rattle.urlcheck_c.specs.declared.reports.diagnostics.Violation.{Violation}
 use Rattle.urlcheck_c.specs.declared.finding.Finding.{Finding}
 use Rattle.urlcheck_c.specs.declared.finding.CallOutcome.TheVariants.{NoFormat, NoKind, NoColumn, FileNoUtf8}
 use Rattle.urlcheck_c.specs.declared.finding.CallOutcome.TheVariants.{MendedNoUtf8}

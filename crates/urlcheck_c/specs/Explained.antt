@@ -1,7 +1,7 @@
 -- The texts that explain a rule, by numbers.
 use Rattle.std.specs.Prelude.{ℕ, ◌==◌, if◌then◌else◌, List, [], Option, Some, None, unwrap_or}
 use Rattle.uv_model.specs.declared.rule.Rule.{Rule}
-use Rattle.uv_report.specs.Explanation.{rule_asks, rule_base, rule_mended, rule_place, rule_section, rule_wrong}
+use Rattle.uv_report.specs.Rules.Explanation.{rule_asks, rule_base, rule_mended, rule_place, rule_section, rule_wrong}
 use Rattle.urlcheck_c.specs.Names.{rule_with_number}
 
 -- what a rule asks, its section, the base of its example, the example, and the same text, mended

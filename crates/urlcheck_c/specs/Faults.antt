@@ -6,8 +6,8 @@ use Rattle.uv_model.specs.declared.rule.Refusal.{Refusal}
 use Rattle.uv_model.specs.Violations.AllViolations.{AreFaults}
 use Rattle.uv_model.specs.Violations.Rule.{rule_number}
 use Rattle.uv_model.specs.Records.Url.{Url}
-use Rattle.urlcheck_c.specs.declared.fault_lists.Fault.{Fault}
-use Rattle.urlcheck_c.specs.declared.fault_lists.FaultCount.{FaultCount}
+use Rattle.urlcheck_c.specs.declared.reports.fault_lists.Fault.{Fault}
+use Rattle.urlcheck_c.specs.declared.reports.fault_lists.FaultCount.{FaultCount}
 use Rattle.urlcheck_c.specs.declared.finding.Finding.{Finding}
 use Rattle.urlcheck_c.specs.declared.finding.CallOutcome.TheVariants.{Valid, Refused, Memory}
 use Rattle.urlcheck_c.specs.Finding.{byte_place, plain_finding, refused_finding}

@@ -1,5 +1,6 @@
 -- The next line of a buffer that isn't valid.
-use Rattle.std.specs.Prelude.{◌≡◌, ◌≢◌, ℕ, zero, suc, ◌+◌, ◌≤◌, ◌<◌, ◌⊎◌, List, [], ◌∷◌, length, drop, slice_range, take}
+use Rattle.std.specs.Prelude.{◌≡◌, ◌≢◌, ℕ, zero, suc, ◌+◌, ◌≤◌, ◌<◌, ◌⊎◌, List, [], ◌∷◌, length, drop, slice_range}
+use Rattle.std.specs.Prelude.{take}
 use Rattle.std.specs.Prelude.{None}
 use Rattle.uv_lines.specs.Lines.{lines_of}
 use Rattle.urlcheck_c.specs.declared.finding.Finding.{Finding}

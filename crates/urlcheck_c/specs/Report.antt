@@ -1,9 +1,9 @@
 -- What stands round the diagnostics of a report, by numbers.
 use Rattle.std.specs.Prelude.{◌≡◌, ℕ, ◌⊎◌, Bool, true, false, List, [], Option, Some, None, IsUtf8}
-use Rattle.uv_report.specs.declared.column.Columns.{Columns}
+use Rattle.uv_report.specs.declared.places.column.Columns.{Columns}
 use Rattle.uv_report.specs.declared.completion.Completion.{Completion}
 use Rattle.uv_report.specs.declared.format.Format.{Format}
-use Rattle.uv_report.specs.Column.{columns_name}
+use Rattle.uv_report.specs.Places.Column.{columns_name}
 use Rattle.uv_report.specs.Format.{format_name, takes_columns}
 use Rattle.uv_report.specs.Format as reported
 use Rattle.uv_report.specs.Report.{begin_text, end_text, file_begin_text, file_end_text}

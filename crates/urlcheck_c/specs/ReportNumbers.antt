@@ -3,8 +3,8 @@ use Rattle.std.specs.Prelude.{ℕ, ◌==◌, if◌then◌else◌, Option, Some, 
 use Rattle.uv_model.specs.declared.mend_kind.MendKind.{MendKind}
 use Rattle.uv_model.specs.declared.mend_kind.MendKind.TheVariants.{Same, Escaped, Changed}
 use Rattle.uv_model.specs.declared.rule.Rule.{Rule}
-use Rattle.uv_report.specs.declared.column.Columns.{Columns}
-use Rattle.uv_report.specs.declared.column.Columns.TheVariants.{CodePoints, Bytes, Utf16, Screen}
+use Rattle.uv_report.specs.declared.places.column.Columns.{Columns}
+use Rattle.uv_report.specs.declared.places.column.Columns.TheVariants.{CodePoints, Bytes, Utf16, Screen}
 use Rattle.uv_report.specs.declared.completion.Completion.{Completion}
 use Rattle.uv_report.specs.declared.completion.Completion.TheVariants.{Whole, Unread, Stopped}
 use Rattle.uv_report.specs.declared.format.Format.{Format}

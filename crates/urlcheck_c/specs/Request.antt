@@ -4,12 +4,9 @@ use Rattle.std.specs.Borrow.{Bor}
 use Rattle.std.specs.Str.{chars}
 use Rattle.uv_model.specs.declared.profile.Profile.{Profile}
 use Rattle.uv_model.specs.declared.rule.Refusal.{Refusal}
-use Rattle.uv_model.specs.Parts.{Parts}
 use Rattle.uv_model.specs.Records.Url.{Url}
-use Rattle.uv_model.specs.Valid.{Valid}
-use Rattle.uv_grammar.specs.NoMemory.{TakesNoMemoryAgainst}
 use Rattle.uv_grammar.specs.Verdict.{IsRefused}
-use Rattle.uv_resolve.specs.Resolve.{Denotes}
+use Rattle.uv_resolve.specs.Resolve.{Denotes, IsRefusedWithoutMemory}
 use Rattle.urlcheck_c.specs.declared.finding.Finding.{Finding}
 use Rattle.urlcheck_c.specs.declared.finding.CallOutcome.{CallOutcome}
 use Rattle.urlcheck_c.specs.declared.finding.CallOutcome.TheVariants.{NoUtf8, BaseRefused, BaseNoUtf8, Memory}
@@ -35,14 +32,9 @@ pub record IsRefusedText (outcome : CallOutcome) (profile : Profile) (base : Opt
 abbrev pub IsMemory : Finding → Type 0
 IsMemory finding = finding ≡ plain_finding Memory
 
--- the bytes are refused against the base, and are judged without memory
-abbrev pub IsRefusedWithoutMemory : Profile → Option Url → List ℕ → Type 0
-IsRefusedWithoutMemory profile base bytes =
-    TakesNoMemoryAgainst profile base (chars bytes) × ((parts : Parts) → ¬ (Valid profile base (chars bytes) parts))
-
 -- memory ran out, of bytes that aren't refused without it
 abbrev pub LacksMemory : Profile → Option Url → List ℕ → Finding → Type 0
-LacksMemory profile base bytes finding = IsMemory finding × ¬ (IsRefusedWithoutMemory profile base bytes)
+LacksMemory profile base bytes finding = IsMemory finding × ¬ (IsRefusedWithoutMemory profile base (chars bytes))
 
 -- the bytes of a text, or why they are none
 abbrev pub IsTextRead : CallOutcome → List ℕ → Result (Bor (List ℕ)) Finding → Type 0

@@ -4,12 +4,12 @@ use Rattle.std.specs.Str.{chars}
 use Rattle.uv_model.specs.declared.profile.Profile.{Profile}
 use Rattle.uv_model.specs.Records.Serialize.{serial}
 use Rattle.uv_model.specs.Records.Url.{Url}
-use Rattle.uv_resolve.specs.Resolve.{Denotes}
+use Rattle.uv_resolve.specs.Resolve.{Denotes, IsRefusedWithoutMemory}
 use Rattle.urlcheck_c.specs.declared.finding.CallOutcome.TheVariants.{Valid, Refused, Memory}
 use Rattle.urlcheck_c.specs.declared.records.Resolved.{Resolved}
 use Rattle.urlcheck_c.specs.Buffer.{IsWritten}
 use Rattle.urlcheck_c.specs.Finding.{plain_finding}
-use Rattle.urlcheck_c.specs.Request.{IsRefusedText, IsRefusedWithoutMemory, IsRequest, IsUnjudged}
+use Rattle.urlcheck_c.specs.Request.{IsRefusedText, IsRequest, IsUnjudged}
 
 -- out of memory
 abbrev pub no_memory : Resolved
@@ -34,7 +34,7 @@ pub record IsRefusedAnswer (profile : Profile) (base : Option Url) (bytes old ne
 -- memory ran out, of a text that isn't refused without it, and nothing was written
 abbrev pub IsOutOfMemory : Profile → Option Url → List ℕ → List ℕ → List ℕ → Resolved → Type 0
 IsOutOfMemory profile base bytes old new answer =
-    (answer ≡ no_memory) × (new ≡ old) × ¬ (IsRefusedWithoutMemory profile base bytes)
+    (answer ≡ no_memory) × (new ≡ old) × ¬ (IsRefusedWithoutMemory profile base (chars bytes))
 
 -- the text denotes a URL whose text is written, or it is refused, or memory ran out
 abbrev pub IsRecordAnswer : Profile → Option Url → List ℕ → List ℕ → List ℕ → Resolved → Type 0

@@ -1,4 +1,5 @@
--- Many texts in one call: of each what urlcheck_resolve answers, in columns, and the texts of their records in a buffer.
+-- Many texts in one call: of each what urlcheck_resolve answers, in columns, and the texts of their records in a
+-- buffer.
 use Rattle.std.specs.Prelude.{◌≡◌, ℕ, ◌⊎◌, ◌+◌, ◌≤◌, List, [], ◌∷◌, ◌++◌, length, map, Some, None, zero, suc}
 use Rattle.std.specs.Prelude.{Result, Ok, Err, String, string_bytes}
 use Rattle.std.specs.declared.alloc.Global.{Global}
@@ -7,7 +8,8 @@ use Rattle.uv_model.specs.declared.profile.Profile.{Profile}
 use Rattle.uv_resolve.specs.Resolve.{DenotesText}
 use Rattle.urlcheck_c.specs.declared.batches.Batch.{Batch}
 use Rattle.urlcheck_c.specs.declared.finding.Finding.{Finding}
-use Rattle.urlcheck_c.specs.declared.finding.CallOutcome.TheVariants.{Done, Memory, NoOffsets, NoProfile, Refused, Valid}
+use Rattle.urlcheck_c.specs.declared.finding.CallOutcome.TheVariants.{Done, Memory, NoOffsets, NoProfile, Refused}
+use Rattle.urlcheck_c.specs.declared.finding.CallOutcome.TheVariants.{Valid}
 use Rattle.urlcheck_c.specs.Batch.{Columns, IsColumn, one_if_valid, unjudged_batch}
 use Rattle.urlcheck_c.specs.Buffer.{IsWritten}
 use Rattle.urlcheck_c.specs.Finding.{outcome_number, plain_finding, profile_of}
@@ -70,7 +72,8 @@ resolved_columns verdicts rules places ends = record {
   ends = ends;
 }
 
--- Of the first so many texts the columns have the answers, and where the texts of their records begin. These texts are the
+-- Of the first so many texts the columns have the answers, and where the texts of their records begin. These texts are
+-- the
 -- bytes one behind the other, and so many texts are valid.
 pub record AreRowsResolved (number : ℕ) (texts offsets : List ℕ) (rows : ℕ) (old new : ResolvedColumns)
     (bytes : List ℕ) (valid : ℕ) : Type 0 where
@@ -92,7 +95,8 @@ pub record AreRowsResolved (number : ℕ) (texts offsets : List ℕ) (rows : ℕ
 abbrev pub resolved_batch : ℕ → ℕ → Batch
 resolved_batch valid length = record { outcome = outcome_number Done; row = 0; valid = valid; length = length }
 
--- Each text is resolved, and the columns have the answers. The texts of the records are at the start of the buffer where
+-- Each text is resolved, and the columns have the answers. The texts of the records are at the start of the buffer
+-- where
 -- they fit, and their length is given.
 pub record IsBatchResolved (number : ℕ) (texts offsets : List ℕ) (old new : ResolvedColumns) (out_old out_new : List ℕ)
     (answer : Batch) : Type 0 where

@@ -3,10 +3,10 @@ use Rattle.std.specs.Prelude.{◌≡◌, ℕ, ◌⊎◌, ◌≤◌, ◌<◌, Lis
 use Rattle.std.specs.Str.{chars}
 use Rattle.uv_model.specs.declared.profile.Profile.{Profile}
 use Rattle.uv_report.specs.declared.line_violation.LineViolation.{LineViolation}
-use Rattle.uv_report.specs.Message.{message}
+use Rattle.uv_report.specs.Sentences.Message.{message}
 use Rattle.urlcheck_c.specs.declared.finding.Finding.{Finding}
 use Rattle.urlcheck_c.specs.declared.finding.CallOutcome.TheVariants.{NoProfile, NoUtf8, NoRule, NoPlace}
-use Rattle.urlcheck_c.specs.declared.messages.FoundViolation.{FoundViolation}
+use Rattle.urlcheck_c.specs.declared.reports.messages.FoundViolation.{FoundViolation}
 use Rattle.urlcheck_c.specs.declared.written.Written.{Written}
 use Rattle.urlcheck_c.specs.Finding.{plain_finding, profile_of}
 use Rattle.urlcheck_c.specs.ReportNumbers.{violation_of}

@@ -3,8 +3,8 @@ ghost use Rattle.std.specs.Prelude.{◌≡◌, ◌≤◌, ◌++◌, drop, length
 ghost use Rattle.urlcheck_c.specs.Buffer.{IsWritten};
 ghost use Rattle.urlcheck_c.specs.Faults.{fault_of, stored};
 
-use crate::fault_lists::Fault;
 use crate::places::{behind_passed, bytes_before};
+use crate::reports::fault_lists::Fault;
 use uv_model::Refusal;
 
 /// Writes the bytes to the start of `out` where they fit, and gives their length. Where `out` is shorter it stays as it

@@ -4,7 +4,7 @@ ghost use Rattle.urlcheck_c.specs.Finding.{plain_finding};
 ghost use Rattle.urlcheck_c.specs.Column.{IsColumnAnswer, IsInRange, uncounted};
 
 use crate::finding::{CallOutcome, Finding};
-use crate::report_numbers::unit_of;
+use crate::reports::report_numbers::unit_of;
 use crate::request::text_of;
 use uv_report::ColumnCounter;
 use uv_text::count_code_points;

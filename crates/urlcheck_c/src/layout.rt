@@ -5,13 +5,13 @@ use crate::bases::Base;
 use crate::batches::Batch;
 use crate::checks::Answer;
 use crate::columns::Counted;
-use crate::diagnostics::Violation;
-use crate::fault_lists::{Fault, FaultCount};
 use crate::finding::Finding;
 use crate::lines::Line;
 use crate::mended::Mended;
-use crate::placed_records::PlacedRecord;
 use crate::records::Resolved;
+use crate::records::placed_records::PlacedRecord;
+use crate::reports::diagnostics::Violation;
+use crate::reports::fault_lists::{Fault, FaultCount};
 use crate::spans::{Span, Spans};
 use crate::written::Written;
 

@@ -3,6 +3,10 @@ ghost use Rattle.std.specs.Prelude.{◌≡◌, ℕ, None, Some, option_copied};
 ghost use Rattle.urlcheck_c.specs.Base.{IsPreparedBase, IsUnjudgedWith, SaysNoBase};
 ghost use Rattle.urlcheck_c.specs.Resolved.{IsRecordAnswer, IsRecordWritten, IsResolvedAnswer, no_memory};
 
+pub(crate) mod placed_records;
+pub(crate) mod record_places;
+pub(crate) mod resolved_batches;
+
 use crate::bases::{Base, unread};
 use crate::buffers::write_prefix;
 use crate::finding::{CallOutcome, Finding};

@@ -8,9 +8,15 @@ ghost use Rattle.urlcheck_c.specs.Report.{takes_columns_of};
 ghost use Rattle.urlcheck_c.specs.Finding.{plain_finding};
 ghost use Rattle.urlcheck_c.specs.ReportNumbers as spec;
 
+pub(crate) mod diagnostics;
+pub(crate) mod explanations;
+pub(crate) mod fault_lists;
+pub(crate) mod messages;
+pub(crate) mod report_numbers;
+
 use crate::buffers::write_prefix;
 use crate::finding::{CallOutcome, Finding};
-use crate::report_numbers::{completion_of, format_of, unit_of};
+use crate::reports::report_numbers::{completion_of, format_of, unit_of};
 use crate::request::text_of;
 use crate::written::{Written, given};
 use std::alloc::{AllocError, Global};

@@ -2,11 +2,11 @@
 
 use crate::bases::{Base, urlcheck_prepare};
 use crate::checks::{urlcheck_check, urlcheck_check_against, urlcheck_check_with};
-use crate::fault_lists::{Fault, urlcheck_faults, urlcheck_faults_against};
 use crate::finding::Finding;
 use crate::mended::{urlcheck_mend, urlcheck_mend_against};
 use crate::names::{urlcheck_rule_name, urlcheck_rule_sentence};
 use crate::records::{urlcheck_resolve, urlcheck_resolve_against};
+use crate::reports::fault_lists::{Fault, urlcheck_faults, urlcheck_faults_against};
 use crate::spans::Span;
 use crate::validity::{urlcheck_is_valid, urlcheck_is_valid_with};
 use std::process::Abort;

@@ -16,7 +16,7 @@ use Rattle.uv_model.specs.Records.Serialize.{serial_segments}
 use Rattle.uv_model.proofs.Paths.PathTexts.{pieces-append, pieces-one, pieces-serial}
 use Rattle.uv_model.proofs.Records.WellFormedLemmas.{no_slash-encoded}
 use Rattle.uv_model.proofs.Texts.EncodingLemmas.{encoded_code_point-kept}
-use Rattle.uv_resolve.specs.OwnText.{has_no_dots}
+use Rattle.uv_resolve.specs.Kept.{has_no_dots}
 use Rattle.uv_resolve.specs.Walk.{IsKeptPath, IsSegmented}
 use Rattle.uv_resolve.proofs.KeptPathLemmas.{encoded_each, kept-segments, serial_segments-encoded, walk-encoded}
 use Rattle.uv_resolve.proofs.PathTextLemmas.{second, unslashed_pieces}

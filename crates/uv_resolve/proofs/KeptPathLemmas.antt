@@ -1,32 +1,25 @@
 -- Paths of segments that a walk keeps: what is denoted is each of them percent-encoded.
-use Rattle.std.proofs.Common.{◌≡◌, ◌≢◌, ℕ, Bool, true, false, not, List, [], ◌∷◌, ◌++◌, Option, Some, None, refl}
+use Rattle.std.proofs.Common.{◌≡◌, ◌≢◌, ℕ, Bool, true, false, not, List, [], ◌∷◌, ◌++◌, refl}
 use Rattle.std.proofs.Common.{sym, ap, ◌∙◌, subst, inl, inr, append_assoc, append-nil, map}
 use Rattle.std.proofs.Common.{◌==◌, ◌&&◌, ◌≤◌, codes, arith}
 use Rattle.std.specs.Char.{to_ascii_lowercase}
 use Rattle.std.specs.Str.{IsUtf8, bytes_eq, chars}
 use Rattle.std.proofs.Math.Utf8.{encode, encodes}
-use Rattle.std.specs.List.{join_with_byte, list_all}
+use Rattle.std.specs.List.{list_all}
 use Rattle.std.proofs.lemmas.Slice.Eq.{bytes_eq-Decides}
 use Rattle.std.proofs.lemmas.Str.{encode_ascii, encodes-chars}
 use Rattle.std.proofs.lemmas.Bool.Decides.{nat_tests}
 use Rattle.std.proofs.lemmas.Bool.{and_parts, and_from, cases_lt, false_from_ne_true, false≢true, not-true, or_parts}
-use Rattle.uv_model.specs.declared.profile.Profile.{Profile}
 use Rattle.uv_model.specs.declared.scheme.Class.{Class}
-use Rattle.uv_model.specs.declared.scheme.Class.TheVariants.{File, Other, Special}
+use Rattle.uv_model.specs.declared.scheme.Class.TheVariants.{File, Other, SpecialNotFile}
 use Rattle.uv_model.specs.Ascii.{slash}
 use Rattle.uv_model.specs.Encoding.{encoded}
-use Rattle.uv_model.specs.Parts.{Parts, SchemeAuthority}
-use Rattle.uv_model.specs.Path.{MayBePathSlashed, is_double_dot, is_single_dot, walk, walk_one}
+use Rattle.uv_model.specs.Path.{is_double_dot, is_single_dot, walk, walk_one}
 use Rattle.uv_model.specs.Records.Denote.{authority_path}
 use Rattle.uv_model.specs.Records.Serialize.{serial_segments}
-use Rattle.uv_model.specs.Records.Url.{Url}
-use Rattle.uv_model.specs.Scheme.{lowercase, scheme_class}
-use Rattle.uv_model.specs.Setting.{Setting, setting_of}
-use Rattle.uv_model.specs.Valid.{FitsAuthority, FitsForm, FitsHostText, Valid}
-use Rattle.uv_model.proofs.Paths.SlashedPaths.{alone_or_none, slashed_or_none}
+use Rattle.uv_model.specs.Scheme.{lowercase}
 use Rattle.uv_model.proofs.Texts.EncodingLemmas.{encoded-append}
-use Rattle.uv_parser.proofs.RoundTrip.SerializedTexts.{serial_segments-joined}
-use Rattle.uv_resolve.specs.OwnText.{has_no_dots, is_dot_mark, is_kept_segment}
+use Rattle.uv_resolve.specs.Kept.{has_no_dots, is_dot_mark, is_kept_segment}
 
 -- each segment percent-encoded
 abbrev pub encoded_each : List (List ℕ) → List (List ℕ)
@@ -60,13 +53,14 @@ walk-encoded class path (segment ∷ next ∷ rest) no_dots =
 pub authority_path-encoded : (class : Class) (segments : List (List ℕ)) → segments ≢ []
     → list_all is_kept_segment segments ≡ true → authority_path class segments ≡ encoded_each segments
 authority_path-encoded class [] some no_dots = absurd (some refl)
-authority_path-encoded Special (segment ∷ rest) some no_dots = walk-encoded Special [] (segment ∷ rest) no_dots
+authority_path-encoded SpecialNotFile (segment ∷ rest) some no_dots =
+    walk-encoded SpecialNotFile [] (segment ∷ rest) no_dots
 authority_path-encoded File (segment ∷ rest) some no_dots = walk-encoded File [] (segment ∷ rest) no_dots
 authority_path-encoded Other (segment ∷ rest) some no_dots = walk-encoded Other [] (segment ∷ rest) no_dots
 
 -- which has one segment at least
 pub authority_path-none : (class : Class) → class ≢ Other → authority_path class [] ≡ [] ∷ []
-authority_path-none Special special = refl
+authority_path-none SpecialNotFile special = refl
 authority_path-none File special = refl
 authority_path-none Other special = absurd (special refl)
 
@@ -80,41 +74,6 @@ serial_segments-encoded [] = refl
 serial_segments-encoded (segment ∷ rest) =
     ap (λ t. slash ∷ (encoded false segment ++ t)) (serial_segments-encoded rest)
     ∙ ap (λ t. slash ∷ t) (sym (encoded-append false segment (serial_segments rest)))
-
--- a path behind an authority is its segments with `/` before each
-pub slashed_text : (segments : List (List ℕ)) (text : List ℕ) → segments ≢ [] → MayBePathSlashed segments text
-    → text ≡ serial_segments segments
-slashed_text segments text some (inl none) = absurd (some none.1)
-slashed_text segments text some (inr path) =
-    let joins = path.joins in
-    path.slashed ∙ ap (λ t. slash ∷ t) (joins.joined ∙ ap (join_with_byte slash) joins.some)
-    ∙ sym (serial_segments-joined joins.first joins.others) ∙ sym (ap serial_segments joins.some)
-
--- the path behind an authority of a special scheme
-path_behind : (class : Class) (setting : Setting) (host_text : List ℕ) (parts : Parts) → class ≢ Other
-    → FitsAuthority class setting host_text parts → MayBePathSlashed parts.segments parts.path_text
-path_behind Special setting host_text parts special fits =
-    slashed_or_none setting.profile parts.segments parts.path_text fits.path
-path_behind File setting host_text parts special (no_text, no_port, inl hosted) =
-    slashed_or_none setting.profile parts.segments parts.path_text hosted.path
-path_behind File setting host_text parts special (no_text, no_port, inr (empty, host, path)) =
-    alone_or_none setting.profile parts.segments parts.path_text path
-path_behind Other setting host_text parts special fits = absurd (special refl)
-
--- and that of a text with such a scheme and an authority
-pub special_path : (profile : Profile) (base : Option Url) (text : List ℕ) (parts : Parts) (scheme : List ℕ)
-    → Valid profile base text parts → parts.form ≡ SchemeAuthority → parts.scheme ≡ Some scheme
-    → scheme_class scheme ≢ Other → MayBePathSlashed parts.segments parts.path_text
-special_path profile base text parts scheme valid formed schemed special =
-    go parts.host_text
-    (subst (λ f. FitsForm (setting_of profile base (Some scheme)) f parts) formed
-    (subst (λ s. FitsForm (setting_of profile base s) parts.form parts) schemed valid.form))
-  where
-    go : (host_text : Option (List ℕ)) → FitsHostText (setting_of profile base (Some scheme)) parts host_text
-        → MayBePathSlashed parts.segments parts.path_text
-    go None fits = absurd fits
-    go (Some host_text) fits =
-        path_behind (scheme_class scheme) (setting_of profile base (Some scheme)) host_text parts special fits
 
 -- ---- paths in which no segment begins as a dot segment does
 

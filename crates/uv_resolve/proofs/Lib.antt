@@ -1,10 +1,8 @@
-pub mod AbsoluteTextLemmas
 pub mod EncodedPathLemmas
 pub mod KeptPathLemmas
-pub mod OwnAuthorityLemmas
-pub mod OwnTextLemmas
-pub mod PlainPathLemmas
-pub mod PlainReferenceLemmas
+pub mod KeptTextLemmas
+pub mod PathPieceLemmas
+pub mod PieceLemmas
 pub mod RecordLemmas
 pub mod SpacedEndLemmas
 pub mod RunLemmas

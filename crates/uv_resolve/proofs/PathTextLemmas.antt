@@ -7,7 +7,7 @@ use Rattle.std.proofs.lemmas.Bool.Decides.{nat_tests}
 use Rattle.std.proofs.lemmas.List.Splits.{join_with_byte-slice_split}
 use Rattle.std.specs.Prelude.{if◌then◌else◌}
 use Rattle.uv_model.specs.declared.scheme.Class.{Class}
-use Rattle.uv_model.specs.declared.scheme.Class.TheVariants.{File, Other, Special}
+use Rattle.uv_model.specs.declared.scheme.Class.TheVariants.{File, Other, SpecialNotFile}
 use Rattle.uv_model.specs.Ascii.{slash}
 use Rattle.uv_model.specs.Parts.{Form, SchemeAuthority, SchemePath, SchemeOpaque, Authority, PathAbsolute}
 use Rattle.uv_model.specs.Parts.{PathRelative, NoPath}
@@ -54,7 +54,7 @@ pub kept_authority : (class : Class) (segments : List (List ℕ)) (written : Lis
     → walk class [] segments ≡ segments_of written → authority_path class segments ≡ segments_of written
 unfolding walk
 kept_authority class [] written some kept = absurd (filled written some (sym kept))
-kept_authority Special (first ∷ others) written some kept = kept
+kept_authority SpecialNotFile (first ∷ others) written some kept = kept
 kept_authority File (first ∷ others) written some kept = kept
 kept_authority Other (first ∷ others) written some kept = kept
 

@@ -11,6 +11,7 @@ use Rattle.uv_model.specs.Valid.{Valid}
 use Rattle.uv_grammar.specs.Verdict.{IsRefused}
 use Rattle.uv_resolve.specs.declared.fault.ResolveFault.{ResolveFault}
 use Rattle.uv_resolve.specs.declared.fault.ResolveFault.TheVariants.{Refused, Memory}
+use Rattle.uv_resolve.specs.Resolve.{IsRefusedWithoutMemory}
 
 -- the base: none, or the URL that its text denotes alone
 abbrev pub IsBase : Profile → Option (Bor (List ℕ)) → Option Url → Type 0
@@ -23,9 +24,9 @@ abbrev pub IsBaseRefused : Profile → Option (Bor (List ℕ)) → Refusal → T
 IsBaseRefused profile None refusal = ⊥
 IsBaseRefused profile (Some text) refusal = IsRefused profile None (chars text.now) refusal
 
--- the base, or why it is refused; out of memory is said of a text alone
+-- the base, or why it is refused; out of memory is said of a text alone, and of none that is refused without memory
 abbrev pub IsBaseResolved : Profile → Option (Bor (List ℕ)) → Result (Option Url) ResolveFault → Type 0
 IsBaseResolved profile text (Ok base) = IsBase profile text base
 IsBaseResolved profile text (Err (Refused refusal)) = IsBaseRefused profile text refusal
 IsBaseResolved profile None (Err (Memory error)) = ⊥
-IsBaseResolved profile (Some text) (Err (Memory error)) = Unit {0}
+IsBaseResolved profile (Some text) (Err (Memory error)) = ¬ (IsRefusedWithoutMemory profile None (chars text.now))

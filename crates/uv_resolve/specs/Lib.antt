@@ -1,10 +1,8 @@
-pub mod AbsoluteText
 pub mod Base
+pub mod Kept
 pub mod Laws
 pub mod ParserAnswer
-pub mod OwnAuthority
-pub mod OwnText
-pub mod PlainReference
+pub mod Pieces
 pub mod Resolve
 pub mod Schemes
 pub mod Serialized

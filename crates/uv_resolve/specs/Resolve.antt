@@ -43,7 +43,12 @@ IsDenoted url (Ok made) = made ≡ url
 IsDenoted url (Err (Refused refusal)) = ⊥
 IsDenoted url (Err (Memory error)) = Unit {0}
 
--- a text that is valid with no parts and is judged without memory is answered by a refusal, whatever memory there is
+-- the text is valid with no parts, and is checked without memory
+abbrev pub IsRefusedWithoutMemory : Profile → Option Url → List ℕ → Type 0
+IsRefusedWithoutMemory profile base text =
+    TakesNoMemoryAgainst profile base text × ((parts : Parts) → ¬ (Valid profile base text parts))
+
+-- such a text is answered by a refusal, whatever memory there is
 abbrev pub RefusesWithoutMemory : Profile → Option Url → List ℕ → Result Url ResolveFault → Type 0
 RefusesWithoutMemory profile base text result =
     TakesNoMemoryAgainst profile base text → ((parts : Parts) → ¬ (Valid profile base text parts))

@@ -3,7 +3,7 @@ ghost use Rattle.std.specs.Prelude.{◌≡◌, ◌++◌, IfOk, OnOk, chars, stri
 ghost use Rattle.std.specs.Str.{IsAscii};
 ghost use Rattle.uv_model.specs.Encoding.{encoded};
 
-use crate::own_text::is_never_encoded;
+use crate::kept::is_never_encoded;
 use std::alloc::{AllocError, Global};
 use uv_model::Text;
 use uv_text::{encode, push_encoded};

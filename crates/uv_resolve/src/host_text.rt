@@ -1,25 +1,20 @@
 //! Texts of hosts that are as the host serializer writes their values.
-ghost use Rattle.std.specs.Prelude.{◌≡◌, ◌++◌, IfSome, IsTrue, chars, decimal, true};
-ghost use Rattle.std.specs.Char.{is_ascii};
-ghost use Rattle.std.specs.List.{list_all};
-ghost use Rattle.uv_model.specs.Records.Serialize.{serial_host, serial_ipv4};
-ghost use Rattle.uv_grammar.specs.PartsHost.{referred};
+ghost use Rattle.std.specs.Prelude.{◌≡◌, ◌++◌, IfSome, IsTrue, Some, chars, decimal};
+ghost use Rattle.uv_model.specs.Records.Serialize.{serial_ipv4};
+ghost use Rattle.uv_resolve.specs.Pieces.{IsWrittenAs, written_host};
 
 use crate::ipv6_text::{behind, is_ipv6};
+use crate::pieces::HostPiece;
 use itoa::Buffer;
-use uv_grammar::HostRef;
 
 /// Whether the text of a host is the serialized host. Where the answer is no, that says nothing.
-pub(crate) fn is_serialized(text: &str, host: &HostRef<'_>) -> bool
-    ensures { IsTrue result → list_all is_ascii (chars text.now) ≡ true
-        → chars text.now ≡ serial_host (referred host.now) }
+pub(crate) fn is_serialized(text: &str, host: &HostPiece<'_>) -> bool
+    ensures { IsTrue result → IsWrittenAs (Some (chars text.now)) (written_host host.now) }
 {
     match host {
-        HostRef::Domain(form) => text == form.as_str(),
-        HostRef::V4(value) => is_ipv4(text.as_bytes(), *value),
-        HostRef::V6(pieces) => is_ipv6(text.as_bytes(), pieces),
-        HostRef::Empty => text.is_empty(),
-        HostRef::Opaque(_) => false,
+        HostPiece::Name(name) => text == *name,
+        HostPiece::V4(value) => is_ipv4(text.as_bytes(), *value),
+        HostPiece::V6(pieces) => is_ipv6(text.as_bytes(), pieces),
     }
 }
 

@@ -2,17 +2,16 @@
 //! 4.4).
 #![tactic(auto)]
 
-mod absolute_text;
 mod base;
 mod encoded_parts;
 mod fault;
 mod host_text;
 mod ipv6_text;
+mod kept;
 pub mod laws;
-mod own_authority;
-mod own_text;
+mod path_pieces;
 mod paths;
-mod plain_reference;
+mod pieces;
 mod records;
 mod resolver;
 mod schemes;

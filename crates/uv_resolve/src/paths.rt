@@ -7,11 +7,11 @@ ghost use Rattle.uv_model.specs.Records.WellFormed.{AreUrlSegments};
 ghost use Rattle.uv_model.specs.Encoding.{encoded};
 ghost use Rattle.uv_model.specs.Path as path_spec;
 ghost use Rattle.uv_resolve.specs.Resolve.{HaveValidText};
-ghost use Rattle.uv_resolve.specs.OwnText.{has_no_dots};
+ghost use Rattle.uv_resolve.specs.Kept.{has_no_dots};
 ghost use Rattle.uv_resolve.specs.Walk.{IsKeptPath, IsSegmented, StartsSegments};
 
 use crate::encoded_parts::encoded_part;
-use crate::own_text::is_without_dots;
+use crate::kept::is_without_dots;
 use crate::walker::{shorten, walk};
 use std::alloc::{AllocError, Global};
 use uv_grammar::{Form, Parts};
@@ -73,7 +73,7 @@ fn root(alloc: Global, class: Class) -> Result<UrlPath, AllocError>
 {
     let mut path = PathText::new(alloc);
     match class {
-        Class::Special | Class::File => path.push("")?,
+        Class::SpecialNotFile | Class::File => path.push("")?,
         Class::Other => {}
     }
     Ok(UrlPath::Segments(TextList::of_path(path)))
@@ -86,7 +86,7 @@ fn path_for(alloc: Global, parts: &Parts<'_>) -> Result<PathText, AllocError>
     PathText::with_capacity(alloc, parts.path_text().len().saturating_add(1))
 }
 
-// What a walk over the segments makes of the path `start`. Where each segment stays as it is, they are appended at once.
+// What a walk over the segments makes of the path `start`. Where each segment stays, they are appended at once.
 fn walked(
     alloc: Global,
     class: Class,
@@ -122,8 +122,8 @@ fn rewritten_alone(alloc: Global, class: Class, parts: &Parts<'_>) -> Result<Url
     Ok(UrlPath::Segments(TextList::of_path(path)))
 }
 
-// What a walk over the segments makes of the path `start`, where some segment changes. Where they are only encoded, that
-// is done at once, and else segment by segment.
+// What a walk over the segments makes of the path `start`, where some segment changes. Where they are only encoded,
+// that is done at once, and else segment by segment.
 fn rewritten(
     alloc: Global,
     class: Class,

@@ -39,8 +39,8 @@ pub(crate) fn denoted(
     Ok(Record::make_with(scheme, host, port, path, query, fragment))
 }
 
-// The class of the text's scheme, or of the base's where the text has none.
-fn class_in(parts: &Parts<'_>, base: Option<&Record>) -> Class
+/// The class of the text's scheme, or of the base's where the text has none.
+pub(crate) fn class_in(parts: &Parts<'_>, base: Option<&Record>) -> Class
     ensures { result ≡ scheme_class (scheme_in (option_copied base.entry) parts.now) }
 {
     match parts.scheme() {
@@ -136,8 +136,9 @@ fn base_host(alloc: Global, base: Option<&Record>) -> Result<Option<Host>, Alloc
     }
 }
 
+/// The port of the authority, or the base's where the text has neither a scheme nor an authority.
 #[inline(always)]
-fn port_of(parts: &Parts<'_>, base: Option<&Record>) -> Option<u16>
+pub(crate) fn port_of(parts: &Parts<'_>, base: Option<&Record>) -> Option<u16>
     ensures { result ≡ spec.denoted_port (option_copied base.entry) parts.now.form parts.now }
 {
     match parts.form() {
@@ -174,12 +175,12 @@ fn query_of(
     }
 }
 
-// Whether a query encodes `'` too, as that of a URL of class Special or File does.
-fn quotes(class: Class) -> bool
+/// Whether a query encodes `'` too, as that of a URL of class SpecialNotFile or File does.
+pub(crate) fn quotes(class: Class) -> bool
     ensures { result ≡ spec.quotes class }
 {
     match class {
-        Class::Special | Class::File => true,
+        Class::SpecialNotFile | Class::File => true,
         Class::Other => false,
     }
 }

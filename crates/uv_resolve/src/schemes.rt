@@ -3,7 +3,7 @@ ghost use Rattle.std.specs.Prelude.{◌≡◌, IfOk, IfSome, chars};
 ghost use Rattle.std.specs.Cow.{cow_str_bytes};
 ghost use Rattle.std.specs.Str.{IsAscii};
 ghost use Rattle.uv_model.specs.Scheme.{lowercase, scheme_class};
-ghost use Rattle.uv_resolve.specs.Schemes.{IsKnownScheme, IsLowerScheme};
+ghost use Rattle.uv_resolve.specs.Schemes.{IsKnownScheme};
 
 use std::alloc::{AllocError, Global};
 use std::borrow::CowStr;
@@ -19,15 +19,22 @@ pub(crate) fn class_by(scheme: &str) -> Class
     }
 }
 
+/// The name of a special scheme in lower case.
+pub(crate) fn lower_name(scheme: &str) -> Option<&'static str>
+    ensures { IfSome result (λ name. name.now ≡ lowercase (chars scheme.now)) }
+{
+    match known_scheme(scheme) {
+        Some(known) => Some(known.name),
+        None => special_name(scheme),
+    }
+}
+
 /// A scheme in lower case, which takes no memory where the scheme is special.
 pub(crate) fn lowered(alloc: Global, scheme: &str) -> Result<CowStr<'static>, AllocError>
     requires { IsAscii (chars scheme.now) }
     ensures { IfOk result (λ text. cow_str_bytes text ≡ lowercase (chars scheme.now)) }
 {
-    if let Some(known) = known_scheme(scheme) {
-        return Ok(CowStr::Borrowed(known.name));
-    }
-    match special_name(scheme) {
+    match lower_name(scheme) {
         Some(name) => Ok(CowStr::Borrowed(name)),
         None => Ok(CowStr::Owned(scheme.to_ascii_lowercase(alloc)?)),
     }
@@ -44,9 +51,9 @@ pub(crate) fn copied(alloc: Global, scheme: &str) -> Result<CowStr<'static>, All
     }
 }
 
-/// The name of a special scheme in lower case, in whichever case the scheme is written.
-pub(crate) fn special_name(scheme: &str) -> Option<&'static str>
-    ensures { IfSome result (λ name. IsLowerScheme (chars scheme.now) name.now) }
+// The same, in whichever case the scheme is written.
+fn special_name(scheme: &str) -> Option<&'static str>
+    ensures { IfSome result (λ name. name.now ≡ lowercase (chars scheme.now)) }
 {
     if is_name(scheme, "https") {
         return Some("https");
@@ -82,13 +89,13 @@ fn known_scheme(scheme: &str) -> Option<KnownScheme>
 {
     if scheme == "https" {
         return Some(KnownScheme {
-            class: Class::Special,
+            class: Class::SpecialNotFile,
             name: "https",
         });
     }
     if scheme == "http" {
         return Some(KnownScheme {
-            class: Class::Special,
+            class: Class::SpecialNotFile,
             name: "http",
         });
     }

@@ -1,17 +1,14 @@
 //! The serialized URL of a text, alone or against a base.
 ghost use Rattle.std.specs.Cow.{cow_str_bytes};
-ghost use Rattle.std.specs.Prelude.{◌≡◌, ◌++◌, ◌∷◌, [], IfOk, chars, option_copied, string_bytes};
-ghost use Rattle.uv_model.specs.Ascii.{slash};
+ghost use Rattle.std.specs.Prelude.{◌≡◌, IfOk, chars, option_copied, string_bytes};
 ghost use Rattle.uv_model.specs.Records.Denote.{denote};
 ghost use Rattle.uv_model.specs.Records.Serialize.{serial};
 ghost use Rattle.uv_model.specs.declared.profile.Profile.TheVariants.{Parser};
 ghost use Rattle.uv_model.specs.Records.WellFormed.{MayBeWellFormed};
 ghost use Rattle.uv_resolve.specs.Serialized.{ArePartsOf, IsSerialized, RefusesSerializedWithoutMemory};
 
-use crate::absolute_text::absolute_text;
 use crate::fault::ResolveFault;
-use crate::own_text::{is_own_root, is_own_text};
-use crate::plain_reference::plain_reference;
+use crate::pieces::pieces;
 use crate::records::denoted;
 use std::alloc::{AllocError, Global};
 use std::borrow::CowStr;
@@ -48,10 +45,10 @@ pub fn serialize_parts(
     ensures { IfOk result (λ written.
         string_bytes written ≡ serial (denote (option_copied base.entry) parts.entry)) }
 {
-    if is_own_text(text, &parts) {
-        return String::from_str(alloc, text);
+    match serialized_text(alloc, text, &parts, base)? {
+        CowStr::Borrowed(text) => String::from_str(alloc, text),
+        CowStr::Owned(written) => Ok(written),
     }
-    write_parts(alloc, text, &parts, base)
 }
 
 /// The same, but lends the text where it is known to be the URL's text itself. Most links are, and take no memory then.
@@ -65,37 +62,17 @@ pub fn serialized_text<'t>(
     ensures { IfOk result (λ written.
         cow_str_bytes written ≡ serial (denote (option_copied base.entry) parts.now)) }
 {
-    if is_own_text(text, parts) {
+    let Some(pieces) = pieces(parts, base) else {
+        return Ok(CowStr::Owned(record_text(alloc, text, parts, base)?));
+    };
+    if pieces.is_text(text, parts) {
         return Ok(CowStr::Borrowed(text));
     }
-    Ok(CowStr::Owned(write_parts(alloc, text, parts, base)?))
+    Ok(CowStr::Owned(pieces.write(alloc)?))
 }
 
-// The same, written into a string of its own, of a text that isn't known to be the URL's text itself.
-fn write_parts(
-    alloc: Global,
-    text: &str,
-    parts: &Parts<'_>,
-    base: Option<&Record>,
-) -> Result<String, AllocError>
-    requires { ArePartsOf (option_copied base) (chars text.now) parts.now }
-    ensures { IfOk result (λ written.
-        string_bytes written ≡ serial (denote (option_copied base.entry) parts.now)) }
-{
-    if is_own_root(text, parts) {
-        return with_slash(alloc, text);
-    }
-    if let Some(written) = absolute_text(alloc, parts)? {
-        return Ok(written);
-    }
-    if let Some(written) = plain_reference(alloc, text, parts, base)? {
-        return Ok(written);
-    }
-    record_text(alloc, text, parts, base)
-}
-
-// The same, by the record. A function clears room for a value as large as that where it begins, so that this one stands
-// apart from what is written without a record.
+// The same, by the record, of a URL whose text has no pieces. A function clears room for a value as large as that where
+// it begins, so that this one is apart from what is written without a record.
 #[inline(never)]
 fn record_text(
     alloc: Global,
@@ -112,16 +89,6 @@ fn record_text(
         Ok(record) => record.text(alloc),
         Err(ResolveFault::Refused(_) | ResolveFault::Memory(_)) => Err(AllocError),
     }
-}
-
-// The text with a `/` behind it, in one allocation.
-fn with_slash(alloc: Global, text: &str) -> Result<String, AllocError>
-    ensures { IfOk result (λ written. string_bytes written ≡ text.now ++ (slash ∷ [])) }
-{
-    let mut written = String::with_capacity(alloc, text.len().saturating_add(1))?;
-    written.push_str(text)?;
-    written.push('/')?;
-    Ok(written)
 }
 
 // A base is well formed, as each record is.

@@ -7,7 +7,7 @@ ghost use Rattle.uv_model.specs.Path as spec;
 ghost use Rattle.uv_resolve.specs.Walk.{is_dots};
 
 use crate::encoded_parts::encoded_part;
-use crate::own_text::is_never_encoded;
+use crate::kept::is_never_encoded;
 use std::alloc::{AllocError, Global};
 use uv_grammar::Segments;
 use uv_model::{Class, PathText, is_double_dot, is_normalized_drive_letter, is_single_dot};
@@ -68,7 +68,7 @@ pub(crate) fn shorten(class: Class, path: &mut PathText)
 {
     match class {
         Class::File if is_lone_drive(path.as_str()) => {}
-        Class::File | Class::Special | Class::Other => path.pop(),
+        Class::File | Class::SpecialNotFile | Class::Other => path.pop(),
     }
 }
 

@@ -2,7 +2,7 @@
 use Rattle.std.proofs.Common.{◌≡◌, ℕ, List, IsUtf8, length, map, take, drop}
 use Rattle.std.specs.Str.{chars}
 use Rattle.uv_model.specs.declared.rule.Refusal.{Refusal}
-use Rattle.urlcheck_c.specs.declared.fault_lists.Fault.{Fault}
+use Rattle.urlcheck_c.specs.declared.reports.fault_lists.Fault.{Fault}
 use Rattle.urlcheck_c.specs.Faults.{fault_of}
 use Rattle.urlcheck_c.proofs.buffers.store_all.Given as goal
 

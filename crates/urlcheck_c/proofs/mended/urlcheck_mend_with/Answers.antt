@@ -22,5 +22,6 @@ returns-in-None-clause-held c = λ number is.
       refl,
       subst (λ (finding : Finding). IsUnjudged number (Some c.args.base_text.now) c.args.text.now finding)
           (sym (ap (λ (m : Mended). m.found) none))
-          (c.unread.ensures.held number c.args.base_text.now is (c.in-None.ensures.held number c.args.base_text.now is)),
+          (c.unread.ensures.held number c.args.base_text.now is
+          (c.in-None.ensures.held number c.args.base_text.now is)),
     )

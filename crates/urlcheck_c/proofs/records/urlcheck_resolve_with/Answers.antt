@@ -12,4 +12,9 @@ returns-in-Some-clause-held c = λ number is.
 
 pub returns-in-None-clause-held : goal.returns-in-None-clause-held
 returns-in-None-clause-held c = λ number is.
-    inl (refl, refl, c.unread.ensures.held number c.args.base_text.now is (c.in-None.ensures.held number c.args.base_text.now is))
+    inl (
+      refl,
+      refl,
+      c.unread.ensures.held number c.args.base_text.now is
+          (c.in-None.ensures.held number c.args.base_text.now is),
+    )

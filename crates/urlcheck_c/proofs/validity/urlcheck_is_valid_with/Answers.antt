@@ -10,7 +10,8 @@ returns-in-Ok-clause-held c = λ number bytes is.
       c.in-Ok.request.base.profile,
       Some read.1.0,
       read.1.1,
-      subst (λ (text : List ℕ). IsKnownValid c.in-Ok.request.base.profile (Some read.1.0) text c.is_known_valid_with.result)
+      subst (λ (text : List ℕ). IsKnownValid c.in-Ok.request.base.profile (Some read.1.0) text
+          c.is_known_valid_with.result)
           read.0 (c.is_known_valid_with.ensures read.1.0 read.1.2),
     )
 

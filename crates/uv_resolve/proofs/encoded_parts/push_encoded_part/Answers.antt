@@ -1,6 +1,6 @@
 -- A text that no part encodes is its own encoding.
 use Rattle.std.proofs.Common.{rules, sym}
-use Rattle.uv_resolve.proofs.AbsoluteTextLemmas.{never_encoded-encoded}
+use Rattle.uv_resolve.proofs.KeptTextLemmas.{never_encoded-encoded}
 use Rattle.uv_resolve.proofs.encoded_parts.push_encoded_part.Goals as goal
 
 pub returns-then-is_never_encoded : goal.returns-then-is_never_encoded

@@ -1,6 +1,6 @@
 -- The form and the bytes of the path tell it.
 use Rattle.std.proofs.Common.{◌∙◌, ap, subst, sym, true, ◌≡◌, List, ℕ}
-use Rattle.uv_resolve.specs.OwnText.{has_no_dots}
+use Rattle.uv_resolve.specs.Kept.{has_no_dots}
 use Rattle.uv_resolve.proofs.KeptPathLemmas.{no_dots-chars}
 use Rattle.uv_resolve.proofs.PathTextLemmas.{segmented}
 use Rattle.uv_resolve.proofs.paths.is_segmented_without_dots.Goals as goal

@@ -1,6 +1,6 @@
 -- A path that is ASCII is written as it is.
 use Rattle.std.proofs.Common.{◌∙◌, ap, subst, true, List, ℕ}
-use Rattle.uv_resolve.specs.OwnText.{has_no_dots}
+use Rattle.uv_resolve.specs.Kept.{has_no_dots}
 use Rattle.uv_resolve.specs.Walk.{IsKeptPath}
 use Rattle.uv_resolve.proofs.EncodedPathLemmas.{written_as_is}
 use Rattle.uv_resolve.proofs.paths.kept_path.Goals as goal

@@ -17,5 +17,6 @@ make_with-requires c =
 pub returns : goal.returns
 returns c =
     c.make_with.ensures
-    ∙ denote-fields _ c.args.parts.now c.class_in-class.result _ _ _ _ _ _ c.class_in-class.ensures c.in_ok-scheme.ensures
+    ∙ denote-fields _ c.args.parts.now c.class_in-class.result _ _ _ _ _ _ c.class_in-class.ensures
+    c.in_ok-scheme.ensures
     c.in_ok-host.ensures c.port_of-port.ensures c.in_ok-path.ensures c.in_ok-query.ensures c.in_ok-fragment.ensures

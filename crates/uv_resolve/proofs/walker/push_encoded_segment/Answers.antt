@@ -6,8 +6,8 @@ use Rattle.std.proofs.lemmas.Str.{chars-IsAscii}
 use Rattle.uv_model.specs.Ascii.{slash}
 use Rattle.uv_model.specs.Path.{is_without}
 use Rattle.uv_model.proofs.Records.WellFormedLemmas.{no_slash-encoded}
-use Rattle.uv_resolve.proofs.AbsoluteTextLemmas.{never_encoded-encoded}
-use Rattle.uv_resolve.proofs.OwnTextLemmas.{never_encoded-IsAscii}
+use Rattle.uv_resolve.proofs.KeptTextLemmas.{never_encoded-encoded}
+use Rattle.uv_resolve.proofs.KeptTextLemmas.{never_encoded-IsAscii}
 use Rattle.uv_resolve.proofs.walker.push_encoded_segment.Goals as goal
 
 pub push-requires-clause-one : goal.push-requires-clause-one

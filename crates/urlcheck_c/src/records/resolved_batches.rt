@@ -1,0 +1,211 @@
+//! Many texts in one call, with the texts of their records.
+ghost use Rattle.std.specs.Prelude.{◌≡◌, ◌+◌, ◌<◌, ◌≤◌, ◌++◌, ℕ, List, length, string_bytes};
+ghost use Rattle.urlcheck_c.specs.Offsets.{AreRows, offset_list, row_count};
+ghost use Rattle.urlcheck_c.specs.Batch.{IsPut};
+ghost use Rattle.urlcheck_c.specs.ResolvedBatch.{AreRowsResolved, IsAppended, IsRequestResolved, IsResolvedBatch};
+ghost use Rattle.urlcheck_c.specs.ResolvedBatch.{IsResolvedRow, IsTextResolved, resolved_columns};
+
+use crate::batches::{Batch, put};
+use crate::buffers::write_prefix;
+use crate::finding::{CallOutcome, Finding};
+use crate::offsets::Offsets;
+use crate::request::{LoneRequest, prepared_alone, profile_of};
+use std::alloc::{AllocError, Global};
+use uv_resolve::{ResolveFault, resolve_serialized};
+
+/// Resolves texts that stand one behind the other in a buffer, alone, by the profile with this number, and writes the
+/// texts of their records one behind the other to the start of `out`, where they fit; else `out` stays as it is. Of
+/// each text the number of its verdict, that of its rule and its place in code points go to three columns. A fourth has
+/// where the texts in `out` begin, and where the last ends. Each is left out where it has no room for all. Where
+/// nothing is resolved, nothing is written.
+#[unsafe(no_mangle)]
+pub extern "C" fn urlcheck_resolve_many(
+    alloc: Global,
+    texts: &[u8],
+    offsets: &[u64],
+    profile: u32,
+    verdicts: &mut [u8],
+    rules: &mut [u8],
+    places: &mut [u64],
+    ends: &mut [u64],
+    out: &mut [u8],
+) -> Batch
+    ensures { IsResolvedBatch profile texts.now offsets.now
+        (resolved_columns verdicts.old rules.old places.old ends.old)
+        (resolved_columns verdicts.new rules.new places.new ends.new) out.old out.new result }
+{
+    resolved(
+        alloc,
+        texts,
+        Offsets::Wide(offsets),
+        profile,
+        verdicts,
+        rules,
+        places,
+        ends,
+        out,
+    )
+}
+
+/// The same where the offsets have 32 bits.
+#[unsafe(no_mangle)]
+pub extern "C" fn urlcheck_resolve_many_32(
+    alloc: Global,
+    texts: &[u8],
+    offsets: &[u32],
+    profile: u32,
+    verdicts: &mut [u8],
+    rules: &mut [u8],
+    places: &mut [u64],
+    ends: &mut [u64],
+    out: &mut [u8],
+) -> Batch
+    ensures { IsResolvedBatch profile texts.now offsets.now
+        (resolved_columns verdicts.old rules.old places.old ends.old)
+        (resolved_columns verdicts.new rules.new places.new ends.new) out.old out.new result }
+{
+    resolved(
+        alloc,
+        texts,
+        Offsets::Narrow(offsets),
+        profile,
+        verdicts,
+        rules,
+        places,
+        ends,
+        out,
+    )
+}
+
+// The same by offsets of either width.
+fn resolved(
+    alloc: Global,
+    texts: &[u8],
+    offsets: Offsets<'_>,
+    profile: u32,
+    verdicts: &mut [u8],
+    rules: &mut [u8],
+    places: &mut [u64],
+    ends: &mut [u64],
+    out: &mut [u8],
+) -> Batch
+    ensures { IsResolvedBatch profile texts.now (offset_list offsets.entry)
+        (resolved_columns verdicts.old rules.old places.old ends.old)
+        (resolved_columns verdicts.new rules.new places.new ends.new) out.old out.new result }
+{
+    if profile_of(profile).is_none() {
+        return Batch::unjudged(CallOutcome::NoProfile, 0);
+    }
+    if let Some(row) = offsets.first_wrong(texts.len()) {
+        return Batch::unjudged(CallOutcome::NoOffsets, row);
+    }
+    let rows = resolve_rows(
+        alloc, texts, offsets, profile, verdicts, rules, places, ends,
+    );
+    Batch {
+        outcome: CallOutcome::Done.number(),
+        row: 0,
+        valid: rows.valid,
+        length: write_prefix(rows.text.as_bytes(), out),
+    }
+}
+
+// The texts of the records of rows, one behind the other, and how many rows are valid.
+#[derive(Drop)]
+struct ResolvedRows {
+    text: String,
+    valid: usize,
+}
+
+// Resolves each text.
+fn resolve_rows(
+    alloc: Global,
+    texts: &[u8],
+    offsets: Offsets<'_>,
+    profile: u32,
+    verdicts: &mut [u8],
+    rules: &mut [u8],
+    places: &mut [u64],
+    ends: &mut [u64],
+) -> ResolvedRows
+    requires { AreRows (length texts.now) (offset_list offsets) (row_count (offset_list offsets)) }
+    ensures { AreRowsResolved profile texts.now (offset_list offsets.entry) (row_count (offset_list offsets.entry))
+        (resolved_columns verdicts.old rules.old places.old ends.old)
+        (resolved_columns verdicts.new rules.new places.new ends.new) (string_bytes result.text) result.valid }
+{
+    let rows = offsets.rows();
+    let mut text = String::new(alloc);
+    let mut valid = 0;
+    put_end(ends, rows, 0, 0);
+    for row in 0..rows {
+        let found = append_resolved(alloc, offsets.text(texts, row), profile, &mut text);
+        if found.verdict == 0 {
+            valid += 1;
+        }
+        put(verdicts, rows, row, found.verdict as u8);
+        put(rules, rows, row, found.rule as u8);
+        put(places, rows, row, found.place as u64);
+        put_end(ends, rows, row + 1, text.as_str().len());
+    }
+    ResolvedRows { text, valid }
+}
+
+// Puts where a text ends into the column of that, which has an element more than there are rows, where it has room for
+// all.
+#[inline(always)]
+fn put_end(ends: &mut [u64], rows: usize, at: usize, end: usize)
+    requires { at ≤ rows }
+    ensures { IsPut (rows + 1) at end ends.old ends.new }
+{
+    if rows < ends.len() {
+        ends[at] = end as u64;
+    }
+}
+
+// Appends the text of the record that a text denotes, where it denotes one, and gives what was found of it: its verdict
+// and its rule are small numbers.
+fn append_resolved(alloc: Global, bytes: &[u8], profile: u32, out: &mut String) -> Finding
+    ensures found { (text : List ℕ) × IsResolvedRow profile bytes.now result text
+        × (string_bytes out.new ≡ string_bytes out.old ++ text) }
+    ensures verdict { result.verdict < 256 }
+    ensures rule { result.rule < 256 }
+{
+    match text_resolved(alloc, bytes, profile) {
+        Ok(text) => appended(text.as_str(), out),
+        Err(found) => found,
+    }
+}
+
+// Appends the text of a record.
+fn appended(text: &str, out: &mut String) -> Finding
+    ensures { IsAppended text.now (string_bytes out.old) (string_bytes out.new) result }
+{
+    match out.push_str(text) {
+        Ok(()) => Finding::plain(CallOutcome::Valid),
+        Err(AllocError) => Finding::plain(CallOutcome::Memory),
+    }
+}
+
+// The text of the record that bytes denote alone, or what was found of them.
+fn text_resolved(alloc: Global, bytes: &[u8], profile: u32) -> Result<String, Finding>
+    ensures { IsTextResolved profile bytes.now result }
+{
+    match prepared_alone(bytes, profile) {
+        Ok(request) => request_resolved(alloc, &request),
+        Err(found) => Err(found),
+    }
+}
+
+// The text of the record that a text denotes alone, or why it denotes none.
+fn request_resolved(alloc: Global, request: &LoneRequest<'_>) -> Result<String, Finding>
+    ensures { IsRequestResolved request.now.profile request.now.text.now result }
+{
+    let text = request.text;
+    match resolve_serialized(alloc, text, None, request.profile) {
+        Ok(written) => Ok(written),
+        Err(ResolveFault::Refused(refusal)) => {
+            Err(Finding::refused(CallOutcome::Refused, text, refusal))
+        }
+        Err(ResolveFault::Memory(_)) => Err(Finding::plain(CallOutcome::Memory)),
+    }
+}

@@ -1,0 +1,81 @@
+//! The sentence on what is wrong with a text.
+ghost use Rattle.std.specs.Prelude.{◌≡◌, ◌↔◌, ◌≤◌, IfOk, IsTrue, length, string_bytes};
+ghost use Rattle.std.specs.Str.{chars};
+ghost use Rattle.uv_report.specs.Sentences.Message as reported;
+ghost use Rattle.urlcheck_c.specs.Violation.{IsMessageAnswer, IsViolationRead};
+
+use crate::finding::{CallOutcome, Finding};
+use crate::reports::report_numbers::violation_of;
+use crate::request::{profile_of, text_of};
+use crate::written::{Written, given};
+use std::alloc::{AllocError, Global};
+use uv_model::Profile;
+use uv_report::{LineViolation, push_message};
+use uv_text::count_code_points;
+
+/// What is wrong with a text that is judged by a profile.
+#[derive(Drop)]
+pub(crate) struct FoundViolation<'t> {
+    /// The text.
+    pub(crate) text: &'t str,
+    /// The profile.
+    pub(crate) profile: Profile,
+    /// What is wrong.
+    pub(crate) violation: LineViolation,
+}
+
+/// Writes the sentence, without its end, on a violation of a text by a profile, at a place in code points: what stands
+/// behind `error: ` in the lines of compilers.
+#[unsafe(no_mangle)]
+pub extern "C" fn urlcheck_message(
+    alloc: Global,
+    text: &[u8],
+    profile: u32,
+    rule: u32,
+    place: usize,
+    out: &mut [u8],
+) -> Written
+    ensures { IsMessageAnswer profile rule place text.now out.old out.new result }
+{
+    match violation_read(text, profile, rule, place) {
+        Ok(found) => given(&message(alloc, &found), out),
+        Err(found) => Written::none(found),
+    }
+}
+
+/// What is wrong with the bytes of a text, by the numbers of a profile and of a rule of texts or of lines, at a place;
+/// or why these don't say it.
+pub(crate) fn violation_read<'t>(
+    text: &'t [u8],
+    profile: u32,
+    rule: u32,
+    place: usize,
+) -> Result<FoundViolation<'t>, Finding>
+    ensures { IsViolationRead profile rule place text.now result }
+{
+    let Some(profile) = profile_of(profile) else {
+        return Err(Finding::plain(CallOutcome::NoProfile));
+    };
+    let text = text_of(text, CallOutcome::NoUtf8)?;
+    let Some(violation) = violation_of(rule, place) else {
+        return Err(Finding::plain(CallOutcome::NoRule));
+    };
+    if place > count_code_points(text) {
+        return Err(Finding::plain(CallOutcome::NoPlace));
+    }
+    Ok(FoundViolation {
+        text,
+        profile,
+        violation,
+    })
+}
+
+// The sentence.
+fn message(alloc: Global, found: &FoundViolation<'_>) -> Result<String, AllocError>
+    ensures { IfOk result (λ text. string_bytes text
+        ≡ reported.message found.now.profile found.now.text.now found.now.violation) }
+{
+    let mut text = String::new(alloc);
+    push_message(alloc, &mut text, found.profile, found.text, found.violation)?;
+    Ok(text)
+}
