@@ -6,7 +6,8 @@
 use std::io::{self, Error, ErrorKind, Read};
 use std::{env, str};
 use uv_cli::{CheckEnd, run_check, run_faults, run_mend};
-use uv_model::{Profile, ToWriter};
+use uv_io::ToWriter;
+use uv_model::Profile;
 
 fn main(rt: HostRuntime) -> io::Result<()> {
     let words: Vec<String> = env::args(&rt)?.collect(rt.alloc())?;

@@ -10,12 +10,14 @@ use std::alloc::{AllocError, Global};
 use std::io::{self, Read};
 use std::process::ExitCode;
 use std::str;
-use uv_cli::{CliFault, run_check, run_faults, run_vectors};
+use uv_cli::{CliFault, run_check, run_faults};
 use uv_grammar::{Verdict, check, faults};
 use uv_host::{DomainAnswer, domain};
+use uv_io::{FromReader, ToWriter};
 use uv_links::{LinkFault, LinkLimits, run_links};
-use uv_model::{FromReader, Host, Profile, Record, Refusal, ToWriter, UrlPath};
+use uv_model::{Host, Profile, Record, Refusal, UrlPath};
 use uv_resolve::{ResolveFault, resolve};
+use uv_vectors::{VectorFault, run_cases};
 
 // What standard input asks for.
 #[derive(Clone, Copy)]
@@ -90,7 +92,7 @@ fn ended<R: Print + AllocGlobal>(rt: &R, asked: &Asked<'_>) -> End {
     match asked.call {
         "domain" => domain_ended(rt, asked),
         "run_check" | "run_faults" => check_ended(rt, asked),
-        "run_vectors" => vectors_ended(rt, asked.text),
+        "run_cases" => vectors_ended(rt, asked.text),
         _ => {
             let Some(base) = asked.base else {
                 return record_ended(rt, asked, None);
@@ -250,13 +252,13 @@ fn check_ended<R: Print + AllocGlobal>(rt: &R, asked: &Asked<'_>) -> End {
 fn vectors_ended<R: Print + AllocGlobal>(rt: &R, file: &str) -> End {
     let mut page = [0; 1024];
     let mut out = ToWriter::new(page.as_mut_slice());
-    let answer = run_vectors(rt.alloc(), file.as_bytes(), &mut out);
+    let answer = run_cases(rt.alloc(), file.as_bytes(), &mut out);
     let room = out.into_writer().len();
     let end = printed(print_page(rt, &page, room));
     match answer {
         Ok(_) => end,
-        Err(CliFault::Memory) => End::Memory,
-        Err(CliFault::Write) => End::NotAsked,
+        Err(VectorFault::Memory) => End::Memory,
+        Err(VectorFault::Write) => End::NotAsked,
     }
 }
 

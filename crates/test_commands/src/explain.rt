@@ -1,15 +1,15 @@
-//! Explanations of rules: that of one rule, the name of none, and each failed write, of pages too. runs/explain.cases.sh
-//! has all rules.
+//! Explanations of rules: that of one rule, the name of none, and each failed write, of pages too.
+//! tests/runs/explain.cases.sh has all rules.
 
+use scripted_streams::ScriptSink;
 use std::alloc::Global;
 use std::test::Fail;
-use uv_cli::{ExplainEnd, run_explain};
-use uv_model::{DeviceFault, ScriptSink, Sink, ToWriter};
-use uv_vectors::CliFault;
+use uv_cli::{CliFault, ExplainEnd, run_explain};
+use uv_io::{DeviceFault, Sink, ToWriter};
 use uv_words::Told;
 
 const HOST_MISSING: &str = "rule host-missing
-means a host has to stand here
+means a host is missing here
 asks After //, ftp, http, https, ws and wss have a host, file a host or a path, and a port follows a host.
 section 3.4, 4.3
 text https:///a

@@ -1,9 +1,10 @@
-//! Filters of lines over reads and writes that fail. runs/jobs.cases.sh and runs/mend.cases.sh have filters of many
-//! lists.
+//! Filters of lines over reads and writes that fail. tests/runs/jobs.cases.sh and tests/runs/mend.cases.sh have
+//! filters of many lists.
 
 use crate::jobs::{Wanted, ends};
 use std::test::Fail;
-use uv_model::{DeviceFault, Profile};
+use uv_io::DeviceFault;
+use uv_model::Profile;
 use uv_words::{FilterJob, Job};
 
 // A filter without options.

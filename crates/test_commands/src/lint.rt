@@ -1,9 +1,11 @@
-//! Lints of files over reads and writes that fail. runs/jobs.cases.sh and runs/lint.cases.sh have lints of many files.
+//! Lints of files over reads and writes that fail. tests/runs/jobs.cases.sh and tests/runs/lint.cases.sh have lints
+//! of many files.
 
 use crate::jobs::{Wanted, ends};
 use std::alloc::Global;
 use std::test::Fail;
-use uv_model::{DeviceFault, Extent, Profile};
+use uv_io::DeviceFault;
+use uv_model::{Extent, Profile};
 use uv_words::{Job, LintJob};
 
 // What is wrong with the second line, as compilers write it.

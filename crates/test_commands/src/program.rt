@@ -1,8 +1,7 @@
 //! What the program's edge does with its writer: a flush that fails, and a pipe that is closed.
 use std::io::{self, ErrorKind, Write};
 use uv_cli::program::finished;
-use uv_cli::{End, WatchedWriter, status};
-use uv_vectors::CliFault;
+use uv_cli::{CliFault, End, WatchedWriter, status};
 
 // A writer that takes everything, and whose flush fails so, if it does.
 #[derive(Drop)]

@@ -1,12 +1,13 @@
 //! Checks over sinks that play a list of answers: each write fails in turn, behind short ones, in each profile, of the
 //! first violation and of all of them.
 
+use scripted_streams::ScriptSink;
 use std::alloc::Global;
 use std::process::Abort;
 use std::test::Fail;
-use uv_cli::{CheckEnd, run_check, run_faults};
-use uv_model::{DeviceFault, Extent, Profile, Refusal, Rule, ScriptSink, Sink};
-use uv_vectors::CliFault;
+use uv_cli::{CheckEnd, CliFault, run_check, run_faults};
+use uv_io::{DeviceFault, Sink};
+use uv_model::{Extent, Profile, Refusal, Rule};
 
 // A text, its base, by what it is judged, how many of its violations are wanted, and what is written of it.
 #[derive(Clone, Copy)]

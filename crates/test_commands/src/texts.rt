@@ -1,10 +1,11 @@
 //! What the commands over one text answer: `check`, with the first violation or with all, and `mend`.
-//! runs/check.cases.sh and runs/mend.cases.sh have many more texts.
+//! tests/runs/check.cases.sh and tests/runs/mend.cases.sh have many more texts.
 
 use crate::answered::is_answer;
 use std::test::Fail;
 use uv_cli::{CheckEnd, run_check, run_faults, run_mend};
-use uv_model::{Profile, ToWriter};
+use uv_io::ToWriter;
+use uv_model::Profile;
 
 #[test]
 fn checks_a_text(rt: HostRuntime) -> Result<(), Fail> {

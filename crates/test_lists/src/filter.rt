@@ -4,11 +4,13 @@
 ghost use Rattle.std.specs.Prelude.{◌<◌};
 
 use crate::line_ends::line_feeds;
+use scripted_streams::{ScriptSink, ScriptSource};
 use std::alloc::{AllocError, Global};
 use std::process::Abort;
 use std::test::Fail;
 use uv_filter::{FilterCounts, FilterFault, FilterSetting, run_filter};
-use uv_model::{DeviceFault, Profile, ScriptSink, ScriptSource, Sink};
+use uv_io::{DeviceFault, Sink};
+use uv_model::Profile;
 
 // No base, the standard profile, and every mended text.
 const SETTING: FilterSetting<'static> = FilterSetting {

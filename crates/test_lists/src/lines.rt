@@ -4,8 +4,8 @@ ghost use Rattle.std.specs.Prelude.{◌≡◌, ℕ, ◌≤◌, ◌++◌, List, O
 
 use std::alloc::{AllocError, Global};
 use std::process::Abort;
+use uv_io::{FromReader, Sink, ToWriter};
 use uv_lines::{Frame, LineFault, LineLimits, ReportFault, Reporter, run_lines};
-use uv_model::{FromReader, Sink, ToWriter};
 
 mod parts;
 

@@ -1,30 +1,10 @@
-//! Reports on lists written out: the format of a link list's lines and counts, limits, and the words of faults.
+//! Reports on lists of links: limits, and the words of faults.
 
 mod streams;
 
 use std::process::Abort;
 use std::test::Fail;
-use uv_links::{LinkFault, LinkLimits, Outcome, line_text};
-use uv_model::{Refusal, Rule};
-
-// What is said of the fourth line.
-fn says(rt: &(impl Abort + AllocGlobal), outcome: &Outcome<'_>, want: &str) -> Result<(), Fail> {
-    assert!(rt; line_text(rt.alloc(), 4, outcome)?.as_str() == want);
-    Ok(())
-}
-
-#[test]
-fn says_one_line(rt: HostRuntime) -> Result<(), Fail> {
-    let refusal = Refusal {
-        place: 12,
-        rule: Rule::PortDigit,
-    };
-    says(&rt, &Outcome::Good("http://h/"), "4 ok http://h/\n")?;
-    says(&rt, &Outcome::Bad(refusal), "4 bad 12 port-digit\n")?;
-    says(&rt, &Outcome::NotUtf8, "4 bad 0 not-utf8\n")?;
-    says(&rt, &Outcome::TooLong, "4 bad 0 line-too-long\n")?;
-    says(&rt, &Outcome::Differs, "4 differs\n")
-}
+use uv_links::{LinkFault, LinkLimits};
 
 #[test]
 fn takes_limits_up_to_the_largest(rt: HostRuntime) {

@@ -4,12 +4,14 @@
 ghost use Rattle.std.specs.Prelude.{◌<◌, ◌≤◌};
 
 use crate::line_ends::line_feeds;
+use scripted_streams::{ScriptSink, ScriptSource};
 use std::alloc::{AllocError, Global};
 use std::process::Abort;
 use std::test::Fail;
+use uv_io::{DeviceFault, Sink};
 use uv_lines::LineLimits;
 use uv_lint::{LineForm, LintCounts, LintFault, LintSetting, run_lint, run_within};
-use uv_model::{DeviceFault, Extent, Profile, ScriptSink, ScriptSource, Sink};
+use uv_model::{Extent, Profile};
 use uv_report::{Columns, Format};
 
 const LIST: &[u8] = b"b\r\nhttp://h/\n\n\xff\nurn:a b";
@@ -18,8 +20,9 @@ const LIST: &[u8] = b"b\r\nhttp://h/\n\n\xff\nurn:a b";
 const REPORT: &str = "<file name=\"list\">\n\
     <error line=\"1\" column=\"1\" severity=\"error\" message=\"there is no scheme and no base\" \
     source=\"urlcheck.no-scheme\"/>\n\
-    <error line=\"4\" column=\"1\" severity=\"error\" message=\"this line isn't UTF-8\" source=\"urlcheck.not-utf8\"/>\n\
-    <error line=\"5\" column=\"6\" severity=\"error\" message=\"U+0020 SPACE may not stand in a URL\" \
+    <error line=\"4\" column=\"1\" severity=\"error\" message=\"this line isn't UTF-8\" \
+    source=\"urlcheck.not-utf8\"/>\n\
+    <error line=\"5\" column=\"6\" severity=\"error\" message=\"U+0020 SPACE is not allowed in a URL\" \
     source=\"urlcheck.code-point\"/>\n\
     </file>\n";
 

@@ -1,6 +1,6 @@
-//! Tests of records: what `uv_model` says of code points, names, records and their texts, what its readers and writers
-//! do, and which records `uv_resolve` makes. They stand above these crates, so that none of them is proved twice.
-//! The texts that their records are made of are made by one function that is proved.
+//! Tests of records: what `uv_model` says of code points, names, records and their texts, and which records
+//! `uv_resolve` makes. They stand above these crates, so that none of them is proved twice. The texts that their
+//! records are made of are made by one function that is proved.
 #![tactic(auto)]
 
 mod ascii_texts;
@@ -14,8 +14,6 @@ mod paths;
 mod record;
 #[cfg(test)]
 mod resolved;
-#[cfg(test)]
-mod streams;
 #[cfg(test)]
 mod texts;
 #[cfg(test)]

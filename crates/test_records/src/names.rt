@@ -17,7 +17,7 @@ fn knows_the_special_schemes(rt: HostRuntime) {
         ("ws", 80),
         ("wSs", 443),
     ] {
-        assert!(rt; is_scheme(scheme, Class::Special, Some(port)));
+        assert!(rt; is_scheme(scheme, Class::SpecialNotFile, Some(port)));
     }
     for scheme in ["file", "FiLe"] {
         assert!(rt; is_scheme(scheme, Class::File, None));

@@ -1,5 +1,5 @@
 //! Records with every field, copied and written: the copy has each field, and the text of a record stands behind what
-//! was written before. The cases of `vectors/` have more texts of records.
+//! was written before. The cases of `tests/vectors/` have more texts of records.
 
 use std::alloc::{AllocError, Global};
 use uv_model::{Host, ListedTexts, Profile, Record, UrlPath, push_ipv4, push_ipv6, push_port};

@@ -1,6 +1,6 @@
 //! The records of texts written out, alone or against a base. Each expected text, field and refusal is worked out by
 //! hand from the URL Standard's sections 3.4 to 4.5 and docs/DECISIONS.md, never from a run of this code. The cases of
-//! `vectors/` are more of them, which the built program runs.
+//! `tests/vectors/` are more of them, which the built program runs.
 
 use std::alloc::{AllocError, Global};
 use uv_model::{Profile, Record, Refusal, Rule};

@@ -11,14 +11,14 @@ use Rattle.uv_lint.specs.declared.fault.LintFault.TheVariants.{Memory, Read, Wri
 use Rattle.uv_lint.specs.declared.setting.LintSetting.{LintSetting}
 use Rattle.uv_lint.specs.LineViolations.{FileSetting, file_setting}
 use Rattle.uv_lint.specs.Run.{FailsReads, Leaves, Reports, writes_failed}
-use Rattle.uv_report.specs.declared.column.Columns.{Columns}
+use Rattle.uv_report.specs.declared.places.column.Columns.{Columns}
 use Rattle.uv_report.specs.declared.format.Format.{Format}
 use Rattle.uv_model.specs.Records.Url.{Url}
 use Rattle.uv_resolve.specs.Base.{IsBase}
 use Rattle.uv_words.specs.declared.words.LintJob.{LintJob}
 use Rattle.uv_cli.specs.declared.ends.End.{End}
 use Rattle.uv_cli.specs.declared.ends.End.TheVariants as end
-use Rattle.uv_vectors.specs.declared.fault.CliFault.TheVariants as cli
+use Rattle.uv_cli.specs.declared.fault.CliFault.TheVariants as cli
 use Rattle.uv_cli.specs.declared.linted.Linted.{Linted}
 use Rattle.uv_cli.specs.Stream.{Stream}
 use Rattle.uv_cli.specs.Lint.{AreNamed, FailsAsAnswered, HasLinted, HasLintedAgainst, LintsAll, LintsNamed, LintsNext}

@@ -8,7 +8,7 @@ use Rattle.uv_cli.specs.declared.ends.End.{End}
 use Rattle.uv_cli.specs.declared.ends.End.TheVariants.{Valid, Refused, Shown, Words, UnknownRule, UnknownFormat}
 use Rattle.uv_cli.specs.declared.ends.End.TheVariants.{UnknownColumns, ColumnsRefused, UnknownProfile, UnknownKind}
 use Rattle.uv_cli.specs.declared.ends.End.TheVariants.{BaseRefused, Fault, Filtered, Linted, Stopped, Vectors, Unread}
-use Rattle.uv_vectors.specs.declared.fault.CliFault.TheVariants.{Memory, Write}
+use Rattle.uv_cli.specs.declared.fault.CliFault.TheVariants.{Memory, Write}
 use Rattle.uv_cli.specs.Stream.{Stream}
 use Rattle.uv_cli.specs.Jobs.{HasListed, HasListedAgainst}
 

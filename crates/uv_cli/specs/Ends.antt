@@ -14,8 +14,10 @@ use Rattle.uv_cli.specs.declared.check.CheckEnd.{CheckEnd}
 use Rattle.uv_cli.specs.declared.check.CheckEnd.TheVariants as check
 use Rattle.uv_cli.specs.declared.explain.ExplainEnd.{ExplainEnd}
 use Rattle.uv_cli.specs.declared.explain.ExplainEnd.TheVariants as explain
-use Rattle.uv_vectors.specs.declared.fault.CliFault.{CliFault}
-use Rattle.uv_vectors.specs.declared.fault.CliFault.TheVariants as cli
+use Rattle.uv_cli.specs.declared.fault.CliFault.{CliFault}
+use Rattle.uv_cli.specs.declared.fault.CliFault.TheVariants as cli
+use Rattle.uv_vectors.specs.declared.fault.VectorFault.{VectorFault}
+use Rattle.uv_vectors.specs.declared.fault.VectorFault.TheVariants as vector
 use Rattle.uv_cli.specs.declared.ends.End.{End}
 use Rattle.uv_cli.specs.declared.ends.End.TheVariants.{Valid, Refused, Shown, Words, UnknownRule, UnknownFormat}
 use Rattle.uv_cli.specs.declared.ends.End.TheVariants.{UnknownColumns, ColumnsRefused, UnknownProfile, UnknownKind}
@@ -45,10 +47,15 @@ abbrev pub end_of_list : Result Counts LinkFault → End
 end_of_list (Ok counts) = if counts.ok == counts.lines then Valid else Refused
 end_of_list (Err fault) = Stopped fault
 
+-- the same fault of a command
+abbrev pub fault_of_vectors : VectorFault → CliFault
+fault_of_vectors vector.Memory = cli.Memory
+fault_of_vectors vector.Write = cli.Write
+
 -- the end of what a run over a vector file gave
-abbrev pub end_of_vectors : Result CasesEnd CliFault → End
+abbrev pub end_of_vectors : Result CasesEnd VectorFault → End
 end_of_vectors (Ok told) = Vectors (vector_end told)
-end_of_vectors (Err fault) = Fault fault
+end_of_vectors (Err fault) = Fault (fault_of_vectors fault)
 
 -- the end of what an explanation gave
 abbrev pub end_of_explanation : Result ExplainEnd CliFault → End

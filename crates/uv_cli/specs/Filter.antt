@@ -11,7 +11,7 @@ use Rattle.uv_model.specs.declared.mend_kind.MendKind.{MendKind}
 use Rattle.uv_model.specs.MendKindName.{named_kind}
 use Rattle.uv_model.specs.Records.Url.{Url}
 use Rattle.uv_resolve.specs.Base.{IsBase, IsBaseRefused}
-use Rattle.uv_vectors.specs.declared.fault.CliFault.TheVariants as cli
+use Rattle.uv_cli.specs.declared.fault.CliFault.TheVariants as cli
 use Rattle.uv_words.specs.declared.words.FilterJob.{FilterJob}
 use Rattle.uv_cli.specs.declared.ends.End.{End}
 use Rattle.uv_cli.specs.declared.ends.End.TheVariants as end

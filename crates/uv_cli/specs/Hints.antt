@@ -13,14 +13,14 @@ use Rattle.uv_messages.specs.Hints.{text_hint}
 abbrev pub lint_hint : linted.Linted → List ℕ
 lint_hint lint =
     if not lint.is_quiet && (not (is_stopped lint) && lint.is_document_refused)
-    then codes "urlcheck: lint takes a link a line; urlcheck-documents --check FILE judges the links of a document\n"
+    then codes "urlcheck: lint reads one link a line; urlcheck-documents --check FILE checks the links of a document\n"
     else []
 
 -- the hint behind a job that ended so
 abbrev pub job_hint : Job → End → List ℕ
 job_hint (job.Check text base extent profile) Refused =
     text_hint (string_bytes text) (is_some base) (codes "lint - and links read standard input")
-    (codes "lint FILE judges the lines of a file")
+    (codes "lint FILE checks the lines of a file")
 job_hint (job.Mend text base profile) Refused =
     text_hint (string_bytes text) (is_some base) (codes "mend without a TEXT reads standard input")
     (codes "mend <FILE mends the lines of a file")

@@ -22,7 +22,7 @@ use Rattle.uv_words.specs.declared.words.LintJob.{LintJob}
 use Rattle.uv_words.specs.declared.words.Told.{Told}
 use Rattle.uv_cli.specs.declared.check.CheckEnd.TheVariants as check
 use Rattle.uv_cli.specs.declared.explain.ExplainEnd.TheVariants as explain
-use Rattle.uv_vectors.specs.declared.fault.CliFault.TheVariants as cli
+use Rattle.uv_cli.specs.declared.fault.CliFault.TheVariants as cli
 use Rattle.uv_cli.specs.declared.ends.End.{End}
 use Rattle.uv_cli.specs.declared.ends.End.TheVariants as end
 use Rattle.uv_cli.specs.Check.{HasWritten, HasWrittenPrefix, RunsAgainst}

@@ -8,10 +8,10 @@ use Rattle.std.specs.Str.{bytes_eq}
 use Rattle.std.specs.declared.io.ErrorKind.{ErrorKind}
 use Rattle.std.specs.declared.io.ErrorKind.TheVariants.{OutOfMemory}
 use Rattle.uv_model.specs.Records.Url.{Url}
-use Rattle.uv_report.specs.declared.column.Columns.{Columns}
+use Rattle.uv_report.specs.declared.places.column.Columns.{Columns}
 use Rattle.uv_report.specs.declared.format.Format.{Format}
 use Rattle.uv_report.specs.declared.format.Format.TheVariants.{Gnu}
-use Rattle.uv_report.specs.Column.{named_columns}
+use Rattle.uv_report.specs.Places.Column.{named_columns}
 use Rattle.uv_report.specs.Format.{named_format, own_columns, takes_columns}
 use Rattle.uv_report.specs.Report.{begin_text, end_text}
 use Rattle.uv_lines.specs.declared.limits.LineLimits.{LineLimits}
@@ -27,7 +27,7 @@ use Rattle.uv_resolve.specs.Base.{IsBase, IsBaseRefused}
 use Rattle.uv_words.specs.declared.words.LintJob.{LintJob}
 use Rattle.uv_cli.specs.declared.ends.End.{End}
 use Rattle.uv_cli.specs.declared.ends.End.TheVariants as end
-use Rattle.uv_vectors.specs.declared.fault.CliFault.TheVariants as cli
+use Rattle.uv_cli.specs.declared.fault.CliFault.TheVariants as cli
 use Rattle.uv_cli.specs.declared.linted.Linted.{Linted}
 use Rattle.uv_messages.specs.FileNames.{has_document_end}
 use Rattle.uv_messages.specs.Hints.{file_hint}

@@ -9,7 +9,7 @@ use Rattle.uv_mend.specs.declared.answer.Mending.TheVariants as mending
 use Rattle.uv_model.specs.MendKindName.{kind_name}
 use Rattle.uv_mend.specs.Mending.{IsMending}
 use Rattle.uv_resolve.specs.Base.{IsBase, IsBaseRefused}
-use Rattle.uv_vectors.specs.declared.fault.CliFault.TheVariants as cli
+use Rattle.uv_cli.specs.declared.fault.CliFault.TheVariants as cli
 use Rattle.uv_cli.specs.declared.check.CheckEnd.{CheckEnd}
 use Rattle.uv_cli.specs.declared.check.CheckEnd.TheVariants as check
 use Rattle.uv_cli.specs.declared.ends.End.{End}

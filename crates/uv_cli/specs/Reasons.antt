@@ -13,9 +13,9 @@ use Rattle.uv_filter.specs.declared.fault.FilterFault.TheVariants as filter
 use Rattle.uv_links.specs.declared.fault.LinkFault.TheVariants as link
 use Rattle.uv_lint.specs.declared.fault.LintFault.{LintFault}
 use Rattle.uv_lint.specs.declared.fault.LintFault.TheVariants as lint
-use Rattle.uv_report.specs.Message.{message}
+use Rattle.uv_report.specs.Sentences.Message.{message}
 use Rattle.uv_report.specs.declared.line_violation.LineViolation.TheVariants.{Refused}
-use Rattle.uv_vectors.specs.declared.fault.CliFault.TheVariants as cli
+use Rattle.uv_cli.specs.declared.fault.CliFault.TheVariants as cli
 use Rattle.uv_words.specs.declared.words.Job.{Job}
 use Rattle.uv_words.specs.declared.words.Job.TheVariants as job
 use Rattle.uv_messages.specs.Unread.{unread_text}

@@ -1,7 +1,7 @@
 -- Why the cases of a file of vectors aren't judged: what is reported on standard error before the last line.
 use Rattle.std.specs.Prelude.{ℕ, List, [], ◌++◌, codes, decimal}
 use Rattle.std.specs.Fmt.Cut.{cut_to}
-use Rattle.uv_report.specs.Escapes.{shown_text}
+use Rattle.uv_report.specs.Escaping.Escapes.{shown_text}
 use Rattle.uv_vectors.specs.CaseFault.{CaseFault, NoObject, UnknownKey, Input, Base, Profile, Expectation, Text, Place}
 use Rattle.uv_vectors.specs.CaseFault.{Rule}
 use Rattle.uv_vectors.specs.Views.{fault_view}
@@ -45,7 +45,8 @@ key_text other = shown_text (cut_to 80 other)
 -- what is said of what no case has
 abbrev pub no_key : List ℕ
 no_key =
-    codes "\" is no key of a case, which may have \"input\", \"base\", \"profile\", \"text\", \"place\" and \"rule\" alone"
+    codes "\" is no key of a case, which may have \"input\", \"base\", \"profile\", \"text\", "
+    ++ codes "\"place\" and \"rule\" alone"
 
 -- what is said of a key that no case has
 abbrev pub unknown_key_text : List ℕ → List ℕ

@@ -4,12 +4,13 @@ ghost use Rattle.uv_cli.specs.Check.{HasWritten, HasWrittenPrefix, RunsAgainst, 
 ghost use Rattle.uv_cli.specs.Check.{WritesWhole};
 ghost use Rattle.uv_grammar.specs.Verdict.{IsRefused};
 
+use crate::fault::CliFault;
 use std::alloc::{AllocError, Global};
 use uv_grammar::faults;
+use uv_io::{DeviceFault, Sink, write_whole};
 use uv_messages::report::{check_lines, fault_lines, refused_line};
-use uv_model::{DeviceFault, Extent, Profile, Record, Refusal, Sink, write_whole};
+use uv_model::{Extent, Profile, Record, Refusal};
 use uv_resolve::{ResolveFault, resolve, resolve_base};
-use uv_vectors::CliFault;
 
 /// How a check ends.
 #[derive(Clone, Copy, PartialEq, Eq)]

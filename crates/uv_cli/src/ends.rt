@@ -6,6 +6,7 @@ ghost use Rattle.uv_cli.specs.Ends.{numbered_text, status_of, stopped_text};
 
 use crate::check::CheckEnd;
 use crate::explain::ExplainEnd;
+use crate::fault::CliFault;
 use crate::filtered::Filtered;
 use crate::linted::Linted;
 use crate::vector_file::FileFault;
@@ -14,7 +15,7 @@ use uv_filter::FilterFault;
 use uv_links::{Counts, LinkFault};
 use uv_lint::LintFault;
 use uv_model::Refusal;
-use uv_vectors::{CasesEnd, CliFault, VectorEnd};
+use uv_vectors::{CasesEnd, VectorEnd, VectorFault};
 use uv_words::WordsFault;
 
 /// How a run of the program ends.
@@ -85,12 +86,12 @@ pub(crate) fn end_of_list(gave: Result<Counts, LinkFault>) -> End
 }
 
 /// The end of what a run over a vector file gave.
-pub(crate) fn end_of_vectors(gave: &Result<CasesEnd, CliFault>) -> End
+pub(crate) fn end_of_vectors(gave: &Result<CasesEnd, VectorFault>) -> End
     ensures { result ≡ spec.end_of_vectors gave.now }
 {
     match gave {
         Ok(end) => End::Vectors(end.without_reason()),
-        Err(why) => End::Fault(*why),
+        Err(fault) => End::Fault(CliFault::from(*fault)),
     }
 }
 

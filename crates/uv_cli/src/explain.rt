@@ -4,10 +4,10 @@ ghost use Rattle.std.specs.Prelude.{◌≡◌, ◌+◌, ◌-◌, ◌^◌, ◌<�
 ghost use Rattle.uv_messages.specs.Explanations.{explained};
 ghost use Rattle.uv_cli.specs.Explain.{HasExplained, HasExplainedPrefix};
 
+use crate::fault::CliFault;
 use std::alloc::Global;
+use uv_io::{DeviceFault, Sink, write_whole};
 use uv_messages::explanations::explained;
-use uv_model::{DeviceFault, Sink, write_whole};
-use uv_vectors::CliFault;
 use uv_words::Told;
 
 /// How an explanation ends.
@@ -21,8 +21,8 @@ pub enum ExplainEnd {
 
 /// Writes what the rules with these names ask, where they stand, and an example of each, in the order of the names and
 /// with an empty line between two; without a name it writes this of each rule, in the order of their numbers. By the
-/// name of a violation with a line that isn't judged it writes what a line is asked. Where `told` asks for the pages, it
-/// writes of each the address of the page about it, in a line, and no more.
+/// name of a violation with a line that isn't judged it writes what a line is asked. Where `told` asks for the pages,
+/// it writes of each the address of the page about it, in a line, and no more.
 ///
 /// An error of memory leaves the output as it was; an error of a write leaves a beginning of what was to be written.
 pub fn run_explain<S: Sink>(

@@ -4,13 +4,14 @@ ghost use Rattle.uv_cli.specs.Filter.{HasFiltered, IsFiltered, only_of};
 ghost use Rattle.uv_cli.specs.Filter as spec;
 
 use crate::ends::End;
+use crate::fault::CliFault;
 use crate::filtered::Filtered;
 use std::alloc::Global;
 use uv_filter::{FilterSetting, run_filter};
+use uv_io::{Sink, Source};
 use uv_mend::MendKind;
-use uv_model::{Record, Sink, Source};
+use uv_model::Record;
 use uv_resolve::{ResolveFault, resolve_base};
-use uv_vectors::CliFault;
 use uv_words::FilterJob;
 
 /// Writes each line of an input, mended where there is a mended text of the kind with the name, or any where none is

@@ -13,7 +13,7 @@ use uv_words::Job;
 const INPUT_OF_CHECK: &str = "lint - and links read standard input";
 
 // What `check` is told where its text looks like the name of a list.
-const LIST_OF_CHECK: &str = "lint FILE judges the lines of a file";
+const LIST_OF_CHECK: &str = "lint FILE checks the lines of a file";
 
 // What `mend` is told where its text is the standard input's name.
 const INPUT_OF_MEND: &str = "mend without a TEXT reads standard input";
@@ -23,7 +23,7 @@ const LIST_OF_MEND: &str = "mend <FILE mends the lines of a file";
 
 // What is said where a lint refuses lines of a document.
 const OF_DOCUMENTS: &str =
-    "urlcheck: lint takes a link a line; urlcheck-documents --check FILE judges the links of a document\n";
+    "urlcheck: lint reads one link a line; urlcheck-documents --check FILE checks the links of a document\n";
 
 /// The hint behind a job that ended so, or nothing: of a text that is refused, where it is `-`, or looks like the name
 /// of a file and has no base; and of a lint that refuses lines of a document.

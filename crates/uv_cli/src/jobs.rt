@@ -15,7 +15,8 @@ use crate::mend::run_mend;
 use crate::unjudged::report_unjudged;
 use std::alloc::Global;
 use std::fs::Files;
-use uv_model::{Extent, Profile, Sink, Source};
+use uv_io::{Sink, Source};
+use uv_model::{Extent, Profile};
 use uv_vectors::run_cases;
 use uv_words::{FilterJob, Job, LintJob, Told};
 

@@ -3,11 +3,12 @@ ghost use Rattle.std.specs.Prelude.{◌≡◌, ◌-◌, ◌^◌, ◌<◌, option
 ghost use Rattle.uv_cli.specs.Jobs.{HasListed, HasListedAgainst};
 
 use crate::ends::{End, end_of_list};
+use crate::fault::CliFault;
 use std::alloc::Global;
+use uv_io::{Sink, Source};
 use uv_links::{LinkLimits, run_links};
-use uv_model::{Profile, Record, Sink, Source};
+use uv_model::{Profile, Record};
 use uv_resolve::{ResolveFault, resolve_base};
-use uv_vectors::CliFault;
 
 /// Reports on the lines of an input at the largest limits, alone or against a base, which is resolved alone, before
 /// anything is read.

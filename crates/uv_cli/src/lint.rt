@@ -11,22 +11,23 @@ ghost use Rattle.uv_messages.specs.Unread.{unread_of, unread_text};
 
 use crate::contents::found_content;
 use crate::ends::End;
+use crate::fault::CliFault;
 use crate::linted::Linted;
 use crate::watched::WatchedReader;
 use std::alloc::{AllocError, Global};
 use std::fs;
 use std::fs::Files;
 use std::io::ErrorKind;
+use uv_io::{DeviceFault, FromReader, Sink, Source, write_whole};
 use uv_lint::{LineForm, LintCounts, LintFault, LintSetting, run_lint};
 use uv_messages::contents::{Content, content_hint};
 use uv_messages::file_names::has_document_end;
 use uv_messages::hints::file_hint;
 use uv_messages::messages::{message_line, say};
 use uv_messages::unread::{Unread, unread_line};
-use uv_model::{DeviceFault, FromReader, Record, Sink, Source, write_whole};
+use uv_model::Record;
 use uv_report::{Columns, Format, end_of, push_begin};
 use uv_resolve::{ResolveFault, resolve_base};
-use uv_vectors::CliFault;
 use uv_words::LintJob;
 use uv_words::arguments::said_of;
 
@@ -38,8 +39,8 @@ const NONE_COUNTED: LintCounts = LintCounts {
 
 /// Reports on the lines of the job's files, in their order: in the format with the name, or in that of compilers, and
 /// alone or against the base, which is resolved alone, before anything is read. Columns count what the unit says, or
-/// what they count in the format. The base, the name and the unit are the texts that the job has. The input is read for each file named
-/// `-`.
+/// what they count in the format. The base, the name and the unit are the texts that the job has. The input is read for
+/// each file named `-`.
 ///
 /// A file that can't be opened, or not be read to its end, is reported on standard error by its name, and the next
 /// files go on; of the input the end says it. Another fault stops the lint; what the report ends with is still written

@@ -6,12 +6,13 @@ ghost use Rattle.uv_cli.specs.Mend.{HasWrittenMending, HasWrittenMendingPrefix, 
 ghost use Rattle.uv_cli.specs.Mend.{WritesMendingPrefix, mending_text};
 
 use crate::check::CheckEnd;
+use crate::fault::CliFault;
 use std::alloc::{AllocError, Global};
+use uv_io::{DeviceFault, Sink, write_whole};
 use uv_mend::{MendKind, Mending, mend};
 use uv_messages::report::refused_line;
-use uv_model::{DeviceFault, Profile, Record, Refusal, Sink, write_whole};
+use uv_model::{Profile, Record, Refusal};
 use uv_resolve::{ResolveFault, resolve_base};
-use uv_vectors::CliFault;
 
 /// Says what to write in place of a text by a profile, alone or against a base, and writes that: `mended KIND` and the
 /// mended text, `valid`, or `none` and the line of the refusal. It ends with `Valid` where a valid text was found.

@@ -11,6 +11,7 @@ use crate::contents::input_hint;
 use crate::ends::{
     End, end_after_output, end_without_file, end_without_job, fixed_line, numbered_line, status,
 };
+use crate::fault::CliFault;
 use crate::hints::job_hint;
 use crate::jobs::run_job;
 use crate::reasons::{base_of, profile_of, report_reasons};
@@ -22,17 +23,17 @@ use std::fs::Files;
 use std::io;
 use std::io::{ErrorKind, Write};
 use std::rt::Env;
+use uv_io::{FromReader, Source, ToWriter};
 use uv_messages::hints::{near_hint, words_hint};
 use uv_messages::messages::{message_line, message_lines, say};
 use uv_messages::options::unknown_option;
 use uv_messages::unread::report_unread;
-use uv_model::{FromReader, Profile, Source, ToWriter};
-use uv_vectors::CliFault;
+use uv_model::Profile;
 use uv_words::arguments::{OwnArguments, refused, words_of};
 use uv_words::{Job, WordsFault, read_words};
 
 // What is said of arguments that `clap` takes, and that ask for nothing.
-const NO_JOB: &str = "--wide stands for --profile wide: only one of them may be given";
+const NO_JOB: &str = "--wide is short for --profile wide: only one of them may be given";
 
 /// How the program ends, and whether whoever read its output has gone: then nothing is said of the end.
 #[derive(Clone, Copy)]

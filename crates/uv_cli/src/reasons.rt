@@ -5,6 +5,7 @@ ghost use Rattle.uv_cli.specs.Reasons.{reason_text, reasons_text, unwritten_text
 ghost use Rattle.uv_messages.specs.Unread.{unread_of};
 
 use crate::ends::End;
+use crate::fault::CliFault;
 use std::alloc::{AllocError, Global};
 use std::io::ErrorKind;
 use uv_filter::FilterFault;
@@ -14,7 +15,6 @@ use uv_messages::messages::say;
 use uv_messages::unread::{Unread, unread_line};
 use uv_model::{Profile, Refusal, Rule};
 use uv_report::{LineViolation, push_message};
-use uv_vectors::CliFault;
 use uv_words::Job;
 
 // How the standard input is named.

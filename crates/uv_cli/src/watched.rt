@@ -1,5 +1,5 @@
-//! Readers and writers that keep why a call of them failed, where the product's own keep only that one did. A reader keeps
-//! what is seen of its bytes too.
+//! Readers and writers that keep why a call of them failed, where the product's own keep only that one did. A reader
+//! keeps what is seen of its bytes too.
 ghost use Rattle.std.specs.Prelude.{◌≡◌, [], MatchResult, false, is_ok, take};
 ghost use Rattle.std.specs.Io.{ReadsAtMost, WritesAtMost};
 ghost use Rattle.std.specs.Io.KnownBytes.{Keeps, ReadConsumes, WriteAppends};

@@ -37,7 +37,7 @@ const LINT_NOTES: &str =
 Exit statuses:
   0  no line is refused
   1  a line is refused
-  2  the arguments or the base are refused, or a file can't be read; the others are judged
+  2  the arguments or the base are refused, or a file can't be read; the others are checked
   3  out of memory, a file has too many lines, or the output failed
 
 Example:
@@ -170,7 +170,7 @@ fn used<'a>(
 fn check<'a>(alloc: Global) -> Result<Command<'a>, AllocError>
     ensures { IfOk result (IsApp check_command) }
 {
-    let about = "Judges one text";
+    let about = "Checks one text";
     let command = used(alloc, "check", about, CHECK_NOTES, CHECK_USAGE);
     let command = and_arg(Ok(command), base(alloc));
     let command = and_arg(command, all(alloc));
@@ -182,7 +182,7 @@ fn check<'a>(alloc: Global) -> Result<Command<'a>, AllocError>
 fn lint<'a>(alloc: Global) -> Result<Command<'a>, AllocError>
     ensures { IfOk result (IsApp lint_command) }
 {
-    let about = "Judges each line of files";
+    let about = "Checks each line of files";
     let command = used(alloc, "lint", about, LINT_NOTES, LINT_USAGE);
     let command = and_arg(Ok(command), base(alloc));
     let command = and_arg(command, all(alloc));
@@ -199,7 +199,7 @@ fn lint<'a>(alloc: Global) -> Result<Command<'a>, AllocError>
 fn links<'a>(alloc: Global) -> Result<Command<'a>, AllocError>
     ensures { IfOk result (IsApp links_command) }
 {
-    let about = "Judges each line of standard input";
+    let about = "Checks each line of standard input";
     let command = used(alloc, "links", about, LINKS_NOTES, LINKS_USAGE);
     let command = and_arg(Ok(command), base(alloc));
     let command = and_arg(command, profile(alloc));
@@ -268,7 +268,7 @@ fn base<'a>(alloc: Global) -> Arg<'a>
         alloc,
         "base",
         "TEXT",
-        "The base, which is judged alone and first",
+        "The base, which is checked alone and first",
     )
 }
 
@@ -292,7 +292,7 @@ fn wide<'a>(alloc: Global) -> Arg<'a>
     ensures rule { rule_of result ≡ flag_rule (codes "wide") }
     ensures local { result.global ≡ false }
 {
-    let help = "Short for --profile wide, which takes http://a_b/ and http://h//a too";
+    let help = "Short for --profile wide, which accepts http://a_b/ and http://h//a too";
     flag(alloc, "wide", help)
 }
 
@@ -317,7 +317,7 @@ fn located<'a>(alloc: Global) -> Arg<'a>
     ensures rule { rule_of result ≡ flag_rule (codes "located") }
     ensures local { result.global ≡ false }
 {
-    let help = "Reads lines FILE:LINE:COLUMN:LINK, and reports on each LINK where it stands";
+    let help = "Reads lines FILE:LINE:COLUMN:LINK, and reports each LINK at that place";
     flag(alloc, "located", help)
 }
 

@@ -6,8 +6,8 @@ ghost use Rattle.uv_lines.specs.Waiting.{LeavesParts, Passes};
 use std::alloc::{AllocError, Global};
 use std::process::Abort;
 use std::test::Fail;
+use uv_io::{DeviceFault, FromReader, Sink};
 use uv_lines::{Frame, LineFault, LineLimits, ReportFault, Reporter, end_part, run_lines};
-use uv_model::{DeviceFault, FromReader, Sink};
 
 // Says so many parts of a line, and then can't say more, or has said all. The first of them is one digit further than
 // that of the line before.

@@ -3,11 +3,13 @@
 ghost use Rattle.std.specs.Prelude.{◌<◌};
 
 use crate::line_ends::line_feeds;
+use scripted_streams::{ScriptSink, ScriptSource};
 use std::alloc::Global;
 use std::process::Abort;
 use std::test::Fail;
+use uv_io::{DeviceFault, Sink};
 use uv_links::{Counts, LinkFault, LinkLimits, run_links};
-use uv_model::{DeviceFault, Profile, ScriptSink, ScriptSource, Sink};
+use uv_model::Profile;
 use uv_resolve::resolve_base;
 
 // A list, the base of its run, the longest line and how many may come, the profile, and the report on it.

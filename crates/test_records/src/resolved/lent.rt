@@ -1,5 +1,5 @@
-//! Whether the text of a URL is lent, where a text is the text of its own URL, and so takes no memory. What that text is
-//! is tested by runs over `vectors/`.
+//! Whether the text of a URL is lent, where a text is the text of its own URL, and so takes no memory. Runs over
+//! `tests/vectors/` test what that text is.
 
 use super::*;
 use std::borrow::CowStr;

@@ -11,7 +11,8 @@ returns c = λ bytes sees. (
       ∙ ap (λ first. first ++ take (256 - length first) c.args.bytes.now) sees.0
       ∙ first_more 256 bytes c.args.bytes.now,
   c.ends_behind-self.ensures
-      ∙ ap (λ ends. ends_behind ends (list_any (λ b. b == 10) c.args.bytes.now) (list_any (λ b. b == 13) c.args.bytes.now))
+      ∙ ap (λ ends. ends_behind ends (list_any (λ b. b == 10) c.args.bytes.now)
+      (list_any (λ b. b == 13) c.args.bytes.now))
       sees.1
       ∙ ends_more bytes c.args.bytes.now,
 )
