@@ -1,6 +1,6 @@
 // What calls from JavaScript cost beside the engine's own URL.canParse, in one run: the least of so many rounds, each
-// of them some passes over the links of standard input, one a line, and over what stands behind their authorities,
-// which is judged against a base. It fails where a call takes more than so many times what another one takes, or where
+// of them some passes over the links of standard input, one a line, and over what is after their authorities,
+// which is checked against a base. It fails where a call takes more than so many times what another one takes, or where
 // a valid text doesn't parse. See bench/browser.sh. Usage: node bench/browser.mjs FOLDER ROUNDS <LINKS, FOLDER being
 // one that tools/build-page has made.
 import { readFileSync } from 'node:fs'
@@ -20,7 +20,7 @@ const WARMING = 100
 
 const lines = new TextEncoder().encode(`${links.join('\n')}\n`)
 
-/** The calls on links, and those on references; in each group all judges say the same of a text. */
+/** The calls on links, and those on references; in each group all checks say the same of a text. */
 const groups = [
   [links, {
     'URL.canParse': text => URL.canParse(text),
@@ -29,7 +29,7 @@ const groups = [
   }],
   [references, {
     'URL.canParse with a base': text => URL.canParse(text, base),
-    'check with a base that is judged once': text => urlcheck.check(text, { base: held }).valid,
+    'check with a base that is checked once': text => urlcheck.check(text, { base: held }).valid,
     'check with its text': text => urlcheck.check(text, { base }).valid
   }]
 ]
@@ -38,21 +38,21 @@ const groups = [
 const BOUNDS = [
   ['check', 'URL.canParse', 4],
   ['isValid', 'check', 0.95],
-  ['check with a base that is judged once', 'URL.canParse with a base', 3],
-  ['check with a base that is judged once', 'check with its text', 0.75],
+  ['check with a base that is checked once', 'URL.canParse with a base', 3],
+  ['check with a base that is checked once', 'check with its text', 0.75],
   ['checkMany, a line', 'check', 1.3]
 ]
 
-/** The nanoseconds that a judge takes for a text. */
-function timed(texts, judge) {
+/** The nanoseconds that a check takes for a text. */
+function timed(texts, call) {
   let taken = 0
   const start = process.hrtime.bigint()
-  for (let pass = 0; pass < PASSES; pass++) for (const text of texts) if (judge(text)) taken++
+  for (let pass = 0; pass < PASSES; pass++) for (const text of texts) if (call(text)) taken++
   const cost = Number(process.hrtime.bigint() - start) / PASSES / texts.length
   return taken === 0 ? NaN : cost
 }
 
-/** The nanoseconds that a line takes where all of them are judged by one call. */
+/** The nanoseconds that a line takes where all of them are checked by one call. */
 function timedLines() {
   const start = process.hrtime.bigint()
   let judged = 0
@@ -62,9 +62,9 @@ function timedLines() {
 
 const least = {}
 for (let round = -WARMING; round < rounds; round++) {
-  for (const [texts, judges] of groups) {
-    for (const [name, judge] of Object.entries(judges)) {
-      const cost = timed(texts, judge)
+  for (const [texts, calls] of groups) {
+    for (const [name, call] of Object.entries(calls)) {
+      const cost = timed(texts, call)
       if (round >= 0) least[name] = Math.min(least[name] ?? Infinity, cost)
     }
   }
@@ -73,13 +73,13 @@ for (let round = -WARMING; round < rounds; round++) {
 }
 
 let failed = 0
-for (const [texts, judges] of groups) {
-  const [parses, ...ours] = Object.values(judges)
+for (const [texts, calls] of groups) {
+  const [parses, ...ours] = Object.values(calls)
   const units = texts.reduce((sum, text) => sum + text.length, 0) / texts.length
-  const isWrong = text => new Set(ours.map(judge => judge(text))).size > 1 || (ours[0](text) && !parses(text))
+  const isWrong = text => new Set(ours.map(call => call(text))).size > 1 || (ours[0](text) && !parses(text))
   const wrong = texts.filter(isWrong)
   console.log(`${texts.length} texts of ${units.toFixed(0)} units, least of ${rounds} rounds: ` +
-    Object.keys(judges).map(name => `${name} ${least[name].toFixed(0)} ns`).join(', '))
+    Object.keys(calls).map(name => `${name} ${least[name].toFixed(0)} ns`).join(', '))
   if (wrong.length !== 0) console.log(`FAILED: ${wrong.length} texts have two verdicts, or are valid and don't parse`)
   failed += wrong.length
 }

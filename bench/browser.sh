@@ -1,7 +1,7 @@
 #!/usr/bin/env bash
 # What calls from JavaScript cost beside the engine's own URL.canParse, under Node, the least of 15 rounds in one run. A
 # check of a mixed link of 70 code points takes at most 4 times as long, and isValid 0.95 times that. Against a base
-# that is judged once a check of what stands behind the authority takes at most 3 times as long as canParse with the
+# that is checked once a check of what is after the authority takes at most 3 times as long as canParse with the
 # base's text, and 0.75 times a check with it. A line of checkMany takes at most 1.3 times as long as a check. It needs
 # python3 and node, and builds the module unless a folder is given.
 # Usage: bench/browser.sh [FOLDER [ROUNDS]]

@@ -16,7 +16,7 @@ import sys
 import tempfile
 
 FAILS = 200
-# A call makes at most so many allocations; one that stands in the record is tried with so many more than are written there.
+# A call makes at most so many allocations; one that is in the record is tried with so many more than are written there.
 MOST = {"domain": 10, "check": 12, "faults": 14, "resolve": 16, "run_check": 20, "run_faults": 20, "run_links": 60,
         "run_cases": 50}
 MORE = 2

@@ -87,10 +87,10 @@ filled() {
     esac
 }
 
-# base_of SHAPE : the base that a shape is judged against, if any
+# base_of SHAPE : the base that a shape is checked against, if any
 base_of() { case $1 in reference+*) echo 'http://h/a/b?q' ;; esac; }
 
-# each PLACE RULE TIMES : that many faults, the first there and each a code point behind the one before
+# each PLACE RULE TIMES : that many faults, the first there and each a code point after the one before
 each() { echo "$3 faults, refused $1 $2, refused $(($1 + $3 - 1)) $2"; }
 
 # one PLACE RULE : one fault
@@ -275,7 +275,7 @@ for what in check faults mend links; do
     if [ -n "$only" ] && [ "$only" != "$what" ]; then continue; fi
     for shape in "${shapes[@]}"; do
         case $what in
-            # a reference is judged with its base, which the driver of checks doesn't take
+            # a reference is checked with its base, which the driver of checks doesn't take
             check) [ -n "$(base_of "$shape")" ] || grows check "$shape" "${counts[@]}" ;;
             faults | mend) grows "$what" "$shape" "${counts[@]}" ;;
             links)

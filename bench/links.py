@@ -1,6 +1,6 @@
 """Writes so many made links of a kind, one a line, from a seed, and on standard error how many of them are valid:
 python3 bench/links.py COUNT SEED [KIND]. The kinds are those of MAKERS below; with none the list is mixed, by SHARES.
-Each of own_base is two lines, a base and a reference. Against which base and by which profile a kind is judged stands
+Each of own_base is two lines, a base and a reference. Against which base and by which profile a kind is checked stands
 in bench/kinds."""
 import ipaddress
 import random
@@ -128,9 +128,9 @@ def scheme():
     return draw.choice(["https", "https", "https", "https", "http", "http"])
 
 
-def link(host, behind=rest):
-    """A link with a host that is made after its scheme, and with what stands behind it."""
-    return scheme() + "://" + host() + behind()
+def link(host, after=rest):
+    """A link with a host that is made after its scheme, and with what is after it."""
+    return scheme() + "://" + host() + after()
 
 
 def upper():

@@ -50,7 +50,7 @@ def run(program, command, text, base):
     return ended.stdout.decode(), ended.returncode
 
 
-def judged(program, text, base):
+def checked(program, text, base):
     """The answer of `mend`, the mended text if there is one, and whether `check` disagrees."""
     answer, _ = run(program, "mend", text, base)
     valid = run(program, "check", text, base)[1] == 0
@@ -61,14 +61,14 @@ def judged(program, text, base):
 
 
 def main():
-    """Judges the texts and prints the counts."""
+    """Checks the texts and prints the counts."""
     program, count = sys.argv[1], int(sys.argv[2]) if len(sys.argv) > 2 else 10000
     random.seed(1)
     rows = set()
     while len(rows) < count:
         rows.add((mutated(random.choice(TEXTS)), random.choice(BASES)))
     with ThreadPoolExecutor() as pool:
-        found = list(pool.map(lambda row: judged(program, *row), sorted(rows, key=str)))
+        found = list(pool.map(lambda row: checked(program, *row), sorted(rows, key=str)))
     for kind, number in sorted(Counter(row[2] for row in found).items()):
         print(f"{kind}: {number}")
     wrong = [row for row in found if row[4]]

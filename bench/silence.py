@@ -1,7 +1,7 @@
 #!/usr/bin/env python3
 """bench/silence.py PROGRAM [COUNT] [SEED]: the parser's profile beside a second reading of the Standard's parser.
 
-Made texts, alone and against bases of each class, are judged by `urlcheck links --profile parser` and by the parser of
+Made texts, alone and against bases of each class, are checked by `urlcheck links --profile parser` and by the parser of
 bench/peers/standard.py, which was written from the Standard's text alone. Where that is silent the record's text has to
 be the same, and else the program has to refuse. Node says what ToASCII makes of a domain beyond ASCII. Domains on which
 it answers otherwise than the program are named and left out: its tables are older, and it checks less of UTS #46.
@@ -91,7 +91,7 @@ def escaped(name):
     return "".join(f"%{byte:02X}" for byte in name.encode())
 
 
-def judged(program, texts, base):
+def checked(program, texts, base):
     """For each text the record's text, None where it is refused, and `differs` where a second parser reads another."""
     command = [program, "links", "--profile", "parser", *(["--base", base] if base is not None else [])]
     lines = "".join(f"{text}\n" for text in texts).encode()
@@ -132,7 +132,7 @@ def form_of(name, host):
 
 
 def main():
-    """Judges the texts both ways and prints the counts."""
+    """Checks the texts both ways and prints the counts."""
     program, count = sys.argv[1], int(sys.argv[2]) if len(sys.argv) > 2 else 10000
     random.seed(int(sys.argv[3]) if len(sys.argv) > 3 else 1)
     texts = made_texts(count)
@@ -140,11 +140,11 @@ def main():
     ran = subprocess.run(["node", "-e", NODE], input=json.dumps(names).encode(), capture_output=True, check=True)
     forms = dict(zip(names, map(form_of, names, json.loads(ran.stdout)), strict=True))
     alone = [f"http://{escaped(name)}/" for name in names]
-    others = {name for name, text, told in zip(names, alone, judged(program, alone, None), strict=True)
+    others = {name for name, text, told in zip(names, alone, checked(program, alone, None), strict=True)
               if told != wanted(text, None, forms.get)}
     taken, refused, wrong = 0, 0, []
     for base in BASES:
-        for text, told in zip(texts, judged(program, texts, base), strict=True):
+        for text, told in zip(texts, checked(program, texts, base), strict=True):
             asked = []
             want = wanted(text, base, lambda name: asked.append(name) or forms[name])
             if not others.isdisjoint(asked):

@@ -1,7 +1,7 @@
 #!/usr/bin/env bash
 # What this checker takes for texts of a kind, beside Ada and, where it is at hand, Rust's crate `url`. bench/kinds has
 # the kinds: what is made, the call, the profile, the base, the aim and the bound. `check`, `check_alone` (alone),
-# `is_valid` and a call from C (from_c) stand beside Ada's can_parse, `resolve_serialized` (resolve) and `resolve` with
+# `is_valid` and a call from C (from_c) are beside Ada's can_parse, `resolve_serialized` (resolve) and `resolve` with
 # its record's text (record) beside Ada's parse with its href. Both sides keep the base, or read each text's own. It
 # prints the instructions a text by callgrind, or the least processor time of so many rounds with a run of each in turn,
 # reading taken off, and the ratios to Ada.
@@ -95,7 +95,7 @@ else
     wanted=$(cat "$room/valid")
 fi
 lines=$(grep -c . "$links" || true)
-# (a base that is a text's own stands in the line before it)
+# (a base that is a text's own is in the line before it)
 [ "$base" != own ] || lines=$((lines / 2))
 [ "$lines" -gt 0 ] || { echo 'no texts'; exit 2; }
 against=("$profile")
@@ -140,7 +140,7 @@ if [ "$call $base" = 'check -' ] && has_url && build_url "$room/url" url.rs; the
     program[url]=$room/url/target/release/peer mode[url]=check
 fi
 
-# words_of NAME : the profile and the base behind a mode
+# words_of NAME : the profile and the base after a mode
 words_of() {
     if [ "$1" = standard ]; then echo standard; else printf '%s\n' "${against[@]}"; fi
 }
@@ -270,7 +270,7 @@ done
 if [ "$call" = check ]; then echo "is_valid to check: $(ratio "${cost[is_valid]}" "${cost[check]}")"; fi
 if [ "$kind" = plain_parser ]; then
     echo "by the parser's profile to the standard one: $(ratio "${cost[check]}" "${cost[standard]}")"
-    # (the words behind the mode are read too, which is a part of an instruction for each text)
+    # (the words after the mode are read too, which is a part of an instruction for each text)
     holds "by the parser's profile to the standard one" "${cost[check]}" "${cost[standard]}" 1.002
 fi
 exit $failed

@@ -147,7 +147,7 @@ typedef enum { TEXT, NAME, FILES } word_kind;
 typedef struct {
     word_kind value; /* of the next word, where it is the value of an option */
     int is_valued; /* whether it is */
-    int is_behind; /* whether it is after `--` */
+    int is_after; /* whether it is after `--` */
 } word_reading;
 
 static const wchar_t *const text_options[] = {L"--base", L"--profile", L"--format", L"--columns"};
@@ -166,9 +166,9 @@ static word_kind next_kind(word_reading *reading, const wchar_t *word) {
         reading->is_valued = 0;
         return reading->value;
     }
-    if (reading->is_behind || word[0] != L'-' || word[1] == 0) return FILES;
+    if (reading->is_after || word[0] != L'-' || word[1] == 0) return FILES;
     int takes_name = wcscmp(word, name_option) == 0;
-    reading->is_behind = wcscmp(word, L"--") == 0;
+    reading->is_after = wcscmp(word, L"--") == 0;
     reading->is_valued = takes_name || is_text_option(word);
     reading->value = takes_name ? NAME : TEXT;
     return wcsncmp(word, name_given, sizeof name_given / sizeof *name_given - 1) == 0 ? NAME : TEXT;

@@ -1,7 +1,7 @@
 // Ada over the lines of standard input, as crates/bench_check does it: MODE ROUNDS PROFILE BASE, the profile unread.
-// `check` asks can_parse. With a base, which is parsed once, it asks for the parse on which can_parse stands: that one
-// takes the text of a base and parses it in each call. So it is asked where the base is `own`: then each text stands
-// behind a line with its base. `resolve` parses and takes the href. `version` says which Ada it is.
+// `check` asks can_parse. With a base, which is parsed once, it asks for the parse on which can_parse is: that one
+// takes the text of a base and parses it in each call. So it is asked where the base is `own`: then each text is
+// after a line with its base. `resolve` parses and takes the href. `version` says which Ada it is.
 #include "ada.h"
 #include <cstdio>
 #include <cstdlib>

@@ -1,6 +1,6 @@
-/* Judges the lines of standard input by the library for C, as crates/bench_check does it: MODE ROUNDS PROFILE BASE, by
-   the standard profile alone. Both find the lines before they judge the first. `read` does no more, `check` judges each
-   line, and `verdicts` writes `1` or `0` for each. A base is prepared once. Where it is `own`, each text stands behind a
+/* Checks the lines of standard input by the library for C, as crates/bench_check does it: MODE ROUNDS PROFILE BASE, by
+   the standard profile alone. Both find the lines before they check the first. `read` does no more, `check` checks each
+   line, and `verdicts` writes `1` or `0` for each. A base is prepared once. Where it is `own`, each text stands after a
    line with its base, which comes as text in each call. */
 #include "urlcheck.h"
 
@@ -15,7 +15,7 @@ struct line {
 
 enum against { ALONE, KEPT, OWN };
 
-/* What the lines are judged against. */
+/* What the lines are checked against. */
 struct setting {
     enum against against;
     urlcheck_base base;

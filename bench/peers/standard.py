@@ -226,15 +226,15 @@ class Parser:
         return state
 
     def remaining(self):
-        """What stands behind the pointer's code point."""
+        """What is after the pointer's code point."""
         return self.text[self.pointer + 1 :]
 
     def is_end(self, c):
         """The end of an authority, a host, a port or a segment."""
         return c in ("", "/", "?", "#") or (c == "\\" and self.url.is_special())
 
-    def behind_path(self, c, otherwise):
-        """The state behind `?` or `#`, or another."""
+    def after_path(self, c, otherwise):
+        """The state after `?` or `#`, or another."""
         if c == "?":
             self.url.query = ""
             return self.query
@@ -265,11 +265,11 @@ class Parser:
             return self.scheme
         if c == ":":
             self.url.scheme, self.buffer = self.buffer, ""
-            return self.behind_scheme()
+            return self.after_scheme()
         self.buffer, self.pointer = "", -1
         return self.no_scheme
 
-    def behind_scheme(self):
+    def after_scheme(self):
         if self.url.scheme == "file":
             stop_where(not self.remaining().startswith("//"))
             return self.file
@@ -306,7 +306,7 @@ class Parser:
         stop_where(c == "\\" and self.url.is_special())
         self.take_base()
         if c in ("", "?", "#"):
-            return self.behind_path(c, self.relative)
+            return self.after_path(c, self.relative)
         self.url.query = None
         self.url.shorten()
         return self.again(self.path)
@@ -364,7 +364,7 @@ class Parser:
             return self.again(self.path)
         self.take_base()
         if c in ("", "?", "#"):
-            return self.behind_path(c, self.file)
+            return self.after_path(c, self.file)
         self.url.query = None
         stop_where(starts_with_drive_letter(self.text[self.pointer :]))
         self.url.shorten()
@@ -395,7 +395,7 @@ class Parser:
             stop_where(c == "\\")
             return self.path if c == "/" else self.again(self.path)
         if c in ("", "?", "#"):
-            return self.behind_path(c, self.path_start)
+            return self.after_path(c, self.path_start)
         return self.path if c == "/" else self.again(self.path)
 
     def path(self, c):
@@ -412,11 +412,11 @@ class Parser:
         elif c != "/":
             self.url.path.append("")
         self.buffer = ""
-        return self.behind_path(c, self.path)
+        return self.after_path(c, self.path)
 
     def opaque_path(self, c):
         if c in ("?", "#"):
-            return self.behind_path(c, self.opaque_path)
+            return self.after_path(c, self.opaque_path)
         if c == " ":
             self.url.path += "%20" if self.remaining()[:1] in ("?", "#") else " "
         elif c != "":
@@ -429,7 +429,7 @@ class Parser:
             check_unit(self.text, self.pointer)
             self.url.query += encoded(c, "'" if self.url.is_special() else "")
             return self.query
-        return self.behind_path(c, self.query)
+        return self.after_path(c, self.query)
 
     def fragment(self, c):
         if c != "":

@@ -49,7 +49,7 @@ if python=$(python_with pylsp_jsonrpc markdown_it docutils tinycss2); then
     printf '#!/bin/sh\nexec "%s" -m urlcheck.language_server "$@"\n' "$(command -v "$python")" >"$room/bin/urlcheck-language-server"
     chmod +x "$room/bin/urlcheck-language-server"
     PATH=$room/bin:$PATH
-    # A document of each kind, with one link that is wrong, behind code points of one and of two units of UTF-16.
+    # A document of each kind, with one link that is wrong, after code points of one and of two units of UTF-16.
     mkdir "$room/pages"
     cd "$room/pages"
     printf '# \360\237\230\200\n\n\360\237\230\200 [x](http://h/a^b) ok\n' >page.md

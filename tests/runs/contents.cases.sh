@@ -44,7 +44,7 @@ looks "$table" 'cut -d , -f N FILE' 'a-b,c'
 looks "$table" 'cut -f N FILE' 'name\turl or none\nx\thttp://h/\n'
 looks "$table" 'cut -f N FILE' 'a\tb,c\n'
 
-# No such list: a sentence, links with commas, an IPv6 address, brackets without a string, one letter of a mark, LF behind CR.
+# No such list: a sentence, links with commas, an IPv6 address, brackets without a string, one letter of a mark, LF after CR.
 for bytes in 'Hello, world\n' 'a,b: c\n' 'a,b;c\n' 'x/a,b\n' '[::1]\n' '[{}]\n' '[[["x"]]]\n' 'x ["a"]\n' '\037x\n' '\0377x\n' \
     '\0376\n\0377' 'x\r\n' '\r\nx' 'x\n' 'x y\n'; do
     plain 1 "$bytes"
@@ -66,7 +66,7 @@ many=$(printf "$letters%.0s" {1..1000})
 looks "$returns" "tr '\\\\r' '\\\\n' <FILE" "x\\r$many"
 plain 1 "x\\r$many\\n"
 
-# A hint stands once a file, before the counts, and the standard input's behind the last file. What is printed is as without it.
+# A hint is once a file, before the counts, and the standard input's after the last file. What is printed is as without it.
 printf '\x1f\x8b\n' >"$room/list"
 printf 'a,b\n' >"$room/table"
 said_of 2 "urlcheck: list $gzip: gzip -dc FILE | urlcheck lint -\\nurlcheck: missing: can't be read: there is no such file\\n\

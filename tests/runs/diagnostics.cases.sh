@@ -79,10 +79,10 @@ of_list 1 "list:1:8: $(in_domain '0020 SPACE')\nlist:2:8: $none\nlist:3:8: $(in_
 list:5:8: $(in_domain '0009 CHARACTER TABULATION')\n" "$(counted 5 4)" \
     'http://x_y! z/\nhttp://a..%20/\nhttp://%<>/\nhttp://a..b/\nhttp://a\tb/\n' --profile parser
 
-# What stands before a scheme: a control, a space, or another code point of which nothing is seen, as a no-break space, a
+# What is before a scheme: a control, a space, or another code point of which nothing is seen, as a no-break space, a
 # zero width space, a line separator, a soft hyphen, an ideographic space, a word joiner or a tag. Of another code point
 # nothing is said.
-# before CODE_POINT : that it stands before the scheme
+# before CODE_POINT : that it is before the scheme
 before() { echo "error: U+$1 is before the scheme [no-scheme]"; }
 of_list 1 "list:1:1: $(before '0020 SPACE')\nlist:2:1: $(before '0009 CHARACTER TABULATION')
 list:3:1: $(before '001F INFORMATION SEPARATOR ONE')\nlist:4:1: $(before '007F DELETE')\nlist:5:1: $(before 0085)
@@ -107,7 +107,7 @@ of_list 1 "list:1:1: $colon\nlist:2:1: $colon\nlist:3:1: $two\nlist:4:1: $host\n
 list:7:1: $scheme\nlist:8:1: $scheme\nlist:9:1: $scheme\nlist:10:1: $scheme\nlist:11:1: $scheme\n" "$(counted 11 11)" \
     'http//a/\nFILE///a\n//h:80a/\nwww.example.com\nexample.com/a b\n127.0.0.1?q\n../a.b\na/b.c\nfoo//a\nhttp/a\na_b.c/\n'
 
-# A noncharacter is told as one, by its number alone, and nothing stands behind the number of what isn't seen.
+# A noncharacter is told as one, by its number alone, and nothing is after the number of what isn't seen.
 of_list 1 'list:1:10: error: U+FFFE <noncharacter> is not allowed in a URL [code-point]
 list:2:6: error: U+FDD0 <noncharacter> is not allowed in a URL [code-point]
 list:3:11: error: U+10FFFF <noncharacter> is no digit of a port [port-digit]
@@ -115,7 +115,7 @@ list:4:11: error: U+200B is no digit of a port [port-digit]
 list:5:10: error: U+0663 \xd9\xa3 is no digit of a port [port-digit]\n' "$(counted 5 5)" \
     'http://h/\xef\xbf\xbe\nurn:a\xef\xb7\x90\nhttp://h:8\xf4\x8f\xbf\xbf/\nhttp://h:8\xe2\x80\x8b/\nhttp://h:\xd9\xa3/\n'
 
-# A file link has no port, and its drive letter stands behind `file:///` and is written with `:`. An IPv6 address stands in
+# A file link has no port, and its drive letter is after `file:///` and is written with `:`. An IPv6 address is in
 # brackets, whatever rule its text violates without them; a text that is no address isn't told as one.
 port='U+003A COLON is not allowed in a domain: a file URL has no port [host-domain]'
 drive='error: a drive letter is written after file:///, and not in place of a host [host-domain]'
@@ -125,7 +125,7 @@ list:6:10: $bar; a drive letter is written with : [code-point]\nlist:7:10: $bar;
 list:8:10: $bar [code-point]\nlist:9:12: $bar [code-point]\nlist:10:10: $bar [code-point]\n" "$(counted 10 10)" \
     'file://h:80/\nFile://host:\nfile://C:/x\nfile://c|\nfile://CC:/x\nfile:///C|/x\nFILE:///z|
 file:///C|x\nfile:///x/C|/\nhttp://h/|/\n'
-# A zone, before which an address stands; elsewhere a `%` is none.
+# A zone, before which an address is; elsewhere a `%` is none.
 zone='error: an IPv6 address in a URL has no zone: leave out the % and what follows it [host-ipv6]'
 ipv6='error: the host that begins here is no IPv6 address in brackets [host-ipv6]'
 of_list 1 "list:1:8: $zone\nlist:2:7: $zone\nlist:3:8: $ipv6\nlist:4:8: $ipv6\nlist:5:8: $ipv6\n" "$(counted 5 5)" \
@@ -186,14 +186,14 @@ told_begin="{\"source\":{\"name\":\"urlcheck\",\"url\":\"$site/\"},\"severity\":
 of_list 1 "$told_begin$(told 1 1 2 rules/no-scheme no-scheme 'there is no scheme and no base')}
 ,$(told 2 2 2 COMMANDS not-utf8 "this line isn't UTF-8")}\n]}\n" "$(counted 2 2)" "$both" --format rdjson
 of_list 0 "$told_begin]}\n" "$(counted 1 0)" 'urn:a\n' --format rdjson
-# Its columns are bytes of UTF-8: behind 13 of them stands one of three, and with the suggestion all 16 are replaced.
+# Its columns are bytes of UTF-8: after 13 of them is one of three, and with the suggestion all 16 are replaced.
 of_list 1 "$told_begin$(told 1 14 17 rules/code-point code-point 'U+FDD0 <noncharacter> is not allowed in a URL'),\"suggestions\":[{\
 \"range\":{\"end\":{\"column\":17,\"line\":1},\"start\":{\"column\":1,\"line\":1}},\
 \"text\":\"http://h/\xf0\x9f\x98\x80%EF%B7%90\"}]}\n]}\n" "$(counted 1 1)" \
     'http://h/\xf0\x9f\x98\x80\xef\xb7\x90\n' --format rdjson
 
-# The column of the first byte that isn't UTF-8, in each unit: behind U+FFFD, which is UTF-8, U+65E5, `e` with U+0301,
-# U+1F600 and a tab; behind the column 10 of a link; and where a code point is cut off by the line's end.
+# The column of the first byte that isn't UTF-8, in each unit: after U+FFFD, which is UTF-8, U+65E5, `e` with U+0301,
+# U+1F600 and a tab; after the column 10 of a link; and where a code point is cut off by the line's end.
 foreign='\xef\xbf\xbd\xe6\x97\xa5e\xcc\x81\xf0\x9f\x98\x80\t\xff\xfe'
 for unit in code-points,7 bytes,15 utf16,8 screen,9; do
     of_list 1 "list:1:${unit#*,}: $utf8\n" "$(counted 1 1)" "$foreign" --columns "${unit%,*}"
@@ -215,7 +215,7 @@ of_list 1 '{"column":12,"cut":false,"file":"list","kind":"same","line":1,"mended
 '"message":"// has to follow this scheme","offered":true,"rule":"two-slashes","text":"http:a"}\n' "$(counted 2 2)" \
     'http://x_y/ c\nhttp:a\n' --wide --base http://h/ --format json
 
-# A line of 65,536 code points is judged, also with its fault in the last column, and a longer one isn't. Of a long line
+# A line of 65,536 code points is checked, also with its fault in the last column, and a longer one isn't. Of a long line
 # a window is shown.
 longest=urn:$(head -c 65531 /dev/zero | tr '\0' a)
 lines="${longest}b\r\n$longest \n${longest}bb\n${longest}bb\r"
@@ -232,8 +232,8 @@ of_list 1 "$(awk 'BEGIN {
         print "list:1:" n ": error: U+005E CIRCUMFLEX ACCENT is not allowed in a URL [code-point]"
 }')\n" "$(counted 1 1)" "urn:$carets" --all
 
-# Links that say where they stand, and lines that don't: the first run of two numbers ends the file's name.
-# form_of REASON : the diagnostic of a line that doesn't say where its link stands
+# Links that say where they are, and lines that don't: the first run of two numbers ends the file's name.
+# form_of REASON : the diagnostic of a line that doesn't say where its link is
 form_of() { echo "error: this line isn't FILE:LINE:COLUMN:LINK, since $1 [not-located]"; }
 no_line=$(form_of 'LINE is missing') no_file=$(form_of 'FILE is empty')
 column_range=$(form_of "COLUMN isn't from 1 to 4294967295")
@@ -249,7 +249,7 @@ source=\"urlcheck.not-located\"/>
 </file>\n</checkstyle>\n" "$(counted 3 2)" 'a:1:2:b\nb:1:2:urn:a\nurn:a\n' --located --format checkstyle
 of_list 0 "$document</checkstyle>\n" "$(counted 0 0)" '' --located --format checkstyle
 
-# Behind a combining mark, a wide code point and one beyond U+FFFF a space, a tab and another space: their columns in
+# After a combining mark, a wide code point and one beyond U+FFFF a space, a tab and another space: their columns in
 # each unit, in a line and in a link from the 100th column on.
 tab='error: U+0009 CHARACTER TABULATION is not allowed in a URL [code-point]'
 link='urn:e\xcc\x81\xe6\x97\xa5\xf0\x9f\x98\x80 \tb '
@@ -263,7 +263,7 @@ for row in code-points,9,10,12,108,109,111 bytes,15,16,18,114,115,117 utf16,10,1
 done
 
 # Results of SARIF: two on the second line of a list, whose text has nine code points, and one on the third, of five. The
-# first on each says what to write in its place, and a comma stands before each but the first one of the whole report.
+# first on each says what to write in its place, and a comma is before each but the first one of the whole report.
 # result LINE COLUMN TEXT : a result on a space
 result() {
     echo "\"level\":\"error\",\"locations\":[{\"physicalLocation\":{\"artifactLocation\":{\"uri\":\"list\"},\
@@ -284,7 +284,7 @@ echo "{$(fix 2 10 urn:a%20b%20c 'percent-encode what is not allowed in a URL str
 ,{$(result 2 8 'urn:a b c')
 ,{$(fix 3 6 urn: 'write the same URL as a valid URL string'),$(result 3 5 'urn: ')" >"$room/wanted"
 grep '"ruleIndex":' "$room/out" | cmp -s - "$room/wanted" || fail "results of SARIF: $(grep '"ruleIndex":' "$room/out")"
-# Behind those of other files too, and nothing where a file has none.
+# After those of other files too, and nothing where a file has none.
 printf 'urn:a\n' >"$room/right"
 (cd "$room" && "$program" lint --all --format sarif list right list) >"$room/out" 2>"$room/err"
 ends_with 1 $? "$(counted 7 4)" 'results of SARIF of three files'
@@ -324,8 +324,8 @@ of_list 1 "list:1:8: $(in_domain '0021 EXCLAMATION MARK')\nlist:2:8: $empty\n" "
 of_list 1 "list:1:8: $(in_domain '0020 SPACE')\nlist:2:8: $none\n" "$(counted 2 2)" 'http://%_ /\nhttp://a..%20\n' \
     --profile parser
 
-# A link that doesn't begin its line: the column is that of the line, and the caret stands below the link.
-# at_40 FORMAT FILE STDOUT : a lint in this format of a link in the 40th column of a file, with a space behind ten of
+# A link that doesn't begin its line: the column is that of the line, and the caret is below the link.
+# at_40 FORMAT FILE STDOUT : a lint in this format of a link in the 40th column of a file, with a space after ten of
 # its code points, says so
 at_40() {
     printf '%s:3:40:http://h/a b\n' "$2" >"$room/list"
@@ -340,7 +340,7 @@ at_40 checkstyle page.html "$document<file name=\"page.html\">
 <error line=\"3\" column=\"50\" severity=\"error\" message=\"U+0020 SPACE is not allowed in a URL\" \
 source=\"urlcheck.code-point\"/>\n</file>\n</checkstyle>\n"
 
-# The caret below a place behind wide code points and a tab, a combining mark, what isn't shown as it is, and nothing.
+# The caret below a place after wide code points and a tab, a combining mark, what isn't shown as it is, and nothing.
 # points LINE SHOWN CARET WORD.. : what is said last of a line, in the format with carets, ends so
 points() {
     local line=$1 shown=$2 caret=$3
@@ -387,7 +387,7 @@ of_list 1 "::error file=$name,line=3,col=61435,title=code-point::U+0020 SPACE is
     "$(counted 1 1)" "$name:3:1:$link \n" --located --format github
 
 # What columns count before each code point of a text: a letter, a combining mark (U+0301), a wide code point (U+65E5),
-# a wide one of two UTF-16 code units and four bytes (U+1F600), a tab and a letter; and behind the last one.
+# a wide one of two UTF-16 code units and four bytes (U+1F600), a tab and a letter; and after the last one.
 letters=('' e '\xcc\x81' '\xe6\x97\xa5' '\xf0\x9f\x98\x80' '\t' a)
 for row in code-points,1,2,3,4,5,6,7 bytes,1,2,4,7,11,12,13 utf16,1,2,3,4,6,7,8 screen,1,2,2,4,6,9,10; do
     IFS=, read -r unit places <<<"$row"
@@ -399,19 +399,19 @@ for row in code-points,1,2,3,4,5,6,7 bytes,1,2,4,7,11,12,13 utf16,1,2,3,4,6,7,8 
         (cd "$room" && "$program" lint --quiet --all --base http://h/ --columns "$unit" list) 2>"$room/err" |
             tail -n 1 >"$room/out"
         echo "list:1:$column: error: U+005E CIRCUMFLEX ACCENT is not allowed in a URL [code-point]" |
-            cmp -s - "$room/out" || fail "the column behind $before in $unit: $(cat "$room/out" "$room/err")"
+            cmp -s - "$room/out" || fail "the column after $before in $unit: $(cat "$room/out" "$room/err")"
     done
 done
 # A tab goes on to the columns 9, 17 and so on of the line, wherever the link begins in it; a control and what turns the
 # direction take a column.
-# ends_at COLUMN TEXT END : behind a text that begins in this column of a screen `^` stands in that one
+# ends_at COLUMN TEXT END : after a text that begins in this column of a screen `^` is in that one
 ends_at() {
     printf 'a:1:%s:%b^' "$1" "$2" >"$room/list"
     (cd "$room" && "$program" lint --quiet --all --located --base http://h/ --columns screen list) 2>"$room/err" |
         tail -n 1 >"$room/out"
     count=$((count + 1))
     echo "a:1:$3: error: U+005E CIRCUMFLEX ACCENT is not allowed in a URL [code-point]" | cmp -s - "$room/out" ||
-        fail "the column behind $2 from $1 on: $(cat "$room/out" "$room/err")"
+        fail "the column after $2 from $1 on: $(cat "$room/out" "$room/err")"
 }
 ends_at 1 '\t' 9
 ends_at 8 '\t' 9

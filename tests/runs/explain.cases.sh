@@ -84,7 +84,7 @@ done < <(cat "$room/explained" && echo)
 count=$((count + 1))
 [ "$(grep -c '^mended ' "$room/explained")" = 4 ] || fail 'explain: it tells another number of mended texts'
 
-# A rule is explained by its name, and without one each is, in the order of the table, and an empty line stands between
+# A rule is explained by its name, and without one each is, in the order of the table, and an empty line is between
 # two.
 expect 0 'rule host-missing
 means a host is missing here
@@ -134,7 +134,7 @@ for pair in 'host host-missing host-domain host-number host-ipv6 host-code-point
     expect 2 '' "urlcheck: no rule is named '$word'\\nurlcheck: the rules that begin so: ${pair#* }\\n$rules\\nwords\\n" explain "$word"
 done
 
-# Several names: one explanation behind the other with an empty line between, in the order of the names, also twice; and
+# Several names: one explanation after the other with an empty line between, in the order of the names, also twice; and
 # nothing where one of them is no name, of which each is told once.
 several='percent not-utf8 no-scheme percent'
 for name in $several; do "$program" explain "$name" >"$room/one.$name" 2>"$room/err"; done

@@ -8,12 +8,12 @@ faulty() {
     expect 1 "$(printf 'refused %s %s\\n' $faults)" '' check --all "$@" -- "$text"
 }
 
-# Each part is judged by itself, and the start, the host and the port before what follows them.
+# Each part is checked by itself, and the start, the host and the port before what follows them.
 faulty 'foo://[a:b//C|?^#%' '6 host-ipv6 11 first-segment-empty 13 code-point 15 code-point 17 percent'
 faulty 'foo://a[b]:99999/' '7 host-code-point 9 host-code-point 11 port-range'
 faulty 'http://h//%^' '9 first-segment-empty 10 percent 11 code-point'
 
-# No host is judged where the start is at fault.
+# No host is checked where the start is at fault.
 faulty '//h^/a b' '0 no-scheme 6 code-point'
 faulty '#^' '1 code-point' --base urn:a
 
@@ -36,7 +36,7 @@ for profile in standard wide; do
     faulty file://h/C:/x '8 drive-after-host' --profile $profile
 done
 
-# A fault behind more than three times 32 bytes.
+# A fault after more than three times 32 bytes.
 letters=$(printf '%0100d' 0)
 for profile in standard wide parser; do
     faulty "http://h/${letters//0/a} " '109 code-point' --profile $profile

@@ -1,4 +1,4 @@
-# Hostile texts, which `lint`, `links` and `vectors` judge alike: prefixes and mutations of texts, long lines.
+# Hostile texts, which `lint`, `links` and `vectors` check alike: prefixes and mutations of texts, long lines.
 
 # (the longest texts are words of a command line too)
 if has long_command_lines 1; then

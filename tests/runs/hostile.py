@@ -1,6 +1,6 @@
-"""Hostile texts, short and long, which each command judges alike and to the end.
+"""Hostile texts, short and long, which each command checks alike and to the end.
 
-    hostile.py PROGRAM      has the program judge them
+    hostile.py PROGRAM      has the program check them
 
 Every prefix of each text of `tests/vectors/standard.json` is checked, and each of these with one of its code points
 replaced by a mark: `lint --all` says all that is wrong, of which `lint` says the first fault, `links` the same or a
@@ -31,7 +31,7 @@ Fault = collections.namedtuple("Fault", "place rule widest step each", defaults=
 EMPTY, WIDE, EVERY = "standard", "wide", "parser"
 UNITS = ("/", "a/", "%41", "%", "\u00e9", "[", "@", ".", "xn--", "-")
 DIGIT = Fault(9, "port-digit", EVERY, 1, 1)
-# A part: its base, what stands before the unit and behind it, and the faults of the units that have some.
+# A part: its base, what is before the unit and after it, and the faults of the units that have some.
 PARTS = [
     (None, "http://h/", "", {
         "/": [Fault(9, "first-segment-empty", EMPTY)],
@@ -58,7 +58,7 @@ PARTS = [
 ]
 MILLION = 1_000_000
 
-# Long texts and what each denotes, or where it is refused: the default port behind many zeros is no port, and double
+# Long texts and what each denotes, or where it is refused: the default port after many zeros is no port, and double
 # dots leave an empty segment.
 LONG = [
     ("http://h:" + "0" * 1_000 + "80/", "http://h/"),
@@ -139,7 +139,7 @@ def passes(program, room, vectors):
     return ran(program, ["vectors", "vectors"], room, []) == ["vectors {0} pass {0} fail 0".format(len(vectors))]
 
 
-def judges_variants(program, room, base, texts, profile):
+def checks_variants(program, room, base, texts, profile):
     listed = [variant for text in texts for variant in variants(text)]
     words = ["--profile=" + profile] + ([] if base is None else ["--base=" + base])
     wrong, said = differing(program, room, words, listed)
@@ -159,12 +159,12 @@ def faults_of(part, unit, count, profile):
                 yield fault.place + fault.step * number, fault.rule
 
 
-def judges_long_lines(program, room, part, profile):
+def checks_long_lines(program, room, part, profile):
     """A unit repeated up to the limit of lines has its faults where they were worked out, or none."""
-    base, before, behind, _ = part
+    base, before, after, _ = part
     words = ["--profile=" + profile] + ([] if base is None else ["--base=" + base])
-    counts = [(LINE_BYTES - len(before) - len(behind)) // len(unit.encode()) for unit in UNITS]
-    listed = [before + unit * count + behind for unit, count in zip(UNITS, counts)]
+    counts = [(LINE_BYTES - len(before) - len(after)) // len(unit.encode()) for unit in UNITS]
+    listed = [before + unit * count + after for unit, count in zip(UNITS, counts)]
     found = [line.split(" ")[1:] for line in ran(program, ["links", *words], room, listed)[:-1]]
     for text, unit, count, answer in zip(listed, UNITS, counts, found, strict=True):
         wanted = list(faults_of(part, unit, count, profile))
@@ -172,7 +172,7 @@ def judges_long_lines(program, room, part, profile):
         lines = ran(program, ["check", "--all", *words, "--", text], room, [])
         every = [line for line in lines if line.startswith("refused ")]
         if not first or every != ["refused {} {}".format(*fault) for fault in wanted]:
-            print("FAILED: long lines of", unit, "behind", before, "by", profile, answer[:1], answer[1:][-1][:40])
+            print("FAILED: long lines of", unit, "after", before, "by", profile, answer[:1], answer[1:][-1][:40])
             return False
     return True
 
@@ -180,27 +180,27 @@ def judges_long_lines(program, room, part, profile):
 def denoted(part, unit, count):
     """The URL that such a text denotes where it is valid (section 4.5): its host in lower case and decoded, its path
     and query encoded. A port that is empty is none."""
-    base, before, behind, _ = part
+    base, before, after, _ = part
     if before == "http://":
         unit = unit.replace("%41", "a")
     before = "http://h/a/" if base else before.removesuffix(":")
-    return before + unit.replace("\u00e9", "%C3%A9") * count + behind
+    return before + unit.replace("\u00e9", "%C3%A9") * count + after
 
 
-def judges_million(program, room, part, unit):
+def checks_million(program, room, part, unit):
     """A unit a million times in a part has its first fault where it was worked out, or denotes that URL."""
-    base, before, behind, _ = part
-    given = {"input": before + unit * MILLION + behind, "base": base}
+    base, before, after, _ = part
+    given = {"input": before + unit * MILLION + after, "base": base}
     for profile in PROFILES:
         fault = next(faults_of(part, unit, MILLION, profile), None)
         said = {"text": denoted(part, unit, MILLION)} if fault is None else {"place": fault[0], "rule": fault[1]}
         if not passes(program, room, [{**given, "profile": profile, **said}]):
-            print("FAILED: a million of", unit, "behind", before, "by", profile)
+            print("FAILED: a million of", unit, "after", before, "by", profile)
             return False
     return True
 
 
-def judges_long_texts(program, room):
+def checks_long_texts(program, room):
     """The long texts that are written out, by each profile."""
     cases = []
     for (text, said), profile in itertools.product(LONG, PROFILES):
@@ -210,15 +210,15 @@ def judges_long_texts(program, room):
 
 
 def answers(program, room):
-    """Whether each list is judged as it should be, by each profile."""
+    """Whether each list is checked as it should be, by each profile."""
     for profile in PROFILES:
         for base, texts in texts_by_base().items():
-            yield judges_variants(program, room, base, texts, profile)
+            yield checks_variants(program, room, base, texts, profile)
         for part in PARTS:
-            yield judges_long_lines(program, room, part, profile)
+            yield checks_long_lines(program, room, part, profile)
     for part, unit in itertools.product(PARTS, UNITS):
-        yield judges_million(program, room, part, unit)
-    yield judges_long_texts(program, room)
+        yield checks_million(program, room, part, unit)
+    yield checks_long_texts(program, room)
 
 
 def check(program):

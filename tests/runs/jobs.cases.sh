@@ -16,7 +16,7 @@ does 2 "$wrong" "urlcheck: no/such/file: can't be read: there is no such file\nu
     'urn:a\nx\n' lint no/such/file --format gnu - -
 does 0 '' 'urlcheck: 2 lines, 0 refused\n' 'urn:a\nx\n' lint --base http://h/ -
 
-# A name behind `--` is that of a file, also an empty one and one that begins as an option.
+# A name after `--` is that of a file, also an empty one and one that begins as an option.
 printf 'x\n' | tee "$room/a" >"$room/--all"
 scheme='1:1: error: there is no scheme and no base [no-scheme]\n'
 does 2 "a:$scheme--all:$scheme" "urlcheck: '': can't be read: there is no such file\nurlcheck: 2 lines, 2 refused\n" '' \
@@ -45,7 +45,7 @@ $space,\"text\":\"http://h_/c d%4\"}
     --stdin-name=n --quiet 'a b' -- --all
 rm -f "$room/a b" "$room/--all"
 
-# Columns: before the space stand U+00E9, of two bytes, and in the first link U+65E5, which is wide.
+# Columns: before the space are U+00E9, of two bytes, and in the first link U+65E5, which is wide.
 does 1 'page:3:12: error: U+0020 SPACE is not allowed in a URL [code-point]\n' 'urlcheck: 1 line, 1 refused\n' \
     'page:3:5:urn:\xc3\xa9\xe6\x97\xa5 \n' lint --columns=screen - --located
 does 1 '-:1:7: error: U+0020 SPACE is not allowed in a URL [code-point]\n' 'urlcheck: 1 line, 1 refused\n' \

@@ -1,7 +1,7 @@
 """Texts of each length, for what is read 32 bytes at a time and what is left of that.
 
     lengths.py vectors FILE      writes the texts as a file of vectors
-    lengths.py check PROGRAM     has the program judge them in lists, and more with each byte at each place: `links`
+    lengths.py check PROGRAM     has the program check them in lists, and more with each byte at each place: `links`
                                  what each denotes, `lint` all that is wrong with it. So it is with what JSON has of a
                                  text, and with what `mend` writes in place of one.
 
@@ -31,7 +31,7 @@ URL_POINTS = frozenset(string.ascii_letters + string.digits + "!$&'()*+,-./:;=?@
 HOST_POINTS = URL_POINTS - frozenset("/:?@")
 # A path whose segments have many lengths.
 SEGMENTS = "/abc/defgh//ijklmn/op/qrs/t/uvwxyz/abcdefg/h/ij/klmnop/qrstuvw/x/yz/abcdefghij"
-# What stands behind letters and escapes of a path, and what is wrong with it: how far behind its start, by which rule.
+# What is after letters and escapes of a path, and what is wrong with it: how far after its start, by which rule.
 ENDINGS = {
     **{end: NOTHING for end in ("", "%4F", "%c3%A9", "%00a")},
     **{end: (0, "percent") for end in ("%", "%4", "%4g", "%g4", "%zz", "%%41", "%4%41")},
@@ -68,7 +68,7 @@ def names():
 
 
 def hosts_of_references():
-    """The same labels behind `//`, with each end that may follow them."""
+    """The same labels after `//`, with each end that may follow them."""
     ends = {"": "/", "/": "/", "?q": "/?q", "#f": "/#f", ":80": ":80/", ".com/a": ".com/a", "./": "./"}
     for length, (end, written) in itertools.product(range(1, 71), ends.items()):
         host = "z" * length
@@ -82,7 +82,7 @@ def hosts_of_references():
 
 
 def wrong_places():
-    """Letters behind each mark, and `^` behind them, which is refused where it stands; the same beyond ASCII."""
+    """Letters after each mark, and `^` after them, which is refused where it is; the same beyond ASCII."""
     for length, mark in itertools.product(LENGTHS, "/?#"):
         written = mark if mark == "/" else "/" + mark
         letters = "z" * length
@@ -111,10 +111,10 @@ def parts():
 
 def dots():
     """Paths with a dot segment at each place, written out or as `%2e`, and with a segment that begins as one does."""
-    for before, behind in itertools.product(LENGTHS, LENGTHS):
-        if before + behind not in LENGTHS:
+    for before, after in itertools.product(LENGTHS, LENGTHS):
+        if before + after not in LENGTHS:
             continue
-        start, end = "http://h" + ("/" + "a" * before if before else ""), "b" * behind
+        start, end = "http://h" + ("/" + "a" * before if before else ""), "b" * after
         yield valid(start + "/./" + end, None, start + "/" + end)
         yield valid(start + "/%2e/" + end, None, start + "/" + end)
         yield valid(start + "/.c" + end, None, start + "/.c" + end)
@@ -129,20 +129,20 @@ def references():
 
 
 def bases():
-    """References against bases of each length: what stands behind a segment of the base, and behind it in the URL."""
-    behind = [
+    """References against bases of each length: what is after a segment of the base, and after it in the URL."""
+    after = [
         ("http://h:81/", "/b?q", "c", "/c"),
         ("http://h/", "/b/c", "../d?r", "/d?r"),
         ("http://h/", "?q", "#f", "?q#f"),
         ("http://h/?", "#f", "", ""),
     ]
-    for length, (prefix, end, text, written) in itertools.product(range(1, 71), behind):
+    for length, (prefix, end, text, written) in itertools.product(range(1, 71), after):
         letters = prefix + "a" * length
         yield valid(text, letters + end, letters + written)
 
 
 def marks():
-    """Texts cut at the first `?` and the first `#`, as far behind the start and from one another as lengths go."""
+    """Texts cut at the first `?` and the first `#`, as far after the start and from one another as lengths go."""
     between = [0, 1, 7, 14, 15, 16, 29, 30, 31, 32, 33, 61, 62, 63, 64]
     for start, length in itertools.product(LENGTHS, between):
         path, middle = "u:" + "a" * start, "b" * length
@@ -152,7 +152,7 @@ def marks():
 
 
 def brackets():
-    """A port begins behind the first `:` that stands in no brackets. Two `:` in brackets are an address."""
+    """A port begins after the first `:` that is in no brackets. Two `:` in brackets are an address."""
     for held in LENGTHS:
         host = NOTHING if held == 2 else ((6, "host-ipv6"),)
         inside = "foo://[" + ":" * held
@@ -179,12 +179,12 @@ def bracketed_hosts():
 
 
 def addresses():
-    """IPv4 addresses of each length behind a special scheme, with each end that may follow them."""
+    """IPv4 addresses of each length after a special scheme, with each end that may follow them."""
     ends = {"": "/", "/": "/", "?q": "/?q", "#f": "/#f", ":81": ":81/", ":80/a": "/a", ".": None, "a": None}
     for first, last, (end, written) in itertools.product((1, 12, 123), (0, 45, 255, 256), ends.items()):
         host = "{0}.{0}.{1}.{1}".format(first, last)
         text = "http://" + host + end
-        # (behind the root's full stop these are no four numbers, and "256a" is no number)
+        # (after the root's full stop these are no four numbers, and "256a" is no number)
         name = end == "a"
         if name or (last < 256 and written):
             yield valid(text, None, text + "/" if name else "http://" + host + written)
@@ -225,7 +225,7 @@ def paths():
 
 
 def escapes():
-    """Letters and escapes of each number behind an escape, and behind them what is an escape and what is none."""
+    """Letters and escapes of each number after an escape, and after them what is an escape and what is none."""
     numbers = [(letters, more) for letters in range(98) for more in (0, 1)]
     numbers += [(letters, more) for letters in range(3) for more in range(2, 34)]
     for (letters, more), (end, fault) in itertools.product(numbers, ENDINGS.items()):
@@ -238,13 +238,13 @@ def escapes():
 
 def paths_before_queries():
     """A path and a query, each of many lengths, before what may not stand in one."""
-    for before, behind in itertools.product(range(66), (0, 1, 5, 30, 31, 32, 33, 65)):
-        units = "http://h/" + "a" * before + "?" + "b" * behind
+    for before, after in itertools.product(range(66), (0, 1, 5, 30, 31, 32, 33, 65)):
+        units = "http://h/" + "a" * before + "?" + "b" * after
         yield refused(units + "^?", None, (len(units), "code-point"))
 
 
 def with_point(before, length, place, point):
-    """So many letters behind a text, but for one code point at a place, and how many letters stand behind it."""
+    """So many letters after a text, but for one code point at a place, and how many letters are after it."""
     return before + "a" * place + point + "a" * (length - place - 1), length - place - 1
 
 
@@ -335,7 +335,7 @@ def is_as_wanted(program, room, base, listed):
 
 
 def with_letters(before, count, place, other, end):
-    """So many letters between two texts, of which this stands in the place of one."""
+    """So many letters between two texts, of which this is in the place of one."""
     return before + "".join(other if at == place else "a" for at in range(count)) + end
 
 

@@ -112,7 +112,7 @@ done
 # Where the system copies no process, as Windows, each document is read by a Python that begins anew.
 WITHOUT_FORK=1 python3 documents.py Documents.test_{html,xml,bases,messages} >"$room/tests" 2>&1 ||
     { cat "$room/tests"; exit 1; }
-# What is said of a link in each format is what `lint` says of it where it stands.
+# What is said of a link in each format is what `lint` says of it where it is.
 python3 formats.py "$program" >"$room/tests" 2>&1 || { cat "$room/tests"; exit 1; }
 python3 reports.py "$program" "$room/lines" standard parser
 echo 'library: links in documents in each format, errors of the package'

@@ -14,7 +14,7 @@ reports 2 '' "$(no_base 7 host-domain 'U+005F LOW LINE is not allowed in a domai
 reports 2 '' "$(no_base 7 host-missing 'a host is missing here')" --base http://
 
 # An accepted line has the text that the second parser gives too. Each is worked out by hand from the URL Standard's
-# sections 4.3 to 4.5 or stands in tests/vectors/standard.json.
+# sections 4.3 to 4.5 or is in tests/vectors/standard.json.
 # gives PROFILE BASE NUMBER LINE.. : by the profile so many lines `LINK => TEXT` are ok, against the base, if there is one
 gives() {
     local profile=$1 base=$2 wanted=$3 lines
@@ -102,7 +102,7 @@ reports 1 '1 bad 10 code-point\nlinks 1 ok 0 bad 1 differs 0\n' "$by_returns"
 printf 'urn:a\nurn:b' >"$room/list"
 reports 0 '1 ok urn:a\n2 ok urn:b\nlinks 2 ok 2 bad 0 differs 0\n' ''
 
-# A line of 65,536 bytes is judged, and one of 65,537 is too long, with and without an LF.
+# A line of 65,536 bytes is checked, and one of 65,537 is too long, with and without an LF.
 longest=urn:$(head -c 65532 /dev/zero | tr '\0' a)
 printf '%s\r\n%sa\n%sa' "$longest" "$longest" "$longest" >"$room/list"
 reports 1 "1 ok $longest\n2 bad 0 line-too-long\n3 bad 0 line-too-long\nlinks 3 ok 1 bad 2 differs 0\n" ''

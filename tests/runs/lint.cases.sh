@@ -64,7 +64,7 @@ for name in '' xyz gnujson; do
 done
 expect 2 '' "urlcheck: no format is named 'a\\0357\\0277\\0275[2J'\\n$formats" lint --format $'a\e[2J' links.txt
 
-# What columns count, by its name. Before the first space stand nine ASCII code points, `e` with U+0301 (a combining mark,
+# What columns count, by its name. Before the first space are nine ASCII code points, `e` with U+0301 (a combining mark,
 # of no column), U+65E5 and U+672C (wide, of three bytes) and U+1F600 (wide, of four bytes and two UTF-16 code units);
 # then come a tab, which goes on to the column 25, `b` and another space.
 columns_of() { printf "$1:%s: error: U+%s is not allowed in a URL [code-point]\\n" "$2" '0020 SPACE' "$3" \
@@ -75,7 +75,7 @@ expect 1 "$(columns_of columns.txt:1 15 16 18)\\n" '' lint -q --all --columns co
 expect 1 "$(columns_of columns.txt:1 23 24 26)\\n" '' lint -q --all --columns bytes columns.txt
 expect 1 "$(columns_of columns.txt:1 16 17 19)\\n" '' lint -q --all --columns=utf16 columns.txt
 expect 1 "$(columns_of columns.txt:1 17 18 26)\\n" '' lint -q --all --columns screen columns.txt
-# Each format has them, the caret stands where it did, and SARIF says what they count, if it has a word for it.
+# Each format has them, the caret is where it did, and SARIF says what they count, if it has a word for it.
 for shown in 'caret columns.txt:1:23:' 'json "column":23,' 'github ,col=23,' 'checkstyle column="23"' \
     'junit name="1:23 code-point"' 'rdjson "start":{"column":23,"line":1}'; do
     "$program" lint -q --columns bytes --format "${shown%% *}" "$room/columns.txt" >"$room/out" 2>"$room/err"
@@ -127,7 +127,7 @@ expect 1 'points.txt:1:10: error: U+FFFF <noncharacter> is not allowed in a URL 
 points.txt:2:5: error: U+FDD0 <noncharacter> is not allowed in a URL [code-point]
 ' 'urlcheck: 2 lines, 2 refused\n' lint points.txt
 
-# Credentials: the place and the rule are those of a host or a port, and the sentence says what is wrong. An `@` behind
+# Credentials: the place and the rule are those of a host or a port, and the sentence says what is wrong. An `@` after
 # the authority's end is none.
 printf 'http://user:pw@h/\nhttp://u@h/\nfoo://u@h/\nhttp://x_y/@\nfoo://a^b?@\nhttp://h:8x#@\n' >"$room/credentials.txt"
 sentence='a URL string has no credentials: no user name, password or @ before its host; leave them out'
@@ -261,7 +261,7 @@ offers sarif 'import json, sys
 print(*("fixes" in result for result in json.load(sys.stdin)["runs"][0]["results"]))' 'False False False False True'
 rm -f "$room/meant.txt"
 
-# The fixes of SARIF, made by a program that isn't ours, give lines that are valid, in a list and where a link stands.
+# The fixes of SARIF, made by a program that isn't ours, give lines that are valid, in a list and where a link is.
 cat >"$room/fixed.py" <<'PYTHON'
 import json, sys
 report, folder = sys.argv[1:]
@@ -295,7 +295,7 @@ printf '<a href="http://h/a%%20b">\xf0\x9f\x98\x80 <a href="http:/c"></a>\n' | c
     fail "fixes of located links: $(cat "$room/fixed.html")"
 rm -f "$room"/fixed.* "$room/mended.txt" "$room/lines.txt" "$room/links-in-it"
 
-# SARIF: a name is a path, whatever stands in it: no scheme, no host, no query, no fragment and no escape.
+# SARIF: a name is a path, whatever is in it: no scheme, no host, no query, no fragment and no escape.
 if has posix_names 1; then
     printf 'x\n' | tee "$room/a:b.txt" "$room/a#b" "$room/a?b" "$room/a%41" "$room/ab" >"$room/https:"
     names=(a:b.txt 'a#b' 'a?b' a%41 https: "/$room/ab" "$room/ab" ./ab "//$room/ab")
@@ -442,7 +442,7 @@ if [ $ended != 3 ] || [ "$(tail -n 1 "$room/err")" != write ] || grep -q urlchec
 fi
 
 # Each file is opened by the very name that was given: with spaces, a `%`, a `:`, a `#`, `..`, of 255 bytes, beyond
-# ASCII, through a folder, and by a path of 4,004 bytes; beside each stands a file whose name is nearly the same.
+# ASCII, through a folder, and by a path of 4,004 bytes; beside each is a file whose name is nearly the same.
 name_255=$(printf 'n%.0s' {1..255})
 mkdir "$room/folder"
 names=('two  words ' 'a%20b' '%' 'a:b' 'a#b' ' ' ' leads' '~' '$HOME' 'a\b' "$name_255" $'\u00e9\u4e2d' \
@@ -485,7 +485,7 @@ if has posix_paths 2; then
 fi
 rm -rf "$room/folder" "$room/link" "$room/beside" "$room/"$'ends\n'
 
-# Where there is no file of a name that looks like a link, a hint says what judges texts.
+# Where there is no file of a name that looks like a link, a hint says what checks texts.
 of_links='urlcheck: lint reads files; check TEXT checks one text, and lint - the lines of standard input\n'
 expect 2 '' "urlcheck: http://h/: can't be read: there is no such file\\n$of_links" lint -q http://h/
 expect 2 '' "urlcheck: foo://: can't be read: there is no such file\\n${of_links}urlcheck: 0 lines, 0 refused\\n" lint -- foo://
@@ -493,7 +493,7 @@ for name in a:/b a:b //h/a; do
     expect 2 '' "urlcheck: $name: can't be read: there is no such file\\n" lint -q "$name"
 done
 
-# A name that isn't UTF-8 is reported by its number, and the other files are judged.
+# A name that isn't UTF-8 is reported by its number, and the other files are checked.
 printf 'x\n' >"$room/"$'\xff'
 if has byte_arguments 4; then
     expect 2 "$other" "urlcheck: argument 4 isn't UTF-8\\nurlcheck: 1 line, 1 refused\\n" lint --all other.txt $'\xff'
@@ -503,7 +503,7 @@ if has byte_arguments 4; then
 fi
 rm -f -- "$room/"$'\xff'
 
-# 5,000 files are a run, and each of them is judged.
+# 5,000 files are a run, and each of them is checked.
 mkdir "$room/many"
 for number in {1..5000}; do echo "http://h/ $number" >"$room/many/$number.txt"; done
 if has long_command_lines 1; then
@@ -513,12 +513,12 @@ if has long_command_lines 1; then
 fi
 rm -rf "$room/many"
 
-# A pipe that is closed behind one line: in silence, with the status of a write.
+# A pipe that is closed after one line: in silence, with the status of a write.
 awk 'BEGIN { for (n = 1; n <= 100000; n++) print n }' >"$room/long"
 (cd "$room" && "$program" lint long 2>"$room/err"; echo $? >"$room/status") | head -n 1 >"$room/out"
-ends_with 3 "$(cat "$room/status")" '' 'lint to a pipe closed behind one line'
+ends_with 3 "$(cat "$room/status")" '' 'lint to a pipe closed after one line'
 [ "$(cat "$room/out")" = 'long:1:1: error: there is no scheme and no base [no-scheme]' ] ||
-    fail "a pipe closed behind one line: it wrote $(cat "$room/out")"
+    fail "a pipe closed after one line: it wrote $(cat "$room/out")"
 rm -f "$room/long"
 
 # An output that takes nothing stops the lint: no further file is opened. So it is in each format, also where nothing is
@@ -588,8 +588,8 @@ sees_spoiled diagnostics hostile readers 'gnu s/:1: error/:2: error/' 'caret s/^
     'gitlab s/"begin":1}/"begin":2}/' 'gitlab s/"fingerprint":"../&0/' 'rdjson s/"start":{"column":1,/"start":{"column":2,/' \
     'rdjson s/"text":"urn:/"text":"urm:/'
 
-# Lines that say where their links stand: FILE is all before the first run of two numbers, which are from 1 to 2^32 - 1; an
-# empty link is judged, an empty line isn't. What isn't of the form is reported by the list's own name and line.
+# Lines that say where their links are: FILE is all before the first run of two numbers, which are from 1 to 2^32 - 1; an
+# empty link is checked, an empty line isn't. What isn't of the form is reported by the list's own name and line.
 scheme='error: there is no scheme and no base [no-scheme]'
 form_of() { echo "error: this line isn't FILE:LINE:COLUMN:LINK, since $1 [not-located]"; }
 no_column=$(form_of 'COLUMN is missing') line_range=$(form_of "LINE isn't from 1 to 4294967295")
@@ -605,7 +605,7 @@ of_input 1 "a:4294967295:4294967295: $scheme\n-:2:1: $line_range\n" 'urlcheck: 2
     'a:4294967295:4294967295:x\na:4294967296:1:x\n' --located -
 of_input 0 '' 'urlcheck: 2 lines, 0 refused\n' '\xef\xbb\xbfa:1:2:\na:1:2:x\n' --located --base http://h/ -
 of_input 1 "-:1:1: $scheme\n" 'urlcheck: 1 line, 1 refused\n' '1:2:3:4:x' -
-# LINE is the first number that stands between two colons, or between one and the end: a port before a path is none.
+# LINE is the first number that is between two colons, or between one and the end: a port before a path is none.
 of_input 1 "-:1:1: $(form_of 'LINE is missing')\n-:2:1: $no_column\n-:3:1: $no_column\n-:4:1: $(form_of 'LINK is missing')\n" \
     'urlcheck: 4 lines, 4 refused\n' 'http://h:80/\na:1\na:1:b:2:3\na:1:2\n' --located -
 printf 'a:1:2:b\n' >"$room/located"
@@ -615,7 +615,7 @@ ended=$?
 count=$((count + 1))
 [ $ended = 2 ] || fail "lint --located without a file: status $ended"
 
-# Before a link that says where it stands the columns that the line gives are of the same unit; a tab goes on to a stop of
+# Before a link that says where it is the columns that the line gives are of the same unit; a tab goes on to a stop of
 # the file's line, here the column 57.
 for unit in code-points,50,51 bytes,53,54 utf16,51,52 screen,51,57; do
     IFS=, read -r name tab space <<<"$unit"

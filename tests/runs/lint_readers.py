@@ -30,7 +30,7 @@ def shown(text):
 
 
 def window(text, place):
-    """What is shown of a line, and where the place stands in it."""
+    """What is shown of a line, and where the place is in it."""
     if len(text) <= 200:
         return text, place
     start = max(0, place - 99)
@@ -39,7 +39,7 @@ def window(text, place):
 
 
 def xml_shown(text):
-    """What XML 1.0 can't hold stands as U+FFFD."""
+    """What XML 1.0 can't hold is as U+FFFD."""
     return re.sub("[\0-\x08\x0b\x0c\x0e-\x1f\ufffe\uffff]", "\ufffd", text)
 
 
@@ -54,7 +54,7 @@ POINT = re.compile("^U\\+([0-9A-F]{4,6}) ?(.*) (is not allowed in a URL|is not a
                    "|has to be followed by two hex digits)$")
 
 
-# A mended text stands at the first diagnostic of its line. What its kind means, as the fixes of SARIF say it.
+# A mended text is at the first diagnostic of its line. What its kind means, as the fixes of SARIF say it.
 NAMED = {"same": "note: the same URL, written validly, is ", "escaped": "note: the same text, percent-encoded, is ",
          "changed": "note: a valid URL string that is near it is "}
 KINDS = {"same": "write the same URL as a valid URL string", "escaped": "percent-encode what is not allowed in a URL string",
@@ -72,7 +72,7 @@ def names_point(sentence, c):
     return m[2] == ("" if HIDDEN.match(c) else c)
 
 
-# What a text shows that its author meant, as the sentence says it behind what is wrong.
+# What a text shows that its author meant, as the sentence says it after what is wrong.
 TEMPLATE = "; this looks like a template: check what it makes"
 WINDOWS = "; this looks like a path of Windows, whose URL begins with file:///"
 TWICE = "; this has two schemes: write one of them"
@@ -98,7 +98,7 @@ def text_of(one):
 
 
 def foreign_place(raw):
-    """How many code points stand before the first byte that isn't UTF-8."""
+    """How many code points are before the first byte that isn't UTF-8."""
     try:
         raw.decode()
     except UnicodeDecodeError as error:
@@ -143,7 +143,7 @@ carried = [window(text, one[2] - 1)[0] if len(text) > 2000 else text for one, te
 
 
 def end_place(one, text):
-    """The place at which what is wrong ends: behind the code point that violates a rule, where there is one."""
+    """The place at which what is wrong ends: after the code point that violates a rule, where there is one."""
     place = one[2] - 1
     return min(place + 1, len(text)) if one[3] not in ("not-utf8", "line-too-long") else place
 
@@ -158,7 +158,7 @@ want(all(entries), "gnu: a line has another form")
 want([(m[1], int(m[2]), int(m[3]), m[5], m[4]) for m in entries if m]
      == [(shown(one[0]),) + one[1:] for one in found], "gnu: other diagnostics")
 
-# The caret stands below the place: as many columns before it as the code points before the place are wide.
+# The caret is below the place: as many columns before it as the code points before the place are wide.
 def width(c):
     if c == "\t":
         return c
@@ -240,7 +240,7 @@ def digest(text):
     return hashlib.sha256(text.encode()).hexdigest()
 
 
-# The fingerprint of the rule, the place and what is carried of the text, wherever that stands.
+# The fingerprint of the rule, the place and what is carried of the text, wherever that is.
 keys = [f"{one[3]}\n{one[2] - 1}\n{text}" for one, text in zip(found, carried)]
 want(fingerprints == [{"urlcheckText/v1": digest(key)} for key in keys], "sarif: other fingerprints")
 for (place, line, fix), text, it in zip(fixes, texts, mended):
@@ -309,7 +309,7 @@ want([one["fingerprint"] for one in issues]
 want(json.loads(read("none.gitlab")) == [], "gitlab: issues without a fault")
 
 
-# reviewdog: its columns are bytes of UTF-8, and the end of a range stands behind what is in it.
+# reviewdog: its columns are bytes of UTF-8, and the end of a range is after what is in it.
 def column(text, place):
     return len(text[:place].encode()) + 1
 

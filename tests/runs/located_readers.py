@@ -28,7 +28,7 @@ OTHERS = ["http://h/", "a.html:3:x", "a.html:3:4", ":1:2:x", ":1:2:3:4:x", "a:0:
 
 
 def lines():
-    """Each line, and whether it says where a link stands."""
+    """Each line, and whether it says where a link is."""
     for number, name in enumerate(NAMES):
         for index, link in enumerate(LINKS):
             line, column = PLACES[(number + index) % len(PLACES)]
@@ -37,13 +37,13 @@ def lines():
         yield line, False
 
 
-# LINE and COLUMN, by another reader than the program's: what stands between colons, or between one and the end.
+# LINE and COLUMN, by another reader than the program's: what is between colons, or between one and the end.
 NUMBER = re.compile(r"[0-9]+")
 RANGE = "isn't from 1 to 4294967295"
 
 
 def reason(line):
-    """Why a line doesn't say where its link stands."""
+    """Why a line doesn't say where its link is."""
     form = FORM.match(line)
     if form and not form[1]:
         return "FILE is empty"
@@ -60,7 +60,7 @@ def make():
     with open(f"{directory}/located.txt", "wb") as located, open(f"{directory}/alone.txt", "wb") as alone:
         for line, is_located in lines():
             located.write(line.encode() + b"\n")
-            # Alone, an empty link would be an empty line, which isn't judged.
+            # Alone, an empty link would be an empty line, which isn't checked.
             alone.write((FORM.match(line)[4] if is_located else "").encode() + b"\n")
         located.write(b"a:1:2:\xff\n\xff:1:2:x\n" + b"y" * 65537 + b"\n")
 
@@ -171,7 +171,7 @@ def mended():
 
 
 def wanted_fixes():
-    """What is to be written in place of the located links: file, line, the columns between which the link stands, text."""
+    """What is to be written in place of the located links: file, line, the columns between which the link is, text."""
     by_line = mended()
     for count, (line, is_located) in enumerate(lines(), 1):
         if count in by_line:

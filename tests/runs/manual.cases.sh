@@ -37,7 +37,7 @@ for command in $("$program" --help | sed -n '/^Commands:$/,/^$/s/^  \([a-z]*\) .
         fail "the page lacks $command"
 done
 
-# Each example of the help stands in the page as one, and not as an entry of a list.
+# Each example of the help is in the page as one, and not as an entry of a list.
 count=$((count + 1))
 examples=$(for command in '' $("$program" --help | sed -n '/^Commands:$/,/^$/s/^  \([a-z]*\) .*/\1/p'); do
     [ "$command" = help ] || "$program" $command --help
@@ -63,7 +63,7 @@ for name in urlcheck urlcheck-documents; do
     reads fish -n "$share/completions/$name.fish"
 done
 
-# Each option of the help stands in the completions of each shell, by its name and by that of one letter, if it has one.
+# Each option of the help is in the completions of each shell, by its name and by that of one letter, if it has one.
 # offers SHELL COMMAND OPTION : the completions of a shell have an option of a command, or of the program
 offers() {
     local of="use_subcommand " name=" -l ${3#--} "
@@ -90,7 +90,7 @@ for shell in bash fish zsh; do
     done
 done
 
-# completes WORDS WORD.. : behind these words of a program bash completes the last one so, by the function completer
+# completes WORDS WORD.. : after these words of a program bash completes the last one so, by the function completer
 completer=_urlcheck
 completes() {
     local wanted=$1

@@ -26,7 +26,7 @@ root=$room/root
 prefix=/any/prefix
 at=$root$prefix
 export DESTDIR=$root PROGRAM=$program LIBRARY=$library
-# (the extensions for databases stand partly beside the prefix: they are installed for themselves below)
+# (the extensions for databases are partly beside the prefix: they are installed for themselves below)
 ENGINES='' quietly ./install $prefix
 
 # ---- what is installed
@@ -44,7 +44,7 @@ diff "$room/wanted" "$room/found" ||
 python3 - "$at/share/doc/urlcheck" <<'PYTHON' || fail "a link of the documents that are installed leads nowhere"
 import pathlib, re, sys
 pages = list(pathlib.Path(sys.argv[1]).rglob("*.md"))
-# (what stands in a block of code is no link)
+# (what is in a block of code is no link)
 texts = [(page, re.sub(r"^```.*?^```$", "", page.read_text("utf-8"), flags=re.M | re.S)) for page in pages]
 links = [(page, link) for page, text in texts for link in re.findall(r"\]\(([^)\s#]+)[^)\s]*\)", text)]
 lost = [(page.name, link) for page, link in links if ":" not in link and not (page.parent / link).exists()]

@@ -64,7 +64,7 @@ def prose_of(text):
 
 
 def units_of(text):
-    """What sentences stand in: paragraphs, items of lists, cells of tables and headings, each with its first line."""
+    """What sentences are in: paragraphs, items of lists, cells of tables and headings, each with its first line."""
     units, lines, first = [], [], 0
     for number, line in enumerate(prose_of(text) + [""], start=1):
         stripped = line.strip()
@@ -162,7 +162,7 @@ def rows_of(section):
 
 
 def check_names(top, text, wrong):
-    """Each function and each clause that docs/PROVED.md names stands in its crate, and each law is named."""
+    """Each function and each clause that docs/PROVED.md names is in its crate, and each law is named."""
     sections = re.split(r"^## `(\w+)`.*$", text, flags=re.M)
     for crate, section in zip(sections[1::2], sections[2::2]):
         code = sources_of(top, crate)
@@ -183,7 +183,7 @@ def check_names(top, text, wrong):
 
 
 def check_calls(top, text, wrong):
-    """Each call that docs/LIBRARY.md names for callers stands in its crate, with these arguments."""
+    """Each call that docs/LIBRARY.md names for callers is in its crate, with these arguments."""
     callers = text.partition("\n## For callers")[2]
     for crates, section in re.findall(r"^### (.*)\n((?:(?!### ).*\n)*)", callers, flags=re.M):
         code = "\n".join(sources_of(top, crate) for crate in re.findall(r"`(\w+)`", crates))
@@ -213,7 +213,7 @@ def words_of_code(top):
 
 
 def check_words(top, texts, wrong):
-    """Each word that a page gives as code, and that has the form of a name or of its beginning, stands somewhere."""
+    """Each word that a page gives as code, and that has the form of a name or of its beginning, is somewhere."""
     known = words_of_code(top)
     for page, text in texts.items():
         for code in re.findall(r"`([A-Za-z][\w:]*)`", "\n".join(prose_of(text))):
@@ -310,7 +310,7 @@ def check_own_links(top, program):
         if line.split()[1] != "ok":
             wrong.append("a link of the pages, {}: {}".format(listed[int(line.split()[0]) - 1], line))
     if not listed or ran.returncode > 1:
-        wrong.append("the links of the pages weren't judged: {}".format(ran.stderr))
+        wrong.append("the links of the pages weren't checked: {}".format(ran.stderr))
     return wrong
 
 

@@ -188,7 +188,7 @@ spoiled_shim() {
 }
 case $target in
     node)
-        spoiled 'bytes that are judged as U+FFFD' 'check http://h/.*: status 0, and not 2' \
+        spoiled 'bytes that are checked as U+FFFD' 'check http://h/.*: status 0, and not 2' \
             's/if (own !== null) return own/return texts.map(text => Buffer.from(text))/'
         spoiled 'a read of a byte less' 'lint ' 's/return \(readSync(.*)\)$/return Math.max(0, \1 - 1)/'
         spoiled 'a missing file that is another error' 'lint missing: on standard error' 's/ENOENT: 44/ENOENT: IO/'

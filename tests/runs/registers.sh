@@ -28,7 +28,7 @@ gcc -std=c99 -O2 -I "$library/include" "$top/tests/runs/library/answers.c" "$lib
 "$room/answers" "$cases" >"$room/wanted"
 "$room/answers" "$cases" mended >"$room/wanted_mended"
 
-# What is preloaded, before the library, to count how often a base is judged.
+# What is preloaded, before the library, to count how often a base is checked.
 counter=$room/prepares.so
 gcc -std=gnu99 -Wall -Wextra -Werror -O2 -shared -fPIC -I "$library/include" "$top/tests/runs/registers/prepares.c" -o "$counter"
 

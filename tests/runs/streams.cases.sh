@@ -23,12 +23,12 @@ for words in '--help' 'help' 'check --help' 'help lint' '--version'; do
     ends_with 3 "$(cat "$room/status")" '' "$words to a closed pipe"
 done
 
-# A pipe that is closed behind one line: the line is whole, and the list, which is longer than a pipe holds, isn't read
+# A pipe that is closed after one line: the line is whole, and the list, which is longer than a pipe holds, isn't read
 # to its end.
 awk 'BEGIN { for (n = 1; n <= 100000; n++) print "urn:isbn:" n }' >"$room/long"
 ("$program" links <"$room/long" 2>"$room/err"; echo $? >"$room/status") | head -n 1 >"$room/out"
-ends_with 3 "$(cat "$room/status")" '' 'links to a pipe closed behind one line'
-[ "$(cat "$room/out")" = '1 ok urn:isbn:1' ] || fail "a pipe closed behind one line: it wrote $(cat "$room/out")"
+ends_with 3 "$(cat "$room/status")" '' 'links to a pipe closed after one line'
+[ "$(cat "$room/out")" = '1 ok urn:isbn:1' ] || fail "a pipe closed after one line: it wrote $(cat "$room/out")"
 
 # Inputs: closed, open for writing alone, a folder; and a list that ends within a line, a code point and a scheme.
 if has closed_streams 1; then

@@ -108,7 +108,7 @@ echo "uses: no run takes: $(awk '$3 == "-" { printf "%s%s in %s", sep, $1, $2; s
 
 right='https://example.com/' wrong='http://h/a b'
 
-# Links that stand in text files and in documents, reported where they stand.
+# Links that are in text files and in documents, reported where they are.
 if [ $# = 1 ] && has rg; then
     in_folder text
     recipe text-files sh >../text.sh
@@ -270,7 +270,7 @@ if has make; then
     hard_names 'make' make -s check-links
 fi
 
-# The hook: what is staged is judged, whatever the working tree has, and a list that is renamed too.
+# The hook: what is staged is checked, whatever the working tree has, and a list that is renamed too.
 try_hook() {
     in_folder hook
     git init -q . && git commit -q --allow-empty -m first
@@ -402,7 +402,7 @@ fi
 in_folder editors
 printf 'http://h/\nhttp://h/\344\270\255e\314\201\tx\n' >'two words.links'
 if has vim; then
-    cat >judge.vim <<'VIM'
+    cat >check.vim <<'VIM'
 silent make!
 call writefile([printf('%d entries, line %d, %s', len(getqflist()), line('.'), matchstr(getline('.'), '\%' . col('.') . 'c.') ==# "\t")], 'place')
 cfirst
@@ -413,14 +413,14 @@ VIM
     recipe editor-lists vim 2 >screen.vimrc
     for settings in bytes screen; do
         ends 0 "vim, by $settings" timeout 60 \
-            vim -Nu $settings.vimrc -i NONE -n -es -c 'edit two\ words.links' -c 'source judge.vim'
+            vim -Nu $settings.vimrc -i NONE -n -es -c 'edit two\ words.links' -c 'source check.vim'
         mv place "$room/out" 2>/dev/null || : >"$room/out"
         says "vim, of the place by $settings" '1 entries, line 2, at the tab 1'
     done
 fi
 if has emacs; then
     recipe editor-lists elisp >settings.el
-    cat >judge.el <<'LISP'
+    cat >check.el <<'LISP'
 (require 'compile)
 (when (equal (getenv "SETTINGS") "yes") (load (expand-file-name "settings.el") nil t))
 (let ((compilation-buffer (compilation-start (getenv "LINT"))))
@@ -436,7 +436,7 @@ LISP
     # Emacs stays before a combining mark where it goes by columns of the screen.
     printf 'http://h/\nhttp://h/\344\270\255\tx\n' >wide.links
     for run in "yes urlcheck lint 'two words.links'" 'no urlcheck lint --columns screen wide.links'; do
-        ends 0 "emacs, ${run#* }" env SETTINGS="${run%% *}" LINT="${run#* }" timeout 60 emacs -Q --batch -l judge.el
+        ends 0 "emacs, ${run#* }" env SETTINGS="${run%% *}" LINT="${run#* }" timeout 60 emacs -Q --batch -l check.el
         tail -n 1 "$room/out" >"$room/last" && mv "$room/last" "$room/out"
         says "emacs, of the place by ${run#* }" 'line 2, at the tab t'
     done

@@ -13,7 +13,7 @@ no_case() { printf '%s' "urlcheck: vector $1: $2\\nvector $1 malformed\\n"; }
 either='it has to have either "text" or both "place" and "rule"'
 digits='"place" has to be a number in digits alone, below 2^64'
 
-# The cases that fail are named, and a case that is malformed keeps all others from being judged.
+# The cases that fail are named, and a case that is malformed keeps all others from being checked.
 vector_file '[{"input":"urn:a","text":"urn:a"},{"input":"x","place":0,"rule":"no-scheme"},{"input":"http://h:65536/","text":"http://h/"}]'
 expect 1 'fail 3\nvectors 3 pass 2 fail 1\n' '' vectors vectors.json
 vector_file '[]'
@@ -25,7 +25,7 @@ vector_file '[{"input":"urn:a","text":"urn:a"},{"input":"x","place":0,"rule":"no
 {"input":"http://x_y/","text":"http://x_y/"},{"input":"#f","base":"http://x_y/","profile":"wide","text":"http://x_y/#f"}]'
 expect 1 'fail 3\nvectors 4 pass 3 fail 1\n' '' vectors vectors.json
 
-# The profile that a case names judges it, and a name that no profile has makes the case malformed.
+# The profile that a case names checks it, and a name that no profile has makes the case malformed.
 vector_file '[{"input":"http://x_y/","profile":"wide","text":"http://x_y/"},{"input":"http://x_y/","place":7,"rule":"host-domain"}]'
 expect 0 'vectors 2 pass 2 fail 0\n' '' vectors vectors.json
 vector_file '[{"input":"http://1.2/","profile":"parser","text":"http://1.0.0.2/"},{"input":"http://1.2/","profile":"wide","text":"http://1.0.0.2/"},{"input":"#f","base":"urn:a b","profile":"parser","text":"urn:a b#f"},{"input":"#f","base":"urn:a b","text":"urn:a b#f"}]'
@@ -45,7 +45,7 @@ expect 1 'fail 1\nfail 2\nfail 3\nfail 4\nfail 5\nvectors 5 pass 0 fail 5\n' '' 
 vector_file '[{"input":"x","place":18446744073709551615,"rule":"no-scheme"}]'
 expect 1 'fail 1\nvectors 1 pass 0 fail 1\n' '' vectors vectors.json
 
-# The standard profile judges where a case names none, and else the named one, the base too.
+# The standard profile checks where a case names none, and else the named one, the base too.
 vector_file '[{"input":"http://x_y/","place":7,"rule":"host-domain"},{"input":"#f","base":"http://x_y/","text":"http://x_y/#f"}]'
 expect 1 'fail 2\nvectors 2 pass 1 fail 1\n' '' vectors vectors.json
 vector_file '[{"input":"http://x_y/","profile":"wide","text":"http://x_y/"},
@@ -120,7 +120,7 @@ not_json() {
     done
 }
 
-# A text that is cut: the place is behind its last code point.
+# A text that is cut: the place is after its last code point.
 cut='the file ends before its JSON does'
 not_json 1 1 "$cut" ''
 not_json 1 2 "$cut" '['
@@ -129,7 +129,7 @@ not_json 1 34 "$cut" '[{"input":"urn:a","text":"urn:a"}'
 not_json 1 6 "$cut" '["abc' '{"a":' '["\xc3\xa9bc'
 
 # What can't be read: a comma or a value too many, a value or a colon too few, no name of JSON's, a number that begins with
-# 0, a byte order mark, a lone surrogate and a line feed in a string, and text behind the value. Columns are code points.
+# 0, a byte order mark, a lone surrogate and a line feed in a string, and text after the value. Columns are code points.
 unreadable="this can't be read as JSON"
 not_json 1 4 "$unreadable" '[1,]' '[] []' '[1 2]' '[1]]'
 not_json 1 3 "$unreadable" '[][]'
@@ -142,7 +142,7 @@ not_json 2 25 "$unreadable" '[\n{"input": "a\xc3\xa9", "text": x}\n]'
 not_json 3 2 "$unreadable" '[]\n\n x'
 
 # What isn't UTF-8 is named before all else, and a number beyond floats and arrays of which one is within 128 others by
-# what stands behind them.
+# what is after them.
 not_json 1 3 "this isn't UTF-8" '["\xff"]' '["\xff' '[[\xff[x'
 not_json 2 2 "this isn't UTF-8" '[\xc3\xa9\n"\xc3"]'
 not_json 1 7 "$unreadable" '[1e999]'

@@ -78,7 +78,7 @@ shows '  urlcheck vectors vectors/standard.json' help vectors
 expect 0 "urlcheck $(cat "$(dirname "$(dirname "$here")")/VERSION")\n" '' -V
 expect 0 "urlcheck $(cat "$(dirname "$(dirname "$here")")/VERSION")\nUnicode 18.0, in domains\n" '' --version
 
-# The statuses of each command stand in its help, and each command that judges says what the profiles are.
+# The statuses of each command are in its help, and each command that checks says what the profiles are.
 shows '  1  the text is refused' check --help
 shows "  2  the arguments or the base are refused, or a file can't be read; the others are checked" lint --help
 shows "  1  a line isn't ok" help links
@@ -407,7 +407,7 @@ expect 1 'refused 5 code-point\n' '' check --profile parser 'urn:a '
 expect 1 'refused 6 code-point\n' '' check --profile parser 'foo:/a b'
 expect 1 'refused 7 host-domain\nrefused 14 port-digit\nrefused 16 code-point\n' '' \
     check --profile parser --all 'http://a%2Fb:8x/ '
-# The base is judged by it too.
+# The base is checked by it too.
 expect 0 'valid\nscheme file\nhost domain h\nsegment C:\nsegment x\n' '' check --profile parser --base file://h/a /C:/x
 expect 0 'valid\nscheme urn\nopaque a b\nfragment f\n' '' check --profile parser --base 'urn:a b' '#f'
 expect 2 '' "$(no_base 5 code-point 'U+0020 SPACE is not allowed in a URL')" check --wide --base 'urn:a b' '#f'

@@ -159,7 +159,7 @@ static void stop_for_base(const asked *asked, urlcheck_finding found) {
                               sql_place(found.place))));
 }
 
-void stop_unless_judged(const asked *asked, urlcheck_finding found) {
+void stop_unless_checked(const asked *asked, urlcheck_finding found) {
     switch (found.verdict) {
         case URLCHECK_VALID:
         case URLCHECK_REFUSED:
@@ -178,7 +178,7 @@ void stop_unless_judged(const asked *asked, urlcheck_finding found) {
 urlcheck_answer checked(const asked *asked) {
     urlcheck_answer answer = ask_check(asked);
 
-    stop_unless_judged(asked, answer.found);
+    stop_unless_checked(asked, answer.found);
     return answer;
 }
 

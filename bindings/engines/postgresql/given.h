@@ -26,7 +26,7 @@ text *text_of(const uint8_t *bytes, size_t length);
 text *message_text(const asked *asked, urlcheck_finding found);
 
 /* Raises an error unless the text was checked. */
-void stop_unless_judged(const asked *asked, urlcheck_finding found);
+void stop_unless_checked(const asked *asked, urlcheck_finding found);
 
 /* Whether an urlcheck_answer's text is refused, or is no UTF-8. */
 static inline bool is_refused(urlcheck_finding found) {

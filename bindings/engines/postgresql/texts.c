@@ -22,11 +22,11 @@ Datum pg_url_resolve(PG_FUNCTION_ARGS) {
 
     if (!read_asked(fcinfo, &asked, true)) PG_RETURN_NULL();
     answer = ask_resolve(&asked, out, MOST);
-    stop_unless_judged(&asked, answer.found);
+    stop_unless_checked(&asked, answer.found);
     if (answer.found.verdict != URLCHECK_VALID) PG_RETURN_NULL();
     if (answer.length > MOST) {
         out = palloc(answer.length);
-        stop_unless_judged(&asked, ask_resolve(&asked, out, answer.length).found);
+        stop_unless_checked(&asked, ask_resolve(&asked, out, answer.length).found);
     }
     PG_RETURN_TEXT_P(text_of(out, answer.length));
 }
@@ -36,11 +36,11 @@ urlcheck_mended mended(const asked *asked, uint8_t **out) {
 
     *out = palloc(MOST);
     answer = ask_mend(asked, *out, MOST);
-    stop_unless_judged(asked, answer.found);
+    stop_unless_checked(asked, answer.found);
     if (answer.length > MOST) {
         pfree(*out);
         *out = palloc(answer.length);
-        stop_unless_judged(asked, ask_mend(asked, *out, answer.length).found);
+        stop_unless_checked(asked, ask_mend(asked, *out, answer.length).found);
     }
     return answer;
 }
@@ -77,7 +77,7 @@ static urlcheck_fault *list_faults(const asked *asked, uint64 *count) {
 
     for (;;) {
         answer = ask_faults(asked, list, room);
-        stop_unless_judged(asked, answer.found);
+        stop_unless_checked(asked, answer.found);
         if (answer.count <= room) break;
         room = answer.count;
         pfree(list);

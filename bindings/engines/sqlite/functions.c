@@ -16,7 +16,7 @@ static int stops(sqlite3_context *call, const asked *asked, urlcheck_finding fou
     char *message = NULL;
     int code = SQLITE_OK;
 
-    if (is_judged(asked, found, &message, &code)) return 0;
+    if (is_checked(asked, found, &message, &code)) return 0;
     if (message) sqlite3_result_error(call, message, -1);
     if (!message) sqlite3_result_error_nomem(call);
     sqlite3_free(message);

@@ -42,7 +42,7 @@ reading read_asked(asked *asked, sqlite3_value *url, sqlite3_value *base, sqlite
     return read_text(&asked->url, url) ? READ : READ_NO_MEMORY;
 }
 
-int is_judged(const asked *asked, urlcheck_finding found, char **message, int *code) {
+int is_checked(const asked *asked, urlcheck_finding found, char **message, int *code) {
     char said[ERROR_ROOM];
 
     switch (found.verdict) {

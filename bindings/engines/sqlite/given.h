@@ -17,7 +17,7 @@ reading read_asked(asked *asked, sqlite3_value *url, sqlite3_value *base, sqlite
                    const urlcheck_base *held);
 
 /* Whether the text was checked; else how the call ends, with a message to free where it is an error of its own. */
-int is_judged(const asked *asked, urlcheck_finding found, char **message, int *code);
+int is_checked(const asked *asked, urlcheck_finding found, char **message, int *code);
 
 /* Registers the tables url_check and url_faults. */
 int register_tables(sqlite3 *database);

@@ -158,7 +158,7 @@ static int find_rows(cursor *held) {
     } else {
         code = list_faults(held, &found);
     }
-    if (code != SQLITE_OK || is_judged(&held->asked, found, &message, &code)) return code;
+    if (code != SQLITE_OK || is_checked(&held->asked, found, &message, &code)) return code;
     held->rows = 0;
     return message ? fail(made, message) : SQLITE_NOMEM;
 }

@@ -82,7 +82,7 @@ static int read_call(state *state, PyObject *args, const char *format, texts *te
 
     if (!PyArg_ParseTuple(args, format, &schema, &array, &base, &profile, flag)) return 0;
     if (!read_texts(schema, array, texts) || !read_setting(state, base, profile, asked)) return 0;
-    return !asked->base || is_judged(state, asked->held.found);
+    return !asked->base || is_checked(state, asked->held.found);
 }
 
 /* check_arrow(schema, array, base, profile, is_all): as check_texts. */
@@ -102,7 +102,7 @@ PyObject *native_check_arrow(PyObject *module, PyObject *args) {
             || ((columns[1] = new_bytes(texts.count, 1, &out.rules))
                 && (columns[2] = new_bytes(texts.count, 8, &out.places))))) {
         Py_BEGIN_ALLOW_THREADS
-        stopped = judge_texts(&texts, &asked, out, &why);
+        stopped = check_all(&texts, &asked, out, &why);
         Py_END_ALLOW_THREADS
         if (stopped < texts.count)
             refuse_texts(state, why, stopped);

@@ -47,7 +47,7 @@ static urlcheck_finding find_line(const uint8_t *text, size_t length, const aske
  * Checks each line. It ends with LF, and one CR before that is no part of it; what follows the last LF is a line where it
  * isn't empty. What stopped it is given, URLCHECK_VALID where nothing did.
  */
-static urlcheck_finding judge_lines(const uint8_t *data, size_t length, const asked *asked, size_t most, lines *out) {
+static urlcheck_finding check_each_line(const uint8_t *data, size_t length, const asked *asked, size_t most, lines *out) {
     const urlcheck_finding valid = {URLCHECK_VALID, 0, 0, 0}, no_memory = {URLCHECK_MEMORY, 0, 0, 0};
     size_t start = 0;
 
@@ -104,12 +104,12 @@ PyObject *native_check_lines(PyObject *module, PyObject *args) {
     size_t length;
 
     if (!PyArg_ParseTuple(args, "SOOn:check_lines", &data, &base, &profile, &most)) return NULL;
-    if (read_setting(state, base, profile, &asked) && (!asked.base || is_judged(state, asked.held.found))) {
+    if (read_setting(state, base, profile, &asked) && (!asked.base || is_checked(state, asked.held.found))) {
         const uint8_t *bytes = bytes_of(data, &length);
         Py_BEGIN_ALLOW_THREADS
-        stopped = judge_lines(bytes, length, &asked, (size_t)most, &lines);
+        stopped = check_each_line(bytes, length, &asked, (size_t)most, &lines);
         Py_END_ALLOW_THREADS
-        if (is_judged(state, stopped)) list = listed(state, &lines);
+        if (is_checked(state, stopped)) list = listed(state, &lines);
         if (list) answer = Py_BuildValue("(nO)", (Py_ssize_t)lines.all, list);
     }
     free(lines.refused);

@@ -53,7 +53,7 @@ static size_t first_broken(const texts *texts) {
 }
 
 /* Checks texts without a base, in one call. */
-static size_t judge_alone(const texts *texts, uint32_t profile, findings out, urlcheck_finding *why) {
+static size_t check_alone(const texts *texts, uint32_t profile, findings out, urlcheck_finding *why) {
     const urlcheck_finding missing = {MISSING, 0, 0, 0};
     int64_t end = offset_at(texts, texts->count);
     size_t length = end < 0 ? 0 : (size_t)end;
@@ -81,7 +81,7 @@ static size_t judge_alone(const texts *texts, uint32_t profile, findings out, ur
 }
 
 /* The same against a base. */
-static size_t judge_against(const texts *texts, const urlcheck_base *base, findings out, urlcheck_finding *why) {
+static size_t check_against(const texts *texts, const urlcheck_base *base, findings out, urlcheck_finding *why) {
     const urlcheck_finding missing = {MISSING, 0, 0, 0}, broken = {BROKEN, 0, 0, 0};
     const uint8_t *start = NULL;
 
@@ -97,9 +97,9 @@ static size_t judge_against(const texts *texts, const urlcheck_base *base, findi
     return texts->count;
 }
 
-size_t judge_texts(const texts *texts, const asked *asked, findings out, urlcheck_finding *why) {
+size_t check_all(const texts *texts, const asked *asked, findings out, urlcheck_finding *why) {
     if (texts->count == 0) return 0;
-    return asked->base ? judge_against(texts, &asked->held, out, why) : judge_alone(texts, asked->profile, out, why);
+    return asked->base ? check_against(texts, &asked->held, out, why) : check_alone(texts, asked->profile, out, why);
 }
 
 urlcheck_mended make_one(const uint8_t *text, size_t length, const asked *asked, int mends, uint8_t *out, size_t room) {
@@ -224,7 +224,7 @@ PyObject *refuse_texts(state *state, urlcheck_finding why, size_t at) {
     if (why.verdict == BROKEN)
         PyErr_Format(PyExc_ValueError, "the array is broken: the offsets of text %zu descend", at);
     else
-        is_judged(state, why);
+        is_checked(state, why);
     return NULL;
 }
 
@@ -300,7 +300,7 @@ static texts texts_of(const piece *piece) {
 }
 
 /* Checks the texts of a list, piece by piece: false and an error where one isn't checked. */
-static int judge_list(state *state, PyObject *list, PyObject *missing, const asked *asked, findings out) {
+static int check_list(state *state, PyObject *list, PyObject *missing, const asked *asked, findings out) {
     size_t count = (size_t)PyList_Size(list), done = 0, stopped;
     piece *piece = calloc(1, sizeof *piece);
     urlcheck_finding why;
@@ -311,7 +311,7 @@ static int judge_list(state *state, PyObject *list, PyObject *missing, const ask
         findings here = {out.verdicts + done, out.rules ? out.rules + done : NULL, out.places ? out.places + done : NULL};
         if (piece->count > count - done) texts.count = count - done; /* (the list has grown) */
         Py_BEGIN_ALLOW_THREADS
-        stopped = judge_texts(&texts, asked, here, &why);
+        stopped = check_all(&texts, asked, here, &why);
         Py_END_ALLOW_THREADS
         if (stopped < texts.count) refuse_texts(state, why, done + stopped);
         if (stopped < texts.count || texts.count == 0) break;
@@ -336,10 +336,10 @@ PyObject *native_check_texts(PyObject *module, PyObject *args) {
         return NULL;
     size_t count = (size_t)PyList_Size(list);
     if (read_setting(state, base, profile, &asked)
-        && (!asked.base || is_judged(state, asked.held.found))
+        && (!asked.base || is_checked(state, asked.held.found))
         && (columns[0] = new_bytes(count, 1, &out.verdicts))
         && (!is_all || ((columns[1] = new_bytes(count, 1, &out.rules)) && (columns[2] = new_bytes(count, 8, &out.places))))
-        && judge_list(state, list, missing, &asked, out))
+        && check_list(state, list, missing, &asked, out))
         answer = is_all ? PyTuple_Pack(3, columns[0], columns[1], columns[2]) : PyTuple_Pack(1, columns[0]);
     for (int at = 0; at < 3; at++) Py_XDECREF(columns[at]);
     drop_asked(&asked);
@@ -400,7 +400,7 @@ PyObject *native_write_texts(PyObject *module, PyObject *args) {
     if (!PyArg_ParseTuple(args, "O!O!OOp:write_texts", &PyList_Type, &list, &PyTuple_Type, &missing, &base, &profile,
                           &mends))
         return NULL;
-    if (read_setting(state, base, profile, &asked) && (!asked.base || is_judged(state, asked.held.found))
+    if (read_setting(state, base, profile, &asked) && (!asked.base || is_checked(state, asked.held.found))
         && (texts = PyList_New(PyList_Size(list))) && (kinds = PyList_New(PyList_Size(list)))) {
         if (make_list(state, list, missing, &asked, mends, texts, kinds)) answer = PyTuple_Pack(2, texts, kinds);
     }

@@ -110,7 +110,7 @@ static PyObject *rule_and_place(state *state, uint32_t rule, size_t place) {
     return Py_BuildValue("(On)", state->rules[rule % RULE_COUNT], (Py_ssize_t)place);
 }
 
-int is_judged(state *state, urlcheck_finding found) {
+int is_checked(state *state, urlcheck_finding found) {
     PyObject *why;
 
     switch (found.verdict) {
@@ -213,7 +213,7 @@ static PyObject *native_check(PyObject *module, PyObject *args, PyObject *named)
         PyThreadState *thread = unlocked(&asked);
         urlcheck_answer found = checked(&asked);
         locked(thread);
-        if (is_judged(state, found.found))
+        if (is_checked(state, found.found))
             answer = found.found.verdict == URLCHECK_REFUSED ? refused(state, found.found)
                                                              : valid(state, &asked, &found.parts);
     }
@@ -235,7 +235,7 @@ static PyObject *native_is_valid(PyObject *module, PyObject *args, PyObject *nam
         /* (it says no also where there is no memory, which the check tells apart) */
         if (!is_known) found = checked(&asked).found;
         locked(thread);
-        if (is_judged(state, found)) answer = PyBool_FromLong(found.verdict == URLCHECK_VALID);
+        if (is_checked(state, found)) answer = PyBool_FromLong(found.verdict == URLCHECK_VALID);
     }
     drop_asked(&asked);
     return answer;
@@ -261,7 +261,7 @@ static PyObject *text_of(const uint8_t *bytes, size_t length) {
 }
 
 static PyObject *resolved_answer(state *state, const uint8_t *out, const urlcheck_mended *answer) {
-    if (!is_judged(state, answer->found)) return NULL;
+    if (!is_checked(state, answer->found)) return NULL;
     if (answer->found.verdict == URLCHECK_REFUSED) return refused(state, answer->found);
     return text_of(out, answer->length);
 }
@@ -269,7 +269,7 @@ static PyObject *resolved_answer(state *state, const uint8_t *out, const urlchec
 static PyObject *mended_answer(state *state, const uint8_t *out, const urlcheck_mended *answer) {
     PyObject *fields;
 
-    if (!is_judged(state, answer->found)) return NULL;
+    if (!is_checked(state, answer->found)) return NULL;
     if (answer->found.verdict == URLCHECK_REFUSED) return refused(state, answer->found);
     if (answer->found.verdict == URLCHECK_VALID) {
         Py_INCREF(state->none);
@@ -348,7 +348,7 @@ static PyObject *native_faults(PyObject *module, PyObject *args, PyObject *named
         if (answer.count > 16 && answer.count <= SIZE_MAX / sizeof *out) out = malloc(answer.count * sizeof *out);
         if (answer.count > 16 && out) answer = list_once(&asked, out, answer.count);
         if (!out) PyErr_SetString(PyExc_MemoryError, "urlcheck");
-        if (out && is_judged(state, answer.found)) list = fault_list(state, out, answer.count);
+        if (out && is_checked(state, answer.found)) list = fault_list(state, out, answer.count);
         if (out != most) free(out);
     }
     drop_asked(&asked);
@@ -362,7 +362,7 @@ static PyObject *native_prepare(PyObject *module, PyObject *args) {
     asked asked = {0};
 
     if (!PyArg_ParseTuple(args, "OO:prepare", &text, &profile)) return NULL;
-    if (read_setting(state, text, profile, &asked) && is_judged(state, asked.held.found))
+    if (read_setting(state, text, profile, &asked) && is_checked(state, asked.held.found))
         made = Py_BuildValue("(OOy#)", asked.base, state->profiles[asked.profile], (const char *)&asked.held,
                              (Py_ssize_t)sizeof asked.held);
     drop_asked(&asked);

@@ -52,7 +52,7 @@ int read_asked(state *state, PyObject *words[3], asked *asked);
 void drop_asked(asked *asked);
 
 /* False, with an error, where a text wasn't checked. */
-int is_judged(state *state, urlcheck_finding found);
+int is_checked(state *state, urlcheck_finding found);
 
 /* The start and the length of the bytes of an object of type `bytes`. */
 const uint8_t *bytes_of(PyObject *bytes, size_t *length);
@@ -120,7 +120,7 @@ typedef struct makings {
  * held. The count is given, or the number of the first text that wasn't checked and why; its verdict is BROKEN where its
  * offsets descend.
  */
-size_t judge_texts(const texts *texts, const asked *asked, findings out, urlcheck_finding *why);
+size_t check_all(const texts *texts, const asked *asked, findings out, urlcheck_finding *why);
 size_t make_texts(const texts *texts, const asked *asked, int mends, makings *out, urlcheck_finding *why);
 
 /* What is made of one text: it is mended, or the text of its URL is written. */

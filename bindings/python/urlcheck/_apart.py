@@ -22,7 +22,7 @@ class Fault(NamedTuple):
     inner: str = ""
     """The document within it that wasn't, if it holds others."""
 
-    def behind(self) -> str:
+    def after(self) -> str:
         """What is said after the document's name."""
         return ": " + self.reason if self.line is None else ":{}:{}: {}".format(self.line, self.column, self.reason)
 
@@ -52,10 +52,10 @@ class Part:
         self._ignored = 0
         self._lines = bytearray()
 
-    def add(self, lines: str, is_judged: bool) -> None:
+    def add(self, lines: str, is_checked: bool) -> None:
         """Adds a link, of which these lines are said: none where it is checked and valid."""
         self._links += 1
-        self._refused += is_judged and lines != ""
+        self._refused += is_checked and lines != ""
         self._lines += lines.encode("utf-8", "surrogateescape")
 
     def add_ignored(self) -> None:

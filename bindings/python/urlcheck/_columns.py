@@ -29,10 +29,10 @@ class Places:
         steps = (offset - start) // _STEP
         while len(self._columns) <= steps:
             at = start + (len(self._columns) - 1) * _STEP
-            self._columns.append(self._behind(self._columns[-1], at, at + _STEP))
-        return line, self._behind(self._columns[steps], start + steps * _STEP, offset)
+            self._columns.append(self._after(self._columns[-1], at, at + _STEP))
+        return line, self._after(self._columns[steps], start + steps * _STEP, offset)
 
-    def _behind(self, column: int, start: int, end: int) -> int:
+    def _after(self, column: int, start: int, end: int) -> int:
         """The column after a part of the text that begins in a column."""
         text = self.source.text[start:end]
         return native.column(text, self._unit, column, len(text))

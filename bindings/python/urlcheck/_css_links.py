@@ -45,13 +45,13 @@ def _taken(source: Source, nodes: List[Any], is_sheet: bool) -> Tuple[List[Link]
             begin = source.text.find("(", at) + 1
             links.append(_link(source, node.value, begin))
         elif node.type == "function" and node.lower_name in ("url", "src"):
-            links += [_link(source, it.value, _behind(source, it, starts)) for it in node.arguments if it.type == "string"]
+            links += [_link(source, it.value, _after(source, it, starts)) for it in node.arguments if it.type == "string"]
         elif node.type == "at-rule" and node.lower_at_keyword == "import" and is_sheet:
-            links += [_link(source, it.value, _behind(source, it, starts)) for it in node.prelude if it.type == "string"][:1]
+            links += [_link(source, it.value, _after(source, it, starts)) for it in node.prelude if it.type == "string"][:1]
     return links, ignored
 
 
-def _behind(source: Source, node: Any, starts: List[int]) -> int:
+def _after(source: Source, node: Any, starts: List[int]) -> int:
     """Where the text of a string begins, after its quote."""
     line, column = int(node.source_line), int(node.source_column)
     return min(starts[min(line, len(starts)) - 1] + column, len(source.text))

@@ -48,10 +48,10 @@ class Text:
     def _replace(self, start: Place, end: Place, written: str) -> None:
         """Writes a text in the place of a range."""
         first, before = self._at(start)
-        last, behind = self._at(end)
-        if (last, behind) < (first, before):
-            last, behind = first, before
-        text = self._lines[first][:before] + written + self._lines[last][behind:]
+        last, after = self._at(end)
+        if (last, after) < (first, before):
+            last, after = first, before
+        text = self._lines[first][:before] + written + self._lines[last][after:]
         # (a line feed after a carriage return belongs to its line)
         if first > 0 and text[:1] == "\n" and self._lines[first - 1].endswith("\r"):
             first -= 1

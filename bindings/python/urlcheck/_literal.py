@@ -92,9 +92,9 @@ def _plain(text: str, link: str, begin: int, end: int) -> Iterator[int]:
     """Where a link is as it is, and is no part of a longer one."""
     at = text.find(link, begin, end)
     while at >= 0:
-        behind = at + len(link)
+        after = at + len(link)
         is_longer = _goes_on(text[at - 1 : at] if at else "")
-        if not (is_longer or (link[-1:].isalnum() and _goes_on(text[behind : behind + 1]))):
+        if not (is_longer or (link[-1:].isalnum() and _goes_on(text[after : after + 1]))):
             yield at
         at = text.find(link, at + 1, end)
 

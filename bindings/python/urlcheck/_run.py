@@ -12,7 +12,7 @@ from ._columns import Places
 from ._config import NONE, Configuration, configuration_of
 from ._finding import Report, lines_on, not_read
 from ._folders import configured_folder, no_document, with_slashes
-from ._judge import Judge
+from ._checker import Checker
 from ._limits import has_come
 from ._kinds import is_list, kind_of
 from ._readers import MOST_BYTES, Found, Reading, Unread, found_in
@@ -102,7 +102,7 @@ def _stopped(places: Places, found: Found) -> Optional[Fault]:
 class Document:
     """A document that is read: its name as it is shown, and what it is read and checked by."""
 
-    def __init__(self, settings: Settings, is_judged: bool, name: str) -> None:
+    def __init__(self, settings: Settings, is_checked: bool, name: str) -> None:
         self._settings = settings
         self._path = name
         # (a text of standard input may have the name of the file that an editor holds)
@@ -114,13 +114,13 @@ class Document:
         self._ignored = settings.ignored + config.ignored
         self._is_empty_taken = settings.is_empty_taken or config.is_empty_taken
         self._reading = Reading(settings.gfm or config.gfm)
-        self._judge = self._judge_of(config) if is_judged else None
+        self._checker = self._checker_of(config) if is_checked else None
 
-    def _judge_of(self, config: Configuration) -> Judge:
+    def _checker_of(self, config: Configuration) -> Checker:
         settings = self._settings
         base = settings.base or config.base
         profile = config.profile if settings.is_profile_left and config.profile is not None else settings.profile
-        return Judge(base, profile, shows_mended(settings.format), self._is_empty_taken)
+        return Checker(base, profile, shows_mended(settings.format), self._is_empty_taken)
 
     def parts(self) -> Iterator[Taken]:
         """What the document gives, part by part."""
@@ -144,7 +144,7 @@ class Document:
             if self._is_left_out(found, link):
                 part.add_ignored()
             else:
-                part.add(self._said(name, places, link), self._judge is not None)
+                part.add(self._said(name, places, link), self._checker is not None)
             if part.is_full():
                 yield part.taken()
                 part = Part(0)
@@ -152,9 +152,9 @@ class Document:
 
     def _said(self, name: str, places: Places, link: Link) -> str:
         """The lines on a link: none where a check finds it valid."""
-        if self._judge is None:
+        if self._checker is None:
             return located(name, places, link) + "\n"
-        finding = self._judge.finding(name, places, link)
+        finding = self._checker.finding(name, places, link)
         return lines_on(self._settings.format, finding) if finding else ""
 
     def _read(self) -> Iterator[Found]:
@@ -167,10 +167,10 @@ class Document:
             says = "it has no name that says its kind" if self.name == "-" else "its name's end says no kind"
             more = "; urlcheck lint checks a list of links" if is_list(name) else ""
             raise Unread(says + ": give --type html, xml, markdown or another kind" + more)
-        if self._judge is None and _CONTROL.search(self.name):
+        if self._checker is None and _CONTROL.search(self.name):
             raise Unread("its name has a control, which no located line can hold")
         place = _PLACE.search(self.name + ":1:1:")
-        if self._judge is None and place is not None and place.start() != len(self.name):
+        if self._checker is None and place is not None and place.start() != len(self.name):
             raise Unread("its name has what a located line would read as its line and column")
         data = read_document(name)
         has_come()
@@ -186,9 +186,9 @@ class Document:
 class Run:
     """The documents read so far: what was asked for, and what was seen."""
 
-    def __init__(self, settings: Settings, is_judged: bool, is_quiet: bool, report: Report) -> None:
+    def __init__(self, settings: Settings, is_checked: bool, is_quiet: bool, report: Report) -> None:
         self._settings = settings
-        self._is_judged = is_judged
+        self._is_checked = is_checked
         self._is_quiet = is_quiet
         self._report = report
         self._noted: Set[str] = set()
@@ -197,7 +197,7 @@ class Run:
 
     def take(self, name: str) -> None:
         """Begins to read a document, and reports those before it for which there is no room. Raises ``Misconfigured``."""
-        document = Document(self._settings, self._is_judged, name)
+        document = Document(self._settings, self._is_checked, name)
         parts: Callable[[], Iterator[Taken]] = document.parts
         self._begun.append((document, Apart(parts, name == "-")))
         while len(self._begun) >= self._settings.jobs:
@@ -210,7 +210,7 @@ class Run:
 
     def _end(self, document: Document, apart: Apart) -> None:
         """Writes the located links of a document or what is wrong with them."""
-        is_passed = self._is_judged
+        is_passed = self._is_checked
         for taken in apart.taken():
             self.counts.add(taken)
             self._report.add(taken.lines)
@@ -221,7 +221,7 @@ class Run:
                 name = document.name + ("/" + taken.fault.inner if taken.fault.inner else "")
                 self._report.add(not_read(self._settings.format, name, taken.fault).encode("utf-8"))
                 is_input = name == "-" and taken.fault.line is None
-                tell(("standard input" if is_input else named(name) or "''") + taken.fault.behind())
+                tell(("standard input" if is_input else named(name) or "''") + taken.fault.after())
         if is_passed:
             self._report.passed(document.name)
 

@@ -32,7 +32,7 @@ class Refused(NamedTuple):
     text: bytes
 
 
-class Judged(NamedTuple):
+class Checked(NamedTuple):
     """What was found of a span."""
 
     lines: int
@@ -45,13 +45,13 @@ def spans_of(file: str, size: int, length: int) -> List[Span]:
     return [Span(file, start, min(start + length, size)) for start in range(0, size, length)]
 
 
-def judge(span: Span, base: AnyBase, profile: Profile) -> Judged:
+def check(span: Span, base: AnyBase, profile: Profile) -> Checked:
     """Reads the lines of a span, and checks them."""
     with open(span.file, "rb") as file:
         data = _lines_of(file, span)
     lines, refused = native.check_lines(data, base, profile, MOST_OF_A_LINE)
     found = [Refused(number, place, rule, data[start : start + length]) for number, place, rule, start, length in refused]
-    return Judged(lines, found, version())
+    return Checked(lines, found, version())
 
 
 def _lines_of(file: BinaryIO, span: Span) -> bytes:

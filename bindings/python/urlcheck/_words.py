@@ -8,7 +8,7 @@ from typing import List, NamedTuple, Optional, Tuple
 from . import FORMATS, UNITS, Profile, version
 from ._config import Misconfigured
 from ._folders import Excluded, meant
-from ._judge import SOMEWHERE
+from ._checker import SOMEWHERE
 from ._kinds import ENDS, KINDS, listed
 from ._report import own_unit, takes_unit
 from ._source import Foreign, decoded
@@ -52,7 +52,7 @@ class Asked(NamedTuple):
 
     files: List[str]
     settings: Settings
-    is_judged: bool
+    is_checked: bool
     is_quiet: bool
 
 
@@ -124,9 +124,9 @@ def asked(words: List[str]) -> Asked:
     return Asked(given.files, settings, given.check, given.quiet)
 
 
-def with_format(settings: Settings, name: Optional[str], is_judged: bool) -> Settings:
+def with_format(settings: Settings, name: Optional[str], is_checked: bool) -> Settings:
     """The settings with the format that a project's configuration names, where none is given. Raises ``Misconfigured``."""
-    if name is None or not settings.is_format_left or not is_judged:
+    if name is None or not settings.is_format_left or not is_checked:
         return settings
     if name not in FORMATS:
         raise Misconfigured("no format is named '{}': there are {}".format(name, " ".join(FORMATS)))

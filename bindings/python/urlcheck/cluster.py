@@ -19,7 +19,7 @@ import time
 from typing import Any, Counter, Deque, Dict, Iterator, List, NamedTuple, Optional, TextIO
 
 from . import Base, BaseRefused, Profile, version
-from ._spans import Judged, Span, judge, spans_of
+from ._spans import Checked, Span, check, spans_of
 
 SPAN = 16_000_000
 """How many bytes a span has."""
@@ -37,7 +37,7 @@ class Part(NamedTuple):
     """What is known of a span in the order of the lists: what was found, or why it wasn't checked."""
 
     span: Span
-    judged: Optional[Judged]
+    checked: Optional[Checked]
     why: str
 
 
@@ -48,29 +48,29 @@ class Report:
         self.out, self.is_json = out, is_json
         self.lines = self.bad = 0
         self.rules: Counter[str] = collections.Counter()
-        self.unjudged: List[Part] = []
+        self.unchecked: List[Part] = []
         self._file, self._before = "", 0
 
     def write(self, part: Part) -> None:
         if part.span.file != self._file:
             self._file, self._before = part.span.file, self.lines
-        if part.judged is None:
-            self.unjudged.append(part)
+        if part.checked is None:
+            self.unchecked.append(part)
             return
-        for refused in part.judged.refused:
+        for refused in part.checked.refused:
             number = self.lines + refused.number + 1
             self.rules[refused.rule] += 1
             if self.is_json:
                 row = {"file": part.span.file, "line": number - self._before, "number": number, "place": refused.place,
                        "rule": refused.rule, "text": refused.text.decode("utf-8", "replace")}
                 # (after a part that wasn't checked no line's number is known)
-                if self.unjudged:
+                if self.unchecked:
                     row.update(line=None, number=None)
                 self.out.write(json.dumps(row, sort_keys=True) + "\n")
             else:
-                self.out.write("{} bad {} {}\n".format("?" if self.unjudged else number, refused.place, refused.rule))
-        self.lines += part.judged.lines
-        self.bad += len(part.judged.refused)
+                self.out.write("{} bad {} {}\n".format("?" if self.unchecked else number, refused.place, refused.rule))
+        self.lines += part.checked.lines
+        self.bad += len(part.checked.refused)
 
     def end(self) -> None:
         counts = {"links": self.lines, "ok": self.lines - self.bad, "bad": self.bad}
@@ -117,7 +117,7 @@ class Run:
 
     def give(self, span: Span) -> None:
         """Gives a span to a worker."""
-        future = self.client.submit(judge, span, self.base, self.profile, pure=False, retries=0)
+        future = self.client.submit(check, span, self.base, self.profile, pure=False, retries=0)
         self.out[future] = span
         future.add_done_callback(self.ended.put)
 
@@ -156,7 +156,7 @@ class Run:
         if future not in self.out:
             return
         if future.status == "finished":
-            self.judged(future)
+            self.checked(future)
         else:
             error = future.exception() if future.status == "error" else None
             _stop_for(error, self.out[future])
@@ -170,9 +170,9 @@ class Run:
             self.take(limit)
         self.is_alone = False
 
-    def judged(self, future: Any) -> None:
+    def checked(self, future: Any) -> None:
         try:
-            found: Judged = future.result(timeout=self.patience)
+            found: Checked = future.result(timeout=self.patience)
         except Exception as error:  # (what its worker had checked went with it)
             self.give_up(future, type(error).__name__)
             return
@@ -259,7 +259,7 @@ def _sizes(files: List[str]) -> Dict[str, int]:
     return sizes
 
 
-def _judge_all(words: argparse.Namespace, report: Report) -> None:
+def _check_all(words: argparse.Namespace, report: Report) -> None:
     profile = Profile[words.profile.upper()]
     base = None if words.base is None else Base(words.base, profile)
     if words.span < LEAST:
@@ -283,16 +283,16 @@ def main(given: Optional[List[str]] = None) -> int:
     words = _words(given)
     report = Report(sys.stdout, words.json)
     try:
-        _judge_all(words, report)
+        _check_all(words, report)
     except (Stopped, BaseRefused, TimeoutError) as error:
         sys.stdout.flush()
         print("urlcheck.cluster: {}".format(error), file=sys.stderr)
         return 2 if report.lines == 0 else 3
     report.end()
-    for part in report.unjudged:
+    for part in report.unchecked:
         words_of = (part.span.file, part.span.start, part.span.end, part.why)
         print("urlcheck.cluster: {}: not checked: the lines that begin from byte {} to {}: {}".format(*words_of), file=sys.stderr)
-    return 3 if report.unjudged else 1 if report.bad else 0
+    return 3 if report.unchecked else 1 if report.bad else 0
 
 
 if __name__ == "__main__":

@@ -36,14 +36,14 @@ def _run(given: Asked) -> int:
     """Runs the program on what is asked for. Raises ``Misconfigured``."""
     settings = given.settings
     if settings.is_configured:
-        settings = with_format(settings, configuration_of(configured_folder(None)).format, given.is_judged)
+        settings = with_format(settings, configuration_of(configured_folder(None)).format, given.is_checked)
 
     def excluded_of(name: str) -> Tuple[Excluded, ...]:
         config = configuration_of(configured_folder(name)) if settings.is_configured else NONE
         return settings.excluded + config.excluded
 
     report = Report(settings.format, settings.unit, write)
-    seen, passed = Run(settings, given.is_judged, given.is_quiet, report), Passed()
+    seen, passed = Run(settings, given.is_checked, given.is_quiet, report), Passed()
     # (what is wrong with the configuration is said before anything is reported)
     for name in given.files if settings.is_configured else ():
         configuration_of(configured_folder(name))
@@ -58,7 +58,7 @@ def _run(given: Asked) -> int:
     report.end(not seen.counts.unread)
     flush()
     if not given.is_quiet:
-        tell(_counted(seen.counts, given.is_judged) + named(passed.said()))
+        tell(_counted(seen.counts, given.is_checked) + named(passed.said()))
     return seen.counts.status()
 
 
@@ -75,10 +75,10 @@ def _base_refused(base: Optional[str], profile: Profile) -> Optional[str]:
     return None
 
 
-def _counted(counts: Counts, is_judged: bool) -> str:
+def _counted(counts: Counts, is_checked: bool) -> str:
     """The counts, as standard error ends with them."""
     documents, links = _number(counts.documents, "document"), _number(counts.links, "link")
-    refused = ", {} refused".format(counts.refused) if is_judged else ""
+    refused = ", {} refused".format(counts.refused) if is_checked else ""
     return "{}, {}{}, {} ignored".format(documents, links, refused, counts.ignored)
 
 

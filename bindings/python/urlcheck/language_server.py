@@ -25,7 +25,7 @@ except ImportError:
 from . import MendKind, version
 from ._config import NONE, Configuration, Misconfigured, configuration_of
 from ._editing import Text, encoding_for
-from ._judging import Asked, Judging, Mistake, Range, Remark, Seen
+from ._checking import Asked, Checking, Mistake, Range, Remark, Seen
 from ._kinds import kind_of
 from ._readers import LIST
 from ._rpc import Endpoint, NoMessage, message_of
@@ -86,7 +86,7 @@ class Server(MethodDispatcher):  # type: ignore[misc]
         self._endpoint = Endpoint(self, JsonRpcStreamWriter(writer).write, max_workers=4)
         self._documents: Dict[str, Document] = {}
         self._changed = threading.Condition()
-        self._judging = Judging()
+        self._checking = Checking()
         self._options = Options()
         self._columns: Optional[str] = None
         self._encoding = "utf-16"
@@ -97,8 +97,8 @@ class Server(MethodDispatcher):  # type: ignore[misc]
 
     def run(self) -> int:
         """Answers until the client says the end or is gone, and gives the status."""
-        judging = threading.Thread(target=self._judge_all, daemon=True)
-        judging.start()
+        checking = threading.Thread(target=self._check_all, daemon=True)
+        checking.start()
         try:
             while not self._is_ending:
                 body = message_of(self._reader)
@@ -111,8 +111,8 @@ class Server(MethodDispatcher):  # type: ignore[misc]
         with self._changed:
             self._is_ending = True
             self._changed.notify_all()
-        judging.join(1)
-        self._judging.end()
+        checking.join(1)
+        self._checking.end()
         return self.status
 
     def __getitem__(self, method: str) -> Callable[[Any], Any]:
@@ -139,7 +139,7 @@ class Server(MethodDispatcher):  # type: ignore[misc]
         self._asks_settings = bool((capabilities.get("workspace") or {}).get("configuration"))
         self._set(options.get("urlcheck", options))
         self._is_initialized = True
-        self._judging.start()
+        self._checking.start()
         return {
             "capabilities": {
                 "positionEncoding": self._encoding,
@@ -235,7 +235,7 @@ class Server(MethodDispatcher):  # type: ignore[misc]
 
     # ---- checking
 
-    def _judge_all(self) -> None:
+    def _check_all(self) -> None:
         """Checks what is due, one text after the other, until the end."""
         while True:
             with self._changed:
@@ -244,7 +244,7 @@ class Server(MethodDispatcher):  # type: ignore[misc]
                     return
                 document.due = None
                 changes, text = document.changes, document.text.whole()
-            seen = self._judged(document, text, self._superseding(document, changes))
+            seen = self._checked(document, text, self._superseding(document, changes))
             with self._changed:
                 if seen is None or self._is_superseded(document, changes):
                     continue
@@ -271,7 +271,7 @@ class Server(MethodDispatcher):  # type: ignore[misc]
     def _is_superseded(self, document: Document, changes: int) -> bool:
         return document.changes != changes or self._documents.get(document.uri) is not document
 
-    def _judged(self, document: Document, text: str, is_superseded: Callable[[], bool]) -> Optional[Seen]:
+    def _checked(self, document: Document, text: str, is_superseded: Callable[[], bool]) -> Optional[Seen]:
         """What is seen in a text."""
         options, config = self._options, NONE
         remarks = []
@@ -294,7 +294,7 @@ class Server(MethodDispatcher):  # type: ignore[misc]
             document.uri,
         )
         try:
-            seen = self._judging.judge(asked, is_superseded)
+            seen = self._checking.check(asked, is_superseded)
         except OSError as error:
             seen = Seen([], [Remark(((0, 0), (0, 0)), "can't be checked: {}".format(error.strerror), True)])
         return seen and seen._replace(remarks=seen.remarks + remarks)

@@ -14,7 +14,7 @@ from . import BaseRefused, Profile
 from . import _html_links, _markdown_links
 from ._config import Misconfigured, configuration_of
 from ._front_matter import front_matter_of
-from ._judge import Judge
+from ._checker import Checker
 from ._literal import Literals
 from ._source import Link, Source
 
@@ -48,7 +48,7 @@ class Plugin(_PLUGINS.BasePlugin):  # type: ignore[misc]
             name = self.config["profile"]
             profile = Profile[name.upper()] if name else project.profile or Profile.STANDARD
             base = self.config["base"] or project.base or config["site_url"] or None
-            self._judge = Judge(base, profile, False, self.config["no_empty"] or project.is_empty_taken)
+            self._checker = Checker(base, profile, False, self.config["no_empty"] or project.is_empty_taken)
             self._ignored = tuple(re.compile(it) for it in self.config["ignore"]) + project.ignored
             self._is_gfm = self.config["gfm"] or project.gfm
         except BaseRefused as refused:
@@ -91,7 +91,7 @@ class Plugin(_PLUGINS.BasePlugin):  # type: ignore[misc]
 
     def _tell(self, name: str, link: Link, source: Optional[Source]) -> None:
         """Warns of a link, where it is wrong: at its place in this source, or where its text is in the page's file."""
-        wrong = self._judge.wrong(link)
+        wrong = self._checker.wrong(link)
         if wrong is None or any(it.search(link.text) for it in self._ignored):
             return
         place: Optional[Tuple[int, int]] = None

@@ -46,7 +46,7 @@ def findings(
 ) -> Callable[[Iterable[Any]], Iterator[Any]]:
     """A function for ``mapInArrow``: it adds to each batch the columns ``valid``, ``rule`` and ``place`` on a column."""
 
-    def judged(batches: Iterable[Any]) -> Iterator[Any]:
+    def checked(batches: Iterable[Any]) -> Iterator[Any]:
         import pyarrow
 
         for batch in batches:
@@ -54,7 +54,7 @@ def findings(
             columns = [*batch.columns, found.valid, found.rule.cast(pyarrow.string()), found.place]
             yield pyarrow.RecordBatch.from_arrays(columns, names=[*batch.schema.names, "valid", "rule", "place"])
 
-    return judged
+    return checked
 
 
 def findings_schema(before: str) -> str:

@@ -12,7 +12,7 @@ from typing import Any, Dict, Iterator, List, NamedTuple, Optional, Set, Tuple
 from . import BaseRefused, Profile, version
 from . import _html_links, _markdown_links
 from ._config import Misconfigured, configuration_of
-from ._judge import Judge
+from ._checker import Checker
 from ._kinds import kind_of
 from ._literal import Literals
 from ._source import Link, Source
@@ -34,7 +34,7 @@ class _Said(NamedTuple):
 class _Settings(NamedTuple):
     """What links are checked by."""
 
-    judge: Judge
+    checker: Checker
     ignored: Tuple["re.Pattern[str]", ...]
     has_columns: bool
     is_gfm: bool
@@ -48,7 +48,7 @@ def setup(app: Any) -> Dict[str, Any]:
     app.add_config_value("urlcheck_no_empty", False, "env", [bool])
     app.add_config_value("urlcheck_columns", False, "", [bool])
     app.connect("config-inited", lambda app, _: _settings(app))
-    app.connect("doctree-read", _judge_document, priority=_BEFORE_COLLECTORS)
+    app.connect("doctree-read", _check_document, priority=_BEFORE_COLLECTORS)
     return {"version": version(), "parallel_read_safe": True, "parallel_write_safe": True}
 
 
@@ -62,7 +62,7 @@ def _settings(app: Any) -> _Settings:
         if name is not None and name not in [it.name.lower() for it in Profile]:
             raise failed("urlcheck_profile is one of {}".format(", ".join(it.name.lower() for it in Profile)))
         profile = Profile[name.upper()] if name is not None else project.profile or Profile.STANDARD
-        judge = Judge(config.urlcheck_base or project.base, profile, False, config.urlcheck_no_empty or project.is_empty_taken)
+        checker = Checker(config.urlcheck_base or project.base, profile, False, config.urlcheck_no_empty or project.is_empty_taken)
         ignored = tuple(re.compile(it) for it in config.urlcheck_ignore) + project.ignored
     except BaseRefused as refused:
         raise failed("urlcheck_base: {}".format(refused)) from None
@@ -71,17 +71,17 @@ def _settings(app: Any) -> _Settings:
     except Misconfigured as misconfigured:
         raise failed(str(misconfigured)) from None
     is_gfm = project.gfm or "linkify" in (getattr(config, "myst_enable_extensions", None) or ())
-    return _Settings(judge, ignored, config.urlcheck_columns, is_gfm)
+    return _Settings(checker, ignored, config.urlcheck_columns, is_gfm)
 
 
-def _judge_document(app: Any, tree: Any) -> None:
+def _check_document(app: Any, tree: Any) -> None:
     """Checks the links that the author of a document wrote; what Sphinx makes of its own isn't there yet."""
     settings, literals = _settings(app), Literals()
     path = os.path.abspath(app.env.doc2path(app.env.docname))
     read: Set[Tuple[str, int]] = set()
     if kind_of(path) == "markdown":
         # (MyST percent-encodes what it reads, so that its nodes don't say what was written)
-        read = _judge_markdown(settings, literals, path)
+        read = _check_markdown(settings, literals, path)
     for said in _links(tree, path):
         source = literals.source(said.path)
         # (docutils takes the spaces out of a link, and so makes another one of it)
@@ -90,7 +90,7 @@ def _judge_document(app: Any, tree: Any) -> None:
             _tell(settings, said._replace(text=spaced.text), source, spaced)
             continue
         # (only what is refused is sought)
-        if settings.judge.wrong(Link(said.text, 0, False)) is None:
+        if settings.checker.wrong(Link(said.text, 0, False)) is None:
             continue
         found = literals.find(said.path, said.line, said.text)
         if found is None or source is None:
@@ -100,7 +100,7 @@ def _judge_document(app: Any, tree: Any) -> None:
             _tell(settings, said, source, found[0])
 
 
-def _judge_markdown(settings: _Settings, literals: Literals, path: str) -> Set[Tuple[str, int]]:
+def _check_markdown(settings: _Settings, literals: Literals, path: str) -> Set[Tuple[str, int]]:
     """Checks the links of a document of MyST by its source, and gives them with their lines."""
     source = literals.source(path)
     if source is None:
@@ -162,7 +162,7 @@ def _place(node: Any, path: str) -> Tuple[str, int]:
 def _tell(settings: _Settings, said: _Said, source: Optional[Source], link: Optional[Link]) -> None:
     """Warns of a link, where it is wrong."""
     given = link or Link(said.text, 0, False)
-    wrong = settings.judge.wrong(given)
+    wrong = settings.checker.wrong(given)
     if wrong is None or any(it.search(said.text) for it in settings.ignored):
         return
     where: List[Any] = [said.path, said.line]

@@ -23,7 +23,7 @@ typedef struct {
     uint32_t empty;         /* how many of them are empty, and were passed over */
     uint32_t refused;       /* how many of them aren't valid; their rows are at `out` */
     uint32_t next;          /* where the line after them begins */
-} lines_judged;
+} lines_checked;
 
 /* The answer of a call. */
 extern union answer {
@@ -33,7 +33,7 @@ extern union answer {
     urlcheck_mended mended;
     urlcheck_fault_count counted;
     urlcheck_written written;
-    lines_judged lines;
+    lines_checked lines;
 } answer;
 
 /* What else a call has written. */

@@ -13,8 +13,8 @@ typedef struct {
 } refused_line;
 
 /* Where urlcheck.js reads: it knows these numbers. */
-_Static_assert(offsetof(lines_judged, lines) == 24 && offsetof(lines_judged, empty) == 28, "layout");
-_Static_assert(offsetof(lines_judged, refused) == 32 && offsetof(lines_judged, next) == 36, "layout");
+_Static_assert(offsetof(lines_checked, lines) == 24 && offsetof(lines_checked, empty) == 28, "layout");
+_Static_assert(offsetof(lines_checked, refused) == 32 && offsetof(lines_checked, next) == 36, "layout");
 _Static_assert(sizeof(refused_line) == 7 * 4 && offsetof(refused_line, byte_place) == 6 * 4, "layout");
 
 /* The rows that a call has room for. After them the next one goes on. */
@@ -55,25 +55,25 @@ static urlcheck_line next_refused(const uint8_t *lines, size_t length, size_t fr
 }
 
 /* Takes the valid lines before a line, and the line itself, where there is one. */
-static void take(lines_judged *judged, const urlcheck_line *line) {
-    judged->lines += (uint32_t)line->passed;
-    judged->next = (uint32_t)line->next;
+static void take(lines_checked *checked, const urlcheck_line *line) {
+    checked->lines += (uint32_t)line->passed;
+    checked->next = (uint32_t)line->next;
     if (line->start == line->next) return;
-    judged->lines++;
+    checked->lines++;
     if (line->length == 0) {
-        judged->empty++;
+        checked->empty++;
         return;
     }
     const urlcheck_finding *found = &line->found;
-    ((refused_line *)out)[judged->refused++] = (refused_line){
-        judged->lines, (uint32_t)line->start, (uint32_t)line->length, found->verdict, found->rule,
+    ((refused_line *)out)[checked->refused++] = (refused_line){
+        checked->lines, (uint32_t)line->start, (uint32_t)line->length, found->verdict, found->rule,
         (uint32_t)found->place, (uint32_t)found->byte_place};
 }
 
 /* Takes the valid lines before a line that found no memory. */
-static void take_before(lines_judged *judged, const urlcheck_line *line) {
-    judged->lines += (uint32_t)line->passed;
-    judged->next = (uint32_t)line->start;
+static void take_before(lines_checked *checked, const urlcheck_line *line) {
+    checked->lines += (uint32_t)line->passed;
+    checked->next = (uint32_t)line->start;
 }
 
 /*
@@ -83,19 +83,19 @@ static void take_before(lines_judged *judged, const urlcheck_line *line) {
 void check_lines(uint32_t length, uint32_t from, uint32_t is_held, uint32_t profile) {
     if (!takes_out(ROWS * sizeof(refused_line))) return;
     uint64_t mark = heap_mark();
-    lines_judged judged = {.found = {.verdict = URLCHECK_DONE}, .next = from};
-    while (judged.next < length && judged.refused < ROWS) {
+    lines_checked checked = {.found = {.verdict = URLCHECK_DONE}, .next = from};
+    while (checked.next < length && checked.refused < ROWS) {
         heap_return(mark);
-        urlcheck_line line = next_refused(heap_text(), length, judged.next, is_held, profile);
+        urlcheck_line line = next_refused(heap_text(), length, checked.next, is_held, profile);
         uint32_t verdict = line.found.verdict;
         if (verdict <= URLCHECK_NO_UTF8) {
-            take(&judged, &line);
+            take(&checked, &line);
             continue;
         }
-        take_before(&judged, &line);
+        take_before(&checked, &line);
         if (verdict == URLCHECK_MEMORY && line.passed > 0) continue;
-        judged.found = line.found;
+        checked.found = line.found;
         break;
     }
-    answer.lines = judged;
+    answer.lines = checked;
 }

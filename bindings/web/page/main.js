@@ -60,15 +60,15 @@ function tryText(text, base) {
   state.text = text
   state.base = base
   fillFields()
-  judge()
+  check()
   byId('text').focus()
 }
 
-function judgeList() {
+function checkList() {
   const { profile, base } = state
   if (!given.list && state.list.trim() === '') return report.clear()
   const { name, file } = given.list ?? { name: 'list.txt', file: fileOf(state.list) }
-  report.judge({ kind: 'file', file }, { name, base, profile, unit: 'line', note: given.list && [name] })
+  report.check({ kind: 'file', file }, { name, base, profile, unit: 'line', note: given.list && [name] })
 }
 
 /** The base of a document: the one that it names, read against the page's base field. */
@@ -80,7 +80,7 @@ function baseOf(named) {
   return { base: state.base, note: `its base ${named} is refused (${resolved.rule}), so the base below is taken` }
 }
 
-function judgeHtml() {
+function checkHtml() {
   if (!given.html) return report.clear()
   const { base: named, links } = linksOf(given.html.text)
   let read
@@ -89,18 +89,18 @@ function judgeHtml() {
   } catch {
     read = { base: state.base, note: 'its base can’t be read' }
   }
-  report.judge({ kind: 'links', links }, { name: given.html.name, base: read.base, profile: state.profile, unit: 'link',
+  report.check({ kind: 'links', links }, { name: given.html.name, base: read.base, profile: state.profile, unit: 'link',
     note: [given.html.name, ' · ', read.note] })
 }
 
 /** Checks what the view shows. */
-function judge() {
+function check() {
   showView()
   showAddress()
   if (!urlcheck) return
   if (state.view === 'text') showText(urlcheck, state, tryText)
-  if (state.view === 'list') later('list', LIST_PAUSE, judgeList)
-  if (state.view === 'html') later('list', LIST_PAUSE, judgeHtml)
+  if (state.view === 'list') later('list', LIST_PAUSE, checkList)
+  if (state.view === 'html') later('list', LIST_PAUSE, checkHtml)
 }
 
 /** Takes a list as a file: it isn't in the field. */
@@ -109,7 +109,7 @@ function takeList(name, file) {
   state.view = 'list'
   state.list = ''
   fillFields()
-  judge()
+  check()
 }
 
 async function takeFile(file, view) {
@@ -117,7 +117,7 @@ async function takeFile(file, view) {
   if (view === 'html' || (isHtml && view !== 'list')) {
     given.html = { name: file.name, text: await file.text() }
     state.view = 'html'
-    judge()
+    check()
   } else takeList(file.name, file)
 }
 
@@ -134,7 +134,7 @@ function readAddress() {
     given.list = null
   }
   fillFields()
-  judge()
+  check()
 }
 
 function listenToFields() {
@@ -142,16 +142,16 @@ function listenToFields() {
   byId('text').addEventListener('input', () => {
     state.text = byId('text').value
     byId('example').value = ''
-    judge()
+    check()
   })
   byId('base').addEventListener('input', () => {
     state.base = byId('base').value
-    judge()
+    check()
   })
   byId('list').addEventListener('input', () => {
     state.list = byId('list').value
     given.list = null
-    judge()
+    check()
   })
   byId('list').addEventListener('paste', event => {
     const text = event.clipboardData.getData('text/plain')
@@ -162,7 +162,7 @@ function listenToFields() {
   for (const choice of document.querySelectorAll('input[name=profile]')) {
     choice.addEventListener('change', () => {
       state.profile = choice.value
-      judge()
+      check()
     })
   }
 }
@@ -175,7 +175,7 @@ function listenToViews() {
       if (state.view === link.dataset.view) return
       if (report) report.clear()
       state.view = link.dataset.view
-      judge()
+      check()
     })
   }
   addEventListener('hashchange', readAddress)
@@ -238,7 +238,7 @@ try {
   report = new ReportView(byId('report'), urlcheck)
   byId('version').textContent = `Version ${urlcheck.version}.`
   fillExamples()
-  judge()
+  check()
   performance.mark('urlcheck-first-answer')
 } catch (error) {
   byId('verdict').className = 'verdict bad'

@@ -46,7 +46,7 @@ export class ReportView {
   }
 
   /** Checks the lines of a source; `note` says where they come from. */
-  judge(source, { name, base, profile, unit, note }) {
+  check(source, { name, base, profile, unit, note }) {
     this.number++
     this.unit = unit
     this.base = base
@@ -56,7 +56,7 @@ export class ReportView {
     this.build(note)
     this.section.hidden = false
     this.started()
-    this.ask('judge', { source, name, base, profile })
+    this.ask('check', { source, name, base, profile })
   }
 
   /** Takes the report away, and stops its job. */

@@ -9,9 +9,9 @@ const LONGEST_FOR_FAULTS = 200_000
 
 /**
  * Checks a text, and gives all that the page says of it.
- * @returns {{ kind: 'valid' | 'refused' | 'base' | 'unjudged', [more: string]: unknown }}
+ * @returns {{ kind: 'valid' | 'refused' | 'base' | 'unchecked', [more: string]: unknown }}
  */
-export function judged(urlcheck, text, base, profile) {
+export function checkText(urlcheck, text, base, profile) {
   const options = { base: base === '' ? null : base, profile }
   try {
     const answer = urlcheck.check(text, options)
@@ -22,8 +22,8 @@ export function judged(urlcheck, text, base, profile) {
     return { kind: 'refused', isLong, faults, instead: insteadOf(urlcheck, text, answer, options) }
   } catch (error) {
     if (error instanceof BaseRefused) return { kind: 'base', faults: urlcheck.faults(base, { profile }) }
-    if (error instanceof RangeError) return { kind: 'unjudged', message: 'out of memory: the text is too large' }
-    if (error instanceof TypeError) return { kind: 'unjudged', message: error.message }
+    if (error instanceof RangeError) return { kind: 'unchecked', message: 'out of memory: the text is too large' }
+    if (error instanceof TypeError) return { kind: 'unchecked', message: error.message }
     throw error
   }
 }
@@ -56,7 +56,7 @@ function browsersUrl(text, base) {
 /** The verdict in a line. What is wrong is below it, by each rule. */
 function verdictLine(said) {
   if (said.kind === 'valid') return ['good', 'Valid', 'a valid URL string']
-  if (said.kind === 'unjudged') return ['bad', 'Not checked', said.message]
+  if (said.kind === 'unchecked') return ['bad', 'Not checked', said.message]
   const where = `at place ${counted(said.faults[0].place)}`
   if (said.kind === 'base') return ['bad', 'Base refused', where]
   const more = said.faults.length - 1
@@ -109,7 +109,7 @@ function insteadLine({ text, kind, isOffered }, base, onTry) {
 
 function showDrawn(text, base, said, onTry) {
   const card = byId('drawn')
-  card.hidden = said.kind === 'unjudged'
+  card.hidden = said.kind === 'unchecked'
   if (card.hidden) return
   const isBase = said.kind === 'base'
   const title = isBase ? 'The base, and where it is wrong' : said.kind === 'valid' ? 'The parts' : 'Where it is wrong'
@@ -246,7 +246,7 @@ function comparisonTable(ours, theirs) {
 
 function showComparison(text, base, said) {
   const card = byId('comparison')
-  card.hidden = said.kind === 'unjudged'
+  card.hidden = said.kind === 'unchecked'
   if (card.hidden) return
   const ours = recordRows(said.resolved)
   const theirs = browserRows(browsersUrl(text, base))
@@ -268,7 +268,7 @@ function noteOn(ours, theirs) {
 
 /** Shows what is said of a text. */
 export function showText(urlcheck, { text, base, profile }, onTry) {
-  const said = judged(urlcheck, text, base, profile)
+  const said = checkText(urlcheck, text, base, profile)
   showVerdict(said)
   showDrawn(text, base, said, onTry)
   showFaults(urlcheck, said.kind === 'base' ? base : text, profile, said, onTry)

@@ -1,6 +1,6 @@
 // Checks the lines of a list, or the links of a document, apart from the page, so that the page answers meanwhile.
 //
-// The page sends `judge` with a source, and then `stop`, `rows` and `download` for the job with the same number. The
+// The page sends `check` with a source, and then `stop`, `rows` and `download` for the job with the same number. The
 // worker sends `progress`, `done` or `failed`, and what was asked for.
 import { BaseRefused, load } from '../urlcheck.js'
 import { piecesOf } from './pieces.js'
@@ -81,7 +81,7 @@ class Job {
   }
 
   /** Checks the source piece by piece, and gives how far it is after each. */
-  async *judged() {
+  async *checkedPieces() {
     const { kind, file, links } = this.source
     if (kind === 'links') {
       for (let at = 0; at < links.length; at += LINKS) {
@@ -98,7 +98,7 @@ class Job {
 
   async run() {
     let [turn, told] = [performance.now(), performance.now()]
-    for await (const done of this.judged()) {
+    for await (const done of this.checkedPieces()) {
       this.done = done
       if (performance.now() - turn < TURN) continue
       if (performance.now() - told > TELLING) {
@@ -160,7 +160,7 @@ class Job {
   }
 }
 
-async function judge(asked) {
+async function checkAsked(asked) {
   if (job) job.isStopped = true
   let mine
   try {
@@ -176,7 +176,7 @@ async function judge(asked) {
 }
 
 onmessage = ({ data }) => {
-  if (data.kind === 'judge') judge(data)
+  if (data.kind === 'check') checkAsked(data)
   if (!job || data.number !== job.number) return
   if (data.kind === 'stop') job.isStopped = true
   if (data.kind === 'rows') {

@@ -1,8 +1,8 @@
-//! Judges the lines of standard input, as often as is asked: the driver of the benches. Its words are a mode, a number
+//! Checks the lines of standard input, as often as is asked: the driver of the benches. Its words are a mode, a number
 //! of rounds, a profile's name and a base; with none of them it checks once, alone, by the standard profile. The base
 //! is resolved once.
 //!
-//! `read` cuts the input into lines and does no more. In each round `check` judges each line, `alone` does so without a
+//! `read` cuts the input into lines and does no more. In each round `check` checks each line, `alone` does so without a
 //! base by `check_alone`, `valid` asks for no more than whether it is valid, `resolve` makes the URL that it denotes,
 //! serialized, and `record` its record and the record's text; all six say how many lines there are and how many were
 //! valid. `verdicts` writes `1` or `0` for each line, `texts` its serialized URL, and `records` the text of its record,
@@ -16,7 +16,7 @@ use uv_grammar::{Verdict, check, check_alone, is_valid};
 use uv_model::{Profile, Record};
 use uv_resolve::{ResolveFault, resolve, resolve_base, resolve_serialized};
 
-// What a line is judged against.
+// What a line is checked against.
 #[derive(Clone, Copy)]
 struct Setting<'s> {
     alloc: Global,

@@ -1,7 +1,7 @@
 //! Makes one call of the library, which standard input names, and prints its answer: the driver of
 //! bench/failed_allocations.py, which has each of the call's allocations refused in turn. The first line says how many
 //! allocations to make before the call, the second names the call, the third the profile, the fourth has the base,
-//! empty where there is none, and the rest is the text, the list or the vector file, which is judged by the standard
+//! empty where there is none, and the rest is the text, the list or the vector file, which is checked by the standard
 //! profile. No other allocation is made but by the call and, where there is a base, by what resolves it. The status is
 //! 3 where the call is out of memory.
 #![tactic(auto)]
@@ -262,7 +262,7 @@ fn vectors_ended<R: Print + AllocGlobal>(rt: &R, file: &str) -> End {
     }
 }
 
-// Prints the prefix of a page behind which so much room is left.
+// Prints the prefix of a page after which so much room is left.
 fn print_page<R: Print>(rt: &R, page: &[u8], room: usize) -> io::Result<()> {
     let prefix = page.get(..page.len().saturating_sub(room)).unwrap_or(&[]);
     let text = str::from_utf8(prefix).unwrap_or("not UTF-8\n");

@@ -39,22 +39,22 @@ abbrev pub is_empty_piece : {E : Type 0} → Result (Bor (List ℕ)) E → Bool
 is_empty_piece (Ok piece) = length piece.now == 0
 is_empty_piece (Err fault) = false
 
--- these answers behind what is left of a piece, if anything is
-abbrev pub behind : List ℕ → List (Option (List ℕ)) → List (Option (List ℕ))
-behind [] answers = answers
-behind (byte ∷ piece) answers = Some (byte ∷ piece) ∷ answers
+-- these answers after what is left of a piece, if anything is
+abbrev pub after : List ℕ → List (Option (List ℕ)) → List (Option (List ℕ))
+after [] answers = answers
+after (byte ∷ piece) answers = Some (byte ∷ piece) ∷ answers
 
--- A read with room for so many bytes has the first answer: a piece as far as there is room for it, or a failure. Behind
+-- A read with room for so many bytes has the first answer: a piece as far as there is room for it, or a failure. After
 -- the last answer it is at the end.
 abbrev pub PlaysRead : {E : Type 0} → List (Option (List ℕ)) → ℕ → Result ℕ E → List (Option (List ℕ)) → Type 0
 PlaysRead [] room result left = (result ≡ Ok 0) × (left ≡ [])
 PlaysRead (None ∷ answers) room result left = IsErr result × (left ≡ answers)
 PlaysRead (Some piece ∷ answers) room result left =
     (result ≡ Ok (min (length piece) room))
-    × (left ≡ behind (drop (min (length piece) room) piece) answers)
+    × (left ≡ after (drop (min (length piece) room) piece) answers)
 
 -- A write of so many bytes has the first answer: a count of bytes to take, as far as there are so many and there is
--- room for them, or a failure. Behind the last answer it fails.
+-- room for them, or a failure. After the last answer it fails.
 abbrev pub PlaysWrite : {E : Type 0} → List (Option ℕ) → ℕ → ℕ → Result ℕ E → List (Option ℕ) → Type 0
 PlaysWrite [] room bytes result left = IsErr result × (left ≡ [])
 PlaysWrite (None ∷ answers) room bytes result left = IsErr result × (left ≡ answers)

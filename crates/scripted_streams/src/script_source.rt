@@ -19,12 +19,12 @@ pub struct ScriptSource<'a> {
 impl<'a> Model for ScriptSource<'a> {
     ghost use Rattle.std.specs.Prelude.{◌≡◌, false};
     ghost use Rattle.std.specs.List.{list_any};
-    ghost use Rattle.scripted_streams.specs.Script.{SourceScript, behind, is_empty_piece, read_answers};
+    ghost use Rattle.scripted_streams.specs.Script.{SourceScript, after, is_empty_piece, read_answers};
 
     ghost Value = { SourceScript };
 
     ghost view = { λ s. record {
-      answers = behind s.begun.now (read_answers s.answers.now);
+      answers = after s.begun.now (read_answers s.answers.now);
       failures = s.failures;
     } };
 

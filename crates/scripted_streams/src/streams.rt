@@ -7,7 +7,7 @@ use std::alloc::AllocError;
 use std::io::{self, Read};
 use uv_io::{DeviceFault, FromReader, Sink, Source};
 
-// A reader that fails at its second call, and before and behind it gives one byte.
+// A reader that fails at its second call, and before and after it gives one byte.
 #[derive(Drop)]
 struct Faltering {
     calls: u8,
@@ -62,7 +62,7 @@ fn counts_a_failed_read(rt: HostRuntime) {
     assert!(rt; source.into_reader().calls == 3);
 }
 
-// A piece longer than the room for it comes in two reads, a failure takes nothing from what follows it, and behind the
+// A piece longer than the room for it comes in two reads, a failure takes nothing from what follows it, and after the
 // last answer is the end.
 #[test]
 fn plays_reads(rt: HostRuntime) {
@@ -103,7 +103,7 @@ fn takes<S: Sink>(sink: &mut S, bytes: &[u8], wanted: Option<usize>) -> bool
     }
 }
 
-// A sink takes what its answers say, no more than its room, and behind the last answer it fails.
+// A sink takes what its answers say, no more than its room, and after the last answer it fails.
 #[test]
 fn plays_writes(rt: HostRuntime) -> Result<(), AllocError> {
     let answers = [Ok(2), Err(DeviceFault), Ok(0), Ok(9), Ok(9), Ok(9)];

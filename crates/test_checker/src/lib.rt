@@ -1,4 +1,4 @@
-//! Tests of the checker: its verdicts while no memory is left. They stand above `uv_grammar`, so that it isn't proved
+//! Tests of the checker: its verdicts while no memory is left. They are above `uv_grammar`, so that it isn't proved
 //! twice. Its verdicts and faults are tested by runs over `tests/vectors/`, with the program and the library for C.
 //! What is asked of an answer is one function that is proved.
 #![tactic(auto)]

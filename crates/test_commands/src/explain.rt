@@ -35,7 +35,7 @@ fn explains_a_rule(rt: HostRuntime) -> Result<(), Fail> {
     Ok(())
 }
 
-// A name of no rule behind that of one: nothing is written.
+// A name of no rule after that of one: nothing is written.
 #[test]
 fn knows_no_other_names(rt: HostRuntime) -> Result<(), Fail> {
     let mut out = ToWriter::new(Vec::new(rt.alloc()));
@@ -47,8 +47,8 @@ fn knows_no_other_names(rt: HostRuntime) -> Result<(), Fail> {
     Ok(())
 }
 
-// Whether the write behind these short ones fails, so that a beginning is written.
-fn fails_behind(alloc: Global, writes: &[Result<usize, DeviceFault>]) -> Result<bool, Fail> {
+// Whether the write after these short ones fails, so that a beginning is written.
+fn fails_after(alloc: Global, writes: &[Result<usize, DeviceFault>]) -> Result<bool, Fail> {
     let mut out = ScriptSink::new(alloc, HOST_MISSING.len(), writes)?;
     let names = only(alloc, "host-missing")?;
     let answer = run_explain(alloc, names.as_slice(), Told::Explanation, &mut out);
@@ -60,12 +60,12 @@ fn fails_behind(alloc: Global, writes: &[Result<usize, DeviceFault>]) -> Result<
     )
 }
 
-// Each write behind so many short ones fails in turn.
+// Each write after so many short ones fails in turn.
 #[test]
 fn reports_each_failed_write(rt: HostRuntime) -> Result<(), Fail> {
     let mut writes: Vec<Result<usize, DeviceFault>> = Vec::new(rt.alloc());
     for _ in 0..HOST_MISSING.len() / 7 {
-        assert!(rt; fails_behind(rt.alloc(), writes.as_slice())?);
+        assert!(rt; fails_after(rt.alloc(), writes.as_slice())?);
         writes.push(Ok(7))?;
     }
     Ok(())

@@ -1,5 +1,5 @@
 //! Tests of the commands: what `uv_cli` writes of texts and of lists, how each job ends, and what it says where a read
-//! or a write fails. They stand above that crate, so that it isn't proved twice. Whether a command answers a text as is
+//! or a write fails. They are above that crate, so that it isn't proved twice. Whether a command answers a text as is
 //! wanted is said by one function that is proved. What the program writes of many texts and lists is in tests/runs/.
 #![tactic(auto)]
 

@@ -33,7 +33,7 @@ fn job(alloc: Global, other: Option<&str>) -> Result<Job, Fail> {
 
 // A failed read of the input is reported, and what was read before it is reported.
 #[test]
-fn goes_on_behind_a_failed_read(rt: HostRuntime) -> Result<(), Fail> {
+fn goes_on_after_a_failed_read(rt: HostRuntime) -> Result<(), Fail> {
     let wanted = Wanted {
         status: 2,
         said: "urlcheck: 2 lines, 1 refused\n",

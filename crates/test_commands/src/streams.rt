@@ -1,4 +1,4 @@
-//! Checks over sinks that play a list of answers: each write fails in turn, behind short ones, in each profile, of the
+//! Checks over sinks that play a list of answers: each write fails in turn, after short ones, in each profile, of the
 //! first violation and of all of them.
 
 use scripted_streams::ScriptSink;
@@ -9,7 +9,7 @@ use uv_cli::{CheckEnd, CliFault, run_check, run_faults};
 use uv_io::{DeviceFault, Sink};
 use uv_model::{Extent, Profile, Refusal, Rule};
 
-// A text, its base, by what it is judged, how many of its violations are wanted, and what is written of it.
+// A text, its base, by what it is checked, how many of its violations are wanted, and what is written of it.
 #[derive(Clone, Copy)]
 struct Row<'r> {
     text: &'r str,
@@ -135,7 +135,7 @@ const ROWS: [Row<'static>; 15] = [
 // More writes than a check of the rows makes.
 const MOST_WRITES: usize = 200;
 
-// Whether the writes suffice for the whole output. Where they don't, the one behind them fails, and a beginning of the
+// Whether the writes suffice for the whole output. Where they don't, the one after them fails, and a beginning of the
 // output is written.
 fn writes_all(
     rt: &(impl Abort + AllocGlobal),
@@ -158,7 +158,7 @@ fn writes_all(
     Ok(false)
 }
 
-// Each write behind so many short ones fails in turn, until none does.
+// Each write after so many short ones fails in turn, until none does.
 fn fails_each_write(
     rt: &(impl Abort + AllocGlobal),
     row: &Row<'_>,
@@ -174,7 +174,7 @@ fn fails_each_write(
     panic!(rt; "no check was whole");
 }
 
-// Of each row, each write behind short ones of this length fails in turn.
+// Of each row, each write after short ones of this length fails in turn.
 fn reports_each(rt: &(impl Abort + AllocGlobal), length: usize) -> Result<(), Fail> {
     for row in &ROWS {
         fails_each_write(rt, row, length)?;

@@ -1,6 +1,6 @@
 //! Lists that are written out, and what a filter writes of them, worked out by hand: what to write in place of a text
 //! by the URL Standard, and the ends of the lines as they were. Each read and each write is made to fail in turn,
-//! behind short ones.
+//! after short ones.
 ghost use Rattle.std.specs.Prelude.{◌<◌};
 
 use crate::line_ends::line_feeds;
@@ -60,8 +60,8 @@ fn mends_each_line_and_keeps_its_end(rt: HostRuntime) -> Result<(), Fail> {
     Ok(())
 }
 
-// Behind these reads one fails: of the lines that have ended, which are so many, all is written, and no more.
-fn fails_behind(
+// After these reads one fails: of the lines that have ended, which are so many, all is written, and no more.
+fn fails_after(
     rt: &(impl Abort + AllocGlobal),
     reads: &[Result<&[u8], DeviceFault>],
     ended: usize,
@@ -74,7 +74,7 @@ fn fails_behind(
     Ok(())
 }
 
-// Each read behind so many pieces fails in turn. Where none fails all is written.
+// Each read after so many pieces fails in turn. Where none fails all is written.
 fn fails_each_read(rt: &(impl Abort + AllocGlobal), length: usize) -> Result<(), Fail>
     requires { 0 < length }
 {
@@ -82,7 +82,7 @@ fn fails_each_read(rt: &(impl Abort + AllocGlobal), length: usize) -> Result<(),
     let mut ended = 0usize;
     for piece in LIST.chunks(length) {
         reads.push(Err(DeviceFault))?;
-        fails_behind(rt, &reads, ended)?;
+        fails_after(rt, &reads, ended)?;
         reads.pop();
         reads.push(Ok(piece))?;
         ended = ended.saturating_add(line_feeds(piece));
@@ -141,7 +141,7 @@ fn writes_a_long_line_before_a_failed_read(rt: HostRuntime) -> Result<(), Fail> 
 // More writes than a run over the lists makes.
 const MOST_WRITES: usize = 100;
 
-// Whether the writes suffice for the whole list. Where they don't, the one behind them fails, and a prefix is written.
+// Whether the writes suffice for the whole list. Where they don't, the one after them fails, and a prefix is written.
 fn writes_all(
     rt: &(impl Abort + AllocGlobal),
     list: &[u8],
@@ -158,7 +158,7 @@ fn writes_all(
     Ok(false)
 }
 
-// Each write behind so many short ones fails in turn, until none does.
+// Each write after so many short ones fails in turn, until none does.
 fn fails_each_write(
     rt: &(impl Abort + AllocGlobal),
     list: &[u8],

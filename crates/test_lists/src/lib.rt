@@ -1,5 +1,5 @@
 //! Tests of lists: how `uv_lines` cuts one into lines and what a reporter says of each, what `uv_links` and `uv_lint`
-//! report, and what `uv_filter` writes in place of its lines, over readers and writers that fail too. They stand above
+//! report, and what `uv_filter` writes in place of its lines, over readers and writers that fail too. They are above
 //! these crates, so that none of them is proved twice. How many lines have ended is counted by one function that is
 //! proved.
 #![tactic(auto)]

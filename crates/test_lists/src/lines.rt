@@ -9,7 +9,7 @@ use uv_lines::{Frame, LineFault, LineLimits, ReportFault, Reporter, run_lines};
 
 mod parts;
 
-// Says `NUMBER:BYTES `, `NUMBER:- ` of a line that is too long, and `.` behind the last line.
+// Says `NUMBER:BYTES `, `NUMBER:- ` of a line that is too long, and `.` after the last line.
 #[derive(Drop)]
 struct Lengths {
     lines: u64,
@@ -124,10 +124,10 @@ fn reports_on_lines_in_order(rt: HostRuntime) {
     says(&rt, b"abcdefgh", 100, Ok(()), 1, "<1:- .>");
 }
 
-// Behind as many lines as may come a further one is a fault. What was said of those is out, and the end of the frame,
-// but not what is said behind the last line.
+// After as many lines as may come a further one is a fault. What was said of those is out, and the end of the frame,
+// but not what is said after the last line.
 #[test]
-fn stops_behind_the_last_line_that_may_come(rt: HostRuntime) {
+fn stops_after_the_last_line_that_may_come(rt: HostRuntime) {
     let fault = Err(LineFault::TooManyLines);
     says(&rt, b"a\nb\n", 2, Ok(()), 2, "<1:1 2:1 .>");
     says(&rt, b"a\nb\n\n", 2, fault, 2, "<1:1 2:1 >");

@@ -1,5 +1,5 @@
 //! Reports on a file over readers and writers that play a list of answers: each read and each write made to fail in
-//! turn, behind short ones, and a file of too many lines. What is reported on which line, in each format, the runs of
+//! turn, after short ones, and a file of too many lines. What is reported on which line, in each format, the runs of
 //! the program show.
 ghost use Rattle.std.specs.Prelude.{◌<◌, ◌≤◌};
 
@@ -40,7 +40,7 @@ const SETTING: LintSetting<'static> = LintSetting {
 // More writes than a run makes, of which each takes all that it is given.
 const TAKEN: [Result<usize, DeviceFault>; 100] = [Ok(1_000_000); 100];
 
-// What a run over these reads and writes answers, how many lines it has judged and refused, and what it has written.
+// What a run over these reads and writes answers, how many lines it has checked and refused, and what it has written.
 fn ran<'w>(
     alloc: Global,
     reads: &[Result<&[u8], DeviceFault>],
@@ -53,7 +53,7 @@ fn ran<'w>(
     Ok((answer, counts_of(counts), writer))
 }
 
-// How many lines are judged and refused.
+// How many lines are checked and refused.
 fn counts_of(counts: LintCounts) -> (u64, u64) {
     (counts.lines, counts.refused)
 }
@@ -69,7 +69,7 @@ fn counts_on(lines: usize) -> (u64, u64) {
     }
 }
 
-// What stands before the report's end.
+// What is before the report's end.
 fn before_end(report: &[u8]) -> &[u8] {
     report
         .get(..report.len().saturating_sub(END.len()))
@@ -92,7 +92,7 @@ fn answers(
     Ok(())
 }
 
-// Each read behind so many pieces fails in turn: the report on the lines that have ended is written, with its end.
+// Each read after so many pieces fails in turn: the report on the lines that have ended is written, with its end.
 // Where none fails the report is whole.
 fn fails_each_read(rt: &(impl Abort + AllocGlobal), length: usize) -> Result<(), Fail>
     requires { 0 < length }
@@ -110,7 +110,7 @@ fn fails_each_read(rt: &(impl Abort + AllocGlobal), length: usize) -> Result<(),
 }
 
 #[test]
-fn ends_the_report_behind_each_failed_read(rt: HostRuntime) -> Result<(), Fail> {
+fn ends_the_report_after_each_failed_read(rt: HostRuntime) -> Result<(), Fail> {
     for length in 1..8 {
         fails_each_read(&rt, length)?;
     }
@@ -120,7 +120,7 @@ fn ends_the_report_behind_each_failed_read(rt: HostRuntime) -> Result<(), Fail> 
 // More writes than a run over the list makes.
 const MOST_WRITES: usize = 800;
 
-// Whether the writes suffice for the whole report. Where they don't, the one behind them fails, and a beginning of the
+// Whether the writes suffice for the whole report. Where they don't, the one after them fails, and a beginning of the
 // report is written.
 fn writes_all(
     rt: &(impl Abort + AllocGlobal),
@@ -137,7 +137,7 @@ fn writes_all(
     Ok(false)
 }
 
-// Each write behind so many short ones fails in turn, until none does.
+// Each write after so many short ones fails in turn, until none does.
 fn fails_each_write(rt: &(impl Abort + AllocGlobal), length: usize) -> Result<(), Fail> {
     let mut writes = Vec::new(rt.alloc());
     for _ in 0..MOST_WRITES {
@@ -157,9 +157,9 @@ fn reports_each_failed_write(rt: HostRuntime) -> Result<(), Fail> {
     fails_each_write(&rt, 1_000)
 }
 
-// The end fails behind a failed read: the failed write is reported, and the counts are those of the lines before.
+// The end fails after a failed read: the failed write is reported, and the counts are those of the lines before.
 #[test]
-fn reports_a_failed_write_behind_a_failed_read(rt: HostRuntime) -> Result<(), Fail> {
+fn reports_a_failed_write_after_a_failed_read(rt: HostRuntime) -> Result<(), Fail> {
     let reads = [Ok(b"b\nurn".as_slice()), Err(DeviceFault)];
     let writes = [Ok(1_000), Ok(1_000), Ok(4)];
     let (answer, counts, writer) = ran(rt.alloc(), &reads, &writes, SETTING)?;
@@ -173,7 +173,7 @@ fn reports_a_failed_write_behind_a_failed_read(rt: HostRuntime) -> Result<(), Fa
     Ok(())
 }
 
-// A line of so many carets behind its scheme.
+// A line of so many carets after its scheme.
 fn line_of_carets(alloc: Global, count: usize) -> Result<Vec<u8>, AllocError> {
     let mut line = Vec::new(alloc);
     line.extend_from_slice(b"urn:")?;
@@ -202,7 +202,7 @@ fn writes_a_long_line_in_parts(rt: HostRuntime) -> Result<(), Fail> {
     Ok(())
 }
 
-// A run over the file, which may have two lines of three bytes each, answers so behind a report on the first line.
+// A run over the file, which may have two lines of three bytes each, answers so after a report on the first line.
 fn stops(
     rt: &(impl Abort + AllocGlobal),
     bytes: &[u8],
@@ -231,9 +231,9 @@ fn stops(
     Ok(())
 }
 
-// Behind as many lines as may come a further one is a fault, and the file's end is written.
+// After as many lines as may come a further one is a fault, and the file's end is written.
 #[test]
-fn stops_behind_the_last_line_that_may_come(rt: HostRuntime) -> Result<(), Fail> {
+fn stops_after_the_last_line_that_may_come(rt: HostRuntime) -> Result<(), Fail> {
     stops(&rt, b"abcd\n\n", Ok(()))?;
     stops(&rt, b"abcd\n\nb\n", Err(LintFault::TooManyLines))?;
     stops(&rt, b"abcd\n\n\n", Err(LintFault::TooManyLines))?;

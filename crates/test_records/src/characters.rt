@@ -2,7 +2,7 @@
 //! sections 3.1 and 4.3.
 
 use uv_model::{
-    behind_code_points, first_code_point, is_forbidden_host, is_url_code_point, starts_with_two_hex,
+    after_code_points, first_code_point, is_forbidden_host, is_url_code_point, starts_with_two_hex,
 };
 
 #[test]
@@ -21,7 +21,7 @@ fn passes_code_points(rt: HostRuntime) {
         (3, ""),
         (4, ""),
     ] {
-        assert!(rt; behind_code_points("a\u{E9}\u{10FFFD}", count) == left);
+        assert!(rt; after_code_points("a\u{E9}\u{10FFFD}", count) == left);
     }
 }
 

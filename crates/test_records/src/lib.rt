@@ -1,5 +1,5 @@
 //! Tests of records: what `uv_model` says of code points, names, records and their texts, and which records
-//! `uv_resolve` makes. They stand above these crates, so that none of them is proved twice. The texts that their
+//! `uv_resolve` makes. They are above these crates, so that none of them is proved twice. The texts that their
 //! records are made of are made by one function that is proved.
 #![tactic(auto)]
 

@@ -1,4 +1,4 @@
-//! Records with every field, copied and written: the copy has each field, and the text of a record stands behind what
+//! Records with every field, copied and written: the copy has each field, and the text of a record is after what
 //! was written before. The cases of `tests/vectors/` have more texts of records.
 
 use std::alloc::{AllocError, Global};
@@ -71,7 +71,7 @@ fn copies_a_record_with_a_domain(rt: HostRuntime) -> Result<(), ResolveFault> {
     Ok(())
 }
 
-// Whether the text of a record is pushed behind another.
+// Whether the text of a record is pushed after another.
 fn is_pushed(alloc: Global, record: &Record, text: &str) -> Result<bool, AllocError> {
     let mut line = String::from_str(alloc, "ok ")?;
     record.push_text(&mut line)?;

@@ -8,8 +8,8 @@ use uv_model::{Host, Profile, UrlPath, well_formed};
 // A scheme, a port, and whether a record with them is well formed.
 type Row = (&'static str, Option<u16>, bool);
 
-// Whether each profile judges so of a record with this scheme, host, port and path, and nothing else.
-fn are_judged(
+// Whether each profile checks so of a record with this scheme, host, port and path, and nothing else.
+fn are_checked(
     scheme: &str,
     host: Option<&Host>,
     port: Option<u16>,
@@ -28,7 +28,7 @@ fn are_judged(
 fn hold(alloc: Global, host: Option<&Host>, rows: &[Row]) -> Result<bool, AllocError> {
     let path = segments(alloc, &["a"])?;
     for (scheme, port, want) in rows {
-        if !are_judged(scheme, host, *port, &path, *want) {
+        if !are_checked(scheme, host, *port, &path, *want) {
             return Ok(false);
         }
     }
@@ -56,7 +56,7 @@ const DOMAIN: [Row; 5] = [
 const LOCALHOST: [Row; 2] = [("http", Some(8080), true), ("file", None, false)];
 
 #[test]
-fn judges_domains(rt: HostRuntime) -> Result<(), AllocError> {
+fn checks_domains(rt: HostRuntime) -> Result<(), AllocError> {
     let alloc = rt.alloc();
     assert!(rt; hold_of_domain(alloc, "h.example", &DOMAIN)?);
     assert!(rt; hold_of_domain(alloc, "localhost", &LOCALHOST)?);
@@ -66,7 +66,7 @@ fn judges_domains(rt: HostRuntime) -> Result<(), AllocError> {
 }
 
 #[test]
-fn judges_addresses(rt: HostRuntime) -> Result<(), AllocError> {
+fn checks_addresses(rt: HostRuntime) -> Result<(), AllocError> {
     let rows = [("http", Some(443), true), ("foo", None, false)];
     assert!(rt; hold(rt.alloc(), Some(&Host::V4(1)), &rows)?);
     assert!(rt;
@@ -80,7 +80,7 @@ fn judges_addresses(rt: HostRuntime) -> Result<(), AllocError> {
 }
 
 #[test]
-fn judges_opaque_hosts(rt: HostRuntime) -> Result<(), AllocError> {
+fn checks_opaque_hosts(rt: HostRuntime) -> Result<(), AllocError> {
     let rows = [("foo", Some(80), true), ("http", None, false)];
     assert!(rt; hold_of_opaque(rt.alloc(), "u%40H", &rows)?);
     assert!(rt; hold_of_opaque(rt.alloc(), "u@h", &[("foo", None, false)])?);
@@ -106,13 +106,13 @@ const ABSENT: [Row; 8] = [
 ];
 
 #[test]
-fn judges_empty_and_absent_hosts(rt: HostRuntime) -> Result<(), AllocError> {
+fn checks_empty_and_absent_hosts(rt: HostRuntime) -> Result<(), AllocError> {
     assert!(rt; hold(rt.alloc(), Some(&Host::Empty), &EMPTY)?);
     assert!(rt; hold(rt.alloc(), None, &ABSENT)?);
     Ok(())
 }
 
-// Whether a profile judges a record with a domain that has a `_`, and an empty first segment, to be well formed.
+// Whether a profile checks a record with a domain that has a `_`, and an empty first segment, to be well formed.
 fn is_wide(alloc: Global, scheme: &str, profile: Profile) -> Result<bool, AllocError> {
     let path = segments(alloc, &["", "a"])?;
     let host = Host::Domain(ascii(alloc, "a_b")?);
@@ -133,13 +133,13 @@ fn has_path(scheme: &str, host: Option<&Host>, path: &UrlPath) -> bool {
     well_formed(scheme, host, None, path, None, None, Profile::Standard)
 }
 
-// Whether a path of these segments may stand behind `foo:`.
+// Whether a path of these segments may be after `foo:`.
 fn takes_segments(alloc: Global, texts: &[&str]) -> Result<bool, AllocError> {
     Ok(has_path("foo", None, &segments(alloc, texts)?))
 }
 
 #[test]
-fn judges_paths(rt: HostRuntime) -> Result<(), AllocError> {
+fn checks_paths(rt: HostRuntime) -> Result<(), AllocError> {
     for (texts, want) in [
         ([""; 2], true),
         (["a", "%2Fb"], true),
@@ -156,7 +156,7 @@ fn judges_paths(rt: HostRuntime) -> Result<(), AllocError> {
 }
 
 #[test]
-fn judges_paths_without_segments(rt: HostRuntime) -> Result<(), AllocError> {
+fn checks_paths_without_segments(rt: HostRuntime) -> Result<(), AllocError> {
     let nothing = segments(rt.alloc(), &[])?;
     assert!(rt; has_path("foo", Some(&Host::Empty), &nothing));
     assert!(rt; !has_path("foo", None, &nothing));
@@ -164,7 +164,7 @@ fn judges_paths_without_segments(rt: HostRuntime) -> Result<(), AllocError> {
     Ok(())
 }
 
-// Whether an opaque path may stand behind the scheme.
+// Whether an opaque path may be after the scheme.
 fn takes_opaque(
     alloc: Global,
     scheme: &str,
@@ -175,7 +175,7 @@ fn takes_opaque(
 }
 
 #[test]
-fn judges_opaque_paths(rt: HostRuntime) -> Result<(), AllocError> {
+fn checks_opaque_paths(rt: HostRuntime) -> Result<(), AllocError> {
     for (scheme, text, want) in [
         ("urn", "isbn:0451450523", true),
         ("urn", "", true),
@@ -205,7 +205,7 @@ fn takes_ends(
 }
 
 #[test]
-fn judges_queries_and_fragments(rt: HostRuntime) -> Result<(), AllocError> {
+fn checks_queries_and_fragments(rt: HostRuntime) -> Result<(), AllocError> {
     for (scheme, query, fragment, want) in [
         ("foo", Some("a'?%20"), Some("a'?/"), true),
         ("file", Some(""), Some("'"), true),

@@ -1,5 +1,5 @@
 //! Diagnostics that no run of the program reports, written out by hand: without a text, of a host that is no domain
-//! though nothing is wrong with it by the profile, and the end of a document of SARIF behind a run that was stopped.
+//! though nothing is wrong with it by the profile, and the end of a document of SARIF after a run that was stopped.
 
 use crate::diagnostics::refused;
 use crate::reports::report;

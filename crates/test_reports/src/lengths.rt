@@ -6,7 +6,7 @@ use std::process::Abort;
 use std::test::Fail;
 use uv_second::reads_same;
 
-// What a text begins with, so many small letters, of which this stands in the place of one, and what it ends with.
+// What a text begins with, so many small letters, of which this is in the place of one, and what it ends with.
 fn with_letters(
     alloc: Global,
     begin: &str,

@@ -5,7 +5,7 @@ use std::process::Abort;
 use std::test::Fail;
 use uv_second::{read_as, reads_as};
 
-// The second parser reads each of these against the base as a URL with the text behind it, or with another one.
+// The second parser reads each of these against the base as a URL with the text after it, or with another one.
 fn reads_against(
     rt: &(impl Abort + AllocGlobal),
     base: &str,
@@ -185,7 +185,7 @@ fn reads_against_other_bases(rt: HostRuntime) -> Result<(), Fail> {
     )
 }
 
-// So many small letters, of which this stands in the place of one, behind what it begins with.
+// So many small letters, of which this is in the place of one, after what it begins with.
 fn with_letters(
     alloc: Global,
     begin: &str,

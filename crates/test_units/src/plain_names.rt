@@ -35,7 +35,7 @@ fn wide_end_at(rt: &impl Abort, rows: &[(&str, usize)]) {
 }
 
 #[test]
-fn ends_behind_a_letter_or_a_digit(rt: HostRuntime) {
+fn ends_after_a_letter_or_a_digit(rt: HostRuntime) {
     end_at(
         &rt,
         &[
@@ -59,7 +59,7 @@ fn ends_behind_a_letter_or_a_digit(rt: HostRuntime) {
 
 // By the wide profile a low line counts as a letter, and all else is as it is by the others.
 #[test]
-fn goes_on_behind_a_low_line(rt: HostRuntime) {
+fn goes_on_after_a_low_line(rt: HostRuntime) {
     wide_end_at(
         &rt,
         &[
@@ -82,22 +82,22 @@ fn goes_on_behind_a_low_line(rt: HostRuntime) {
     );
 }
 
-// Behind letters of each length a name ends so many bytes behind them or nowhere, and by the wide profile so many.
-fn ends_behind_letters(
+// After letters of each length a name ends so many bytes after them or nowhere, and by the wide profile so many.
+fn ends_after_letters(
     rt: &(impl Abort + AllocGlobal),
-    behind: &str,
+    after: &str,
     more: usize,
     wide: usize,
 ) -> Result<(), AllocError> {
     for length in 1..70usize {
-        let text = repeated_before(rt.alloc(), "a", length, behind)?;
+        let text = repeated_before(rt.alloc(), "a", length, after)?;
         assert!(rt;
             name_end(text.as_str()) == length.saturating_add(more),
-            "{behind}"
+            "{after}"
         );
         assert!(rt;
             wide_end(text.as_str()) == length.saturating_add(wide),
-            "{behind}"
+            "{after}"
         );
     }
     Ok(())
@@ -105,25 +105,25 @@ fn ends_behind_letters(
 
 #[test]
 fn ends_alike_at_each_length(rt: HostRuntime) -> Result<(), AllocError> {
-    ends_behind_letters(&rt, "/", 0, 0)?;
-    ends_behind_letters(&rt, ".com/a", 4, 4)?;
-    ends_behind_letters(&rt, "-b:80", 2, 2)?;
-    ends_behind_letters(&rt, "./", 1, 1)?;
-    ends_behind_letters(&rt, "..b", 1, 1)?;
-    ends_behind_letters(&rt, ".-b", 1, 1)?;
-    ends_behind_letters(&rt, "--b", NONE, NONE)?;
-    ends_behind_letters(&rt, "-.b", NONE, NONE)?;
-    ends_behind_letters(&rt, "-", NONE, NONE)
+    ends_after_letters(&rt, "/", 0, 0)?;
+    ends_after_letters(&rt, ".com/a", 4, 4)?;
+    ends_after_letters(&rt, "-b:80", 2, 2)?;
+    ends_after_letters(&rt, "./", 1, 1)?;
+    ends_after_letters(&rt, "..b", 1, 1)?;
+    ends_after_letters(&rt, ".-b", 1, 1)?;
+    ends_after_letters(&rt, "--b", NONE, NONE)?;
+    ends_after_letters(&rt, "-.b", NONE, NONE)?;
+    ends_after_letters(&rt, "-", NONE, NONE)
 }
 
 #[test]
 fn ends_a_name_with_low_lines_alike_at_each_length(rt: HostRuntime) -> Result<(), AllocError> {
-    ends_behind_letters(&rt, "_/", 0, 1)?;
-    ends_behind_letters(&rt, "_.com/a", 0, 5)?;
-    ends_behind_letters(&rt, "-_:80", NONE, 2)?;
-    ends_behind_letters(&rt, "._./", 1, 3)?;
-    ends_behind_letters(&rt, "_--b", 0, NONE)?;
-    ends_behind_letters(&rt, "_A", 0, 1)
+    ends_after_letters(&rt, "_/", 0, 1)?;
+    ends_after_letters(&rt, "_.com/a", 0, 5)?;
+    ends_after_letters(&rt, "-_:80", NONE, 2)?;
+    ends_after_letters(&rt, "._./", 1, 3)?;
+    ends_after_letters(&rt, "_--b", 0, NONE)?;
+    ends_after_letters(&rt, "_A", 0, 1)
 }
 
 // What a name of so many bytes is, of which all are `a` but the one at a place: by hand from the URL Standard, section
@@ -131,7 +131,7 @@ fn ends_a_name_with_low_lines_alike_at_each_length(rt: HostRuntime) -> Result<()
 // profile `_` too. A label has 1 to 63 bytes, and by the standard profile no hyphen at an edge; the last one may be
 // empty.
 fn answer_of(byte: u8, place: usize, length: usize, profile: Profile) -> Option<PlainAnswer> {
-    let behind = length.saturating_sub(place).saturating_sub(1);
+    let after = length.saturating_sub(place).saturating_sub(1);
     let is_wide = profile == Profile::Wide;
     let fits = match byte {
         b'a'..=b'z' => length <= 63,
@@ -141,8 +141,8 @@ fn answer_of(byte: u8, place: usize, length: usize, profile: Profile) -> Option<
             }
             length <= 63
         }
-        b'.' => 1 <= place && place <= 63 && behind <= 63,
-        b'-' => length <= 63 && (is_wide || (place > 0 && behind > 0)),
+        b'.' => 1 <= place && place <= 63 && after <= 63,
+        b'-' => length <= 63 && (is_wide || (place > 0 && after > 0)),
         b'_' if is_wide => length <= 63,
         _ => return None,
     };

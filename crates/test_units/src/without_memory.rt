@@ -2,7 +2,7 @@
 
 use std::alloc::Global;
 
-// The size of a block to ask for behind one that was refused.
+// The size of a block to ask for after one that was refused.
 fn smaller(size: usize) -> usize {
     if size > 4096 {
         size / 2

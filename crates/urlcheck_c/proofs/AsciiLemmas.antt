@@ -53,10 +53,10 @@ pub ascii_joined : (n m : ℕ) (bytes : List ℕ) → m ≤ n → IsAscii (take 
     → IsAscii bytes
 ascii_joined n m bytes within first last =
     let there : m + (n - m) ≡ n = omega arith in
-    let behind : IsAscii (drop n bytes) = subst (λ (l : List ℕ). IsAscii l)
+    let after : IsAscii (drop n bytes) = subst (λ (l : List ℕ). IsAscii l)
     (drop-drop (n - m) m bytes ∙ ap (λ k. drop k bytes) there) (IsAscii-drop (drop m bytes) (n - m) last) in
     subst (λ (l : List ℕ). IsAscii l) (take-append-drop n bytes)
-    (IsAscii-append (take n bytes) (drop n bytes) first behind)
+    (IsAscii-append (take n bytes) (drop n bytes) first after)
 
 -- so are bytes of which the first and the last so many are, which are all
 pub ascii_by_two : (n : ℕ) (bytes : List ℕ) → n ≤ length bytes → length bytes ≤ n + n → IsAscii (take n bytes)

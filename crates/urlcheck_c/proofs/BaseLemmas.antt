@@ -16,7 +16,7 @@ use Rattle.urlcheck_c.specs.Base.{IsBaseOfKind, IsPreparedBase, IsUnread, flag_n
 use Rattle.urlcheck_c.specs.Base.{scheme_number}
 use Rattle.urlcheck_c.specs.Base.{base_fault, scheme_with}
 use Rattle.urlcheck_c.specs.Finding.{profile_of}
-use Rattle.urlcheck_c.specs.Request.{IsBase, IsNoText, IsRequest, IsUnjudged}
+use Rattle.urlcheck_c.specs.Request.{IsBase, IsNoText, IsRequest, IsUnchecked}
 
 -- ---- the kind and its numbers
 
@@ -36,12 +36,12 @@ pub kind_back : (number : ℕ) (kind : BaseKind) → kind_in (held_base number k
 kind_back number kind =
     rw (scheme_back kind.scheme, flag_back kind.has_opaque_path, flag_back kind.has_empty_host) refl
 
--- ---- why nothing is judged
+-- ---- why nothing is checked
 
 -- the text is no UTF-8
 pub no_text : (number : ℕ) (base bytes : List ℕ) (held : Base) (finding : Finding) → IsPreparedBase number base held
     → held.found.verdict ≢ 6 → IsNoText NoUtf8 bytes finding
-    → IsUnjudged number (Some base) bytes finding
+    → IsUnchecked number (Some base) bytes finding
 no_text number base bytes held finding (inl (inl x, numbers)) other text =
     absurd (other (ap (λ (f : Finding). f.verdict) x.1))
 no_text number base bytes held finding (inl (inr (profile, is, x), numbers)) other text = inr (profile, is, inl text)
@@ -58,13 +58,13 @@ told_fault number bytes base (inr (profile, is, inr (utf8, inr x))) other = rw x
 
 -- nothing is read from the base
 pub no_base : (number : ℕ) (base bytes : List ℕ) (held : Base) → IsUnread number base held.found
-    → held.found.verdict ≢ 6 → IsUtf8 bytes → IsUnjudged number (Some base) bytes (base_fault held)
+    → held.found.verdict ≢ 6 → IsUtf8 bytes → IsUnchecked number (Some base) bytes (base_fault held)
 no_base number base bytes held (inl x) other utf8 = absurd (other (ap (λ (f : Finding). f.verdict) x.1))
 no_base number base bytes held (inr (profile, is, x)) other utf8 =
-    subst (λ (f : Finding). IsUnjudged number (Some base) bytes f)
+    subst (λ (f : Finding). IsUnchecked number (Some base) bytes f)
     (sym (told_fault number base held (inr (profile, is, x)) other)) (inr (profile, is, inr (utf8, x)))
 
--- ---- what is judged
+-- ---- what is checked
 
 -- a base whose numbers say a kind is that of a kind
 pub base_of_kind : (number : ℕ) (bytes : List ℕ) (held : Base) (said : BaseKind) → IsPreparedBase number bytes held
@@ -117,7 +117,7 @@ held_request number base bytes profile kind by of_kind utf8 =
 
 -- ---- the profile of a base
 
--- a base has the number of the profile by which it was judged
+-- a base has the number of the profile by which it was checked
 pub prepared_profile : (number : ℕ) (bytes : List ℕ) (base : Base) → IsPreparedBase number bytes base
     → base.profile ≡ number
 prepared_profile number bytes base (inl (unread, is)) = ap (λ (b : Base). b.profile) is

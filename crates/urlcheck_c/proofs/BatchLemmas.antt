@@ -1,4 +1,4 @@
--- Texts that are judged one by one, and columns that are filled row by row.
+-- Texts that are checked one by one, and columns that are filled row by row.
 use Rattle.std.proofs.Common.{◌≡◌, ◌≢◌, ◌∙◌, ℕ, suc, ◌+◌, ◌≤◌, ◌<◌, ◌==◌, lit<, List, [], ◌∷◌, ◌++◌, length, take}
 use Rattle.std.proofs.Common.{drop, map}
 use Rattle.std.proofs.Common.{set, refl, sym, ap, subst, arith, inl, inr, if◌then◌else◌, Bool, true, false}
@@ -15,7 +15,7 @@ use Rattle.uv_model.specs.Violations.Rule.{rule_number}
 use Rattle.urlcheck_c.specs.declared.checks.Answer.{Answer}
 use Rattle.urlcheck_c.specs.declared.finding.Finding.{Finding}
 use Rattle.urlcheck_c.specs.Answer.{IsAnswer, IsFound}
-use Rattle.urlcheck_c.specs.Batch.{AreJudged, Columns, IsColumn, IsPut, one_if_valid}
+use Rattle.urlcheck_c.specs.Batch.{AreChecked, Columns, IsColumn, IsPut, one_if_valid}
 use Rattle.urlcheck_c.specs.Offsets.{row_count, row_text}
 use Rattle.urlcheck_c.proofs.StoreLemmas.{kept_more}
 
@@ -55,7 +55,7 @@ small_numbers number bytes answer (inr (profile, url, request, inr (bare, inr me
 
 -- ---- columns
 
--- a value more stands in a column
+-- a value more is in a column
 pub column_more : {X : Type 0} (rows row : ℕ) (values old now new : List X) (value : X) → length values ≡ row
     → row < rows → IsColumn rows values old now → IsPut rows row value now new
     → IsColumn rows (values ++ (value ∷ [])) old new
@@ -103,37 +103,37 @@ bit_at_most false = omega arith
 pub one_at_most : (finding : Finding) → one_if_valid finding ≤ 1
 one_at_most finding = bit_at_most (finding.verdict == 0)
 
--- a text more is judged
-pub judged_more : (number : ℕ) (texts offsets : List ℕ) (row : ℕ) (old now new : Columns) (valid more : ℕ)
-    (last : Finding) → row < row_count offsets → AreJudged number texts offsets row old now valid
+-- a text more is checked
+pub checked_more : (number : ℕ) (texts offsets : List ℕ) (row : ℕ) (old now new : Columns) (valid more : ℕ)
+    (last : Finding) → row < row_count offsets → AreChecked number texts offsets row old now valid
     → IsFound number (row_text texts offsets row) last → more ≡ valid + one_if_valid last
     → IsPut (row_count offsets) row last.verdict now.verdicts new.verdicts
     → IsPut (row_count offsets) row last.rule now.rules new.rules
     → IsPut (row_count offsets) row last.place now.places new.places
-    → AreJudged number texts offsets (row + 1) old new more
-judged_more number texts offsets row old now new valid more last below judged found is verdict rule place =
+    → AreChecked number texts offsets (row + 1) old new more
+checked_more number texts offsets row old now new valid more last below checked found is verdict rule place =
     let next : suc row ≡ row + 1 = omega arith in
     let rows = row_count offsets in
-    subst (λ n. AreJudged number texts offsets n old new more) next
+    subst (λ n. AreChecked number texts offsets n old new more) next
     (record {
-      found = judged.found ++ (last ∷ []);
-      judged = (judged.found, valid, last, judged.judged, found, refl, is);
-      count = length-append judged.found (last ∷ []) ∙ omega (arith, judged.count);
-      few = omega (arith, judged.few, is, one_at_most last);
-      verdicts = mapped_more (λ f. f.verdict) rows row judged.found last old.verdicts now.verdicts new.verdicts
-          judged.count below judged.verdicts verdict;
-      rules = mapped_more (λ f. f.rule) rows row judged.found last old.rules now.rules new.rules
-          judged.count below judged.rules rule;
-      places = mapped_more (λ f. f.place) rows row judged.found last old.places now.places new.places
-          judged.count below judged.places place;
+      found = checked.found ++ (last ∷ []);
+      checked = (checked.found, valid, last, checked.checked, found, refl, is);
+      count = length-append checked.found (last ∷ []) ∙ omega (arith, checked.count);
+      few = omega (arith, checked.few, is, one_at_most last);
+      verdicts = mapped_more (λ f. f.verdict) rows row checked.found last old.verdicts now.verdicts new.verdicts
+          checked.count below checked.verdicts verdict;
+      rules = mapped_more (λ f. f.rule) rows row checked.found last old.rules now.rules new.rules
+          checked.count below checked.rules rule;
+      places = mapped_more (λ f. f.place) rows row checked.found last old.places now.places new.places
+          checked.count below checked.places place;
     })
 
--- no text is judged, and the columns are as they were
-pub none_judged : (number : ℕ) (texts offsets : List ℕ) (old : Columns)
-    → AreJudged number texts offsets 0 old old 0
-none_judged number texts offsets old = record {
+-- no text is checked, and the columns are as they were
+pub none_checked : (number : ℕ) (texts offsets : List ℕ) (old : Columns)
+    → AreChecked number texts offsets 0 old old 0
+none_checked number texts offsets old = record {
   found = [];
-  judged = (refl, refl);
+  checked = (refl, refl);
   count = refl;
   few = omega arith;
   verdicts = (λ room. refl, λ short. refl);

@@ -1,4 +1,4 @@
--- The first line of bytes, and the lines behind it.
+-- The first line of bytes, and the lines after it.
 use Rattle.std.proofs.Common.{◌≡◌, ◌∙◌, ℕ, suc, ◌+◌, ◌-◌, ◌≤◌, ◌<◌, ◌==◌, Bool, true, false, List, [], ◌∷◌, ◌++◌}
 use Rattle.std.proofs.Common.{length, take, drop, map, refl, sym, ap, subst, arith, if◌then◌else◌, append_assoc}
 use Rattle.std.specs.Prelude.{slice_index, slice_range}
@@ -30,7 +30,7 @@ shorter_by false line = omega arith
 strip_shorter : (line : List ℕ) → length (strip_carriage_return line) ≤ length line
 strip_shorter line = shorter_by (slice_index line (length line - 1) == 13) line
 
--- the text of a closed line stands at the start of what the line stands at the start of
+-- the text of a closed line is at the start of what the line is at the start of
 pub closed_text : (rest : List ℕ) (at : ℕ) → at ≤ length rest
     → strip_carriage_return (take at rest) ≡ take (length (strip_carriage_return (take at rest))) rest
 closed_text rest at within =
@@ -40,7 +40,7 @@ closed_text rest at within =
     let is = length-take-le at rest within in omega (arith, shorter, is) in
     strip_prefix line ∙ take-take (length (strip_carriage_return line)) at rest long
 
--- an LF that ends a line, and what stands before and behind it
+-- an LF that ends a line, and what is before and after it
 joined_one : (line : List ℕ) (lines : List (List ℕ)) (last : List ℕ)
     → join (line ∷ []) [] lines last ≡ (line ∷ lines, last)
 joined_one line [] last = refl
@@ -50,15 +50,16 @@ joined_one line (l ∷ lines) last = refl
 pub closed_first : (rest : List ℕ) (at : ℕ) → split (take at rest) ≡ ([], take at rest)
     → drop at rest ≡ line_feed ∷ drop (at + 1) rest
     → lines_of rest ≡ strip_carriage_return (take at rest) ∷ lines_of (drop (at + 1) rest)
-closed_first rest at none behind =
+closed_first rest at none after =
     let line = take at rest in
-    let after = drop (at + 1) rest in
-    let whole : rest ≡ (line ++ (line_feed ∷ [])) ++ after
-    = sym (take-append-drop at rest) ∙ ap (λ t. line ++ t) behind ∙ sym (append_assoc line (line_feed ∷ []) after) in
-    let parts : split rest ≡ (line ∷ (split after).0, (split after).1)
-    = ap split whole ∙ split-append (line ++ (line_feed ∷ [])) after
-    ∙ ap (λ (p : List (List ℕ) × List ℕ). join p.0 p.1 (split after).0 (split after).1) (split-closing [] line none)
-    ∙ joined_one line (split after).0 (split after).1 in
+    let remaining = drop (at + 1) rest in
+    let whole : rest ≡ (line ++ (line_feed ∷ [])) ++ remaining
+    = sym (take-append-drop at rest) ∙ ap (λ t. line ++ t) after ∙ sym (append_assoc line (line_feed ∷ []) remaining) in
+    let parts : split rest ≡ (line ∷ (split remaining).0, (split remaining).1)
+    = ap split whole ∙ split-append (line ++ (line_feed ∷ [])) remaining
+    ∙ ap (λ (p : List (List ℕ) × List ℕ). join p.0 p.1 (split remaining).0 (split remaining).1)
+    (split-closing [] line none)
+    ∙ joined_one line (split remaining).0 (split remaining).1 in
     ap (λ (p : List (List ℕ) × List ℕ). map strip_carriage_return p.0 ++ open_lines p.1) parts
 
 -- a last line
@@ -75,11 +76,11 @@ open_first rest none some =
 
 -- ---- the lines that are passed
 
--- the lines behind the first one
-pub lines_behind : (bytes text : List ℕ) (start extent : ℕ)
+-- the lines after the first one
+pub lines_after : (bytes text : List ℕ) (start extent : ℕ)
     → lines_of (drop start bytes) ≡ text ∷ lines_of (drop extent (drop start bytes))
     → lines_of (drop start bytes) ≡ text ∷ lines_of (drop (start + extent) bytes)
-lines_behind bytes text start extent first = first ∙ ap (λ t. text ∷ lines_of t) (drop-drop extent start bytes)
+lines_after bytes text start extent first = first ∙ ap (λ t. text ∷ lines_of t) (drop-drop extent start bytes)
 
 -- a valid line more is passed
 pub passes_more : (number passed : ℕ) (lines rest more : List (List ℕ)) (text : List ℕ) (found : Finding)
@@ -90,7 +91,7 @@ passes_more number passed lines rest more text found before is said valid =
     subst (λ (n : ℕ). Passes number n lines more) next
     (text, subst (λ (l : List (List ℕ)). Passes number passed lines l) is before, (found, said, valid))
 
--- the text of the first line stands in the buffer
+-- the text of the first line is in the buffer
 pub text_stands : (bytes text : List ℕ) (start : ℕ) → text ≡ take (length text) (drop start bytes)
     → slice_range bytes start (start + length text) ≡ text
 text_stands bytes text start is =

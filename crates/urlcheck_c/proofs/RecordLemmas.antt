@@ -7,7 +7,7 @@ use Rattle.uv_model.specs.Records.Url.{Url}
 use Rattle.uv_resolve.specs.Resolve.{Denotes}
 use Rattle.urlcheck_c.specs.declared.records.placed_records.PlacedRecord.{PlacedRecord}
 use Rattle.urlcheck_c.specs.declared.records.Resolved.{Resolved}
-use Rattle.urlcheck_c.specs.PlacedRecord.{IsPlacedJudged, IsPlacedOrWanting, no_record}
+use Rattle.urlcheck_c.specs.PlacedRecord.{IsPlacedChecked, IsPlacedOrWanting, no_record}
 use Rattle.urlcheck_c.specs.Resolved.{IsRecordAnswer, IsRecordWritten}
 
 -- the URL's text is written, or memory ran out
@@ -23,7 +23,7 @@ written_is_answer profile given base bytes old new url answer same denotes (inr 
 -- so are the places in it
 pub placed_is_answer : (profile : Profile) (given base : Option Url) (bytes old new : List ℕ) (url : Url)
     (answer : PlacedRecord) → given ≡ base → Denotes profile given (chars bytes) url
-    → IsPlacedOrWanting url old new answer → IsPlacedJudged profile base bytes old new answer
+    → IsPlacedOrWanting url old new answer → IsPlacedChecked profile base bytes old new answer
 placed_is_answer profile given base bytes old new url answer same denotes (inl placed) =
     inl (url, subst (λ (b : Option Url). Denotes profile b (chars bytes) url) same denotes, placed)
 placed_is_answer profile given base bytes old new url answer same denotes (inr wanting) =

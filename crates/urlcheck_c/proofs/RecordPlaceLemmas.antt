@@ -7,24 +7,24 @@ use Rattle.std.proofs.Math.Seq.{take-append_seam, drop-append_seam}
 use Rattle.uv_model.specs.declared.host.Host.{Host}
 use Rattle.uv_model.specs.declared.path.UrlPath.{UrlPath}
 use Rattle.uv_model.specs.declared.path.UrlPath.TheVariants.{Opaque, Segments}
-use Rattle.uv_model.specs.Parts.{written_behind}
+use Rattle.uv_model.specs.Parts.{written_after}
 use Rattle.uv_model.specs.Records.Serialize.{serial, serial_authority, serial_host, serial_path}
 use Rattle.uv_model.specs.Records.Url.{Url}
 use Rattle.urlcheck_c.specs.RecordPlaces.{AreRecordSpans, StandsAt, dot_prefix, host_text, length_in, placed_span}
 use Rattle.urlcheck_c.specs.RecordPlaces.{port_text, reach, record_extent, record_spans}
 
--- ---- a text behind its delimiter
+-- ---- a text after its delimiter
 
 -- the text with its delimiter
-abbrev pub behind : List ℕ → Option (List ℕ) → List ℕ
-behind mark None = []
-behind mark (Some text) = mark ++ text
+abbrev pub after : List ℕ → Option (List ℕ) → List ℕ
+after mark None = []
+after mark (Some text) = mark ++ text
 
 -- how long it is
-behind_length : (mark : List ℕ) (text : Option (List ℕ))
-    → length (behind mark text) ≡ reach (length mark) (length_in text)
-behind_length mark None = refl
-behind_length mark (Some text) = length-append mark text
+after_length : (mark : List ℕ) (text : Option (List ℕ))
+    → length (after mark text) ≡ reach (length mark) (length_in text)
+after_length mark None = refl
+after_length mark (Some text) = length-append mark text
 
 range_seam : (prefix part back : List ℕ)
     → slice_range (prefix ++ (part ++ back)) (length prefix) (length prefix + length part) ≡ part
@@ -37,12 +37,12 @@ end_within : (prefix mark part back : List ℕ)
     → length prefix + length mark + length part ≤ length (prefix ++ ((mark ++ part) ++ back))
 end_within prefix mark part back = simp (length-append) (omega arith)
 
--- where it stands in a text
-behind_stands : (prefix mark : List ℕ) (text : Option (List ℕ)) (back : List ℕ)
-    → StandsAt (prefix ++ (behind mark text ++ back)) (length prefix) (length mark) text
+-- where it is in a text
+after_stands : (prefix mark : List ℕ) (text : Option (List ℕ)) (back : List ℕ)
+    → StandsAt (prefix ++ (after mark text ++ back)) (length prefix) (length mark) text
     (placed_span (length prefix) (length mark) (length_in text))
-behind_stands prefix mark None back = refl
-behind_stands prefix mark (Some part) back =
+after_stands prefix mark None back = refl
+after_stands prefix mark (Some part) back =
     let same : prefix ++ ((mark ++ part) ++ back) ≡ (prefix ++ mark) ++ (part ++ back)
     = ap (λ t. prefix ++ t) (append_assoc mark part back) ∙ sym (append_assoc prefix mark (part ++ back)) in (
       refl,
@@ -52,16 +52,16 @@ behind_stands prefix mark (Some part) back =
 
 -- the same of bytes that are grouped otherwise
 regrouped : (bytes prefix mark : List ℕ) (text : Option (List ℕ)) (back : List ℕ) (at : ℕ)
-    → bytes ≡ prefix ++ (behind mark text ++ back) → length prefix ≡ at
+    → bytes ≡ prefix ++ (after mark text ++ back) → length prefix ≡ at
     → StandsAt bytes at (length mark) text (placed_span at (length mark) (length_in text))
-regrouped bytes prefix mark text back at same here = rw (same, ← here) (behind_stands prefix mark text back)
+regrouped bytes prefix mark text back at same here = rw (same, ← here) (after_stands prefix mark text back)
 
 -- ---- the record's text
 
--- what stands between the scheme's `:` and the path
+-- what is between the scheme's `:` and the path
 authority : (host : Option Host) (port : Option ℕ) (path : UrlPath)
     → serial_authority host port path
-    ≡ behind (47 ∷ 47 ∷ []) (host_text host) ++ (behind (58 ∷ []) (port_text host port) ++ dot_prefix host path)
+    ≡ after (47 ∷ 47 ∷ []) (host_text host) ++ (after (58 ∷ []) (port_text host port) ++ dot_prefix host path)
 authority None port (Opaque text) = refl
 authority None port (Segments []) = refl
 authority None port (Segments ([] ∷ [])) = refl
@@ -70,42 +70,42 @@ authority None port (Segments ((c ∷ first) ∷ rest)) = refl
 authority (Some host) None path = refl
 authority (Some host) (Some port) path = ap (λ t. 47 ∷ 47 ∷ (serial_host host ++ t)) (sym (append-nil _))
 
--- a part behind its mark
-marked : (mark : ℕ) (text : Option (List ℕ)) → written_behind mark text ≡ behind (mark ∷ []) text
+-- a part after its mark
+marked : (mark : ℕ) (text : Option (List ℕ)) → written_after mark text ≡ after (mark ∷ []) text
 marked mark None = refl
 marked mark (Some text) = refl
 
--- the parts one behind the other
+-- the parts one after the other
 abbrev pub laid_record : Url → List ℕ
 laid_record url =
-    url.scheme ++ ((58 ∷ []) ++ (behind (47 ∷ 47 ∷ []) (host_text url.host)
-    ++ (behind (58 ∷ []) (port_text url.host url.port) ++ (dot_prefix url.host url.path
-    ++ (behind [] (Some (serial_path url.path)) ++ (behind (63 ∷ []) url.query
-    ++ (behind (35 ∷ []) url.fragment ++ [])))))))
+    url.scheme ++ ((58 ∷ []) ++ (after (47 ∷ 47 ∷ []) (host_text url.host)
+    ++ (after (58 ∷ []) (port_text url.host url.port) ++ (dot_prefix url.host url.path
+    ++ (after [] (Some (serial_path url.path)) ++ (after (63 ∷ []) url.query
+    ++ (after (35 ∷ []) url.fragment ++ [])))))))
 
 serial_laid : (url : Url) → serial url ≡ laid_record url
 unfolding serial
 serial_laid url =
-    let h = behind (47 ∷ 47 ∷ []) (host_text url.host) in
-    let o = behind (58 ∷ []) (port_text url.host url.port) in
+    let h = after (47 ∷ 47 ∷ []) (host_text url.host) in
+    let o = after (58 ∷ []) (port_text url.host url.port) in
     let d = dot_prefix url.host url.path in
     let p = serial_path url.path in
     rw (
       authority url.host url.port url.path,
       marked 63 url.query,
       marked 35 url.fragment,
-      append-nil (behind (35 ∷ []) url.fragment),
-      append_assoc h (o ++ d) (p ++ (behind (63 ∷ []) url.query ++ behind (35 ∷ []) url.fragment)),
-      append_assoc o d (p ++ (behind (63 ∷ []) url.query ++ behind (35 ∷ []) url.fragment)),
+      append-nil (after (35 ∷ []) url.fragment),
+      append_assoc h (o ++ d) (p ++ (after (63 ∷ []) url.query ++ after (35 ∷ []) url.fragment)),
+      append_assoc o d (p ++ (after (63 ∷ []) url.query ++ after (35 ∷ []) url.fragment)),
     ) refl
 
 -- how long it is
 pub record_length : (url : Url) → length (serial url) ≡ record_extent url
 record_length url =
-    let h = behind_length (47 ∷ 47 ∷ []) (host_text url.host) in
-    let o = behind_length (58 ∷ []) (port_text url.host url.port) in
-    let q = behind_length (63 ∷ []) url.query in
-    let f = behind_length (35 ∷ []) url.fragment in
+    let h = after_length (47 ∷ 47 ∷ []) (host_text url.host) in
+    let o = after_length (58 ∷ []) (port_text url.host url.port) in
+    let q = after_length (63 ∷ []) url.query in
+    let f = after_length (35 ∷ []) url.fragment in
     ap length (serial_laid url) ∙ simp (length-append) (omega (arith, h, o, q, f))
 
 -- the spans of the parts in it
@@ -113,15 +113,15 @@ pub record_places : (url : Url) → AreRecordSpans url (record_spans url)
 record_places url =
     let s = url.scheme in
     let c : List ℕ = 58 ∷ [] in
-    let h = behind (47 ∷ 47 ∷ []) (host_text url.host) in
-    let o = behind (58 ∷ []) (port_text url.host url.port) in
+    let h = after (47 ∷ 47 ∷ []) (host_text url.host) in
+    let o = after (58 ∷ []) (port_text url.host url.port) in
     let d = dot_prefix url.host url.path in
-    let p = behind [] (Some (serial_path url.path)) in
-    let q = behind (63 ∷ []) url.query in
-    let f = behind (35 ∷ []) url.fragment in
-    let he = behind_length (47 ∷ 47 ∷ []) (host_text url.host) in
-    let oe = behind_length (58 ∷ []) (port_text url.host url.port) in
-    let qe = behind_length (63 ∷ []) url.query in
+    let p = after [] (Some (serial_path url.path)) in
+    let q = after (63 ∷ []) url.query in
+    let f = after (35 ∷ []) url.fragment in
+    let he = after_length (47 ∷ 47 ∷ []) (host_text url.host) in
+    let oe = after_length (58 ∷ []) (port_text url.host url.port) in
+    let qe = after_length (63 ∷ []) url.query in
     let is = serial_laid url in
     let at_host = is ∙ sym (append_assoc s c (h ++ (o ++ (d ++ (p ++ (q ++ (f ++ []))))))) in
     let at_port = at_host ∙ sym (append_assoc (s ++ c) h (o ++ (d ++ (p ++ (q ++ (f ++ [])))))) in

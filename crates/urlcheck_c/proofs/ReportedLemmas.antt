@@ -8,7 +8,7 @@ pub no_profile_is_reported : NoProfileIsReported
 no_profile_is_reported number base bytes answer (inl (bare, inl (lacking, found))) is = found
 no_profile_is_reported number base bytes answer (inl (bare, inr (profile, some, rest))) is =
     absurd (let e = sym some ∙ is in cc)
-no_profile_is_reported number base bytes answer (inr (profile, url, request, judged)) is =
+no_profile_is_reported number base bytes answer (inr (profile, url, request, checked)) is =
     absurd (let e = sym request.profile_is ∙ is in cc)
 
 -- a text that is no UTF-8 is reported, by each profile
@@ -18,10 +18,10 @@ no_utf8_is_reported number base bytes answer (inl (bare, inl (lacking, found))) 
 no_utf8_is_reported number base bytes answer (inl (bare, inr (other, some, inl text))) profile is not_utf8 = text.said
 no_utf8_is_reported number base bytes answer (inl (bare, inr (other, some, inr (utf8, rest)))) profile is not_utf8 =
     absurd (not_utf8 utf8)
-no_utf8_is_reported number base bytes answer (inr (other, url, request, judged)) profile is not_utf8 =
+no_utf8_is_reported number base bytes answer (inr (other, url, request, checked)) profile is not_utf8 =
     absurd (not_utf8 request.utf8)
 
--- behind a text that is UTF-8, a base that is none is reported
+-- after a text that is UTF-8, a base that is none is reported
 pub no_base_utf8_is_reported : NoBaseUtf8IsReported
 no_base_utf8_is_reported number base bytes answer (inl (bare, inl (none, found))) q is utf8 wrong =
     absurd (let e = sym none ∙ is in cc)
@@ -29,9 +29,9 @@ no_base_utf8_is_reported number base bytes answer (inl (bare, inr (p, some, inl 
     absurd (text.none utf8)
 no_base_utf8_is_reported number base bytes answer (inl (bare, inr (p, some, inr (read, inl text)))) q is utf8 wrong =
     text.said
-no_base_utf8_is_reported number base bytes answer (inl (bare, inr (p, some, inr (read, inr judged)))) q is utf8 wrong =
-    absurd (wrong judged.0)
-no_base_utf8_is_reported number base bytes answer (inr (p, None, request, judged)) q is utf8 wrong =
+no_base_utf8_is_reported number base bytes answer (inl (bare, inr (p, some, inr (read, inr checked)))) q is utf8 wrong =
+    absurd (wrong checked.0)
+no_base_utf8_is_reported number base bytes answer (inr (p, None, request, checked)) q is utf8 wrong =
     absurd request.base_is
-no_base_utf8_is_reported number base bytes answer (inr (p, Some url, request, judged)) q is utf8 wrong =
+no_base_utf8_is_reported number base bytes answer (inr (p, Some url, request, checked)) q is utf8 wrong =
     absurd (wrong request.base_is.0)

@@ -1,4 +1,4 @@
--- Texts that are resolved one by one, and the texts of their records one behind the other.
+-- Texts that are resolved one by one, and the texts of their records one after the other.
 use Rattle.std.proofs.Common.{◌≡◌, ℕ, suc, ◌+◌, ◌<◌, List, [], ◌∷◌, ◌++◌, length, refl, sym, ap, ◌∙◌, inl, inr}
 use Rattle.std.proofs.Common.{arith, append-nil, lit<, subst}
 use Rattle.std.specs.List.{concat}
@@ -15,19 +15,19 @@ use Rattle.urlcheck_c.specs.Batch.{IsColumn, IsPut, one_if_valid}
 use Rattle.urlcheck_c.specs.Buffer.{IsWritten}
 use Rattle.urlcheck_c.specs.Finding.{plain_finding}
 use Rattle.urlcheck_c.specs.Offsets.{row_count, row_text}
-use Rattle.urlcheck_c.specs.Request.{IsRequest, IsUnjudged}
+use Rattle.urlcheck_c.specs.Request.{IsRequest, IsUnchecked}
 use Rattle.urlcheck_c.specs.ResolvedBatch.{AreRowsResolved, IsAppended, IsResolvedRow, IsTextResolved, ResolvedColumns}
 use Rattle.urlcheck_c.specs.ResolvedBatch.{text_offsets}
 use Rattle.urlcheck_c.proofs.BatchLemmas.{IsSmall, column_more, mapped_more, one_at_most, small_rule}
 
 -- ---- a row
 
--- the numbers of a text that isn't judged are small
-small_unjudged : (number : ℕ) (bytes : List ℕ) (finding : Finding) → IsUnjudged number None bytes finding
+-- the numbers of a text that isn't checked are small
+small_unchecked : (number : ℕ) (bytes : List ℕ) (finding : Finding) → IsUnchecked number None bytes finding
     → IsSmall finding
-small_unjudged number bytes finding (inl (lacking, found)) = rw found (lit< tt, lit< tt)
-small_unjudged number bytes finding (inr (profile, some, inl text)) = rw text.said (lit< tt, lit< tt)
-small_unjudged number bytes finding (inr (profile, some, inr (utf8, given))) = absurd given
+small_unchecked number bytes finding (inl (lacking, found)) = rw found (lit< tt, lit< tt)
+small_unchecked number bytes finding (inr (profile, some, inl text)) = rw text.said (lit< tt, lit< tt)
+small_unchecked number bytes finding (inr (profile, some, inr (utf8, given))) = absurd given
 
 -- a text is written whole into a buffer of its length
 written_whole : (text : List ℕ) → IsWritten text text text (length text)
@@ -64,7 +64,7 @@ wanting_row number bytes text profile request (url, denotes, is) = record {
 resolved_row : (number : ℕ) (bytes : List ℕ) (text : String Global) → IsTextResolved number bytes (Ok text)
     → IsResolvedRow number bytes (plain_finding Valid) (string_bytes text)
     × IsResolvedRow number bytes (plain_finding Memory) []
-resolved_row number bytes text (inl (finding, is, unjudged)) = absurd cc
+resolved_row number bytes text (inl (finding, is, unchecked)) = absurd cc
 resolved_row number bytes text (inr (profile, request, denotes)) = (
   text_row number bytes (string_bytes text) profile request denotes,
   wanting_row number bytes (string_bytes text) profile request denotes,
@@ -93,16 +93,16 @@ appended_row number bytes text written old new finding resolved is (inr (memory,
       rw memory (lit< tt, lit< tt),
     )
 
--- a text that is refused, or isn't judged, and the numbers of what was found of it
+-- a text that is refused, or isn't checked, and the numbers of what was found of it
 pub refused_row : (number : ℕ) (bytes : List ℕ) (finding : Finding) → IsTextResolved number bytes (Err finding)
     → IsResolvedRow number bytes finding [] × IsSmall finding
-refused_row number bytes finding (inl (found, same, unjudged)) =
+refused_row number bytes finding (inl (found, same, unchecked)) =
     let is : finding ≡ found = cc in (
       record {
         room = [];
-        answer = inl (refl, refl, subst (λ (f : Finding). IsUnjudged number None bytes f) (sym is) unjudged);
+        answer = inl (refl, refl, subst (λ (f : Finding). IsUnchecked number None bytes f) (sym is) unchecked);
       },
-      subst (λ (f : Finding). IsSmall f) (sym is) (small_unjudged number bytes found unjudged),
+      subst (λ (f : Finding). IsSmall f) (sym is) (small_unchecked number bytes found unchecked),
     )
 refused_row number bytes finding (inr (profile, request, inl refused)) = (
   record {
@@ -130,7 +130,7 @@ offsets_length : (from : ℕ) (texts : List (List ℕ)) → length (text_offsets
 offsets_length from [] = refl
 offsets_length from (text ∷ rest) = ap suc (offsets_length (from + length text) rest) ∙ omega arith
 
--- a text more ends behind all of them
+-- a text more ends after all of them
 offsets_more : (from : ℕ) (texts : List (List ℕ)) (text : List ℕ)
     → text_offsets from (texts ++ (text ∷ []))
     ≡ text_offsets from texts ++ ((from + length (concat texts ++ text)) ∷ [])

@@ -7,7 +7,7 @@ use Rattle.std.proofs.lemmas.Str.{encodes-append, encodes-chars, encode_ascii}
 use Rattle.std.proofs.lemmas.List.{append_assoc, length-append}
 use Rattle.std.proofs.Math.Seq.{take-append_seam, drop-append_seam}
 use Rattle.uv_model.specs.Parts.{Form, SchemeAuthority, SchemePath, SchemeOpaque, Authority, PathAbsolute}
-use Rattle.uv_model.specs.Parts.{PathRelative, NoPath, Parts, written, written_authority, written_behind}
+use Rattle.uv_model.specs.Parts.{PathRelative, NoPath, Parts, written, written_after, written_authority}
 use Rattle.uv_model.specs.Parts.{written_scheme}
 use Rattle.uv_model.specs.Records.Url.{Url}
 use Rattle.uv_model.specs.Setting.{Setting, setting_of}
@@ -15,7 +15,7 @@ use Rattle.uv_model.specs.declared.profile.Profile.{Profile}
 use Rattle.uv_model.specs.Valid.{FitsForm, FitsHostText, Valid}
 use Rattle.urlcheck_c.specs.Span.{AreSpans, IsSpan, extent, span_of, spans_of, whole_extent}
 
--- ---- a port stands behind a host
+-- ---- a port is after a host
 
 no_host : (setting : Setting) (parts : Parts) (host : Option (List ℕ)) → FitsHostText setting parts host → host ≡ None
     → parts.port_text ≡ None
@@ -34,7 +34,7 @@ no_port setting NoPath parts fits none = fits.0.port_text
 
 -- ---- parts in bytes
 
--- a part in bytes behind its delimiter
+-- a part in bytes after its delimiter
 abbrev piece : List ℕ → Option (List ℕ) → List ℕ
 piece mark None = []
 piece mark (Some part) = mark ++ encode_utf8_all part
@@ -66,15 +66,15 @@ authority_bytes (Some host) (Some port) only =
     authority_first (host ++ 58 ∷ port) ∙ ap (λ t. 47 ∷ 47 ∷ t)
     (encodes-append host (58 ∷ port) ∙ ap (λ t. encode_utf8_all host ++ t) (ascii_first 58 port (lit< tt)))
 
-query_bytes : (query : Option (List ℕ)) → encode_utf8_all (written_behind 63 query) ≡ piece (63 ∷ []) query
+query_bytes : (query : Option (List ℕ)) → encode_utf8_all (written_after 63 query) ≡ piece (63 ∷ []) query
 query_bytes None = refl
 query_bytes (Some query) = ascii_first 63 query (lit< tt)
 
-fragment_bytes : (fragment : Option (List ℕ)) → encode_utf8_all (written_behind 35 fragment) ≡ piece (35 ∷ []) fragment
+fragment_bytes : (fragment : Option (List ℕ)) → encode_utf8_all (written_after 35 fragment) ≡ piece (35 ∷ []) fragment
 fragment_bytes None = refl
 fragment_bytes (Some fragment) = ascii_first 35 fragment (lit< tt)
 
--- ---- where a part stands
+-- ---- where a part is
 
 range_seam : (prefix part back : List ℕ)
     → slice_range (prefix ++ (part ++ back)) (length prefix) (length prefix + length part) ≡ part
@@ -124,7 +124,7 @@ piece_extent mark (Some part) = length-append mark (encode_utf8_all part)
 
 -- ---- the whole text
 
--- the bytes of the parts one behind the other
+-- the bytes of the parts one after the other
 abbrev pub laid_out : Parts → List ℕ
 laid_out p =
     scheme_piece p.scheme ++ (piece (47 ∷ 47 ∷ []) p.host_text ++ (piece (58 ∷ []) p.port_text
@@ -133,23 +133,23 @@ laid_out p =
 written_bytes : (p : Parts) → (p.host_text ≡ None → p.port_text ≡ None) → encode_utf8_all (written p) ≡ laid_out p
 unfolding written
 written_bytes p only =
-    let behind = written_behind 63 p.query ++ written_behind 35 p.fragment in
-    let tail : encode_utf8_all behind ≡ piece (63 ∷ []) p.query ++ (piece (35 ∷ []) p.fragment ++ [])
-    = encodes-append (written_behind 63 p.query) (written_behind 35 p.fragment)
+    let after = written_after 63 p.query ++ written_after 35 p.fragment in
+    let tail : encode_utf8_all after ≡ piece (63 ∷ []) p.query ++ (piece (35 ∷ []) p.fragment ++ [])
+    = encodes-append (written_after 63 p.query) (written_after 35 p.fragment)
     ∙ rw (query_bytes p.query, fragment_bytes p.fragment, append-nil (piece (35 ∷ []) p.fragment)) refl in
-    let path : encode_utf8_all (p.path_text ++ behind)
+    let path : encode_utf8_all (p.path_text ++ after)
     ≡ piece [] (Some p.path_text) ++ (piece (63 ∷ []) p.query ++ (piece (35 ∷ []) p.fragment ++ []))
-    = encodes-append p.path_text behind ∙ ap (λ t. encode_utf8_all p.path_text ++ t) tail in
-    let authority : encode_utf8_all (written_authority p.host_text p.port_text ++ (p.path_text ++ behind))
+    = encodes-append p.path_text after ∙ ap (λ t. encode_utf8_all p.path_text ++ t) tail in
+    let authority : encode_utf8_all (written_authority p.host_text p.port_text ++ (p.path_text ++ after))
     ≡ piece (47 ∷ 47 ∷ []) p.host_text ++ (piece (58 ∷ []) p.port_text ++ (piece [] (Some p.path_text)
     ++ (piece (63 ∷ []) p.query ++ (piece (35 ∷ []) p.fragment ++ []))))
-    = encodes-append (written_authority p.host_text p.port_text) (p.path_text ++ behind)
+    = encodes-append (written_authority p.host_text p.port_text) (p.path_text ++ after)
     ∙ rw (authority_bytes p.host_text p.port_text only, path)
     (append_assoc (piece (47 ∷ 47 ∷ []) p.host_text) (piece (58 ∷ []) p.port_text) _) in
-    (encodes-append (written_scheme p.scheme) (written_authority p.host_text p.port_text ++ (p.path_text ++ behind))
+    (encodes-append (written_scheme p.scheme) (written_authority p.host_text p.port_text ++ (p.path_text ++ after))
     ∙ rw (scheme_bytes p.scheme, authority) refl)
 
--- the bytes of a valid text are its parts one behind the other
+-- the bytes of a valid text are its parts one after the other
 pub valid_bytes : (bytes : List ℕ) (p : Parts) → IsUtf8 bytes
     → ((profile : Profile) × (base : Option Url) × Valid profile base (chars bytes) p)
     → bytes ≡ laid_out p
@@ -157,7 +157,7 @@ valid_bytes bytes p utf8 (profile, base, valid) =
     sym (encodes-chars bytes utf8) ∙ ap encode_utf8_all valid.whole
     ∙ written_bytes p (no_port (setting_of profile base p.scheme) p.form p valid.form)
 
--- how long the parts are, one behind the other
+-- how long the parts are, one after the other
 pub whole_length : (p : Parts) → length (laid_out p) ≡ whole_extent p
 whole_length p =
     let s = scheme_extent p.scheme in

@@ -20,7 +20,7 @@ written_more f xs now i d e below room prefix is =
     ∙ ap (λ y. take i (map f xs) ++ (y ∷ [])) (is ∙ sym (get_or-map f xs i d e below))
     ∙ sym (prefix_more (map f xs) i e (rw (length-map xs f) below))
 
--- what stands behind it stays
+-- what is after it stays
 pub kept_more : {Y : Type 0} (old now : List Y) (i : ℕ) (e : Y) → i < length now → drop i now ≡ drop i old
     → drop (i + 1) (set now i e) ≡ drop (i + 1) old
 kept_more old now i e room rest =

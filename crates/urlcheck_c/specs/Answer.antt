@@ -1,4 +1,4 @@
--- The answer on a text: valid with the places of its parts, refused, or not judged.
+-- The answer on a text: valid with the places of its parts, refused, or not checked.
 use Rattle.std.specs.Prelude.{◌≡◌, ℕ, ◌⊎◌, List, Option, None}
 use Rattle.std.specs.Str.{chars}
 use Rattle.uv_model.specs.declared.profile.Profile.{Profile}
@@ -10,7 +10,7 @@ use Rattle.urlcheck_c.specs.declared.checks.Answer.{Answer}
 use Rattle.urlcheck_c.specs.declared.finding.Finding.{Finding}
 use Rattle.urlcheck_c.specs.declared.finding.CallOutcome.TheVariants.{Valid, Refused}
 use Rattle.urlcheck_c.specs.Finding.{plain_finding}
-use Rattle.urlcheck_c.specs.Request.{IsMemory, IsRefusedText, IsRequest, IsUnjudged}
+use Rattle.urlcheck_c.specs.Request.{IsMemory, IsRefusedText, IsRequest, IsUnchecked}
 use Rattle.urlcheck_c.specs.Span.{AreSpans, no_spans}
 
 -- the text is valid against the base, and the spans are those of its parts
@@ -20,23 +20,23 @@ pub record IsValidAnswer (profile : Profile) (base : Option Url) (bytes : List �
   pub spans : AreSpans bytes parts answer.parts
   pub found : answer.found ≡ plain_finding Valid
 
--- memory ran out, of a text that isn't judged without it
+-- memory ran out, of a text that isn't checked without it
 abbrev pub IsOutOfMemory : Profile → Option Url → List ℕ → Finding → Type 0
 IsOutOfMemory profile base bytes finding = IsMemory finding × ¬ (TakesNoMemoryAgainst profile base (chars bytes))
 
 -- the text is valid; or it has no spans, and it is refused, or memory ran out
-abbrev pub IsJudged : Profile → Option Url → List ℕ → Answer → Type 0
-IsJudged profile base bytes answer =
+abbrev pub IsChecked : Profile → Option Url → List ℕ → Answer → Type 0
+IsChecked profile base bytes answer =
     IsValidAnswer profile base bytes answer
     ⊎ ((answer.parts ≡ no_spans)
     × (IsRefusedText Refused profile base bytes answer.found ⊎ IsOutOfMemory profile base bytes answer.found))
 
--- the text isn't judged, and has no spans; or it is judged against the base, if one is given
+-- the text isn't checked, and has no spans; or it is checked against the base, if one is given
 abbrev pub IsAnswer : ℕ → Option (List ℕ) → List ℕ → Answer → Type 0
 IsAnswer number base bytes answer =
-    ((answer.parts ≡ no_spans) × IsUnjudged number base bytes answer.found)
+    ((answer.parts ≡ no_spans) × IsUnchecked number base bytes answer.found)
     ⊎ ((profile : Profile) × (url : Option Url) × IsRequest number base bytes profile url
-    × IsJudged profile url bytes answer)
+    × IsChecked profile url bytes answer)
 
 -- this is what the answer on a text alone has found of it
 abbrev pub IsFound : ℕ → List ℕ → Finding → Type 0

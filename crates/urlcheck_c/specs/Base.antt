@@ -1,4 +1,4 @@
--- A base that is judged once and held between calls.
+-- A base that is checked once and held between calls.
 use Rattle.std.specs.Prelude.{◌≡◌, ◌≢◌, ℕ, ◌⊎◌, Bool, true, false, not, ◌||◌, ◌==◌, List, Option, Some, None}
 use Rattle.std.specs.Prelude.{Result, Ok, Err, IsUtf8}
 use Rattle.std.specs.Prelude.{if◌then◌else◌, option_map}
@@ -16,7 +16,7 @@ use Rattle.urlcheck_c.specs.declared.finding.CallOutcome.TheVariants.{BaseRefuse
 use Rattle.urlcheck_c.specs.declared.finding.CallOutcome.TheVariants.{NoProfile}
 use Rattle.urlcheck_c.specs.declared.finding.CallOutcome.TheVariants.{NoUtf8, Valid as valid_outcome}
 use Rattle.urlcheck_c.specs.Finding.{outcome_number, plain_finding, profile_of}
-use Rattle.urlcheck_c.specs.Request.{IsBase, IsNoBase, IsNoText, IsRequest, IsUnjudged}
+use Rattle.urlcheck_c.specs.Request.{IsBase, IsNoBase, IsNoText, IsRequest, IsUnchecked}
 
 -- ---- a base as numbers
 
@@ -99,20 +99,20 @@ IsPreparedBase number bytes base =
     (IsUnread number bytes base.found × (base ≡ unread_base number base.found))
     ⊎ ((kind : BaseKind) × IsBaseOfKind number bytes kind × (base ≡ held_base number kind))
 
--- how texts are judged against what the bytes denote, or nothing is read from them
+-- how texts are checked against what the bytes denote, or nothing is read from them
 abbrev pub IsHeld : ℕ → List ℕ → Finding → Option HeldBase → Type 0
 IsHeld number bytes found (Some held) = (profile_of number ≡ Some held.profile) × IsBaseOfKind number bytes held.kind
 IsHeld number bytes found None = IsUnread number bytes found
 
--- ---- what is judged against it
+-- ---- what is checked against it
 
--- what is to be judged against a base of these bytes, or why nothing is
+-- what is to be checked against a base of these bytes, or why nothing is
 abbrev pub IsPreparedWith : ℕ → List ℕ → List ℕ → Result HeldRequest Finding → Type 0
 IsPreparedWith number base bytes (Ok request) =
     (request.text.now ≡ bytes)
     × ((url : Url) × IsRequest number (Some base) bytes request.base.profile (Some url) × IsOfKind url
     request.base.kind)
-IsPreparedWith number base bytes (Err finding) = IsUnjudged number (Some base) bytes finding
+IsPreparedWith number base bytes (Err finding) = IsUnchecked number (Some base) bytes finding
 
 -- ---- a base that was never prepared
 
@@ -130,15 +130,15 @@ is_refused_base verdict =
 abbrev pub base_fault : Base → Finding
 base_fault base = if is_refused_base base.found.verdict then base.found else plain_finding NoBase
 
--- Nothing is judged against a base, whatever its numbers are: it says that no profile has its number; else the text is
+-- Nothing is checked against a base, whatever its numbers are: it says that no profile has its number; else the text is
 -- no UTF-8; else it is refused, or none was prepared.
-abbrev pub IsUnjudgedWith : Base → List ℕ → Finding → Type 0
-IsUnjudgedWith base bytes finding =
+abbrev pub IsUncheckedWith : Base → List ℕ → Finding → Type 0
+IsUncheckedWith base bytes finding =
     ((base.found.verdict ≡ outcome_number NoProfile) × (finding ≡ base.found))
     ⊎ ((base.found.verdict ≢ outcome_number NoProfile)
     × (IsNoText NoUtf8 bytes finding ⊎ (IsUtf8 bytes × (finding ≡ base_fault base))))
 
--- nothing is to be judged against the base, and why
+-- nothing is to be checked against the base, and why
 abbrev pub IsNotPreparedWith : Base → List ℕ → Result HeldRequest Finding → Type 0
 IsNotPreparedWith base bytes (Ok request) = ⊥
-IsNotPreparedWith base bytes (Err finding) = IsUnjudgedWith base bytes finding
+IsNotPreparedWith base bytes (Err finding) = IsUncheckedWith base bytes finding

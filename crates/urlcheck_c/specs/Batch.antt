@@ -27,7 +27,7 @@ columns verdicts rules places = record { verdicts = verdicts; rules = rules; pla
 abbrev pub IsPut : {X : Type 0} → ℕ → ℕ → X → List X → List X → Type 0
 IsPut rows row value old new = (rows ≤ length old → new ≡ set old row value) × (length old < rows → new ≡ old)
 
--- the values stand at the start of a column that has room for so many rows; one that has not is as it was
+-- the values are at the start of a column that has room for so many rows; one that has not is as it was
 abbrev pub IsColumn : {X : Type 0} → ℕ → List X → List X → List X → Type 0
 IsColumn rows values old new =
     (rows ≤ length old → new ≡ values ++ drop (length values) old) × (length old < rows → new ≡ old)
@@ -47,34 +47,34 @@ AreFound number texts offsets (suc row) found valid =
     × (valid ≡ count + one_if_valid last)
 
 -- of the first so many texts the columns have what was found, and so many are valid
-pub record AreJudged (number : ℕ) (texts offsets : List ℕ) (rows : ℕ) (old new : Columns) (valid : ℕ) : Type 0 where
+pub record AreChecked (number : ℕ) (texts offsets : List ℕ) (rows : ℕ) (old new : Columns) (valid : ℕ) : Type 0 where
   pub found : List Finding
-  pub judged : AreFound number texts offsets rows found valid
+  pub checked : AreFound number texts offsets rows found valid
   pub count : length found ≡ rows
   pub few : valid ≤ rows
   pub verdicts : IsColumn (row_count offsets) (map (λ f. f.verdict) found) old.verdicts new.verdicts
   pub rules : IsColumn (row_count offsets) (map (λ f. f.rule) found) old.rules new.rules
   pub places : IsColumn (row_count offsets) (map (λ f. f.place) found) old.places new.places
 
--- nothing was judged
-abbrev pub unjudged_batch : CallOutcome → ℕ → Batch
-unjudged_batch outcome row = record { outcome = outcome_number outcome; row = row; valid = 0; length = 0 }
+-- nothing was checked
+abbrev pub unchecked_batch : CallOutcome → ℕ → Batch
+unchecked_batch outcome row = record { outcome = outcome_number outcome; row = row; valid = 0; length = 0 }
 
--- the answer where all was judged
-abbrev pub judged_batch : ℕ → Batch
-judged_batch valid = record { outcome = outcome_number Done; row = 0; valid = valid; length = 0 }
+-- the answer where all was checked
+abbrev pub checked_batch : ℕ → Batch
+checked_batch valid = record { outcome = outcome_number Done; row = 0; valid = valid; length = 0 }
 
--- The offsets of a text are wrong, and nothing was written; or each text was judged, and the columns have what was
+-- The offsets of a text are wrong, and nothing was written; or each text was checked, and the columns have what was
 -- found.
 abbrev pub IsBatch : ℕ → List ℕ → List ℕ → Columns → Columns → Batch → Type 0
 IsBatch number texts offsets old new answer =
-    ((row : ℕ) × IsFirstWrong (length texts) offsets (Some row) × (answer ≡ unjudged_batch NoOffsets row)
+    ((row : ℕ) × IsFirstWrong (length texts) offsets (Some row) × (answer ≡ unchecked_batch NoOffsets row)
     × (new ≡ old))
-    ⊎ (AreRows (length texts) offsets (row_count offsets) × (answer ≡ judged_batch answer.valid)
-    × AreJudged number texts offsets (row_count offsets) old new answer.valid)
+    ⊎ (AreRows (length texts) offsets (row_count offsets) × (answer ≡ checked_batch answer.valid)
+    × AreChecked number texts offsets (row_count offsets) old new answer.valid)
 
--- no profile has the number, and nothing was written; else the texts are judged by it
+-- no profile has the number, and nothing was written; else the texts are checked by it
 abbrev pub IsBatchAnswer : ℕ → List ℕ → List ℕ → Columns → Columns → Batch → Type 0
 IsBatchAnswer number texts offsets old new answer =
-    ((profile_of number ≡ None) × (answer ≡ unjudged_batch NoProfile 0) × (new ≡ old))
+    ((profile_of number ≡ None) × (answer ≡ unchecked_batch NoProfile 0) × (new ≡ old))
     ⊎ ((profile : Profile) × (profile_of number ≡ Some profile) × IsBatch number texts offsets old new answer)

@@ -1,4 +1,4 @@
--- What stands in a caller's buffer after a call.
+-- What is in a caller's buffer after a call.
 use Rattle.std.specs.Prelude.{◌≡◌, ℕ, ◌≤◌, ◌<◌, List, ◌++◌, length, drop}
 
 -- the bytes are at the start of the buffer where they fit, and their length is given; else the buffer is as it was

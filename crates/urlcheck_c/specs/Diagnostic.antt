@@ -1,4 +1,4 @@
--- A diagnostic on a text that stands in a file, by numbers.
+-- A diagnostic on a text that is in a file, by numbers.
 use Rattle.std.specs.Prelude.{◌≡◌, ◌≢◌, ℕ, ◌⊎◌, ◌==◌, not, true, List, Option, Some, None, Result, Ok, Err, IsUtf8}
 use Rattle.uv_report.specs.declared.diagnostic.Diagnostic.{Diagnostic}
 use Rattle.uv_report.specs.declared.format.Format.{Format}
@@ -19,7 +19,7 @@ use Rattle.urlcheck_c.specs.Written.{IsGiven, IsRefusedFor, IsUnwritten}
 
 -- ---- the mended text
 
--- the numbers say this mended text: its kind, its bytes, and in its line where the text stands in whose place it is
+-- the numbers say this mended text: its kind, its bytes, and in its line where the text is in whose place it is
 pub record IsMended (violation : Violation) (bytes : List ℕ) (mended : Mended) : Type 0 where
   pub kind_is : kind_of violation.kind ≡ Some mended.kind
   pub utf8 : IsUtf8 bytes

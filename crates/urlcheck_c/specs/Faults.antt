@@ -11,7 +11,7 @@ use Rattle.urlcheck_c.specs.declared.reports.fault_lists.FaultCount.{FaultCount}
 use Rattle.urlcheck_c.specs.declared.finding.Finding.{Finding}
 use Rattle.urlcheck_c.specs.declared.finding.CallOutcome.TheVariants.{Valid, Refused, Memory}
 use Rattle.urlcheck_c.specs.Finding.{byte_place, plain_finding, refused_finding}
-use Rattle.urlcheck_c.specs.Request.{IsRequest, IsUnjudged}
+use Rattle.urlcheck_c.specs.Request.{IsRequest, IsUnchecked}
 
 -- a refusal of a text, with its place in bytes
 abbrev pub fault_of : List ℕ → Refusal → Fault
@@ -21,7 +21,7 @@ fault_of bytes refusal = record {
   byte_place = byte_place bytes refusal.place;
 }
 
--- as many faults as the buffer holds in its prefix, and behind them what was there
+-- as many faults as the buffer holds in its prefix, and after them what was there
 abbrev pub stored : List ℕ → List Refusal → List Fault → List Fault
 stored bytes refusals old =
     take (length old) (map (fault_of bytes) refusals) ++ drop (length refusals) old
@@ -46,14 +46,14 @@ pub record IsUnlisted (old new : List Fault) (answer : FaultCount) : Type 0 wher
   pub same : new ≡ old
 
 -- the text has these faults, or memory ran out and nothing was written
-abbrev pub IsFaultsJudged : Profile → Option Url → List ℕ → List Fault → List Fault → FaultCount → Type 0
-IsFaultsJudged profile base bytes old new answer =
+abbrev pub IsFaultsChecked : Profile → Option Url → List ℕ → List Fault → List Fault → FaultCount → Type 0
+IsFaultsChecked profile base bytes old new answer =
     AreListed profile base bytes old new answer
     ⊎ (IsUnlisted old new answer × (answer.found ≡ plain_finding Memory))
 
--- the text isn't judged, and nothing was written; or it is judged against the base, if one is given
+-- the text isn't checked, and nothing was written; or it is checked against the base, if one is given
 abbrev pub IsFaultsAnswer : ℕ → Option (List ℕ) → List ℕ → List Fault → List Fault → FaultCount → Type 0
 IsFaultsAnswer number base bytes old new answer =
-    (IsUnlisted old new answer × IsUnjudged number base bytes answer.found)
+    (IsUnlisted old new answer × IsUnchecked number base bytes answer.found)
     ⊎ ((profile : Profile) × (url : Option Url) × IsRequest number base bytes profile url
-    × IsFaultsJudged profile url bytes old new answer)
+    × IsFaultsChecked profile url bytes old new answer)

@@ -44,7 +44,7 @@ profile_of number =
     else (if number == 1 then Some profiles.Wide
     else (if number == 2 then Some profiles.Parser else None))
 
--- how many bytes stand before a place in code points
+-- how many bytes are before a place in code points
 unfoldable pub byte_place : List ℕ → ℕ → ℕ
 byte_place bytes place = length (encode_utf8_all (take place (chars bytes)))
 

@@ -11,7 +11,7 @@ use Rattle.urlcheck_c.specs.declared.lines.Line.{Line}
 use Rattle.urlcheck_c.specs.Answer as answer
 use Rattle.urlcheck_c.specs.Finding.{plain_finding, profile_of}
 
--- the text stands at the start of the bytes, and they are its line and those behind it
+-- the text is at the start of the bytes, and they are its line and those after it
 pub record IsFirstLine (bytes : List ℕ) (line : FirstLine) : Type 0 where
   pub first : lines_of bytes ≡ line.text.now ∷ lines_of (drop line.extent bytes)
   pub text : line.text.now ≡ take (length line.text.now) bytes
@@ -28,8 +28,8 @@ Passes number zero lines rest = lines ≡ rest
 Passes number (suc count) lines rest =
     (line : List ℕ) × Passes number count lines (line ∷ rest) × IsValidLine number line
 
--- This is the first line that isn't valid, behind so many valid ones: what the check of it alone finds, where it stands
--- in the buffer, and where the lines behind it begin.
+-- This is the first line that isn't valid, after so many valid ones: what the check of it alone finds, where it is
+-- in the buffer, and where the lines after it begin.
 pub record IsRefusedLine (number : ℕ) (bytes : List ℕ) (from : ℕ) (line : Line) : Type 0 where
   pub text : List ℕ
   pub passed : Passes number line.passed (lines_of (drop from bytes)) (text ∷ lines_of (drop line.next bytes))

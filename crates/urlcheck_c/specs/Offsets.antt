@@ -1,4 +1,4 @@
--- Texts that stand one behind the other in a buffer, by their offsets.
+-- Texts that are one after the other in a buffer, by their offsets.
 use Rattle.std.specs.Prelude.{ℕ, ◌+◌, ◌-◌, ◌≤◌, ◌<◌, List, length, slice_index, slice_range, Option, Some, None}
 use Rattle.urlcheck_c.specs.declared.offsets.Offsets.{Offsets}
 use Rattle.urlcheck_c.specs.declared.offsets.Offsets.TheVariants.{Wide, Narrow}

@@ -1,4 +1,4 @@
--- The record that a valid text denotes: its text in the caller's buffer, and where its parts stand there.
+-- The record that a valid text denotes: its text in the caller's buffer, and where its parts are there.
 use Rattle.std.specs.Prelude.{◌≡◌, ℕ, ◌⊎◌, List, Option}
 use Rattle.std.specs.Str.{chars}
 use Rattle.uv_model.specs.declared.profile.Profile.{Profile}
@@ -12,14 +12,14 @@ use Rattle.urlcheck_c.specs.Base.{flag_number}
 use Rattle.urlcheck_c.specs.Buffer.{IsWritten}
 use Rattle.urlcheck_c.specs.Finding.{plain_finding}
 use Rattle.urlcheck_c.specs.RecordPlaces.{AreRecordSpans, host_number}
-use Rattle.urlcheck_c.specs.Request.{IsRefusedText, IsRequest, IsUnjudged, LacksMemory}
+use Rattle.urlcheck_c.specs.Request.{IsRefusedText, IsRequest, IsUnchecked, LacksMemory}
 use Rattle.urlcheck_c.specs.Span.{no_spans}
 
 -- no record, since this was found
 abbrev pub no_record : Finding → PlacedRecord
 no_record found = record { found = found; length = 0; parts = no_spans; host = 0; opaque_path = 0 }
 
--- The record's text is at the start of the buffer where it fits, and its length is given, and where its parts stand,
+-- The record's text is at the start of the buffer where it fits, and its length is given, and where its parts are,
 -- of which kind its host is and whether its path is opaque.
 pub record IsPlaced (url : Url) (old new : List ℕ) (answer : PlacedRecord) : Type 0 where
   pub found : answer.found ≡ plain_finding Valid
@@ -38,15 +38,15 @@ IsPlacedOrWanting url old new answer =
     IsPlaced url old new answer ⊎ ((answer ≡ no_record (plain_finding Memory)) × (new ≡ old))
 
 -- the text denotes a URL whose record is given; or nothing was written, and it is refused, or memory ran out
-abbrev pub IsPlacedJudged : Profile → Option Url → List ℕ → List ℕ → List ℕ → PlacedRecord → Type 0
-IsPlacedJudged profile base bytes old new answer =
+abbrev pub IsPlacedChecked : Profile → Option Url → List ℕ → List ℕ → List ℕ → PlacedRecord → Type 0
+IsPlacedChecked profile base bytes old new answer =
     ((url : Url) × Denotes profile base (chars bytes) url × IsPlaced url old new answer)
     ⊎ (IsUnplaced old new answer
     × (IsRefusedText Refused profile base bytes answer.found ⊎ LacksMemory profile base bytes answer.found))
 
--- the text isn't judged, and nothing was written; or it is judged against the base, if one is given
+-- the text isn't checked, and nothing was written; or it is checked against the base, if one is given
 abbrev pub IsPlacedAnswer : ℕ → Option (List ℕ) → List ℕ → List ℕ → List ℕ → PlacedRecord → Type 0
 IsPlacedAnswer number base bytes old new answer =
-    (IsUnplaced old new answer × IsUnjudged number base bytes answer.found)
+    (IsUnplaced old new answer × IsUnchecked number base bytes answer.found)
     ⊎ ((profile : Profile) × (url : Option Url) × IsRequest number base bytes profile url
-    × IsPlacedJudged profile url bytes old new answer)
+    × IsPlacedChecked profile url bytes old new answer)

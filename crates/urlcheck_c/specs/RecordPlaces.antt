@@ -1,4 +1,4 @@
--- Where the parts of a record stand in its text (URL Standard, section 4.5), in bytes. The text is ASCII.
+-- Where the parts of a record are in its text (URL Standard, section 4.5), in bytes. The text is ASCII.
 use Rattle.std.specs.Prelude.{◌≡◌, ℕ, ◌+◌, ◌≤◌, List, [], Option, Some, None, decimal, length, option_map, slice_range}
 use Rattle.uv_model.specs.declared.host.Host.{Host}
 use Rattle.uv_model.specs.declared.host.Host.TheVariants.{Domain, V4, V6, Opaque, Empty}
@@ -24,7 +24,7 @@ host_number (Some Empty) = 5
 abbrev pub host_text : Option Host → Option (List ℕ)
 host_text host = option_map (λ h. serial_host h) host
 
--- the text of a port, which stands behind a host alone
+-- the text of a port, which is after a host alone
 abbrev pub port_text : Option Host → Option ℕ → Option (List ℕ)
 port_text None port = None
 port_text (Some host) port = option_map (λ p. decimal p) port
@@ -45,24 +45,24 @@ abbrev pub reach : ℕ → Option ℕ → ℕ
 reach mark None = 0
 reach mark (Some count) = mark + count
 
--- the place of the authority's `//`, behind the scheme and its `:`
+-- the place of the authority's `//`, after the scheme and its `:`
 abbrev pub host_place : Url → ℕ
 host_place url = length url.scheme + 1
 
--- the place of the port's `:`, behind the host
+-- the place of the port's `:`, after the host
 abbrev pub port_place : Url → ℕ
 port_place url = host_place url + reach 2 (length_in (host_text url.host))
 
--- the place of the path, behind the port, or behind what stands before it
+-- the place of the path, after the port, or after what is before it
 abbrev pub path_place : Url → ℕ
 path_place url =
     port_place url + reach 1 (length_in (port_text url.host url.port)) + length (dot_prefix url.host url.path)
 
--- the place of the query's `?`, behind the path
+-- the place of the query's `?`, after the path
 abbrev pub query_place : Url → ℕ
 query_place url = path_place url + length (serial_path url.path)
 
--- the place of the fragment's `#`, behind the query
+-- the place of the fragment's `#`, after the query
 abbrev pub fragment_place : Url → ℕ
 fragment_place url = query_place url + reach 1 (length_in url.query)
 
@@ -86,9 +86,9 @@ record_spans url = record {
   fragment = placed_span (fragment_place url) 1 (length_in url.fragment);
 }
 
--- ---- where they stand
+-- ---- where they are
 
--- The text stands behind its delimiter, which begins here: its span ends within the record's text, and the bytes there
+-- The text is after its delimiter, which begins here: its span ends within the record's text, and the bytes there
 -- are this text. An absent one has no span.
 abbrev pub StandsAt : List ℕ → ℕ → ℕ → Option (List ℕ) → Span → Type 0
 StandsAt bytes at mark None span = span ≡ no_span
@@ -96,7 +96,7 @@ StandsAt bytes at mark (Some text) span =
     (span ≡ placed_span at mark (Some (length text))) × (span.start + span.length ≤ length bytes)
     × (slice_range bytes span.start (span.start + span.length) ≡ text)
 
--- the spans are those of the record's parts, each behind the one before, and these are the whole text
+-- the spans are those of the record's parts, each after the one before, and these are the whole text
 pub record AreRecordSpans (url : Url) (spans : Spans) : Type 0 where
   pub scheme : StandsAt (serial url) 0 0 (Some url.scheme) spans.scheme
   pub host : StandsAt (serial url) (host_place url) 2 (host_text url.host) spans.host

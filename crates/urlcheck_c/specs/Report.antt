@@ -1,4 +1,4 @@
--- What stands round the diagnostics of a report, by numbers.
+-- What is round the diagnostics of a report, by numbers.
 use Rattle.std.specs.Prelude.{◌≡◌, ℕ, ◌⊎◌, Bool, true, false, List, [], Option, Some, None, IsUtf8}
 use Rattle.uv_report.specs.declared.places.column.Columns.{Columns}
 use Rattle.uv_report.specs.declared.completion.Completion.{Completion}
@@ -23,7 +23,7 @@ IsBeginAnswer format unit old new answer =
     × (((takes_columns known columns ≡ false) × IsRefusedFor NoUnit old new answer)
     ⊎ ((takes_columns known columns ≡ true) × IsGiven (begin_text known columns) old new answer))))
 
--- no format has the number, or the file's name is no UTF-8; else what stands before its diagnostics is given
+-- no format has the number, or the file's name is no UTF-8; else what is before its diagnostics is given
 abbrev pub IsFileBeginAnswer : ℕ → List ℕ → List ℕ → List ℕ → Written → Type 0
 IsFileBeginAnswer format file old new answer =
     ((format_of format ≡ None) × IsRefusedFor NoFormat old new answer)
@@ -31,7 +31,7 @@ IsFileBeginAnswer format file old new answer =
     × (((finding : Finding) × IsNoText FileNoUtf8 file finding × IsUnwritten finding old new answer)
     ⊎ (IsUtf8 file × IsGiven (file_begin_text known file) old new answer)))
 
--- no format has the number; else what stands behind the diagnostics of a file is given
+-- no format has the number; else what is after the diagnostics of a file is given
 abbrev pub IsFileEndAnswer : ℕ → List ℕ → List ℕ → Written → Type 0
 IsFileEndAnswer format old new answer =
     ((format_of format ≡ None) × IsRefusedFor NoFormat old new answer)

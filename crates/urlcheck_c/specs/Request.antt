@@ -1,4 +1,4 @@
--- What a call asks, or why nothing is judged.
+-- What a call asks, or why nothing is checked.
 use Rattle.std.specs.Prelude.{◌≡◌, ℕ, ◌⊎◌, List, Option, Some, None, Result, Ok, Err, IsUtf8}
 use Rattle.std.specs.Borrow.{Bor}
 use Rattle.std.specs.Str.{chars}
@@ -65,8 +65,8 @@ IsNoBaseGiven profile None finding = ⊥
 IsNoBaseGiven profile (Some bytes) finding = IsNoBase profile bytes finding
 
 -- No profile has the number; else the text is no UTF-8; else nothing is read from the base.
-abbrev pub IsUnjudged : ℕ → Option (List ℕ) → List ℕ → Finding → Type 0
-IsUnjudged number base bytes finding =
+abbrev pub IsUnchecked : ℕ → Option (List ℕ) → List ℕ → Finding → Type 0
+IsUnchecked number base bytes finding =
     ((profile_of number ≡ None) × (finding ≡ plain_finding NoProfile))
     ⊎ ((profile : Profile) × (profile_of number ≡ Some profile)
     × (IsNoText NoUtf8 bytes finding ⊎ (IsUtf8 bytes × IsNoBaseGiven profile base finding)))
@@ -78,14 +78,14 @@ pub record IsRequest (number : ℕ) (base : Option (List ℕ)) (bytes : List ℕ
   pub utf8 : IsUtf8 bytes
   pub base_is : IsBase profile base url
 
--- what is to be judged, or why nothing is
+-- what is to be checked, or why nothing is
 abbrev pub IsPrepared : ℕ → Option (List ℕ) → List ℕ → Result Request Finding → Type 0
 IsPrepared number base bytes (Ok request) =
     (request.text.now ≡ bytes) × IsRequest number base bytes request.profile request.base
-IsPrepared number base bytes (Err finding) = IsUnjudged number base bytes finding
+IsPrepared number base bytes (Err finding) = IsUnchecked number base bytes finding
 
 -- the same of a text alone
 abbrev pub IsPreparedAlone : ℕ → List ℕ → Result LoneRequest Finding → Type 0
 IsPreparedAlone number bytes (Ok request) =
     (request.text.now ≡ bytes) × IsRequest number None bytes request.profile None
-IsPreparedAlone number bytes (Err finding) = IsUnjudged number None bytes finding
+IsPreparedAlone number bytes (Err finding) = IsUnchecked number None bytes finding

@@ -9,7 +9,7 @@ use Rattle.urlcheck_c.specs.declared.finding.CallOutcome.TheVariants.{Valid, Ref
 use Rattle.urlcheck_c.specs.declared.records.Resolved.{Resolved}
 use Rattle.urlcheck_c.specs.Buffer.{IsWritten}
 use Rattle.urlcheck_c.specs.Finding.{plain_finding}
-use Rattle.urlcheck_c.specs.Request.{IsRefusedText, IsRequest, IsUnjudged}
+use Rattle.urlcheck_c.specs.Request.{IsRefusedText, IsRequest, IsUnchecked}
 
 -- out of memory
 abbrev pub no_memory : Resolved
@@ -42,9 +42,9 @@ IsRecordAnswer profile base bytes old new answer =
     ((url : Url) × Denotes profile base (chars bytes) url × IsInPrefix url old new answer)
     ⊎ (IsRefusedAnswer profile base bytes old new answer ⊎ IsOutOfMemory profile base bytes old new answer)
 
--- the text isn't judged, and nothing was written; or it is judged against the base, if one is given
+-- the text isn't checked, and nothing was written; or it is checked against the base, if one is given
 abbrev pub IsResolvedAnswer : ℕ → Option (List ℕ) → List ℕ → List ℕ → List ℕ → Resolved → Type 0
 IsResolvedAnswer number base bytes old new answer =
-    ((answer.length ≡ 0) × (new ≡ old) × IsUnjudged number base bytes answer.found)
+    ((answer.length ≡ 0) × (new ≡ old) × IsUnchecked number base bytes answer.found)
     ⊎ ((profile : Profile) × (url : Option Url) × IsRequest number base bytes profile url
     × IsRecordAnswer profile url bytes old new answer)

@@ -10,11 +10,11 @@ use Rattle.urlcheck_c.specs.declared.batches.Batch.{Batch}
 use Rattle.urlcheck_c.specs.declared.finding.Finding.{Finding}
 use Rattle.urlcheck_c.specs.declared.finding.CallOutcome.TheVariants.{Done, Memory, NoOffsets, NoProfile, Refused}
 use Rattle.urlcheck_c.specs.declared.finding.CallOutcome.TheVariants.{Valid}
-use Rattle.urlcheck_c.specs.Batch.{Columns, IsColumn, one_if_valid, unjudged_batch}
+use Rattle.urlcheck_c.specs.Batch.{Columns, IsColumn, one_if_valid, unchecked_batch}
 use Rattle.urlcheck_c.specs.Buffer.{IsWritten}
 use Rattle.urlcheck_c.specs.Finding.{outcome_number, plain_finding, profile_of}
 use Rattle.urlcheck_c.specs.Offsets.{AreRows, IsFirstWrong, row_count, row_text}
-use Rattle.urlcheck_c.specs.Request.{IsRefusedText, IsRequest, IsUnjudged, LacksMemory}
+use Rattle.urlcheck_c.specs.Request.{IsRefusedText, IsRequest, IsUnchecked, LacksMemory}
 use Rattle.urlcheck_c.specs.Resolved.{IsResolvedAnswer}
 
 -- ---- what is resolved of a text
@@ -25,10 +25,10 @@ IsRequestResolved profile bytes (Ok text) = DenotesText profile None bytes (stri
 IsRequestResolved profile bytes (Err finding) =
     IsRefusedText Refused profile None bytes finding ⊎ LacksMemory profile None bytes finding
 
--- the bytes aren't judged; or they are, and that is said of them
+-- the bytes aren't checked; or they are, and that is said of them
 abbrev pub IsTextResolved : ℕ → List ℕ → Result (String Global) Finding → Type 0
 IsTextResolved number bytes result =
-    ((finding : Finding) × (result ≡ Err finding) × IsUnjudged number None bytes finding)
+    ((finding : Finding) × (result ≡ Err finding) × IsUnchecked number None bytes finding)
     ⊎ ((profile : Profile) × IsRequest number None bytes profile None × IsRequestResolved profile bytes result)
 
 -- the text is appended; or memory ran out, and nothing was appended
@@ -53,7 +53,7 @@ AreResolved number texts offsets (suc row) found written valid =
     × IsResolvedRow number (row_text texts offsets row) last text × (found ≡ before ++ (last ∷ []))
     × (written ≡ earlier ++ (text ∷ [])) × (valid ≡ count + one_if_valid last)
 
--- where texts that stand one behind the other from here on begin, and where the last ends
+-- where texts that are one after the other from here on begin, and where the last ends
 abbrev pub text_offsets : ℕ → List (List ℕ) → List ℕ
 text_offsets from [] = from ∷ []
 text_offsets from (text ∷ rest) = from ∷ text_offsets (from + length text) rest
@@ -74,7 +74,7 @@ resolved_columns verdicts rules places ends = record {
 
 -- Of the first so many texts the columns have the answers, and where the texts of their records begin. These texts are
 -- the
--- bytes one behind the other, and so many texts are valid.
+-- bytes one after the other, and so many texts are valid.
 pub record AreRowsResolved (number : ℕ) (texts offsets : List ℕ) (rows : ℕ) (old new : ResolvedColumns)
     (bytes : List ℕ) (valid : ℕ) : Type 0 where
   pub found : List Finding
@@ -113,8 +113,8 @@ IsUnresolved why old new out_old out_new answer = (answer ≡ why) × (new ≡ o
 -- No profile has the number; or the offsets of a text are wrong, of which this is the first; else all are resolved.
 abbrev pub IsResolvedBatch : ℕ → List ℕ → List ℕ → ResolvedColumns → ResolvedColumns → List ℕ → List ℕ → Batch → Type 0
 IsResolvedBatch number texts offsets old new out_old out_new answer =
-    ((profile_of number ≡ None) × IsUnresolved (unjudged_batch NoProfile 0) old new out_old out_new answer)
+    ((profile_of number ≡ None) × IsUnresolved (unchecked_batch NoProfile 0) old new out_old out_new answer)
     ⊎ ((profile : Profile) × (profile_of number ≡ Some profile)
     × (((row : ℕ) × IsFirstWrong (length texts) offsets (Some row)
-    × IsUnresolved (unjudged_batch NoOffsets row) old new out_old out_new answer)
+    × IsUnresolved (unchecked_batch NoOffsets row) old new out_old out_new answer)
     ⊎ IsBatchResolved number texts offsets old new out_old out_new answer))

@@ -27,23 +27,23 @@ abbrev pub extent : ℕ → Option (List ℕ) → ℕ
 extent mark None = 0
 extent mark (Some part) = mark + length (encode_utf8_all part)
 
--- the place of the authority's `//`, behind the scheme and its `:`
+-- the place of the authority's `//`, after the scheme and its `:`
 abbrev pub host_at : Parts → ℕ
 host_at parts = extent 1 parts.scheme
 
--- the place of the port's `:`, behind the host
+-- the place of the port's `:`, after the host
 abbrev pub port_at : Parts → ℕ
 port_at parts = host_at parts + extent 2 parts.host_text
 
--- the place of the path, behind the port
+-- the place of the path, after the port
 abbrev pub path_at : Parts → ℕ
 path_at parts = port_at parts + extent 1 parts.port_text
 
--- the place of the query's `?`, behind the path
+-- the place of the query's `?`, after the path
 abbrev pub query_at : Parts → ℕ
 query_at parts = path_at parts + extent 0 (Some parts.path_text)
 
--- the place of the fragment's `#`, behind the query
+-- the place of the fragment's `#`, after the query
 abbrev pub fragment_at : Parts → ℕ
 fragment_at parts = query_at parts + extent 1 parts.query
 
@@ -56,7 +56,7 @@ abbrev pub span_of : ℕ → ℕ → Option (List ℕ) → Span
 span_of at mark None = no_span
 span_of at mark (Some part) = record { start = at + mark; length = length (encode_utf8_all part); present = 1 }
 
--- the spans of parts that stand one behind the other
+-- the spans of parts that are one after the other
 abbrev pub spans_of : Parts → Spans
 spans_of parts = record {
   scheme = span_of 0 0 parts.scheme;
@@ -67,9 +67,9 @@ spans_of parts = record {
   fragment = span_of (fragment_at parts) 1 parts.fragment;
 }
 
--- ---- where the parts stand
+-- ---- where the parts are
 
--- The part stands behind its delimiter, which begins here: its span ends within the text, and the bytes there are its
+-- The part is after its delimiter, which begins here: its span ends within the text, and the bytes there are its
 -- UTF-8. An absent part has no span.
 abbrev pub IsSpan : List ℕ → ℕ → ℕ → Option (List ℕ) → Span → Type 0
 IsSpan bytes at mark None span = span ≡ no_span
@@ -77,7 +77,7 @@ IsSpan bytes at mark (Some part) span =
     (span ≡ span_of at mark (Some part)) × (span.start + span.length ≤ length bytes)
     × (slice_range bytes span.start (span.start + span.length) ≡ encode_utf8_all part)
 
--- the spans are those of the parts, each behind the one before, and the parts with their delimiters are the whole text
+-- the spans are those of the parts, each after the one before, and the parts with their delimiters are the whole text
 pub record AreSpans (bytes : List ℕ) (parts : Parts) (spans : Spans) : Type 0 where
   pub scheme : IsSpan bytes 0 0 parts.scheme spans.scheme
   pub host : IsSpan bytes (host_at parts) 2 parts.host_text spans.host

@@ -7,17 +7,17 @@ use Rattle.uv_model.specs.Records.Url.{Url}
 use Rattle.uv_model.specs.Valid.{Valid}
 use Rattle.urlcheck_c.specs.declared.finding.Finding.{Finding}
 use Rattle.uv_grammar.specs.NoMemory.{TakesNoMemoryAgainst}
-use Rattle.urlcheck_c.specs.Request.{IsRequest, IsUnjudged}
+use Rattle.urlcheck_c.specs.Request.{IsRequest, IsUnchecked}
 
--- the text is valid against the base; or it is not, or memory ran out of a text that isn't judged without it
+-- the text is valid against the base; or it is not, or memory ran out of a text that isn't checked without it
 abbrev pub IsKnownValid : Profile → Option Url → List ℕ → Bool → Type 0
 IsKnownValid profile base bytes true = (parts : Parts) × Valid profile base (chars bytes) parts
 IsKnownValid profile base bytes false =
     ((parts : Parts) → ¬ (Valid profile base (chars bytes) parts)) ⊎ ¬ (TakesNoMemoryAgainst profile base (chars bytes))
 
--- the text isn't judged, which is said as no; or it is judged against the base, if one is given
+-- the text isn't checked, which is said as no; or it is checked against the base, if one is given
 abbrev pub IsValidityAnswer : ℕ → Option (List ℕ) → List ℕ → Bool → Type 0
 IsValidityAnswer number base bytes answer =
-    ((answer ≡ false) × (finding : Finding) × IsUnjudged number base bytes finding)
+    ((answer ≡ false) × (finding : Finding) × IsUnchecked number base bytes finding)
     ⊎ ((profile : Profile) × (url : Option Url) × IsRequest number base bytes profile url
     × IsKnownValid profile url bytes answer)

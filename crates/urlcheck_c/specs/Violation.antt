@@ -13,7 +13,7 @@ use Rattle.urlcheck_c.specs.ReportNumbers.{violation_of}
 use Rattle.urlcheck_c.specs.Request.{IsNoText}
 use Rattle.urlcheck_c.specs.Written.{IsGiven, IsUnwritten}
 
--- The numbers say a profile and what is wrong with the text at the place, which is not behind its end.
+-- The numbers say a profile and what is wrong with the text at the place, which is not after its end.
 pub record IsViolation (number rule place : ℕ) (bytes : List ℕ) (profile : Profile)
     (violation : LineViolation) : Type 0 where
   pub profile_is : profile_of number ≡ Some profile
@@ -21,7 +21,7 @@ pub record IsViolation (number rule place : ℕ) (bytes : List ℕ) (profile : P
   pub violation_is : violation_of rule place ≡ Some violation
   pub within : place ≤ length (chars bytes)
 
--- They don't: no profile has the number, the text is no UTF-8, no rule has the number, or the place is behind its end.
+-- They don't: no profile has the number, the text is no UTF-8, no rule has the number, or the place is after its end.
 abbrev pub IsNoViolation : ℕ → ℕ → ℕ → List ℕ → Finding → Type 0
 IsNoViolation number rule place bytes finding =
     ((profile_of number ≡ None) × (finding ≡ plain_finding NoProfile))

@@ -1,9 +1,9 @@
-//! A base that is judged once and held between calls.
+//! A base that is checked once and held between calls.
 ghost use Rattle.std.specs.Prelude.{◌≡◌, ◌==◌, ℕ, List, None, Some, not};
 ghost use Rattle.urlcheck_c.specs.Base.{IsHeld, IsKindDenoted, IsKindRead, IsPreparedBase, IsPreparedWith, IsUnread};
-ghost use Rattle.urlcheck_c.specs.Base.{IsNotPreparedWith, IsUnjudgedWith, SaysNoBase, base_fault, flag_number};
+ghost use Rattle.urlcheck_c.specs.Base.{IsNotPreparedWith, IsUncheckedWith, SaysNoBase, base_fault, flag_number};
 ghost use Rattle.urlcheck_c.specs.Base.{held_base, is_refused_base, kind_in, scheme_number, scheme_with, unread_base};
-ghost use Rattle.urlcheck_c.specs.Request.{IsUnjudged};
+ghost use Rattle.urlcheck_c.specs.Request.{IsUnchecked};
 
 use crate::finding::{CallOutcome, Finding};
 use crate::request::{profile_of, text_of};
@@ -11,13 +11,13 @@ use std::alloc::{AllocError, Global};
 use uv_grammar::{BaseKind, BaseScheme, Verdict, check_alone};
 use uv_model::Profile;
 
-/// A base, judged alone: what a verdict on a text asks of it. It is made by `urlcheck_prepare` alone.
+/// A base, checked alone: what a verdict on a text asks of it. It is made by `urlcheck_prepare` alone.
 #[repr(C)]
 #[derive(Clone, Copy)]
 pub struct Base {
-    /// What was found of the base: valid, or why no text is judged against it.
+    /// What was found of the base: valid, or why no text is checked against it.
     pub found: Finding,
-    /// The number of the profile by which the base was judged, and by which texts are judged against it.
+    /// The number of the profile by which the base was checked, and by which texts are checked against it.
     pub profile: u32,
     /// The scheme by its class and its default port: 1 `ftp`, 2 `http` or `ws`, 3 `https` or `wss`, 4 `file`,
     /// 5 another, and 0 where the base isn't valid.
@@ -28,7 +28,7 @@ pub struct Base {
     pub empty_host: u32,
 }
 
-/// Judges the bytes of a base alone by the profile with this number, for calls that are given the base after that.
+/// Checks the bytes of a base alone by the profile with this number, for calls that are given the base after that.
 #[unsafe(no_mangle)]
 pub extern "C" fn urlcheck_prepare(alloc: Global, base: &[u8], profile: u32) -> Base
     ensures { IsPreparedBase profile base.now result }
@@ -77,7 +77,7 @@ impl Base {
         }
     }
 
-    // A base that isn't valid, or isn't judged.
+    // A base that isn't valid, or isn't checked.
     fn refused(profile: u32, found: Finding) -> Base
         ensures { result ≡ unread_base profile found }
     {
@@ -90,7 +90,7 @@ impl Base {
         }
     }
 
-    /// How texts are judged against a valid base. Any other says no scheme, so its verdict needn't be read.
+    /// How texts are checked against a valid base. Any other says no scheme, so its verdict needn't be read.
     #[inline(always)]
     pub(crate) fn read(&self) -> Option<HeldBase>
         ensures held { (number : ℕ) (bytes : List ℕ) → IsPreparedBase number bytes self.now
@@ -168,16 +168,16 @@ fn scheme_with(number: u32) -> Option<BaseScheme>
     }
 }
 
-/// How a text is judged against a base that is held.
+/// How a text is checked against a base that is held.
 #[derive(Clone, Copy)]
 pub(crate) struct HeldBase {
     /// The kind of the base.
     pub(crate) kind: BaseKind,
-    /// The profile by which both are judged.
+    /// The profile by which both are checked.
     pub(crate) profile: Profile,
 }
 
-/// What is to be judged against a base that is held.
+/// What is to be checked against a base that is held.
 #[derive(Drop)]
 pub(crate) struct HeldRequest<'t> {
     /// The text.
@@ -186,7 +186,7 @@ pub(crate) struct HeldRequest<'t> {
     pub(crate) base: HeldBase,
 }
 
-/// What is to be judged of the bytes of a text against a base that is held, or why nothing is.
+/// What is to be checked of the bytes of a text against a base that is held, or why nothing is.
 #[inline(always)]
 pub(crate) fn prepared_with<'t>(text: &'t [u8], base: &Base) -> Result<HeldRequest<'t>, Finding>
     ensures held { (number : ℕ) (bytes : List ℕ) → IsPreparedBase number bytes base.now
@@ -202,7 +202,7 @@ pub(crate) fn prepared_with<'t>(text: &'t [u8], base: &Base) -> Result<HeldReque
     }
 }
 
-/// What is to be judged of the bytes of a text against the bytes of a base, or why nothing is.
+/// What is to be checked of the bytes of a text against the bytes of a base, or why nothing is.
 pub(crate) fn prepared_against<'t>(
     alloc: Global,
     text: &'t [u8],
@@ -222,23 +222,23 @@ pub(crate) fn prepared_against<'t>(
     })
 }
 
-/// Why nothing is judged against a base that isn't valid. It is inlined, so that room for what the next function gives
+/// Why nothing is checked against a base that isn't valid. It is inlined, so that room for what the next function gives
 /// back is made here alone.
 #[inline(always)]
 pub(crate) fn unread(text: &[u8], base: &Base) -> Finding
     ensures held { (number : ℕ) (bytes : List ℕ) → IsPreparedBase number bytes base.now
-        → IsUnread number bytes base.now.found → IsUnjudged number (Some bytes) text.now result }
-    ensures said { IsUnjudgedWith base.now text.now result }
+        → IsUnread number bytes base.now.found → IsUnchecked number (Some bytes) text.now result }
+    ensures said { IsUncheckedWith base.now text.now result }
 {
     first_unread(text, base)
 }
 
-// The same. The order is that of a base that is judged with the text: a profile, the text, and then the base.
+// The same. The order is that of a base that is checked with the text: a profile, the text, and then the base.
 #[inline(never)]
 fn first_unread(text: &[u8], base: &Base) -> Finding
     ensures held { (number : ℕ) (bytes : List ℕ) → IsPreparedBase number bytes base.now
-        → IsUnread number bytes base.now.found → IsUnjudged number (Some bytes) text.now result }
-    ensures said { IsUnjudgedWith base.now text.now result }
+        → IsUnread number bytes base.now.found → IsUnchecked number (Some bytes) text.now result }
+    ensures said { IsUncheckedWith base.now text.now result }
 {
     if base.found.verdict == CallOutcome::NoProfile.number() {
         return base.found;

@@ -1,6 +1,6 @@
 //! Many texts in one call.
 ghost use Rattle.std.specs.Prelude.{◌≡◌, ◌<◌, ◌≤◌, length, set};
-ghost use Rattle.urlcheck_c.specs.Batch.{AreJudged, IsBatchAnswer, IsPut, columns, unjudged_batch};
+ghost use Rattle.urlcheck_c.specs.Batch.{AreChecked, IsBatchAnswer, IsPut, columns, unchecked_batch};
 ghost use Rattle.urlcheck_c.specs.Offsets.{AreRows, offset_list, row_count};
 
 use crate::checks::found_alone;
@@ -13,7 +13,7 @@ use std::alloc::Global;
 #[repr(C)]
 #[derive(Clone, Copy)]
 pub struct Batch {
-    /// The number of the outcome: 9 where the texts were judged, else why nothing was.
+    /// The number of the outcome: 9 where the texts were checked, else why nothing was.
     pub outcome: u32,
     /// The first text whose offsets are wrong, where the outcome says that some are, else 0.
     pub row: usize,
@@ -23,9 +23,9 @@ pub struct Batch {
     pub length: usize,
 }
 
-/// Judges texts that stand one behind the other in a buffer, alone, by the profile with this number. Of each, the
+/// Checks texts that are one after the other in a buffer, alone, by the profile with this number. Of each, the
 /// number of its verdict, that of its rule and its place in code points go to the three columns, each of which is left
-/// out where it has no room for all. Where nothing is judged, nothing is written.
+/// out where it has no room for all. Where nothing is checked, nothing is written.
 #[unsafe(no_mangle)]
 pub extern "C" fn urlcheck_check_many(
     alloc: Global,
@@ -89,21 +89,21 @@ fn checked(
         (columns verdicts.new rules.new places.new) result }
 {
     if profile_of(profile).is_none() {
-        return Batch::unjudged(CallOutcome::NoProfile, 0);
+        return Batch::unchecked(CallOutcome::NoProfile, 0);
     }
     if let Some(row) = offsets.first_wrong(texts.len()) {
-        return Batch::unjudged(CallOutcome::NoOffsets, row);
+        return Batch::unchecked(CallOutcome::NoOffsets, row);
     }
     Batch {
         outcome: CallOutcome::Done.number(),
         row: 0,
-        valid: judge_rows(alloc, texts, offsets, profile, verdicts, rules, places),
+        valid: check_rows(alloc, texts, offsets, profile, verdicts, rules, places),
         length: 0,
     }
 }
 
-// Judges each text, and gives how many are valid.
-fn judge_rows(
+// Checks each text, and gives how many are valid.
+fn check_rows(
     alloc: Global,
     texts: &[u8],
     offsets: Offsets<'_>,
@@ -113,7 +113,7 @@ fn judge_rows(
     places: &mut [u64],
 ) -> usize
     requires { AreRows (length texts.now) (offset_list offsets) (row_count (offset_list offsets)) }
-    ensures { AreJudged profile texts.now (offset_list offsets.entry) (row_count (offset_list offsets.entry))
+    ensures { AreChecked profile texts.now (offset_list offsets.entry) (row_count (offset_list offsets.entry))
         (columns verdicts.old rules.old places.old) (columns verdicts.new rules.new places.new) result }
 {
     let rows = offsets.rows();
@@ -142,9 +142,9 @@ pub(crate) fn put<T: Copy>(column: &mut [T], rows: usize, row: usize, value: T)
 }
 
 impl Batch {
-    /// Nothing was judged.
-    pub(crate) fn unjudged(outcome: CallOutcome, row: usize) -> Batch
-        ensures { result ≡ unjudged_batch outcome row }
+    /// Nothing was checked.
+    pub(crate) fn unchecked(outcome: CallOutcome, row: usize) -> Batch
+        ensures { result ≡ unchecked_batch outcome row }
     {
         Batch {
             outcome: outcome.number(),

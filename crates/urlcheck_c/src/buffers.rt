@@ -3,7 +3,7 @@ ghost use Rattle.std.specs.Prelude.{◌≡◌, ◌≤◌, ◌++◌, drop, length
 ghost use Rattle.urlcheck_c.specs.Buffer.{IsWritten};
 ghost use Rattle.urlcheck_c.specs.Faults.{fault_of, stored};
 
-use crate::places::{behind_passed, bytes_before};
+use crate::places::{after_passed, bytes_before};
 use crate::reports::fault_lists::Fault;
 use uv_model::Refusal;
 
@@ -39,7 +39,7 @@ fn store_all(text: &str, found: &[Refusal], out: &mut [Fault])
     let mut passed = 0;
     for at in 0..found.len() {
         let refusal = found[at];
-        left = behind_passed(text, left, passed, refusal.place);
+        left = after_passed(text, left, passed, refusal.place);
         passed = refusal.place;
         out[at] = Fault {
             rule: u32::from(refusal.rule.number()),

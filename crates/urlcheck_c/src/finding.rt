@@ -9,7 +9,7 @@ use simdutf8::compat::from_utf8;
 use uv_model::Refusal;
 use uv_text::count_code_points;
 
-/// What was found of a text, or why it wasn't judged.
+/// What was found of a text, or why it wasn't checked.
 #[repr(C)]
 #[derive(Clone, Copy)]
 pub struct Finding {
@@ -58,11 +58,11 @@ pub(crate) enum CallOutcome {
     NoKind,
     /// No completion has the number.
     NoCompletion,
-    /// The place is behind the text's end.
+    /// The place is after the text's end.
     NoPlace,
     /// A line or a column isn't from 1 to 4294967295.
     NoColumn,
-    /// An offset is less than the one before it, or behind the texts' end.
+    /// An offset is less than the one before it, or after the texts' end.
     NoOffsets,
     /// The name of the file is no UTF-8.
     FileNoUtf8,

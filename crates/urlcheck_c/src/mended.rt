@@ -1,6 +1,6 @@
 //! What to write in place of a text that is refused.
 ghost use Rattle.std.specs.Prelude.{◌≡◌, ℕ, None, Some, option_copied};
-ghost use Rattle.urlcheck_c.specs.Base.{IsPreparedBase, IsUnjudgedWith, SaysNoBase};
+ghost use Rattle.urlcheck_c.specs.Base.{IsPreparedBase, IsUncheckedWith, SaysNoBase};
 ghost use Rattle.urlcheck_c.specs.Mended.{IsMendedAnswer, IsRequestMended, IsSaid, kind_number, unmended};
 
 use crate::bases::{Base, unread};
@@ -16,7 +16,7 @@ use uv_mend::{MendKind, Mending, mend};
 pub struct Mended {
     /// The verdict.
     pub found: Finding,
-    /// How the mended text stands to the text: 1 the same URL, 2 escaped alone, 3 changed, 0 where there is none.
+    /// How the mended text is to the text: 1 the same URL, 2 escaped alone, 3 changed, 0 where there is none.
     pub kind: u32,
     /// The length in bytes of the mended text, 0 where there is none.
     pub length: usize,
@@ -31,7 +31,7 @@ pub extern "C" fn urlcheck_mend(alloc: Global, text: &[u8], profile: u32, out: &
     mended_answer(alloc, text, None, profile, out)
 }
 
-/// The same against the bytes of a base, which is judged alone by the same profile.
+/// The same against the bytes of a base, which is checked alone by the same profile.
 #[unsafe(no_mangle)]
 pub extern "C" fn urlcheck_mend_against(
     alloc: Global,
@@ -57,7 +57,7 @@ pub extern "C" fn urlcheck_mend_with(
     ensures held { (number : ℕ) → IsPreparedBase number base_text.now base.now
         → IsMendedAnswer number (Some base_text.now) text.now out.old out.new result }
     ensures none { SaysNoBase base.now
-        → (result ≡ unmended result.found) × (out.new ≡ out.old) × IsUnjudgedWith base.now text.now result.found }
+        → (result ≡ unmended result.found) × (out.new ≡ out.old) × IsUncheckedWith base.now text.now result.found }
 {
     match base.read() {
         Some(_) => mended_answer(alloc, text, Some(base_text), base.profile, out),
@@ -81,7 +81,7 @@ fn mended_answer(
     }
 }
 
-// What is made of a text that is judged.
+// What is made of a text that is checked.
 fn request_mended(alloc: Global, request: &Request<'_>, out: &mut [u8]) -> Mended
     ensures { IsRequestMended request.now.profile request.now.base request.now.text.now out.old out.new result }
 {

@@ -1,4 +1,4 @@
-//! Where texts begin and end that stand one behind the other in one buffer.
+//! Where texts begin and end that are one after the other in one buffer.
 ghost use Rattle.std.specs.Prelude.{◌≡◌, ◌+◌, ◌-◌, ◌<◌, IsTrue, ◌↔◌, length, slice_index};
 ghost use Rattle.urlcheck_c.specs.Offsets.{IsFirstWrong, IsRow, offset_list, row_count, row_text};
 

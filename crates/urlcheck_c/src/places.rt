@@ -3,16 +3,16 @@ ghost use Rattle.std.specs.Prelude.{◌≡◌, drop};
 ghost use Rattle.std.specs.Str.{chars};
 ghost use Rattle.urlcheck_c.specs.Finding.{byte_place};
 
-use uv_model::behind_code_points;
+use uv_model::after_code_points;
 
-/// The place in bytes of a place in code points: how many bytes stand before it.
+/// The place in bytes of a place in code points: how many bytes are before it.
 pub(crate) fn byte_place(text: &str, place: usize) -> usize
     ensures { result ≡ byte_place text.now place }
 {
-    bytes_before(text, behind_code_points(text, place), place)
+    bytes_before(text, after_code_points(text, place), place)
 }
 
-/// How many bytes stand before what follows so many code points.
+/// How many bytes are before what follows so many code points.
 pub(crate) fn bytes_before(text: &str, left: &str, place: usize) -> usize
     requires { chars left.now ≡ drop place (chars text.now) }
     ensures { result ≡ byte_place text.now place }
@@ -21,17 +21,12 @@ pub(crate) fn bytes_before(text: &str, left: &str, place: usize) -> usize
 }
 
 /// What follows the code points before a place, where the code points before another place are passed already.
-pub(crate) fn behind_passed<'t>(
-    text: &'t str,
-    left: &'t str,
-    passed: usize,
-    place: usize,
-) -> &'t str
+pub(crate) fn after_passed<'t>(text: &'t str, left: &'t str, passed: usize, place: usize) -> &'t str
     requires { chars left.now ≡ drop passed (chars text.now) }
     ensures { chars result.now ≡ drop place (chars text.now) }
 {
     if place < passed {
-        return behind_code_points(text, place);
+        return after_code_points(text, place);
     }
-    behind_code_points(left, place - passed)
+    after_code_points(left, place - passed)
 }

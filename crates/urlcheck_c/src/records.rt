@@ -1,6 +1,6 @@
 //! The text of the record that a valid text denotes.
 ghost use Rattle.std.specs.Prelude.{◌≡◌, ℕ, None, Some, option_copied};
-ghost use Rattle.urlcheck_c.specs.Base.{IsPreparedBase, IsUnjudgedWith, SaysNoBase};
+ghost use Rattle.urlcheck_c.specs.Base.{IsPreparedBase, IsUncheckedWith, SaysNoBase};
 ghost use Rattle.urlcheck_c.specs.Resolved.{IsRecordAnswer, IsRecordWritten, IsResolvedAnswer, no_memory};
 
 pub(crate) mod placed_records;
@@ -39,7 +39,7 @@ pub extern "C" fn urlcheck_resolve(
     record_answer(alloc, text, None, profile, out)
 }
 
-/// The same against the bytes of a base, which is judged alone by the same profile.
+/// The same against the bytes of a base, which is checked alone by the same profile.
 #[unsafe(no_mangle)]
 pub extern "C" fn urlcheck_resolve_against(
     alloc: Global,
@@ -65,7 +65,7 @@ pub extern "C" fn urlcheck_resolve_with(
     ensures held { (number : ℕ) → IsPreparedBase number base_text.now base.now
         → IsResolvedAnswer number (Some base_text.now) text.now out.old out.new result }
     ensures none { SaysNoBase base.now
-        → (result.length ≡ 0) × (out.new ≡ out.old) × IsUnjudgedWith base.now text.now result.found }
+        → (result.length ≡ 0) × (out.new ≡ out.old) × IsUncheckedWith base.now text.now result.found }
 {
     match base.read() {
         Some(_) => record_answer(alloc, text, Some(base_text), base.profile, out),
@@ -92,7 +92,7 @@ fn record_answer(
     }
 }
 
-// The record's text of a text that is judged.
+// The record's text of a text that is checked.
 fn request_resolved(alloc: Global, request: &Request<'_>, out: &mut [u8]) -> Resolved
     ensures { IsRecordAnswer request.now.profile request.now.base request.now.text.now out.old out.new result }
 {

@@ -1,4 +1,4 @@
-//! What stands round the diagnostics of a report, and the names of formats and of units.
+//! What is round the diagnostics of a report, and the names of formats and of units.
 ghost use Rattle.std.specs.Prelude.{◌≡◌, IfOk, string_bytes};
 ghost use Rattle.uv_report.specs.Report.{begin_text, file_begin_text, file_end_text};
 ghost use Rattle.urlcheck_c.specs.Buffer.{IsWritten};
@@ -52,7 +52,7 @@ fn begin(alloc: Global, format: Format, columns: Columns) -> Result<String, Allo
     Ok(text)
 }
 
-/// Writes what stands before the diagnostics of a file.
+/// Writes what is before the diagnostics of a file.
 #[unsafe(no_mangle)]
 pub extern "C" fn urlcheck_report_file_begin(
     alloc: Global,
@@ -79,7 +79,7 @@ fn file_begin(alloc: Global, format: Format, file: &str) -> Result<String, Alloc
     Ok(text)
 }
 
-/// Writes what stands behind the diagnostics of a file.
+/// Writes what is after the diagnostics of a file.
 #[unsafe(no_mangle)]
 pub extern "C" fn urlcheck_report_file_end(alloc: Global, format: u32, out: &mut [u8]) -> Written
     ensures { IsFileEndAnswer format out.old out.new result }

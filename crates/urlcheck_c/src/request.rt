@@ -10,27 +10,27 @@ use std::alloc::Global;
 use uv_model::{Profile, Record};
 use uv_resolve::{ResolveFault, resolve};
 
-/// What is to be judged.
+/// What is to be checked.
 #[derive(Drop)]
 pub(crate) struct Request<'t> {
     /// The text.
     pub(crate) text: &'t str,
     /// What the base denotes alone.
     pub(crate) base: Option<Record>,
-    /// The profile by which both are judged.
+    /// The profile by which both are checked.
     pub(crate) profile: Profile,
 }
 
-/// A text that is to be judged alone, without room for a base.
+/// A text that is to be checked alone, without room for a base.
 #[derive(Drop)]
 pub(crate) struct LoneRequest<'t> {
     /// The text.
     pub(crate) text: &'t str,
-    /// The profile by which it is judged.
+    /// The profile by which it is checked.
     pub(crate) profile: Profile,
 }
 
-/// What is to be judged of the bytes of a text alone, or why nothing is.
+/// What is to be checked of the bytes of a text alone, or why nothing is.
 #[inline(always)]
 pub(crate) fn prepared_alone<'t>(text: &'t [u8], profile: u32) -> Result<LoneRequest<'t>, Finding>
     ensures { IsPreparedAlone profile text.now result }
@@ -42,7 +42,7 @@ pub(crate) fn prepared_alone<'t>(text: &'t [u8], profile: u32) -> Result<LoneReq
     Ok(LoneRequest { text, profile })
 }
 
-/// What is to be judged of the bytes of a text and of a base, or why nothing is.
+/// What is to be checked of the bytes of a text and of a base, or why nothing is.
 #[inline(always)]
 pub(crate) fn prepared<'t>(
     alloc: Global,

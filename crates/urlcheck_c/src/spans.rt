@@ -71,7 +71,7 @@ pub(crate) fn placed(text: &str, parts: &Parts<'_>) -> Spans
     laid(text.len(), parts)
 }
 
-// The places of parts that stand one behind the other, with their delimiters.
+// The places of parts that are one after the other, with their delimiters.
 #[inline(always)]
 fn laid(whole: usize, parts: &Parts<'_>) -> Spans
     requires { whole ≡ whole_extent parts.now }
@@ -105,7 +105,7 @@ fn taken(mark: usize, part: Option<&str>) -> usize
     }
 }
 
-// The place of a part behind its delimiter.
+// The place of a part after its delimiter.
 #[tactic(auto, using(crate::proofs::SeenLemmas::encoded_length))]
 #[inline(always)]
 fn one_place(at: usize, mark: usize, part: Option<&str>) -> Span

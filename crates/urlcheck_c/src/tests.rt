@@ -106,7 +106,7 @@ fn is_taken_from(
 
 // What each profile with a number of its own takes, the wider ones too.
 #[test]
-fn judges_by_each_profile(rt: HostRuntime) {
+fn checks_by_each_profile(rt: HostRuntime) {
     is_taken_from(&rt, b"http://x_y/", 1, (1, 5, 7, 7));
     is_taken_from(&rt, b"http://1.2.3/", 2, (1, 6, 7, 7));
     is_taken_from(&rt, b"http://a%2Db/", 2, (1, 5, 7, 7));
@@ -128,7 +128,7 @@ fn writes_a_record_of_the_parsers_profile(rt: HostRuntime) {
 }
 
 #[test]
-fn judges_the_base_alone(rt: HostRuntime) {
+fn checks_the_base_alone(rt: HostRuntime) {
     let found = urlcheck_check_against(rt.alloc(), b"x", "http://h/\u{e9} b".as_bytes(), 0).found;
     finds(&rt, found, (3, 13, 10, 11));
     finds(
@@ -173,7 +173,7 @@ fn is_held(rt: &impl Abort, base: &Base, profile: u32, scheme: u32) {
 }
 
 #[test]
-fn judges_against_a_base_that_is_held(rt: HostRuntime) {
+fn checks_against_a_base_that_is_held(rt: HostRuntime) {
     let wide = urlcheck_prepare(rt.alloc(), b"ws://h/a", 1);
     is_held(&rt, &wide, 1, 2);
     finds_with(&rt, &wide, b"//x_:80/b", (0, 0, 0, 0));

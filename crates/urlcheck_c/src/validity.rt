@@ -36,7 +36,7 @@ pub extern "C" fn urlcheck_is_valid_with(alloc: Global, text: &[u8], base: &Base
     }
 }
 
-// The answer on a text that is judged.
+// The answer on a text that is checked.
 fn is_known_valid(alloc: Global, request: &Request<'_>) -> bool
     ensures { IsKnownValid request.now.profile request.now.base request.now.text.now result }
 {

@@ -1,4 +1,4 @@
--- Files that were linted: a source, and one file behind others.
+-- Files that were linted: a source, and one file after others.
 use Rattle.std.proofs.Common.{◌≡◌, ◌∙◌, ◌+◌, ◌≤◌, ℕ, Bool, true, false, List, [], ◌∷◌, ◌++◌, Option, Some, None}
 use Rattle.std.proofs.Common.{Result, Ok, Err, IfErr, OnOk, String, Global, refl, sym, subst, ap, arith, inl, inr}
 use Rattle.std.proofs.Common.{is_some, length, map, take, string_bytes}
@@ -41,7 +41,7 @@ lints_source setting is_first counts (Ok u) start rest old new a b c d (read, co
 lints_source setting is_first counts (Err e) start rest old new a b c d report (read, consumed, leaves) failed quiet =
     record { read = read; consumed = consumed; wrote = leaves; failed = failed }
 
--- one file behind others
+-- one file after others
 pub all_more : (setting : List ℕ → FileSetting) (files : List (List ℕ)) (file : List ℕ) (before middle after : Linted)
     (input between rest old part new : Stream)
     → LintsAll setting files before middle input between old part

@@ -1,25 +1,25 @@
--- What is seen of bytes and of further ones behind them.
+-- What is seen of bytes and of further ones after them.
 use Rattle.std.proofs.Common.{◌≡◌, ◌∙◌, ◌+◌, ◌-◌, ◌≤◌, ◌||◌, ◌++◌, ◌==◌, ℕ, Bool, true, false, List}
 use Rattle.std.proofs.Common.{ap, append-nil, arith, length, nat_lt, refl, sym, take, take_all}
 use Rattle.std.proofs.Math.Seq.{take-append-add}
 use Rattle.std.proofs.lemmas.List.{length-take-le, take-append-le}
 use Rattle.std.proofs.lemmas.List.Folds.{list_any-append}
 use Rattle.std.specs.List.{list_any}
-use Rattle.uv_cli.specs.Look.{ends_behind, ends_by, ends_of}
+use Rattle.uv_cli.specs.Look.{ends_after, ends_by, ends_of}
 
 -- by whether both have an LF or a CR
-behind_by : (a b c d : Bool) → ends_behind (ends_by a b) c d ≡ ends_by (a || c) (b || d)
-behind_by true b c d = refl
-behind_by false true true d = refl
-behind_by false true false d = refl
-behind_by false false c d = refl
+after_by : (a b c d : Bool) → ends_after (ends_by a b) c d ≡ ends_by (a || c) (b || d)
+after_by true b c d = refl
+after_by false true true d = refl
+after_by false true false d = refl
+after_by false false c d = refl
 
--- what ends the lines behind further bytes
+-- what ends the lines after further bytes
 pub ends_more : (bytes more : List ℕ)
-    → ends_behind (ends_of bytes) (list_any (λ b. b == 10) more) (list_any (λ b. b == 13) more)
+    → ends_after (ends_of bytes) (list_any (λ b. b == 10) more) (list_any (λ b. b == 13) more)
     ≡ ends_of (bytes ++ more)
 ends_more bytes more =
-    behind_by (list_any (λ b. b == 10) bytes) (list_any (λ b. b == 13) bytes) (list_any (λ b. b == 10) more)
+    after_by (list_any (λ b. b == 10) bytes) (list_any (λ b. b == 13) bytes) (list_any (λ b. b == 10) more)
     (list_any (λ b. b == 13) more)
     ∙ ap (λ lf. ends_by lf (list_any (λ b. b == 13) bytes || list_any (λ b. b == 13) more))
     (sym (list_any-append (λ b. b == 10) bytes more))

@@ -5,7 +5,7 @@ use Rattle.std.specs.declared.io.Error.{Error}
 use Rattle.std.specs.declared.io.ErrorKind.{ErrorKind}
 use Rattle.std.specs.declared.io.ErrorKind.TheVariants.{BrokenPipe}
 
--- the kind of the last error behind a call: that of the call, where it failed
+-- the kind of the last error after a call: that of the call, where it failed
 abbrev pub fault_after : {A : Type 0} → Option ErrorKind → Result A Error → Option ErrorKind
 fault_after fault (Ok given) = fault
 fault_after fault (Err error) = Some (error_kind error)

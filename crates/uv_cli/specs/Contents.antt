@@ -27,6 +27,6 @@ abbrev pub hint_for : Option Content → Option (List ℕ) → List ℕ
 hint_for found None = []
 hint_for found (Some reader) = content_hint (codes "standard input") found reader
 
--- the same behind a job that ended so
+-- the same after a job that ended so
 abbrev pub input_hint : Job → End → Option Content → List ℕ
 input_hint asked ended found = hint_for found (reader_of asked ended)

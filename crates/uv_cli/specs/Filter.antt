@@ -47,7 +47,7 @@ pub record IsFiltered (mender : Mender) (is_quiet : Bool) (filtered : Filtered) 
   pub quiet : filtered.is_quiet ≡ is_quiet
 
 -- What was read and written of the lines by the texts that the job has. The kind is found first, and then the base is
--- judged alone, before anything is read or written.
+-- checked alone, before anything is read or written.
 abbrev pub HasFiltered : FilterJob → Option (Bor (List ℕ)) → Option (Bor (List ℕ)) → End
     → Stream → Stream → Stream → Stream → Type 0
 HasFiltered asked base name end.UnknownKind input rest old new =

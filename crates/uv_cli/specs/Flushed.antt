@@ -6,7 +6,7 @@ use Rattle.uv_cli.specs.Ends.{end_after_output}
 use Rattle.uv_cli.specs.declared.ends.End.{End}
 use Rattle.uv_cli.specs.declared.program.Ended.{Ended}
 
--- an end behind which the output is still read
+-- an end after which the output is still read
 abbrev pub open_end : End → Ended
 open_end end = record { end = end; is_closed = false }
 

@@ -14,7 +14,7 @@ use Rattle.uv_links.specs.Run.{Leaves, Reports, reads_failed, writes_failed}
 use Rattle.uv_second.specs.Second.{AgreesOnBase}
 use Rattle.uv_resolve.specs.Base.{IsBase, IsBaseRefused}
 use Rattle.uv_vectors.specs.Ends.{IsEndOf}
-use Rattle.uv_vectors.specs.Run.{WritesVectors, WritesVectorsPrefix, is_judged}
+use Rattle.uv_vectors.specs.Run.{WritesVectors, WritesVectorsPrefix, is_checked}
 use Rattle.uv_words.specs.declared.words.FilterJob.{FilterJob}
 use Rattle.uv_words.specs.declared.words.Job.{Job}
 use Rattle.uv_words.specs.declared.words.Job.TheVariants as job
@@ -49,7 +49,7 @@ HasChecked extent profile base text _ old new = ⊥
 
 -- ---- a list of links
 
--- what the lines of a list are judged against, at the largest limits
+-- what the lines of a list are checked against, at the largest limits
 abbrev pub list_setting : Profile → Option Url → ListSetting
 list_setting profile base = record {
   profile = profile;
@@ -88,7 +88,7 @@ HasListedAgainst profile base end.Refused input rest old new =
 HasListedAgainst profile base (end.Stopped fault) input rest old new = HasStopped profile base fault input rest old new
 HasListedAgainst profile base _ input rest old new = ⊥
 
--- the same against the base's text, which is judged alone, before anything is read or written
+-- the same against the base's text, which is checked alone, before anything is read or written
 abbrev pub HasListed : Profile → Option (Bor (List ℕ)) → End → Stream → Stream → Stream → Stream → Type 0
 HasListed profile base (end.BaseRefused refusal) input rest old new =
     IsBaseRefused profile base refusal × (rest ≡ input) × (new ≡ old)
@@ -101,7 +101,7 @@ HasListed profile base end input rest old new =
 -- what a run over the bytes of a vector file has written
 abbrev pub HasRunVectors : List ℕ → End → Stream → Stream → Type 0
 HasRunVectors bytes (end.Vectors ended) old new =
-    IsEndOf ended (λ told. WritesVectors bytes told old.bytes new.bytes × (is_judged told ≡ false → new ≡ old))
+    IsEndOf ended (λ told. WritesVectors bytes told old.bytes new.bytes × (is_checked told ≡ false → new ≡ old))
     × (new.failed ≡ old.failed)
 HasRunVectors bytes (end.Fault cli.Memory) old new = new ≡ old
 HasRunVectors bytes (end.Fault cli.Write) old new =

@@ -15,6 +15,6 @@ pub mod Look
 pub mod Contents
 pub mod Program
 pub mod Reasons
-pub mod Unjudged
+pub mod Unchecked
 pub mod Unknown
 pub mod VectorFile

@@ -48,7 +48,7 @@ abbrev pub columns_of : Format → Option (Bor (List ℕ)) → Option Columns
 columns_of format None = Some (own_columns format)
 columns_of format (Some name) = named_columns name.now
 
--- what a line is: where each is to say where its link stands, it is that, else a text
+-- what a line is: where each is to say where its link is, it is that, else a text
 abbrev pub form_of : Bool → LineForm
 form_of true = Located
 form_of false = Plain
@@ -91,7 +91,7 @@ WritesFile setting is_first (Ok done) counts read rest old new =
 WritesFile setting is_first (Err fault) counts read rest old new =
     Leaves fault setting most is_first old read (IsAtEnd rest) counts new
 
--- how often the streams have failed behind it
+-- how often the streams have failed after it
 abbrev pub FailsAsAnswered : Result (Unit {0}) LintFault → Stream → Stream → Stream → Stream → Type 0
 FailsAsAnswered (Ok done) input rest old new = (rest.failed ≡ input.failed) × (new.failed ≡ old.failed)
 FailsAsAnswered (Err fault) input rest old new =
@@ -126,7 +126,7 @@ IsWhyUnopened kind Memory = kind ≡ OutOfMemory
 IsWhyUnopened kind Read = kind ≢ OutOfMemory
 IsWhyUnopened kind _ = ⊥
 
--- the input isn't read where its count of failed reads stands at its end
+-- the input isn't read where its count of failed reads is at its end
 abbrev pub IsUnreadable : Result (Unit {0}) LintFault → Stream → Type 0
 IsUnreadable answer input = (answer ≡ Err Read) × (input.failed ≡ 2 ^ 64 - 1)
 
@@ -148,7 +148,7 @@ pub record LintsFile (file : List ℕ) (setting : FileSetting) (before after : L
   pub named : LintsNamed (is_input file) setting (is_clean before) counts answer input rest old new
   pub is_after : after ≡ with_file before (is_input file) (has_document_end file) counts answer
 
--- nothing is done behind what stopped the lint
+-- nothing is done after what stopped the lint
 pub record StaysStopped (before after : Linted) (input rest old new : Stream) : Type 0 where
   pub is_after : after ≡ before
   pub unread : rest ≡ input
@@ -180,7 +180,7 @@ WritesOrStops false piece before after old new =
     (after ≡ with_fault before Write) × ((prefix : ℕ) × Appends old.bytes new.bytes (take prefix piece))
     × (new.failed ≡ old.failed + 1)
 
--- the same, but nothing is written behind a failed write
+-- the same, but nothing is written after a failed write
 abbrev pub WritesPiece : Bool → List ℕ → Linted → Linted → Stream → Stream → Type 0
 WritesPiece true piece before after old new = (is_out : Bool) × WritesOrStops is_out piece before after old new
 WritesPiece false piece before after old new = (after ≡ before) × (new ≡ old)
@@ -213,7 +213,7 @@ pub record AreNamed (name unit : Option (Bor (List ℕ))) (format : Format) (col
   pub takes_is : takes_columns format columns ≡ takes
 
 -- The same by the texts that the job has: its base, the name of the format, and that of what columns count. Both names
--- are looked up first, and then the base is judged alone, before anything is read or written.
+-- are looked up first, and then the base is checked alone, before anything is read or written.
 abbrev pub HasLinted : LintJob → Option (Bor (List ℕ)) → Option (Bor (List ℕ)) → Option (Bor (List ℕ)) → End
     → Stream → Stream → Stream → Stream → Type 0
 HasLinted asked base name unit end.UnknownFormat input rest old new =

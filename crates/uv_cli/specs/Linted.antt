@@ -31,7 +31,7 @@ sum_counts a b = record {
 abbrev pub with_fault : Linted → LintFault → Linted
 with_fault linted fault = record linted { stopped = Some fault }
 
--- behind a file that can't be opened, or not be read to its end: the standard input, or another one
+-- after a file that can't be opened, or not be read to its end: the standard input, or another one
 abbrev pub with_unread : Linted → Bool → Linted
 with_unread linted is_input =
     record linted { is_unread = true; is_input_unread = is_input || linted.is_input_unread }
@@ -40,7 +40,7 @@ with_unread linted is_input =
 abbrev pub has_refused : LintCounts → Bool
 has_refused counts = not (counts.refused == 0)
 
--- behind a file with these counts, which has the name of a document or of something else
+-- after a file with these counts, which has the name of a document or of something else
 abbrev pub with_counts : Linted → Bool → LintCounts → Linted
 with_counts linted is_document counts =
     record linted {
@@ -48,7 +48,7 @@ with_counts linted is_document counts =
       is_document_refused = (is_document && has_refused counts) || linted.is_document_refused;
     }
 
--- behind a file with these counts and this answer, which is the standard input or another one, and has the name of a
+-- after a file with these counts and this answer, which is the standard input or another one, and has the name of a
 -- document or of something else: a failed read stops nothing, and each other fault does
 abbrev pub with_file : Linted → Bool → Bool → LintCounts → Result (Unit {0}) LintFault → Linted
 with_file linted is_input is_document counts (Ok done) = with_counts linted is_document counts

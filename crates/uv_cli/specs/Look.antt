@@ -15,12 +15,12 @@ ends_by false false = Unseen
 abbrev pub ends_of : List ℕ → LineEnds
 ends_of bytes = ends_by (list_any (λ b. b == 10) bytes) (list_any (λ b. b == 13) bytes)
 
--- the same behind further bytes, in which there is an LF, or a CR
-abbrev pub ends_behind : LineEnds → Bool → Bool → LineEnds
-ends_behind Feeds has_lf has_cr = Feeds
-ends_behind Returns true has_cr = Feeds
-ends_behind Returns false has_cr = Returns
-ends_behind Unseen has_lf has_cr = ends_by has_lf has_cr
+-- the same after further bytes, in which there is an LF, or a CR
+abbrev pub ends_after : LineEnds → Bool → Bool → LineEnds
+ends_after Feeds has_lf has_cr = Feeds
+ends_after Returns true has_cr = Feeds
+ends_after Returns false has_cr = Returns
+ends_after Unseen has_lf has_cr = ends_by has_lf has_cr
 
 -- this is what is seen of the bytes that were read: the first 256, and what ends their lines
 abbrev pub Sees : Look → List ℕ → Type 0

@@ -18,7 +18,7 @@ use Rattle.uv_cli.specs.declared.vector_file.FileFault.{FileFault}
 
 -- ---- a job
 
--- the job was done over the input and the output, which was flushed behind its last write, or not: the end is the
+-- the job was done over the input and the output, which was flushed after its last write, or not: the end is the
 -- job's, or that of a failed write
 abbrev pub HasRun : Job → List ℕ → Ended → Stream → Stream → Option (List ℕ) → Option (List ℕ) → Bool
     → Option ErrorKind → Type 0

@@ -70,7 +70,7 @@ base_of (job.Mend text base profile) = option_map_or string_bytes base []
 base_of (job.Filter asked) = option_map_or string_bytes asked.base []
 base_of other = []
 
--- the profile that its text is judged by
+-- the profile that its text is checked by
 abbrev pub profile_of : Job → Profile
 profile_of (job.Check text base extent profile) = profile
 profile_of (job.Lint asked) = asked.profile
@@ -79,7 +79,7 @@ profile_of (job.Mend text base profile) = profile
 profile_of (job.Filter asked) = asked.profile
 profile_of other = Standard
 
--- why a base is refused by a profile, as a diagnostic says it; but it is judged alone, so that it needs a scheme
+-- why a base is refused by a profile, as a diagnostic says it; but it is checked alone, so that it needs a scheme
 abbrev pub base_reason : Profile → List ℕ → Refusal → Rule → List ℕ
 base_reason profile base refusal NoScheme = codes "it has no scheme"
 base_reason profile base refusal rule = message profile base (Refused refusal)
@@ -107,7 +107,7 @@ abbrev pub text_of : Option FailedStream → Profile → List ℕ → End → Un
 text_of (Some stream) profile base end read written = stream_text stream read written
 text_of None profile base end read written = text_without_stream profile base end
 
--- what is reported of why the program ends so, or nothing, where the base has this text and is judged by this profile
+-- what is reported of why the program ends so, or nothing, where the base has this text and is checked by this profile
 abbrev pub reason_text : Profile → List ℕ → End → Unread → Option ErrorKind → List ℕ
 reason_text profile base end read written = text_of (failed_stream end) profile base end read written
 

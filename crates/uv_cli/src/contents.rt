@@ -19,7 +19,7 @@ pub(crate) fn found_content(counts: LintCounts, content: Option<Content>) -> Opt
     if counts.refused == 0 { None } else { content }
 }
 
-/// The hint at what standard input looks like, if it does, behind a job that ended so; or nothing.
+/// The hint at what standard input looks like, if it does, after a job that ended so; or nothing.
 pub(crate) fn input_hint(
     alloc: Global,
     job: &Job,

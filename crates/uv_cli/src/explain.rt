@@ -19,9 +19,9 @@ pub enum ExplainEnd {
     Unknown,
 }
 
-/// Writes what the rules with these names ask, where they stand, and an example of each, in the order of the names and
+/// Writes what the rules with these names ask, where they are, and an example of each, in the order of the names and
 /// with an empty line between two; without a name it writes this of each rule, in the order of their numbers. By the
-/// name of a violation with a line that isn't judged it writes what a line is asked. Where `told` asks for the pages,
+/// name of a violation with a line that isn't checked it writes what a line is asked. Where `told` asks for the pages,
 /// it writes of each the address of the page about it, in a line, and no more.
 ///
 /// An error of memory leaves the output as it was; an error of a write leaves a beginning of what was to be written.

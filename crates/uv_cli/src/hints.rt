@@ -1,4 +1,4 @@
-//! Hints behind a job, by how it ended: what is reported on standard error.
+//! Hints after a job, by how it ended: what is reported on standard error.
 ghost use Rattle.std.specs.Prelude.{◌≡◌, IfOk, string_bytes};
 ghost use Rattle.uv_cli.specs.Hints.{job_hint, lint_hint};
 ghost use Rattle.uv_messages.specs.Hints.{text_hint};
@@ -25,7 +25,7 @@ const LIST_OF_MEND: &str = "mend <FILE mends the lines of a file";
 const OF_DOCUMENTS: &str =
     "urlcheck: lint reads one link a line; urlcheck-documents --check FILE checks the links of a document\n";
 
-/// The hint behind a job that ended so, or nothing: of a text that is refused, where it is `-`, or looks like the name
+/// The hint after a job that ended so, or nothing: of a text that is refused, where it is `-`, or looks like the name
 /// of a file and has no base; and of a lint that refuses lines of a document.
 pub(crate) fn job_hint(alloc: Global, job: &Job, end: End) -> Result<String, AllocError>
     ensures { IfOk result (λ hint. string_bytes hint ≡ job_hint job.now end) }
@@ -50,7 +50,7 @@ pub(crate) fn job_hint(alloc: Global, job: &Job, end: End) -> Result<String, All
     }
 }
 
-// The hint behind a lint, or nothing: where it isn't to be quiet, came to its end, and refused a line of a file that
+// The hint after a lint, or nothing: where it isn't to be quiet, came to its end, and refused a line of a file that
 // has the name of a document.
 fn lint_hint(alloc: Global, linted: Linted) -> Result<String, AllocError>
     ensures { IfOk result (λ hint. string_bytes hint ≡ lint_hint linted) }

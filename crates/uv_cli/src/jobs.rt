@@ -12,7 +12,7 @@ use crate::filter::filter_lines;
 use crate::links::list_links;
 use crate::lint::lint_files;
 use crate::mend::run_mend;
-use crate::unjudged::report_unjudged;
+use crate::unchecked::report_unchecked;
 use std::alloc::Global;
 use std::fs::Files;
 use uv_io::{Sink, Source};
@@ -143,7 +143,7 @@ fn explained<S: Sink>(alloc: Global, rules: &[String], told: Told, out: &mut S) 
     end_of_explanation(run_explain(alloc, rules, told, out))
 }
 
-// Runs the cases of a vector file with this name, or reports why they aren't judged.
+// Runs the cases of a vector file with this name, or reports why they aren't checked.
 fn vectors_run<R: Eprint + AllocGlobal, S: Sink>(
     rt: &R,
     name: &str,
@@ -157,7 +157,7 @@ fn vectors_run<R: Eprint + AllocGlobal, S: Sink>(
 {
     let gave = run_cases(rt.alloc(), file, out);
     if let Ok(end) = &gave {
-        report_unjudged(rt, name, end);
+        report_unchecked(rt, name, end);
     }
     end_of_vectors(&gave)
 }

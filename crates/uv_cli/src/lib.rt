@@ -17,7 +17,7 @@ mod look;
 mod mend;
 pub mod program;
 mod reasons;
-mod unjudged;
+mod unchecked;
 mod unknown;
 mod vector_file;
 mod watched;

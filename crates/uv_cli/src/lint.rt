@@ -98,7 +98,7 @@ fn columns_of(format: Format, name: Option<&str>) -> Option<Columns>
     }
 }
 
-// What a line is, by whether each says where its link stands.
+// What a line is, by whether each says where its link is.
 fn form_of(is_located: bool) -> LineForm
     ensures { result ≡ form_of is_located }
 {
@@ -261,7 +261,7 @@ fn lint_named<R: Files + Eprint + AllocGlobal, I: Source, S: Sink>(
     lint_opened(rt, file, setting, is_first, out)
 }
 
-// Reports on the input by this name, unless its count of failed reads stands at its end.
+// Reports on the input by this name, unless its count of failed reads is at its end.
 fn lint_input<I: Source, S: Sink>(
     alloc: Global,
     file: &str,

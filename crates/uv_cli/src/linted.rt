@@ -10,7 +10,7 @@ use uv_report::Completion;
 /// What a lint of files has come to: what was counted, and what went wrong.
 #[derive(Clone, Copy, PartialEq, Eq)]
 pub struct Linted {
-    /// How many lines of all files were judged, and of how many something was found. Each is 2^64 - 1 at most.
+    /// How many lines of all files were checked, and of how many something was found. Each is 2^64 - 1 at most.
     pub counts: LintCounts,
     /// Whether a file couldn't be opened, or not be read to its end.
     pub is_unread: bool,
@@ -42,7 +42,7 @@ impl Linted {
         }
     }
 
-    /// The same behind a file of which so many lines were counted: the standard input, or another one, with the name of
+    /// The same after a file of which so many lines were counted: the standard input, or another one, with the name of
     /// a document or of something else.
     pub(crate) fn with_file(
         self,
@@ -61,7 +61,7 @@ impl Linted {
         }
     }
 
-    // The same behind a file of which so many lines were counted, with the name of a document or of something else.
+    // The same after a file of which so many lines were counted, with the name of a document or of something else.
     fn with_counts(self, is_document: bool, counts: LintCounts) -> Linted
         ensures { result ≡ spec.with_counts self is_document counts }
     {
@@ -79,7 +79,7 @@ impl Linted {
         }
     }
 
-    // The same behind a file that can't be opened, or not be read to its end: the standard input, or another one.
+    // The same after a file that can't be opened, or not be read to its end: the standard input, or another one.
     fn with_unread(self, is_input: bool) -> Linted
         ensures { result ≡ spec.with_unread self is_input }
     {

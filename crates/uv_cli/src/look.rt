@@ -2,7 +2,7 @@
 ghost use Rattle.std.specs.Prelude.{◌≡◌, ◌++◌, ◌-◌, ◌==◌, [], length, take};
 ghost use Rattle.std.specs.List.{list_any};
 ghost use Rattle.uv_messages.specs.Contents.{content_of};
-ghost use Rattle.uv_cli.specs.Look.{Sees, SeesMore, ends_behind};
+ghost use Rattle.uv_cli.specs.Look.{Sees, SeesMore, ends_after};
 
 use arrayvec::ArrayVec;
 use uv_messages::contents::{Content, LineEnds, content_of};
@@ -32,7 +32,7 @@ impl Look {
     pub(crate) fn add(&mut self, bytes: &[u8])
         ensures { SeesMore self.old self.new bytes.now }
     {
-        self.ends = ends_behind(self.ends, bytes);
+        self.ends = ends_after(self.ends, bytes);
         keep(&mut self.first, bytes);
     }
 
@@ -52,9 +52,9 @@ fn keep(first: &mut ArrayVec<u8, KEPT>, bytes: &[u8])
     let _ = first.try_extend_from_slice(&bytes[..room]);
 }
 
-// What ends the lines behind further bytes.
-fn ends_behind(ends: LineEnds, bytes: &[u8]) -> LineEnds
-    ensures { result ≡ ends_behind ends (list_any (λ b. b == 10) bytes.now) (list_any (λ b. b == 13) bytes.now) }
+// What ends the lines after further bytes.
+fn ends_after(ends: LineEnds, bytes: &[u8]) -> LineEnds
+    ensures { result ≡ ends_after ends (list_any (λ b. b == 10) bytes.now) (list_any (λ b. b == 13) bytes.now) }
 {
     match ends {
         LineEnds::Feeds => LineEnds::Feeds,

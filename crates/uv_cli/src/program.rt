@@ -97,7 +97,7 @@ fn refusal<R: Eprint + AllocGlobal>(rt: &R, why: &str) -> Ended
     open(End::Words)
 }
 
-// An end behind which the output is still read.
+// An end after which the output is still read.
 fn open(end: End) -> Ended
     ensures { result ≡ open_end end }
 {
@@ -128,7 +128,7 @@ fn done<R: Files + Input + Print + Eprint + AllocGlobal>(rt: &R, job: &Job) -> E
     ended
 }
 
-// Does a job over an input and a writer, which is flushed behind the last write, and given back.
+// Does a job over an input and a writer, which is flushed after the last write, and given back.
 fn done_over<R: Files + Eprint + AllocGlobal, I: Source, W: Write + Drop>(
     rt: &R,
     job: &Job,
@@ -195,7 +195,7 @@ fn shown<R: Print + Eprint + AllocGlobal>(rt: &R, words: &[&str], fault: &WordsF
     if fault.asks_to_show() {
         return printed(rt, end, error.print(rt));
     }
-    // (before the command stands the program's name)
+    // (before the command is the program's name)
     let command = words.get(1).copied();
     let option = unknown_option(words, error.kind());
     let hint = near_hint(rt.alloc(), command, option, error.kind());
@@ -232,7 +232,7 @@ fn printed<R: Eprint + AllocGlobal>(rt: &R, end: End, answer: io::Result<()>) ->
     }
 }
 
-// The lines of an error of `clap`, without its tips where a hint stands in their place.
+// The lines of an error of `clap`, without its tips where a hint is in their place.
 fn clap_lines(alloc: Global, error: &clap::Error, has_hint: bool) -> Result<String, AllocError> {
     message_lines(alloc, error.to_string(alloc)?.as_str(), has_hint)
 }

@@ -97,7 +97,7 @@ pub(crate) fn base_of(job: &Job) -> &str
     base.as_deref().unwrap_or("")
 }
 
-/// By which profile the job's base is judged.
+/// By which profile the job's base is checked.
 pub(crate) fn profile_of(job: &Job) -> Profile
     ensures { result ≡ profile_of job.now }
 {
@@ -196,7 +196,7 @@ fn base_line(
     Ok(line)
 }
 
-// Pushes why a base is refused by a profile: a base is judged alone, so that it needs a scheme.
+// Pushes why a base is refused by a profile: a base is checked alone, so that it needs a scheme.
 fn push_base_reason(
     alloc: Global,
     line: &mut String,

@@ -73,7 +73,7 @@ impl<R: Read> Read for WatchedReader<R> {
 }
 
 /// A writer, with the kind of its last error, if a write or a flush of it has failed, and whether it is flushed: no
-/// write came behind the last flush, and that didn't fail.
+/// write came after the last flush, and that didn't fail.
 #[derive(Drop)]
 pub struct WatchedWriter<W> {
     writer: W,

@@ -134,7 +134,7 @@ end-cut start old read prefix part rest now after begun is_long text new newer n
           (filtered_over start old read now after begun is_long text new prefix none h over counted)),
     )
 
--- a write failed behind the last piece that was read, in the midst of a list
+-- a write failed after the last piece that was read, in the midst of a list
 pub piece-cut : (start : Filtering) (old : Option (List ℕ)) (read : List ℕ) (now after : Filtering)
     (begun : List ℕ) (is_long : Bool) (text : List ℕ) (new newer : Option (List ℕ)) (n : ℕ)
     → Stands start old read now begun is_long text new → Appends new newer (take n text) → after ≡ now

@@ -36,7 +36,7 @@ pub over_fate : (q : Filtering) (closed : Bool) (l : List ℕ) → 65537 < lengt
 over_fate q closed l long =
     record { fate = TooLong; is_fate = text_long closed l long; written = refl; left = refl }
 
--- behind the lines that have ended one that is too long already
+-- after the lines that have ended one that is too long already
 pub with_ready : (b : Bool) (l : List ℕ) (start : Filtering) (lines : List Line) (closed out : List ℕ)
     (before now : Filtering) → (b ≡ true → 65537 < length l) → Filtered start lines closed before
     → out ≡ closed ++ passed b l → now ≡ with_over b before → Filtered start (lines ++ over_line b l) out now

@@ -19,7 +19,7 @@ ended-closing xs prefix none =
     ap (λ p. map ended_line p.0) (split-closing xs prefix none)
     ∙ map-append ended_line (split xs).0 (((split xs).1 ++ prefix) ∷ [])
 
--- behind it none has begun
+-- after it none has begun
 pub last-closing : (xs prefix : List ℕ) → split prefix ≡ ([], prefix)
     → (split (xs ++ (prefix ++ line_feed ∷ []))).1 ≡ []
 last-closing xs prefix none = ap (λ p. p.1) (split-closing xs prefix none)

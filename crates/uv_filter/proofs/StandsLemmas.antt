@@ -1,4 +1,4 @@
--- Where a run stands when a line has ended or gone on.
+-- Where a run is when a line has ended or gone on.
 use Rattle.std.proofs.Common.{◌≡◌, ℕ, ◌+◌, ◌<◌, ◌≤◌, Bool, true, false, List, [], ◌∷◌, ◌++◌, Option, length, refl, sym}
 use Rattle.std.proofs.Common.{ap, ◌∙◌, subst, arith, append_assoc, append-nil, length-append}
 use Rattle.std.proofs.KnownBytes.{Appends-trans, Appends-nil}
@@ -29,7 +29,7 @@ Stands-start start old begun is_long text none short empty = record {
   counted = refl;
 }
 
--- where it stands, when it is known what has begun and whether that is too long
+-- where it is, when it is known what has begun and whether that is too long
 Stands-make : (start : Filtering) (old : Option (List ℕ)) (read : List ℕ) (now : Filtering) (begun : List ℕ)
     (is_long : Bool) (text : List ℕ) (new : Option (List ℕ)) (last : List ℕ) (b : Bool) (closed : List ℕ)
     (before : Filtering) (written : List ℕ) → (split read).1 ≡ last → is_over last ≡ b
@@ -95,7 +95,7 @@ passed_whole true l begun rest out closed is kept =
 passed_whole false l begun rest out closed is kept =
     ap (λ t. out ++ (t ++ rest)) kept ∙ ap (λ t. t ++ (l ++ rest)) (is ∙ append-nil closed)
 
--- the same of what has stood
+-- the same of what has was
 pub passed_out : (start : Filtering) (old : Option (List ℕ)) (read : List ℕ) (now : Filtering) (begun : List ℕ)
     (is_long : Bool) (text : List ℕ) (new : Option (List ℕ)) (rest : List ℕ)
     → (h : Stands start old read now begun is_long text new)

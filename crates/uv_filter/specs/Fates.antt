@@ -13,7 +13,7 @@ use Rattle.uv_mend.specs.Repairs.{IsValid}
 use Rattle.uv_filter.specs.declared.fate.Fate.{Fate}
 use Rattle.uv_filter.specs.declared.fate.Fate.TheVariants.{Empty, Valid, Mended, Refused, NotUtf8, TooLong}
 use Rattle.uv_filter.specs.declared.setting.FilterSetting.{FilterSetting}
-use Rattle.uv_filter.specs.Lines.{Line, judged_of, replaced, text_of, whole}
+use Rattle.uv_filter.specs.Lines.{Line, checked_of, replaced, text_of, whole}
 
 -- by what lines are mended: the profile, the base, and the kind of the mended texts that are written, where not all are
 pub record Mender : Type 0 where
@@ -45,7 +45,7 @@ StaysRefused mender text =
     ⊎ ((mended : List ℕ) × (found : MendKind) × IsMended mender.profile mender.base text mended found
     × (takes mender.only found ≡ false))
 
--- a text that is judged
+-- a text that is checked
 pub record IsText (text : List ℕ) : Type 0 where
   pub some : text ≢ []
   pub utf8 : IsUtf8 text
@@ -65,9 +65,9 @@ IsTextFate mender text TooLong = ⊥
 abbrev pub IsFate : Mender → Bool → Line → Fate → Type 0
 IsFate mender is_first line TooLong = 65536 < length (text_of line)
 IsFate mender is_first line fate =
-    (length (text_of line) ≤ 65536) × IsTextFate mender (judged_of is_first (text_of line)) fate
+    (length (text_of line) ≤ 65536) × IsTextFate mender (checked_of is_first (text_of line)) fate
 
--- what is written of a line: with the mended text in place of what was judged, or the line as it was
+-- what is written of a line: with the mended text in place of what was checked, or the line as it was
 abbrev pub written_of : Bool → Line → Fate → List ℕ
 written_of is_first line (Mended mended found) = replaced is_first line (string_bytes mended)
 written_of is_first line _ = whole line

@@ -16,7 +16,7 @@ pub record Filtering : Type 0 where
 abbrev pub starting : Mender → Filtering
 starting mender = record { mender = mender; is_first = true; counts = none_counted }
 
--- behind a further line, of which this has become
+-- after a further line, of which this has become
 abbrev pub with_fate : Filtering → Fate → Filtering
 with_fate before fate =
     record { mender = before.mender; is_first = false; counts = counted before.counts fate }

@@ -5,7 +5,7 @@ use Rattle.uv_lines.specs.Lines.{line_feed, split, without_mark}
 use Rattle.uv_lines.specs.Progress.{ended}
 use Rattle.uv_filter.specs.declared.written.ListLine.{ListLine}
 
--- what stands before an LF, or behind the last one, and whether an LF ends it
+-- what is before an LF, or after the last one, and whether an LF ends it
 pub record Line : Type 0 where
   pub bytes : List ℕ
   pub closed : Bool
@@ -37,20 +37,20 @@ open_line bytes = record { bytes = bytes; closed = false }
 abbrev pub text_of : Line → List ℕ
 text_of line = ended line.closed line.bytes
 
--- what of the text is judged: in the first line a byte order mark isn't
-abbrev pub judged_of : Bool → List ℕ → List ℕ
-judged_of true text = without_mark text
-judged_of false text = text
+-- what of the text is checked: in the first line a byte order mark isn't
+abbrev pub checked_of : Bool → List ℕ → List ℕ
+checked_of true text = without_mark text
+checked_of false text = text
 
--- the mark before what is judged
+-- the mark before what is checked
 abbrev pub mark_of : Bool → Line → List ℕ
-mark_of is_first line = take (length (text_of line) - length (judged_of is_first (text_of line))) line.bytes
+mark_of is_first line = take (length (text_of line) - length (checked_of is_first (text_of line))) line.bytes
 
 -- the line's end: its CR and its LF
 abbrev pub end_of : Line → List ℕ
 end_of line = drop (length (text_of line)) line.bytes ++ feed_of line.closed
 
--- the line with another text in place of what is judged
+-- the line with another text in place of what is checked
 abbrev pub replaced : Bool → Line → List ℕ → List ℕ
 replaced is_first line text = mark_of is_first line ++ (text ++ end_of line)
 
@@ -78,6 +78,6 @@ abbrev pub over_line : Bool → List ℕ → List Line
 over_line true bytes = open_line bytes ∷ []
 over_line false bytes = []
 
--- the lines of which it is known what is written: those that have ended, and behind them one that is too long already
+-- the lines of which it is known what is written: those that have ended, and after them one that is too long already
 abbrev pub ready_lines : List ℕ → List Line
 ready_lines bytes = ended_lines bytes ++ over_line (is_over (split bytes).1) (split bytes).1

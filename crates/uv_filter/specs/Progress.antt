@@ -1,4 +1,4 @@
--- Where a run stands between two parts of a list.
+-- Where a run is between two parts of a list.
 use Rattle.std.specs.Prelude.{◌≡◌, ℕ, Bool, true, false, List, [], ◌++◌, Option}
 use Rattle.std.specs.Io.KnownBytes.{Appends}
 use Rattle.uv_lines.specs.Lines.{split}

@@ -5,7 +5,7 @@ use uv_mend::MendKind;
 /// What becomes of a line: where there is a mended text that is written it is mended, and else it stays as it was.
 #[derive(Drop)]
 pub(crate) enum Fate {
-    /// It is empty, and isn't judged.
+    /// It is empty, and isn't checked.
     Empty,
     /// It is valid.
     Valid,
@@ -13,7 +13,7 @@ pub(crate) enum Fate {
     Mended {
         /// The mended text.
         text: String,
-        /// How it stands to the refused one.
+        /// How it is to the refused one.
         kind: MendKind,
     },
     /// It is refused, and there is no mended text, or none of the kind that is written.

@@ -14,7 +14,7 @@ pub enum FilterFault {
     Read,
     /// A write failed, or took nothing of a piece that had bytes. A prefix was written, perhaps cut within a line.
     Write,
-    /// 2^64 - 1 reads gave bytes, and none the end. What was written is as behind a failed read.
+    /// 2^64 - 1 reads gave bytes, and none the end. What was written is as after a failed read.
     Endless,
 }
 

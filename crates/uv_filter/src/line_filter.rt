@@ -10,7 +10,7 @@ ghost use Rattle.uv_filter.specs.Progress.{Adds, passing};
 use crate::counts::FilterCounts;
 use crate::fate::Fate;
 use crate::setting::FilterSetting;
-use crate::written::{ListLine, judged, push_written};
+use crate::written::{ListLine, checked, push_written};
 use std::alloc::{AllocError, Global};
 use std::marker::Model;
 use std::str::from_utf8;
@@ -110,7 +110,7 @@ impl<'b> LineFilter<'b> {
         if text.len() > LINE_BYTES {
             return Ok(Fate::TooLong);
         }
-        self.fate_of_text(alloc, judged(text, self.is_first))
+        self.fate_of_text(alloc, checked(text, self.is_first))
     }
 
     // What becomes of a text that isn't too long.
@@ -126,7 +126,7 @@ impl<'b> LineFilter<'b> {
         }
     }
 
-    // What becomes of a text that is judged.
+    // What becomes of a text that is checked.
     fn mended(&self, alloc: Global, text: &str) -> Result<Fate, AllocError>
         requires { text.now ≢ [] }
         ensures { IfOk result (λ fate. (fate ≢ became.TooLong) × IsTextFate self.now.mender text.now fate) }

@@ -19,10 +19,10 @@ use uv_lines::take_list;
 ///
 /// A line ends with LF, and one CR before that is part of its end; a last part without LF is a line where it isn't
 /// empty. Each end is kept. A byte order mark at the list's start is no part of the first text, and is kept too. An
-/// empty line isn't judged, nor is one that isn't UTF-8 or has more than 65,536 bytes without its end. What is written
+/// empty line isn't checked, nor is one that isn't UTF-8 or has more than 65,536 bytes without its end. What is written
 /// of the lines that a read has ended is written before the next read, and so is all that was read of a line that is
 /// too long: memory doesn't grow with the list. The writer isn't flushed. The counts are those of the lines that were
-/// written, also behind a fault. After a fault nothing is tried again, and how far the reader was read is open.
+/// written, also after a fault. After a fault nothing is tried again, and how far the reader was read is open.
 pub fn run_filter<R: Source, W: Sink>(
     alloc: Global,
     reader: &mut R,

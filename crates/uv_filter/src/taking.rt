@@ -82,7 +82,7 @@ impl<'b> Taker for Progress<'b> {
 }
 
 impl<'b> Progress<'b> {
-    // Appends what is written of the line that an LF ends behind this prefix of a part, and that isn't too long to be
+    // Appends what is written of the line that an LF ends after this prefix of a part, and that isn't too long to be
     // kept.
     fn close_short(&mut self, alloc: Global, prefix: &[u8]) -> Result<(), AllocError>
         requires { vec_len self.old.begun + length prefix.now ≤ 65537 }

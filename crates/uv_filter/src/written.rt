@@ -9,16 +9,16 @@ use crate::fate::Fate;
 use std::alloc::AllocError;
 use uv_lines::{line_text, without_mark};
 
-/// A line: what stands before its LF, or behind the last one, and whether an LF ends it.
+/// A line: what is before its LF, or after the last one, and whether an LF ends it.
 #[derive(Clone, Copy)]
 pub(crate) struct ListLine<'l> {
     pub(crate) bytes: &'l [u8],
     pub(crate) is_closed: bool,
 }
 
-/// What of a line's text is judged: in the first line a byte order mark isn't.
-pub(crate) fn judged(text: &[u8], is_first: bool) -> &[u8]
-    ensures value { result.now ≡ spec.judged_of is_first text.now }
+/// What of a line's text is checked: in the first line a byte order mark isn't.
+pub(crate) fn checked(text: &[u8], is_first: bool) -> &[u8]
+    ensures value { result.now ≡ spec.checked_of is_first text.now }
     ensures within { length result.now ≤ length text.now }
 {
     if is_first { without_mark(text) } else { text }
@@ -51,7 +51,7 @@ fn push_whole(out: &mut Vec<u8>, line: ListLine<'_>) -> Result<(), AllocError>
     push_feed(out, line.is_closed)
 }
 
-// The line with another text in place of what is judged.
+// The line with another text in place of what is checked.
 fn push_replaced(
     out: &mut Vec<u8>,
     line: ListLine<'_>,
@@ -63,8 +63,8 @@ fn push_replaced(
     ensures err { OnErr result (StartsWith out.new.items out.old.items) }
 {
     let text = line_text(line.bytes, line.is_closed);
-    let judged = judged(text, is_first);
-    let mark = &line.bytes[..text.len() - judged.len()];
+    let checked = checked(text, is_first);
+    let mark = &line.bytes[..text.len() - checked.len()];
     push_between(out, mark, other.as_bytes(), &line.bytes[text.len()..])?;
     push_feed(out, line.is_closed)
 }
@@ -74,14 +74,14 @@ fn push_between(
     out: &mut Vec<u8>,
     before: &[u8],
     text: &[u8],
-    behind: &[u8],
+    after: &[u8],
 ) -> Result<(), AllocError>
-    ensures ok { OnOk result (out.new.items ≡ out.old.items ++ (before.now ++ (text.now ++ behind.now))) }
+    ensures ok { OnOk result (out.new.items ≡ out.old.items ++ (before.now ++ (text.now ++ after.now))) }
     ensures err { OnErr result (StartsWith out.new.items out.old.items) }
 {
     push(out, before)?;
     push(out, text)?;
-    push(out, behind)
+    push(out, after)
 }
 
 // The LF, where one ends the line.

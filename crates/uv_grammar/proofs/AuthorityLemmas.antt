@@ -19,7 +19,7 @@ use Rattle.uv_model.proofs.Texts.AsciiLemmas.{AreBeyond, AreBeyond-encode}
 use Rattle.uv_model.proofs.Texts.MarkLemmas.{is_without-cons}
 use Rattle.uv_model.proofs.Cuts.AuthorityCutLemmas.{host_cut-is, written_host_cut}
 use Rattle.uv_model.specs.Ascii.{colon, left_bracket, right_bracket}
-use Rattle.uv_model.specs.Cut.{host_before, host_cut, port_cut, is_port_mark, is_within, port_behind}
+use Rattle.uv_model.specs.Cut.{host_before, host_cut, port_cut, is_port_mark, is_within, port_after}
 use Rattle.uv_text.proofs.SplitsLemmas.{prefix_slice}
 
 -- a byte beyond ASCII is no `:`
@@ -40,11 +40,11 @@ host_before-beyond within (b ∷ bs) rest high =
     rw (no_mark within b high.0, no_bracket within b high.0)
     (ap (λ s. b ∷ s) (host_before-beyond within bs rest high.1))
 
-port_behind-beyond : (within : Bool) (bs rest : List ℕ) → AreBeyond bs
-    → port_behind within (bs ++ rest) ≡ port_behind within rest
-port_behind-beyond within [] rest high = refl
-port_behind-beyond within (b ∷ bs) rest high =
-    rw (no_mark within b high.0, no_bracket within b high.0) (port_behind-beyond within bs rest high.1)
+port_after-beyond : (within : Bool) (bs rest : List ℕ) → AreBeyond bs
+    → port_after within (bs ++ rest) ≡ port_after within rest
+port_after-beyond within [] rest high = refl
+port_after-beyond within (b ∷ bs) rest high =
+    rw (no_mark within b high.0, no_bracket within b high.0) (port_after-beyond within bs rest high.1)
 
 host_before-encodes : (within : Bool) (cs : List ℕ) → host_before within (encodes cs) ≡ encodes (host_before within cs)
 host_before-encodes within [] = refl
@@ -68,22 +68,22 @@ host_before-encodes within (c ∷ cs) =
     host_step true c small ys e = refl
     host_step false c small ys e = rw (encode_ascii c small) (ap (λ s. c ∷ s) e)
 
-port_behind-encodes : (within : Bool) (cs : List ℕ)
-    → port_behind within (encodes cs) ≡ option_map encodes (port_behind within cs)
-port_behind-encodes within [] = refl
-port_behind-encodes within (c ∷ cs) =
+port_after-encodes : (within : Bool) (cs : List ℕ)
+    → port_after within (encodes cs) ≡ option_map encodes (port_after within cs)
+port_after-encodes within [] = refl
+port_after-encodes within (c ∷ cs) =
     elim (cases_lt c 128) [
       | inl small ↦
           rw (encode_ascii c small)
-          (port_step (is_port_mark within c) cs _ (port_behind-encodes (is_within within c) cs))
+          (port_step (is_port_mark within c) cs _ (port_after-encodes (is_within within c) cs))
       | inr high ↦
           rw (
-            port_behind-beyond within (encode c) (encodes cs)
+            port_after-beyond within (encode c) (encodes cs)
                 (AreBeyond-encode c high),
             no_mark within c high,
             no_bracket within c high,
           )
-          (port_behind-encodes within cs)
+          (port_after-encodes within cs)
     ]
   where
     port_step : (mark : Bool) (cs : List ℕ) → {xs : Option (List ℕ)} (ys : Option (List ℕ)) → xs ≡ option_map encodes ys
@@ -98,10 +98,10 @@ host_before-chars bytes utf8 =
     ap (λ s. host_before false s) (sym (encodes-chars bytes utf8)) ∙ host_before-encodes false (chars bytes)
 
 -- the port of the code points is that of the bytes
-pub port_behind-chars : (bytes : List ℕ) → IsUtf8 bytes
-    → port_behind false bytes ≡ option_map encodes (port_behind false (chars bytes))
-port_behind-chars bytes utf8 =
-    ap (λ s. port_behind false s) (sym (encodes-chars bytes utf8)) ∙ port_behind-encodes false (chars bytes)
+pub port_after-chars : (bytes : List ℕ) → IsUtf8 bytes
+    → port_after false bytes ≡ option_map encodes (port_after false (chars bytes))
+port_after-chars bytes utf8 =
+    ap (λ s. port_after false s) (sym (encodes-chars bytes utf8)) ∙ port_after-encodes false (chars bytes)
 
 -- ---- the host and the port as slices
 
@@ -118,28 +118,28 @@ option_some (Some text) bytes utf8 same =
     ap (λ s. Some s) (encodes_same (chars bytes) text spelled)
 
 -- the sides of the `:` of a port
-pub host_sides : (bytes prefix behind : List ℕ) (end : ℕ) → IsUtf8 bytes → IsUtf8 prefix → IsUtf8 behind
-    → IsPortMark bytes (Some end) → prefix ≡ slice_range bytes 0 end → behind ≡ drop (end + 1) bytes
-    → (chars prefix ≡ host_before false (chars bytes)) × (Some (chars behind) ≡ port_behind false (chars bytes))
-host_sides bytes prefix behind end utf8 prefix_utf8 behind_utf8 mark is_prefix is_behind =
+pub host_sides : (bytes prefix after : List ℕ) (end : ℕ) → IsUtf8 bytes → IsUtf8 prefix → IsUtf8 after
+    → IsPortMark bytes (Some end) → prefix ≡ slice_range bytes 0 end → after ≡ drop (end + 1) bytes
+    → (chars prefix ≡ host_before false (chars bytes)) × (Some (chars after) ≡ port_after false (chars bytes))
+host_sides bytes prefix after end utf8 prefix_utf8 after_utf8 mark is_prefix is_after =
     let host : prefix ≡ encodes (host_before false (chars bytes))
     = is_prefix ∙ (prefix_slice bytes end ∙ (sym mark.2 ∙ host_before-chars bytes utf8)) in
-    let port : Some behind ≡ option_map encodes (port_behind false (chars bytes))
-    = ap (λ s. Some s) is_behind ∙ (sym mark.3 ∙ port_behind-chars bytes utf8) in (
+    let port : Some after ≡ option_map encodes (port_after false (chars bytes))
+    = ap (λ s. Some s) is_after ∙ (sym mark.3 ∙ port_after-chars bytes utf8) in (
       encodes_same (chars prefix) (host_before false (chars bytes)) (encodes-chars prefix prefix_utf8 ∙ host),
-      option_some (port_behind false (chars bytes)) behind behind_utf8 port,
+      option_some (port_after false (chars bytes)) after after_utf8 port,
     )
 
 -- the whole authority, where no `:` of a port is there
 pub host_alone : (bytes : List ℕ) → IsUtf8 bytes → IsPortMark bytes None
-    → (chars bytes ≡ host_before false (chars bytes)) × (None ≡ port_behind false (chars bytes))
+    → (chars bytes ≡ host_before false (chars bytes)) × (None ≡ port_after false (chars bytes))
 host_alone bytes utf8 mark =
     let host : bytes ≡ encodes (host_before false (chars bytes)) = sym mark.0 ∙ host_before-chars bytes utf8 in (
       encodes_same (chars bytes) (host_before false (chars bytes)) (encodes-chars bytes utf8 ∙ host),
-      option_none (port_behind false (chars bytes)) (sym mark.1 ∙ port_behind-chars bytes utf8),
+      option_none (port_after false (chars bytes)) (sym mark.1 ∙ port_after-chars bytes utf8),
     )
 
--- behind the `:` of a port the authority may be cut
+-- after the `:` of a port the authority may be cut
 pub mark_boundary : (bytes : List ℕ) (end : ℕ) → IsUtf8 bytes → IsPortMark bytes (Some end)
     → IsCharBoundary bytes (end + 1)
 mark_boundary bytes end utf8 mark =
@@ -156,7 +156,7 @@ splits_host class authority host port is_host is_port =
 -- the class isn't File
 pub splits_before_port : (class : Class) (authority host : List ℕ) (port : Option (List ℕ))
     → ((class ≡ SpecialNotFile) ⊎ (class ≡ Other)) → host ≡ host_before false authority
-    → port ≡ port_behind false authority → SplitsHost class authority host port
+    → port ≡ port_after false authority → SplitsHost class authority host port
 splits_before_port class authority host port (inl same) is_host is_port =
     rw same (splits_host SpecialNotFile authority host port is_host is_port)
 splits_before_port class authority host port (inr same) is_host is_port =
@@ -172,19 +172,19 @@ no_port bytes none = (whole false bytes none, nothing false bytes none)
         let parts = is_without-cons colon c rest none in
         rw parts.0 (ap (λ r. c ∷ r) (whole (is_within within c) rest parts.1))
 
-    nothing : (within : Bool) (text : List ℕ) → is_without colon text ≡ true → port_behind within text ≡ None
+    nothing : (within : Bool) (text : List ℕ) → is_without colon text ≡ true → port_after within text ≡ None
     nothing within [] none = refl
     nothing within (c ∷ rest) none =
         let parts = is_without-cons colon c rest none in
         rw parts.0 (nothing (is_within within c) rest parts.1)
 
--- the first `:` is that of a port, where no `[` stands before it
+-- the first `:` is that of a port, where no `[` is before it
 pub first_port : (bytes : List ℕ) (end : ℕ) → IsFirstMark colon bytes (Some end)
     → is_without left_bracket (take end bytes) ≡ true → IsPortMark bytes (Some end)
 first_port bytes end first none =
     let sides = before (take end bytes) (drop (end + 1) bytes) first.2 none in
     let whole = around bytes end colon first.0 first.1 in
-    (first.0, first.1, ap (host_before false) whole ∙ sides.0, ap (port_behind false) whole ∙ sides.1)
+    (first.0, first.1, ap (host_before false) whole ∙ sides.0, ap (port_after false) whole ∙ sides.1)
   where
     outside : (c : ℕ) → (c == left_bracket) ≡ false → is_within false c ≡ false
     outside c other = elim (cases_Bool (c == right_bracket)) [
@@ -194,7 +194,7 @@ first_port bytes end first none =
 
     before : (prefix rest : List ℕ) → is_without colon prefix ≡ true → is_without left_bracket prefix ≡ true
         → (host_before false (prefix ++ colon ∷ rest) ≡ prefix)
-        × (port_behind false (prefix ++ colon ∷ rest) ≡ Some rest)
+        × (port_after false (prefix ++ colon ∷ rest) ≡ Some rest)
     before [] rest none closed = (refl, refl)
     before (c ∷ prefix) rest none closed =
         let marks = is_without-cons colon c prefix none in
@@ -217,7 +217,7 @@ still_within c other = elim (cases_Bool (c == left_bracket)) [
 
 -- the search within brackets that aren't closed
 within_to_end : (text : List ℕ) → is_without right_bracket text ≡ true
-    → (host_before true text ≡ text) × (port_behind true text ≡ None)
+    → (host_before true text ≡ text) × (port_after true text ≡ None)
 within_to_end [] none = (refl, refl)
 within_to_end (c ∷ rest) none =
     let parts = is_without-cons right_bracket c rest none in
@@ -227,7 +227,7 @@ within_to_end (c ∷ rest) none =
 -- the search within brackets up to the first `]`
 within_to_bracket : (prefix rest : List ℕ) → is_without right_bracket prefix ≡ true
     → (host_before true (prefix ++ right_bracket ∷ rest) ≡ prefix ++ right_bracket ∷ host_before false rest)
-    × (port_behind true (prefix ++ right_bracket ∷ rest) ≡ port_behind false rest)
+    × (port_after true (prefix ++ right_bracket ∷ rest) ≡ port_after false rest)
 within_to_bracket [] rest none = (refl, refl)
 within_to_bracket (c ∷ prefix) rest none =
     let parts = is_without-cons right_bracket c prefix none in
@@ -248,20 +248,20 @@ pub from_place : (place : ℕ) (bytes : List ℕ) → take (length bytes - place
 from_place place bytes =
     take_all (length bytes - place) (drop place bytes) (let size = length-drop place bytes in omega (arith, size))
 
--- behind the first `]` the search begins anew
-anew_behind_bracket : (prefix rest : List ℕ) → starts_with_bracket (prefix ++ right_bracket ∷ rest) ≡ true
+-- after the first `]` the search begins anew
+anew_after_bracket : (prefix rest : List ℕ) → starts_with_bracket (prefix ++ right_bracket ∷ rest) ≡ true
     → is_without right_bracket prefix ≡ true
     → (host_before false (prefix ++ right_bracket ∷ rest) ≡ prefix ++ right_bracket ∷ host_before false rest)
-    × (port_behind false (prefix ++ right_bracket ∷ rest) ≡ port_behind false rest)
-anew_behind_bracket [] rest starts none = absurd (false≢true starts)
-anew_behind_bracket (c ∷ prefix) rest starts none =
+    × (port_after false (prefix ++ right_bracket ∷ rest) ≡ port_after false rest)
+anew_after_bracket [] rest starts none = absurd (false≢true starts)
+anew_after_bracket (c ∷ prefix) rest starts none =
     let parts = is_without-cons right_bracket c prefix none in
     let more = within_to_bracket prefix rest parts.1 in
     rw (eqb-true c left_bracket starts) (ap (λ s. left_bracket ∷ s) more.0, more.1)
 
 module _ (bytes : List ℕ) (end : ℕ) (starts : starts_with_bracket bytes ≡ true)
     (first : IsFirstMark right_bracket bytes (Some end)) where
-  -- what stands behind the first `]`
+  -- what is after the first `]`
   abbrev pub rest : List ℕ
   rest = drop (end + 1) bytes
 
@@ -269,20 +269,20 @@ module _ (bytes : List ℕ) (end : ℕ) (starts : starts_with_bracket bytes ≡ 
   whole = around bytes end right_bracket first.0 first.1
 
   sides : (host_before false bytes ≡ take end bytes ++ right_bracket ∷ host_before false rest)
-      × (port_behind false bytes ≡ port_behind false rest)
+      × (port_after false bytes ≡ port_after false rest)
   sides =
-      let both = anew_behind_bracket (take end bytes) rest
+      let both = anew_after_bracket (take end bytes) rest
       (subst (λ (s : List ℕ). starts_with_bracket s ≡ true) whole starts) first.2 in
-      (ap (host_before false) whole ∙ both.0, ap (port_behind false) whole ∙ both.1)
+      (ap (host_before false) whole ∙ both.0, ap (port_after false) whole ∙ both.1)
 
   -- no port follows the first `]`
-  pub no_port_behind_bracket : IsPortMark rest None → IsPortMark bytes None
-  no_port_behind_bracket none =
+  pub no_port_after_bracket : IsPortMark rest None → IsPortMark bytes None
+  no_port_after_bracket none =
       (sides.0 ∙ (ap (λ s. take end bytes ++ right_bracket ∷ s) none.0 ∙ sym whole), sides.1 ∙ none.1)
 
   -- a port follows it
-  pub port_behind_bracket : (place : ℕ) → IsPortMark rest (Some place) → IsPortMark bytes (Some (end + 1 + place))
-  port_behind_bracket place mark =
+  pub port_after_bracket : (place : ℕ) → IsPortMark rest (Some place) → IsPortMark bytes (Some (end + 1 + place))
+  port_after_bracket place mark =
       let size = length-take end bytes in
       let left = length-drop (end + 1) bytes in
       let further : length (take end bytes) + suc place ≡ end + 1 + place = omega (arith, size, first.0) in
@@ -290,10 +290,10 @@ module _ (bytes : List ℕ) (end : ℕ) (starts : starts_with_bracket bytes ≡ 
       = sym (take-append-add (take end bytes) (right_bracket ∷ rest) (suc place))
       ∙ (ap (λ n. take n (take end bytes ++ right_bracket ∷ rest)) further
       ∙ ap (take (end + 1 + place)) (sym whole)) in
-      let behind : drop (place + 1) rest ≡ drop (end + 1 + place + 1) bytes
+      let after : drop (place + 1) rest ≡ drop (end + 1 + place + 1) bytes
       = drop-drop (place + 1) (end + 1) bytes ∙ ap (λ n. drop n bytes) (omega arith) in (
         omega (arith, mark.0, left, first.0),
         sym (get_or-drop (end + 1) bytes place 0) ∙ mark.1,
         sides.0 ∙ (ap (λ s. take end bytes ++ right_bracket ∷ s) mark.2 ∙ before),
-        sides.1 ∙ (mark.3 ∙ ap (λ s. Some s) behind),
+        sides.1 ∙ (mark.3 ∙ ap (λ s. Some s) after),
       )

@@ -20,7 +20,7 @@ use Rattle.uv_model.specs.Cut.{Cut, IsCut, IsHostCut, IsSchemeCut, class_in, pat
 use Rattle.uv_model.specs.Cut.{ends_at_host, is_followed, starts_with_two_slashes, texts_of, written_prefix}
 use Rattle.uv_model.specs.Cut.{written_middle, written_start}
 use Rattle.uv_model.specs.Parts.{Form, NoPath, Parts, PathAbsolute, PathRelative, SchemeOpaque, SchemePath, has_scheme}
-use Rattle.uv_model.specs.Parts.{written_authority, written_behind, written_scheme}
+use Rattle.uv_model.specs.Parts.{written_after, written_authority, written_scheme}
 use Rattle.uv_model.specs.Path.{IsPathAbsolute, IsPathRelative, is_without, starts_with_drive_segment}
 use Rattle.uv_model.specs.Path.{starts_with_slash}
 use Rattle.uv_model.specs.Violations.Refusal.{IsLeast}
@@ -29,7 +29,7 @@ use Rattle.uv_model.specs.Units.{IsUnits}
 use Rattle.uv_model.specs.Records.Url.{Url, is_opaque}
 use Rattle.uv_model.specs.Setting.{Setting, setting_of}
 use Rattle.uv_model.specs.Valid.{FitsAuthority, FitsBase, FitsDrive, FitsForm, HasAuthority, HasNoAuthority}
-use Rattle.uv_model.specs.Valid.{IsOpaqueHostText, IsOpaquePath, FitsScheme, IsPathBehind, MayBePathBehind}
+use Rattle.uv_model.specs.Valid.{IsOpaqueHostText, IsOpaquePath, FitsScheme, IsPathAfter, MayBePathAfter}
 use Rattle.uv_model.specs.Valid.{FitsCut, IsPathAlone, IsWithoutDrive, MayBePortText, MayBeUnits, Valid, port_given}
 use Rattle.uv_model.specs.Scheme.{starts_with_scheme}
 use Rattle.uv_model.proofs.Violations.ViolationLemmas.{cut_with}
@@ -41,7 +41,7 @@ use Rattle.uv_model.proofs.Cuts.ValidCutLemmas.{written_as_cut}
 use Rattle.uv_grammar.specs.Built.{built, form_of, form_with, segments_in}
 use Rattle.uv_model.specs.Path.{pieces, segments_of}
 use Rattle.uv_grammar.specs.HostValues.{FitsHost, MayBeEmptyFile}
-use Rattle.uv_grammar.specs.PartViolations.{BehindAuthority}
+use Rattle.uv_grammar.specs.PartViolations.{AfterAuthority}
 use Rattle.uv_grammar.specs.PartValues.{FitsHostPart, FitsPortPart}
 use Rattle.uv_grammar.proofs.SegmentLemmas.{path_absolute, path_relative, path_slashed, relative_path}
 use Rattle.uv_model.proofs.Texts.MarkLemmas.{append_none}
@@ -70,7 +70,7 @@ without_drive Standard path none = false_from_ne_true (starts_with_drive_segment
 without_drive Wide path none = false_from_ne_true (starts_with_drive_segment path) none
 without_drive Parser path none = tt
 
--- without a scheme, behind an authority or `/` no path is opaque
+-- without a scheme, after an authority or `/` no path is opaque
 no_opaque_host : (class : Class) (scheme port_text : Option (List ℕ)) (host_text path : List ℕ)
     (query fragment : Option (List ℕ))
     → has_opaque_path class (cut_with scheme (Some host_text) port_text path query fragment) ≡ false
@@ -127,7 +127,7 @@ opaque_path Parser base scheme port_text path query fragment other start none qu
     }
 
 -- from no violation to what it says
-quiet : (setting : Setting) (cut : Cut) → IsLeast (BehindAuthority setting cut) None → IsQuiet setting cut
+quiet : (setting : Setting) (cut : Cut) → IsLeast (AfterAuthority setting cut) None → IsQuiet setting cut
 quiet setting cut none = record {
   first = λ empty.
       none (path_place cut + 1) FirstSegmentEmpty
@@ -153,7 +153,7 @@ path_without base text cut is =
 -- a path that begins with one `/`, where the profile forbids another
 path_of : (profile : Profile) (path : List ℕ) → starts_with_slash path ≡ true
     → (HasEmptyFirst profile path → ⊥) → IsUnits path → is_without question_mark path ≡ true
-    → IsPathBehind profile (segments_of path) path
+    → IsPathAfter profile (segments_of path) path
 path_of Wide path start first units none = path_slashed path units none start
 path_of Parser path start first units none = path_slashed path units none start
 path_of Standard path start first units none = elim (cases_Bool (starts_with_two_slashes path)) [
@@ -161,22 +161,22 @@ path_of Standard path start first units none = elim (cases_Bool (starts_with_two
   | inr one ↦ path_absolute path units none start one
 ]
 
--- behind an authority the path is empty or such a path
-path_behind : (profile : Profile) (path : List ℕ) → (path ≢ [] → starts_with_slash path ≡ true)
+-- after an authority the path is empty or such a path
+path_after : (profile : Profile) (path : List ℕ) → (path ≢ [] → starts_with_slash path ≡ true)
     → (HasEmptyFirst profile path → ⊥) → IsUnits path → is_without question_mark path ≡ true
-    → MayBePathBehind profile (segments_of path) path
-path_behind profile [] start first units none = inl (refl, refl)
-path_behind profile (c ∷ rest) start first units none =
+    → MayBePathAfter profile (segments_of path) path
+path_after profile [] start first units none = inl (refl, refl)
+path_after profile (c ∷ rest) start first units none =
     inr (path_of profile (c ∷ rest) (start (λ e. cc)) first units none)
 
 -- a path that begins with `/` isn't empty
-slashed_path : (profile : Profile) (segments : List (List ℕ)) (path : List ℕ) → MayBePathBehind profile segments path
-    → starts_with_slash path ≡ true → IsPathBehind profile segments path
+slashed_path : (profile : Profile) (segments : List (List ℕ)) (path : List ℕ) → MayBePathAfter profile segments path
+    → starts_with_slash path ≡ true → IsPathAfter profile segments path
 slashed_path profile segments path (inl (empty, none)) start = absurd (false≢true (rw empty at start))
 slashed_path profile segments path (inr is) start = is
 
 -- a path without a host before it
-path_alone : (profile : Profile) (segments : List (List ℕ)) (path : List ℕ) → MayBePathBehind profile segments path
+path_alone : (profile : Profile) (segments : List (List ℕ)) (path : List ℕ) → MayBePathAfter profile segments path
     → MayBeEmptyFile profile path → IsPathAlone profile segments path
 path_alone Standard segments path is start = slashed_path Standard segments path is start
 path_alone Wide segments path is start = slashed_path Wide segments path is start
@@ -189,7 +189,7 @@ special_fits : (setting : Setting) (host_text : List ℕ) (parts : Parts) (host 
     → FitsHost setting.profile SpecialNotFile (ends_at_host (texts_of parts)) host_text parts.port_text parts.path_text
     host
     → MayBePortText parts.port_text → parts.port ≡ port_given setting.default_port parts.port_text
-    → MayBePathBehind setting.profile parts.segments parts.path_text
+    → MayBePathAfter setting.profile parts.segments parts.path_text
     → FitsAuthority SpecialNotFile setting host_text parts
 special_fits setting host_text parts None same (inl (some, fits)) port_text port path = absurd fits
 special_fits setting host_text parts (Some value) same (inl (some, fits)) port_text port path = record {
@@ -207,7 +207,7 @@ special_fits setting host_text parts host same (inr (empty, is, may)) port_text 
 file_fits : (setting : Setting) (host_text : List ℕ) (parts : Parts) (host : Option Host) → parts.host ≡ host
     → FitsHost setting.profile File (ends_at_host (texts_of parts)) host_text parts.port_text parts.path_text host
     → IsHostCut File host_text parts.port_text → parts.port ≡ port_given setting.default_port parts.port_text
-    → MayBePathBehind setting.profile parts.segments parts.path_text
+    → MayBePathAfter setting.profile parts.segments parts.path_text
     → (host_text ≢ [] → IsWithoutDrive setting.profile parts.path_text) → FitsAuthority File setting host_text parts
 file_fits setting host_text parts None same (inl (some, fits)) cut port path drive = absurd fits
 file_fits setting host_text parts (Some value) same (inl (some, fits)) cut port path drive = (
@@ -234,7 +234,7 @@ authority_fits : (kind : Class) (setting : Setting) (host_text : List ℕ) (part
     → FitsHost setting.profile kind (ends_at_host (texts_of parts)) host_text parts.port_text parts.path_text host
     → IsHostCut kind host_text parts.port_text
     → MayBePortText parts.port_text → parts.port ≡ port_given setting.default_port parts.port_text
-    → MayBePathBehind setting.profile parts.segments parts.path_text
+    → MayBePathAfter setting.profile parts.segments parts.path_text
     → (kind ≡ File → host_text ≢ [] → IsWithoutDrive setting.profile parts.path_text)
     → FitsAuthority kind setting host_text parts
 authority_fits SpecialNotFile setting host_text parts host same fits cut port_text port path drive =
@@ -246,7 +246,7 @@ authority_fits Other setting host_text parts host same (inl (some, fits)) cut po
 authority_fits Other setting host_text parts host same (inr (empty, is, may)) cut port_text port path drive =
     (inr (empty, same ∙ is, may), port, path)
 
--- a valid port behind a host, or none
+-- a valid port after a host, or none
 record IsPort (default : Option ℕ) (port_text : Option (List ℕ)) (port : Option ℕ) : Type 0 where
   may : MayBePortText port_text
   given : port ≡ port_given default port_text
@@ -281,8 +281,8 @@ has_authority profile base text scheme host_text port_text path query fragment h
     (built (cut_with scheme
     (Some host_text) port_text path query fragment) host port) host refl fits_host is.authority.2
     p.may p.given
-    (subst (λ (s : List (List ℕ)). MayBePathBehind profile s path) (sym segments)
-    (path_behind profile path is.authority.1 q.first
+    (subst (λ (s : List (List ℕ)). MayBePathAfter profile s path) (sym segments)
+    (path_after profile path is.authority.1 q.first
     (units_of_path (setting_of profile base scheme)
     (cut_with scheme (Some host_text) port_text path query fragment)
     (no_opaque_host (class_in base scheme) scheme port_text host_text path query fragment) q.path) none))
@@ -316,7 +316,7 @@ other_scheme profile base text scheme port_text path query fragment started = el
   | inr kind ↦ absurd (started _ TwoSlashes ((refl, kind, refl), refl))
 ]
 
--- no drive letter behind a base's host
+-- no drive letter after a base's host
 fits_drive : (profile : Profile) (base : Option Url) (path : List ℕ)
     → (class_in base None ≡ File → HasHost base None None → IsWithoutDrive profile path)
     → FitsDrive profile base path
@@ -463,30 +463,30 @@ scheme_fits None None (c ∷ rest) middle is = elim (cases_Bool (starts_with_sla
 
 -- a text that begins with `#` is a fragment alone
 number_sign_first : (prefix : List ℕ) (fragment : Option (List ℕ)) → is_without number_sign prefix ≡ true
-    → starts_with_number_sign (prefix ++ written_behind number_sign fragment) ≡ true → (prefix ≡ []) × IsSome fragment
+    → starts_with_number_sign (prefix ++ written_after number_sign fragment) ≡ true → (prefix ≡ []) × IsSome fragment
 number_sign_first [] None none start = absurd (false≢true start)
 number_sign_first [] (Some fragment) none start = (refl, refl)
 number_sign_first (c ∷ prefix) fragment none start =
     absurd (false≢true (sym (is_without-cons number_sign c prefix none).0 ∙ start))
 
-nothing_behind : (mark : ℕ) (text : Option (List ℕ)) → written_behind mark text ≡ [] → text ≡ None
-nothing_behind mark None same = refl
-nothing_behind mark (Some text) same = absurd cc
+nothing_after : (mark : ℕ) (text : Option (List ℕ)) → written_after mark text ≡ [] → text ≡ None
+nothing_after mark None same = refl
+nothing_after mark (Some text) same = absurd cc
 
 no_authority_text : (host_text port_text : Option (List ℕ)) → written_authority host_text port_text ≡ []
     → host_text ≡ None
 no_authority_text None port_text same = refl
 no_authority_text (Some host_text) port_text same = absurd cc
 
--- nothing stands before the fragment
+-- nothing is before the fragment
 empty_prefix : (cut : Cut) → cut.scheme ≡ None → written_prefix cut ≡ []
     → (form_of cut ≡ NoPath) × (cut.query ≡ None)
 empty_prefix cut scheme same =
-    let prefix = append_none (written_start cut) (written_behind question_mark cut.query) same in
+    let prefix = append_none (written_start cut) (written_after question_mark cut.query) same in
     let start = append_none (written_scheme cut.scheme) (written_middle cut) prefix.0 in
     let middle = append_none (written_authority cut.host_text cut.port_text) cut.path_text start.1 in
     let host = no_authority_text cut.host_text cut.port_text middle.0 in
-    (rw (scheme, host, middle.1) refl, nothing_behind question_mark cut.query prefix.1)
+    (rw (scheme, host, middle.1) refl, nothing_after question_mark cut.query prefix.1)
 
 scheme_there : (scheme : Option (List ℕ)) → (scheme ≡ None → ⊥) → IsSome scheme
 scheme_there None some = absurd (some refl)
@@ -524,14 +524,14 @@ fits_cut Standard base text cut host port is = tt
 fits_cut Wide base text cut host port is = tt
 fits_cut Parser base text cut host port is = is
 
--- The parts built from a cut are valid where its start, its host and its port are, and nothing behind them has a
+-- The parts built from a cut are valid where its start, its host and its port are, and nothing after them has a
 -- violation.
 pub valid_built : (profile : Profile) (base : Option Url) (text : List ℕ) (cut : Cut) (host : Option Host)
     (port : Option ℕ)
     → IsCut base text cut → IsStarted (setting_of profile base cut.scheme) text cut
     → FitsHostPart (setting_of profile base cut.scheme) cut host
     → FitsPortPart (setting_of profile base cut.scheme) cut port
-    → IsLeast (BehindAuthority (setting_of profile base cut.scheme) cut) None
+    → IsLeast (AfterAuthority (setting_of profile base cut.scheme) cut) None
     → Valid profile base text (built cut host port)
 valid_built profile base text cut host port is started fits_host fits_port silent =
     let q = quiet (setting_of profile base cut.scheme) cut silent in

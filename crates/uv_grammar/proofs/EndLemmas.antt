@@ -13,7 +13,7 @@ use Rattle.uv_model.specs.Ascii.{colon, number_sign, question_mark, slash}
 use Rattle.uv_model.specs.Cut.{Cut, IsAuthorityCut, IsCut, class_in, written_cut}
 use Rattle.uv_model.specs.Cut.{written_middle, written_prefix, written_start}
 use Rattle.uv_model.specs.declared.scheme.Class.{Class}
-use Rattle.uv_model.specs.Parts.{written_authority, written_behind, written_scheme}
+use Rattle.uv_model.specs.Parts.{written_after, written_authority, written_scheme}
 use Rattle.uv_model.specs.Records.Url.{Url}
 use Rattle.uv_model.proofs.Violations.ViolationLemmas.{cut_with}
 use Rattle.uv_grammar.specs.Ends.{AreEnds, IsRange, MayBePart, cut_at, end_of_host, end_of_path, end_of_port}
@@ -26,7 +26,7 @@ encoded_length bytes utf8 = ap length (encodes-chars bytes utf8)
 
 -- ---- parts in bytes
 
--- a part in bytes behind its delimiter
+-- a part in bytes after its delimiter
 abbrev pub piece : List ℕ → Option (List ℕ) → List ℕ
 piece mark None = []
 piece mark (Some part) = mark ++ encode_utf8_all part
@@ -58,11 +58,11 @@ authority_bytes (Some host) (Some port) only =
     authority_first (host ++ 58 ∷ port) ∙ ap (λ t. 47 ∷ 47 ∷ t)
     (encodes-append host (58 ∷ port) ∙ ap (λ t. encode_utf8_all host ++ t) (ascii_first 58 port (lit< tt)))
 
-query_bytes : (query : Option (List ℕ)) → encode_utf8_all (written_behind 63 query) ≡ piece (63 ∷ []) query
+query_bytes : (query : Option (List ℕ)) → encode_utf8_all (written_after 63 query) ≡ piece (63 ∷ []) query
 query_bytes None = refl
 query_bytes (Some query) = ascii_first 63 query (lit< tt)
 
-fragment_bytes : (fragment : Option (List ℕ)) → encode_utf8_all (written_behind 35 fragment) ≡ piece (35 ∷ []) fragment
+fragment_bytes : (fragment : Option (List ℕ)) → encode_utf8_all (written_after 35 fragment) ≡ piece (35 ∷ []) fragment
 fragment_bytes None = refl
 fragment_bytes (Some fragment) = ascii_first 35 fragment (lit< tt)
 
@@ -103,22 +103,22 @@ scheme_scalars : (scheme : Option (List ℕ)) → all_scalars (written_scheme sc
 scheme_scalars None all = tt
 scheme_scalars (Some scheme) all = (scalars_both scheme (colon ∷ []) all).0
 
-behind_scalars : (mark : ℕ) (part : Option (List ℕ)) → all_scalars (written_behind mark part) ≡ true → AreScalars part
-behind_scalars mark None all = tt
-behind_scalars mark (Some part) all = (scalars_both (mark ∷ []) part all).1
+after_scalars : (mark : ℕ) (part : Option (List ℕ)) → all_scalars (written_after mark part) ≡ true → AreScalars part
+after_scalars mark None all = tt
+after_scalars mark (Some part) all = (scalars_both (mark ∷ []) part all).1
 
 authority_scalars : (host port : Option (List ℕ)) → all_scalars (written_authority host port) ≡ true
     → AreScalars host × (host ≢ None → AreScalars port)
 authority_scalars None port all = (tt, λ some. absurd (some refl))
 authority_scalars (Some host) port all =
-    let inner = (scalars_both (slash ∷ slash ∷ []) (host ++ written_behind colon port) all).1 in
-    let both = scalars_both host (written_behind colon port) inner in
-    (both.0, λ some. behind_scalars colon port both.1)
+    let inner = (scalars_both (slash ∷ slash ∷ []) (host ++ written_after colon port) all).1 in
+    let both = scalars_both host (written_after colon port) inner in
+    (both.0, λ some. after_scalars colon port both.1)
 
 cut_scalars : (cut : Cut) → all_scalars (written_cut cut) ≡ true → HasScalars cut
 cut_scalars cut all =
-    let prefix = scalars_both (written_prefix cut) (written_behind number_sign cut.fragment) all in
-    let start = scalars_both (written_start cut) (written_behind question_mark cut.query) prefix.0 in
+    let prefix = scalars_both (written_prefix cut) (written_after number_sign cut.fragment) all in
+    let start = scalars_both (written_start cut) (written_after question_mark cut.query) prefix.0 in
     let scheme = scalars_both (written_scheme cut.scheme) (written_middle cut) start.0 in
     let middle = scalars_both (written_authority cut.host_text cut.port_text) cut.path_text scheme.1 in
     let authority = authority_scalars cut.host_text cut.port_text middle.0 in
@@ -127,8 +127,8 @@ cut_scalars cut all =
       host = authority.0;
       port = authority.1;
       path = middle.1;
-      query = behind_scalars question_mark cut.query start.1;
-      fragment = behind_scalars number_sign cut.fragment prefix.1;
+      query = after_scalars question_mark cut.query start.1;
+      fragment = after_scalars number_sign cut.fragment prefix.1;
     }
 
 colon_utf8 : IsUtf8 (58 ∷ [])
@@ -150,7 +150,7 @@ piece_utf8 : (mark : List ℕ) (part : Option (List ℕ)) → IsUtf8 mark → Ar
 piece_utf8 mark None utf8 scalars = IsUtf8-nil
 piece_utf8 mark (Some part) utf8 scalars = IsUtf8-append mark (encode_utf8_all part) utf8 (part_utf8 part scalars)
 
--- ---- where a part stands
+-- ---- where a part is
 
 pub range_seam : (prefix part back : List ℕ)
     → slice_range (prefix ++ (part ++ back)) (length prefix) (length prefix + length part) ≡ part
@@ -169,12 +169,12 @@ range_there bytes prefix part back same part_is back_is =
           (IsCharBoundary-at_seam bytes (prefix ++ part) back seam back_is),
     )
 
--- and the part stands there
+-- and the part is there
 record IsThere (bytes : List ℕ) (mark from to : ℕ) (part : Option (List ℕ)) : Type 0 where
   range : MayBePart bytes mark from to
   same : part_between bytes mark from to ≡ part
 
--- a part behind its delimiter
+-- a part after its delimiter
 piece_there : (bytes prefix mark : List ℕ) (part : Option (List ℕ)) (back : List ℕ) (from : ℕ)
     → bytes ≡ prefix ++ (piece mark part ++ back) → length prefix ≡ from → 1 ≤ length mark
     → AreScalars part → IsUtf8 back
@@ -211,19 +211,19 @@ scheme_there bytes None back same scalars back_is = (λ other. absurd (other ref
 scheme_there bytes (Some scheme) back same scalars back_is =
     let text = encode_utf8_all scheme in
     let grouped : bytes ≡ text ++ (58 ∷ back) = same ∙ append_assoc text (58 ∷ []) back in
-    let behind : IsUtf8 (58 ∷ back) = IsUtf8-append (58 ∷ []) back colon_utf8 back_is in
+    let after : IsUtf8 (58 ∷ back) = IsUtf8-append (58 ∷ []) back colon_utf8 back_is in
     let here : 1 + length text - 1 ≡ length text = omega arith in
     let none : 0 + length text ≡ length text = omega arith in
     let slice : slice_range bytes 0 (length text) ≡ text = subst (λ (k : ℕ). slice_range bytes 0 k ≡ text) none
     (rw grouped (range_seam [] text (58 ∷ back))) in
     let differs : (1 + length text == 0) ≡ false = ne_eqb _ _ (omega arith) in (
-      λ other. rw here (IsCharBoundary-at_seam bytes text (58 ∷ back) grouped behind),
+      λ other. rw here (IsCharBoundary-at_seam bytes text (58 ∷ back) grouped after),
       rw (differs, here) (ap Some (ap chars slice ∙ chars-encodes scheme scalars)),
     )
 
 -- ---- the whole text
 
--- the bytes of the parts one behind the other
+-- the bytes of the parts one after the other
 abbrev pub laid_out : Cut → List ℕ
 laid_out cut =
     scheme_piece cut.scheme ++ (piece (47 ∷ 47 ∷ []) cut.host_text ++ (piece (58 ∷ []) cut.port_text
@@ -233,14 +233,14 @@ regrouped : (s h o a q f : List ℕ)
     → ((s ++ ((h ++ o) ++ a)) ++ q) ++ f ≡ s ++ (h ++ (o ++ (a ++ (q ++ (f ++ [])))))
 regrouped s h o a q f = rw (append-nil f) (simp append_assoc)
 
--- a cut in bytes is its parts one behind the other
+-- a cut in bytes is its parts one after the other
 pub written_bytes : (cut : Cut) → (cut.host_text ≡ None → cut.port_text ≡ None)
     → encode_utf8_all (written_cut cut) ≡ laid_out cut
 written_bytes cut only =
     let s = written_scheme cut.scheme in
     let h = written_authority cut.host_text cut.port_text in
-    let q = written_behind question_mark cut.query in
-    let f = written_behind number_sign cut.fragment in
+    let q = written_after question_mark cut.query in
+    let f = written_after number_sign cut.fragment in
     let middle : encode_utf8_all (h ++ cut.path_text)
     ≡ (piece (47 ∷ 47 ∷ []) cut.host_text ++ piece (58 ∷ []) cut.port_text) ++ encode_utf8_all cut.path_text
     = encodes-append h cut.path_text
@@ -257,7 +257,7 @@ written_bytes cut only =
     (regrouped (scheme_piece cut.scheme) (piece (47 ∷ 47 ∷ []) cut.host_text) (piece (58 ∷ []) cut.port_text)
     (encode_utf8_all cut.path_text) (piece (63 ∷ []) cut.query) (piece (35 ∷ []) cut.fragment))
 
--- how long the parts are, one behind the other
+-- how long the parts are, one after the other
 pub whole_length : (cut : Cut) → length (laid_out cut) ≡ whole_extent cut
 whole_length cut =
     let s = scheme_extent cut.scheme in
@@ -268,13 +268,13 @@ whole_length cut =
     let f = piece_extent (35 ∷ []) cut.fragment in
     simp (length-append) (omega (arith, s, h, o, a, q, f))
 
--- a port stands behind a host
+-- a port is after a host
 no_port : (class : Class) (host port : Option (List ℕ)) (path : List ℕ) → IsAuthorityCut class host port path
     → host ≡ None → port ≡ None
 no_port class None port path is none = is.0
 no_port class (Some host) port path is none = absurd cc
 
--- the bytes of a cut text are its parts one behind the other
+-- the bytes of a cut text are its parts one after the other
 pub cut_bytes : (base : Option Url) (bytes : List ℕ) (cut : Cut) → IsUtf8 bytes → IsCut base (chars bytes) cut
     → bytes ≡ laid_out cut
 cut_bytes base bytes cut utf8 is =

@@ -30,12 +30,12 @@ use Rattle.uv_model.specs.Valid.{without_localhost}
 use Rattle.uv_model.proofs.Hosts.FileHosts.{file_host_fits}
 use Rattle.uv_model.proofs.Violations.FaultlessHosts.{empty_host_faultless, host_text_faultless}
 use Rattle.uv_model.proofs.Violations.RefusalLemmas.{IsLeast-like}
-use Rattle.uv_grammar.specs.declared.judged.Judged.{Judged}
-use Rattle.uv_grammar.specs.declared.judged.Judged.TheVariants.{Valid, Refused}
+use Rattle.uv_grammar.specs.declared.checked.Checked.{Checked}
+use Rattle.uv_grammar.specs.declared.checked.Checked.TheVariants.{Valid, Refused}
 use Rattle.uv_grammar.specs.declared.parts_host.PartsHost.{PartsHost}
 use Rattle.uv_grammar.specs.PartsHost.{FitsPartsHost, IsPartsHostText, IsUnstoppedHostText, as_host}
 use Rattle.uv_grammar.specs.HostValues.{AtStart, FitsHost, FitsSomeHost, NameViolation}
-use Rattle.uv_grammar.specs.Judged.{IsJudged}
+use Rattle.uv_grammar.specs.Checked.{IsChecked}
 use Rattle.uv_grammar.specs.NoMemory.{HostTakesNoMemory, IsPlainDomain, MakesNoForm}
 use Rattle.uv_host.specs.Domains.{is_plain_name}
 use Rattle.uv_model.specs.Hosts.Address.{IsIpv4}
@@ -117,9 +117,9 @@ content_from_host profile class last text port_text path_text some place _ h = h
 pub content_answer : (profile : Profile) (class : Class) (last : Bool) (text : List ℕ) (port_text : Option (List ℕ))
     (path_text : List ℕ)
     → text ≢ []
-    → (answer : Judged (Option PartsHost)) → IsJudged (FitsPartsHost (FitsSomeHost profile class last text))
+    → (answer : Checked (Option PartsHost)) → IsChecked (FitsPartsHost (FitsSomeHost profile class last text))
     (HostContentViolation profile class last text) answer
-    → IsJudged (FitsPartsHost (FitsHost profile class last text port_text path_text))
+    → IsChecked (FitsPartsHost (FitsHost profile class last text port_text path_text))
     (HostViolation profile class last text port_text path_text) answer
 content_answer profile class last text port_text path_text some (Valid host) is = (
   inl (some, is.0),
@@ -205,7 +205,7 @@ name_fault_least profile text rule h =
 
 -- a valid host string violates no rule of a name
 pub name_answer : (profile : Profile) (text : List ℕ) (host : PartsHost) → IsPartsHostText profile text host
-    → IsJudged (IsPartsHostText profile text) (AtStart (NameViolation profile text)) (Valid host)
+    → IsChecked (IsPartsHostText profile text) (AtStart (NameViolation profile text)) (Valid host)
 name_answer profile text host is = (is, λ place rule h. none rule h.0)
   where
     none : (rule : Rule) → NameViolation profile text rule → ⊥
@@ -235,7 +235,7 @@ parser_no_form text some plain none =
 -- the answer on a valid host string at which the parser doesn't stop
 pub text_answer : (profile : Profile) (class : Class) (last : Bool) (text : List ℕ) (host : PartsHost)
     → is_stopped profile class last text ≡ false → IsPartsHostText profile text host
-    → IsJudged (IsUnstoppedHostText profile class last text) (AtStart (HostTextViolation profile class last text))
+    → IsChecked (IsUnstoppedHostText profile class last text) (AtStart (HostTextViolation profile class last text))
     (Valid host)
 text_answer profile class last text host free is =
     ((free, is), λ place rule h. host_text_faultless profile class last text (as_host host) free is rule h.0)
@@ -244,7 +244,7 @@ text_answer profile class last text host free is =
 pub file_answer : (profile : Profile) (last : Bool) (text : List ℕ) (host file_host : PartsHost)
     → IsUnstoppedHostText profile File last text host
     → as_host file_host ≡ without_localhost (as_host host)
-    → IsJudged (FitsPartsHost (FitsSomeHost profile File last text)) (HostContentViolation profile File last text)
+    → IsChecked (FitsPartsHost (FitsSomeHost profile File last text)) (HostContentViolation profile File last text)
     (Valid (Some file_host))
 file_answer profile last text host file_host is same = (
   rw same (is.0, file_host_fits profile text (as_host host) is.1),

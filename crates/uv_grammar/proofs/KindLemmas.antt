@@ -16,11 +16,11 @@ use Rattle.uv_model.specs.declared.scheme.Class.{Class}
 use Rattle.uv_model.specs.declared.scheme.Class.TheVariants as classes
 use Rattle.uv_model.specs.Ascii.{number_sign, question_mark}
 use Rattle.uv_model.specs.Violations.AllViolations.{AreFaults}
-use Rattle.uv_model.specs.Violations.Violation.{Violation, ViolationOf, HasHost, HostPartViolation, JudgedViolation}
+use Rattle.uv_model.specs.Violations.Violation.{Violation, ViolationOf, HasHost, HostPartViolation, CheckedViolation}
 use Rattle.uv_model.specs.Violations.Violation.{PathStartViolation, StartViolation}
 use Rattle.uv_model.specs.Violations.Refusal.{IsLeast}
-use Rattle.uv_model.specs.Cut.{Cut, behind_scheme, class_in, cut_of, host_text_cut, path_text_cut, port_text_cut}
-use Rattle.uv_model.specs.Cut.{IsAuthorityCut, scheme_cut, text_before, text_behind}
+use Rattle.uv_model.specs.Cut.{Cut, after_scheme, class_in, cut_of, host_text_cut, path_text_cut, port_text_cut}
+use Rattle.uv_model.specs.Cut.{IsAuthorityCut, scheme_cut, text_after, text_before}
 use Rattle.uv_model.specs.Parts.{Form, SchemeAuthority, SchemePath, SchemeOpaque, Authority, PathAbsolute}
 use Rattle.uv_model.specs.Parts.{PathRelative, NoPath, Parts}
 use Rattle.uv_model.specs.Records.Url.{Url, is_opaque}
@@ -79,9 +79,9 @@ class_alike a b h None = h.class
 abbrev cut_with : List ℕ → Option (List ℕ) → Option (List ℕ) → Class → Cut
 cut_with start query fragment class = record {
   scheme = scheme_cut start;
-  host_text = host_text_cut class (behind_scheme start);
-  port_text = port_text_cut class (behind_scheme start);
-  path_text = path_text_cut (behind_scheme start);
+  host_text = host_text_cut class (after_scheme start);
+  port_text = port_text_cut class (after_scheme start);
+  path_text = path_text_cut (after_scheme start);
   query = query;
   fragment = fragment;
 }
@@ -91,7 +91,7 @@ unfolding cut_of
 cut_alike a b text h =
     let prefix = text_before number_sign text in
     let start = text_before question_mark prefix in
-    ap (cut_with start (text_behind question_mark prefix) (text_behind number_sign text))
+    ap (cut_with start (text_after question_mark prefix) (text_after number_sign text))
     (class_alike a b h (scheme_cut start))
 
 -- a setting with a base
@@ -138,14 +138,14 @@ host_part_swap : (profile : Profile) (a b : Url) (class : Class) (port : Option 
 host_part_swap profile a b class port cut None place rule x = absurd x
 host_part_swap profile a b class port cut (Some host_text) place rule x = x
 
-judged_swap : (profile : Profile) (a b : Url) → IsAlike a b → (class : Class) (port : Option ℕ) (cut : Cut) (place : ℕ)
+checked_swap : (profile : Profile) (a b : Url) → IsAlike a b → (class : Class) (port : Option ℕ) (cut : Cut) (place : ℕ)
     (rule : Rule)
-    → JudgedViolation (setting_with profile a class port) cut place rule
-    → JudgedViolation (setting_with profile b class port) cut place rule
-judged_swap profile a b h class port cut place rule (inl x) =
+    → CheckedViolation (setting_with profile a class port) cut place rule
+    → CheckedViolation (setting_with profile b class port) cut place rule
+checked_swap profile a b h class port cut place rule (inl x) =
     inl (host_part_swap profile a b class port cut cut.host_text place rule x)
-judged_swap profile a b h class port cut place rule (inr (inl x)) = inr (inl x)
-judged_swap profile a b h class port cut place rule (inr (inr x)) = inr (inr (record {
+checked_swap profile a b h class port cut place rule (inr (inl x)) = inr (inl x)
+checked_swap profile a b h class port cut place rule (inr (inr x)) = inr (inr (record {
   inner = x.inner;
   moved = x.moved;
   holds = path_swap profile a b h class port cut x.inner rule x.holds;
@@ -160,7 +160,7 @@ violation_swap profile a b h class port text cut place rule (inl x) =
 violation_swap profile a b h class port text cut place rule (inr (inl (started, x))) = inr (inl (
   λ other number again.
       started other number (start_swap profile b a (flip a b h) class port text cut other number again),
-  judged_swap profile a b h class port cut place rule x,
+  checked_swap profile a b h class port cut place rule x,
 ))
 violation_swap profile a b h class port text cut place rule (inr (inr x)) = inr (inr x)
 
@@ -329,7 +329,7 @@ memory_swap profile a b h class port text cut (inl (place, rule, x)) =
 memory_swap profile a b h class port text cut (inr x) =
     inr (host_memory_swap profile a b class port cut.host_text x)
 
--- what is judged without memory is so against both
+-- what is checked without memory is so against both
 pub memory_alike : (profile : Profile) (a b : Url) (text : List ℕ) → IsAlike a b
     → TakesNoMemoryAgainst profile (Some a) text → TakesNoMemoryAgainst profile (Some b) text
 memory_alike profile a b text h x =

@@ -8,7 +8,7 @@ use Rattle.std.proofs.lemmas.List.{get_or-take, length-take}
 use Rattle.std.proofs.lemmas.Str.{IsCharBoundary-after_ascii}
 use Rattle.memchr.specs.Find.{IsFirstByte, is_byte2}
 use Rattle.uv_model.specs.Ascii.{number_sign, question_mark}
-use Rattle.uv_model.specs.Parts.{written_behind}
+use Rattle.uv_model.specs.Parts.{written_after}
 use Rattle.uv_model.specs.Path.{is_without}
 use Rattle.uv_model.proofs.Texts.MarkLemmas.{is_without-append, is_without-more}
 use Rattle.uv_text.proofs.SplitsLemmas.{prefix_slice}
@@ -18,7 +18,7 @@ use Rattle.uv_grammar.proofs.SliceLemmas.{is_without-chars, splits_at_mark}
 
 module _ (bytes : List ℕ) (end : ℕ)
     (found : IsFirstByte (is_byte2 question_mark number_sign) bytes (Some end)) where
-  -- neither stands before the first of both
+  -- neither is before the first of both
   before : (mark : ℕ) → is_byte2 question_mark number_sign mark ≡ true → is_without mark (take end bytes) ≡ true
   before mark either =
       nowhere mark (take end bytes) (λ k below e.
@@ -46,14 +46,14 @@ module _ (bytes : List ℕ) (end : ℕ)
         | inr same ↦ rw (eqb-true (slice_index bytes end) number_sign same) (lit< tt)
       ]
 
-  -- so the text may be cut behind it
-  pub boundary_behind : IsUtf8 bytes → IsCharBoundary bytes (end + 1)
-  boundary_behind utf8 = IsCharBoundary-after_ascii bytes end utf8 found.0.high mark_small
+  -- so the text may be cut after it
+  pub boundary_after : IsUtf8 bytes → IsCharBoundary bytes (end + 1)
+  boundary_after utf8 = IsCharBoundary-after_ascii bytes end utf8 found.0.high mark_small
 
-  -- a query, and behind it what is split at `#`
+  -- a query, and after it what is split at `#`
   pub splits_at_question : (start rest : List ℕ) (query : List ℕ) (fragment : Option (List ℕ)) → IsUtf8 bytes
       → IsUtf8 start → (slice_index bytes end == question_mark) ≡ true → start ≡ slice_range bytes 0 end
-      → rest ≡ drop (end + 1) bytes → chars rest ≡ query ++ written_behind number_sign fragment
+      → rest ≡ drop (end + 1) bytes → chars rest ≡ query ++ written_after number_sign fragment
       → is_without number_sign query ≡ true
       → SplitsMarks (chars bytes) (chars start) (Some query) fragment
   splits_at_question start rest query fragment utf8 start_utf8 is is_start is_rest split first =
@@ -66,7 +66,7 @@ module _ (bytes : List ℕ) (end : ℕ)
       record {
         joined =
             sides.0 ∙ (ap (λ s. chars start ++ question_mark ∷ s) split
-            ∙ sym (append_assoc (chars start) (question_mark ∷ query) (written_behind number_sign fragment)));
+            ∙ sym (append_assoc (chars start) (question_mark ∷ query) (written_after number_sign fragment)));
         prefix =
             is_without-append number_sign (chars start) (question_mark ∷ query) none
             (is_without-more number_sign question_mark query refl first);
@@ -104,14 +104,14 @@ splits_at_none bytes utf8 none =
           (not_found (is_byte2 question_mark number_sign) question_mark bytes refl none);
     }
 
--- split at `#`, and what stands before it at `?`
+-- split at `#`, and what is before it at `?`
 pub splits_in_turn : (text prefix start : List ℕ) (query fragment : Option (List ℕ))
-    → text ≡ prefix ++ written_behind number_sign fragment → is_without number_sign prefix ≡ true
-    → prefix ≡ start ++ written_behind question_mark query → is_without question_mark start ≡ true
+    → text ≡ prefix ++ written_after number_sign fragment → is_without number_sign prefix ≡ true
+    → prefix ≡ start ++ written_after question_mark query → is_without question_mark start ≡ true
     → SplitsMarks text start query fragment
 splits_in_turn text prefix start query fragment joined first split second =
     record {
-      joined = joined ∙ ap (λ s. s ++ written_behind number_sign fragment) split;
+      joined = joined ∙ ap (λ s. s ++ written_after number_sign fragment) split;
       prefix = subst (λ (s : List ℕ). is_without number_sign s ≡ true) split first;
       no_question_mark = second;
     }

@@ -17,10 +17,10 @@ use Rattle.uv_model.specs.declared.scheme.Class.{Class}
 use Rattle.uv_model.specs.declared.scheme.Class.TheVariants.{SpecialNotFile, File, Other}
 use Rattle.uv_model.specs.Ascii.{slash}
 use Rattle.uv_model.specs.Violations.AllViolations.{AreFaults, ListsViolations}
-use Rattle.uv_model.specs.Violations.Violation.{Behind, Violation, ViolationOf, HasDrive, HasEmptyFirst}
+use Rattle.uv_model.specs.Violations.Violation.{After, Violation, ViolationOf, HasDrive, HasEmptyFirst}
 use Rattle.uv_model.specs.Violations.Violation.{HasOpaquePath}
 use Rattle.uv_model.specs.Violations.Violation.{ContentViolation, HostContentViolation, HostViolation}
-use Rattle.uv_model.specs.Violations.Violation.{HostPartViolation, IsStarted, JudgedViolation, PathStartViolation}
+use Rattle.uv_model.specs.Violations.Violation.{CheckedViolation, HostPartViolation, IsStarted, PathStartViolation}
 use Rattle.uv_model.specs.Violations.Violation.{PortViolation, PortPartViolation, StartViolation}
 use Rattle.uv_model.specs.Cut.{Cut, IsCut, ends_at_host, host_place, path_place, port_place}
 use Rattle.uv_model.specs.Hosts.OpaqueHost.{starts_with_bracket}
@@ -39,9 +39,9 @@ use Rattle.uv_model.proofs.Violations.RefusedLemmas.{FromPort, host_first, path_
 use Rattle.uv_model.proofs.Violations.RefusedLemmas.{query_first, start_before_held}
 use Rattle.uv_grammar.specs.Faults.{AddsViolations, FirstViolation, fault_list}
 use Rattle.uv_grammar.specs.HostValues.{is_scanned}
-use Rattle.uv_grammar.specs.declared.judged.Judged.{Judged}
-use Rattle.uv_grammar.specs.declared.judged.Judged.TheVariants.{Valid, Refused}
-use Rattle.uv_grammar.specs.Judged.{IsJudged, refusal_of}
+use Rattle.uv_grammar.specs.declared.checked.Checked.{Checked}
+use Rattle.uv_grammar.specs.declared.checked.Checked.TheVariants.{Valid, Refused}
+use Rattle.uv_grammar.specs.Checked.{IsChecked, refusal_of}
 use Rattle.uv_grammar.specs.PartViolations.{OfFragment, OfPath, OfPathStart, OfQuery}
 use Rattle.uv_grammar.specs.Scan.{DigitViolation, HostUnitViolation}
 use Rattle.uv_grammar.proofs.HostLemmas.{empty_rule, content_from_host, one_rule}
@@ -50,9 +50,9 @@ use Rattle.uv_grammar.proofs.ScanLemmas.{HasOneAtMost, adds_both, adds_fault, ad
 
 -- ---- one violation at most
 
--- behind a place as at the start
-behind_one_at_most : (start : ℕ) (F : ℕ → Rule → Type 0) → HasOneAtMost F → HasOneAtMost (Behind start F)
-behind_one_at_most start F only place other rule second h k =
+-- after a place as at the start
+after_one_at_most : (start : ℕ) (F : ℕ → Rule → Type 0) → HasOneAtMost F → HasOneAtMost (After start F)
+after_one_at_most start F only place other rule second h k =
     let same = only h.inner k.inner rule second h.holds k.holds in
     (h.moved ∙ (ap (λ n. start + n) same.0 ∙ sym k.moved), same.1)
 
@@ -97,7 +97,7 @@ no_drive Standard (a ∷ b ∷ c ∷ d ∷ rest) two drive =
 
 -- the rules of the path's start exclude each other
 pub path_start_one_at_most : (setting : Setting) (cut : Cut) → HasOneAtMost (OfPathStart setting cut)
-path_start_one_at_most setting cut = behind_one_at_most (path_place cut) (PathStartViolation setting cut) only
+path_start_one_at_most setting cut = after_one_at_most (path_place cut) (PathStartViolation setting cut) only
   where
     only : HasOneAtMost (PathStartViolation setting cut)
     only place other FirstSegmentEmpty FirstSegmentEmpty h k = (h.1 ∙ sym k.1, refl)
@@ -110,7 +110,7 @@ path_start_one_at_most setting cut = behind_one_at_most (path_place cut) (PathSt
 
 -- ---- the host
 
--- a host that isn't judged code point by code point violates one rule
+-- a host that isn't checked code point by code point violates one rule
 host_one_at_most : (profile : Profile) (class : Class) (last : Bool) (text : List ℕ) (port_text : Option (List ℕ))
     (path_text : List ℕ)
     → is_scanned class text ≡ false → HasOneAtMost (HostViolation profile class last text port_text path_text)
@@ -155,18 +155,18 @@ host_fault_adds setting cut class host_text before after fault is same whole lea
     adds_fault (HostPartViolation setting cut) before after fault only least joined
   where
     only : HasOneAtMost (HostPartViolation setting cut)
-    only = rw is (behind_one_at_most (host_place cut) _
+    only = rw is (after_one_at_most (host_place cut) _
         (host_one_at_most setting.profile setting.class (ends_at_host cut) host_text cut.port_text cut.path_text
         (ap (λ k. is_scanned k host_text) (sym same) ∙ whole)))
 
--- the faults of a host that is judged code point by code point are all that is added
+-- the faults of a host that is checked code point by code point are all that is added
 pub host_scan_adds : (setting : Setting) (cut : Cut) (class : Class) (host_text : List ℕ) (before after : List Refusal)
     → cut.host_text ≡ Some host_text → class ≡ setting.class → is_scanned class host_text ≡ true
-    → AddsViolations (Behind (host_place cut) (HostUnitViolation host_text)) before after
+    → AddsViolations (After (host_place cut) (HostUnitViolation host_text)) before after
     → AddsViolations (HostPartViolation setting cut) before after
 host_scan_adds setting cut class host_text before after is same scanned adds =
-    rw is (adds_like (Behind (host_place cut) (HostUnitViolation host_text))
-    (Behind (host_place cut)
+    rw is (adds_like (After (host_place cut) (HostUnitViolation host_text))
+    (After (host_place cut)
     (HostViolation setting.profile setting.class (ends_at_host cut) host_text cut.port_text cut.path_text))
     (λ place rule h. record {
       inner = h.inner;
@@ -233,17 +233,17 @@ port_fault_adds cut host_text port_text before after fault host port digits leas
     adds_fault (PortPartViolation cut) before after fault only least joined
   where
     only : HasOneAtMost (PortPartViolation cut)
-    only = rw (host, port) (behind_one_at_most (port_place host_text cut) (PortViolation port_text)
+    only = rw (host, port) (after_one_at_most (port_place host_text cut) (PortViolation port_text)
         (port_one_at_most port_text digits))
 
 -- the faults of a port that isn't digits alone are all that is added
 pub port_scan_adds : (cut : Cut) (host_text port_text : List ℕ) (before after : List Refusal)
     → cut.host_text ≡ Some host_text → cut.port_text ≡ Some port_text → list_all is_ascii_digit port_text ≡ false
-    → AddsViolations (Behind (port_place host_text cut) (DigitViolation port_text)) before after
+    → AddsViolations (After (port_place host_text cut) (DigitViolation port_text)) before after
     → AddsViolations (PortPartViolation cut) before after
 port_scan_adds cut host_text port_text before after host port other adds =
-    rw (host, port) (adds_like (Behind (port_place host_text cut) (DigitViolation port_text))
-    (Behind (port_place host_text cut) (PortViolation port_text))
+    rw (host, port) (adds_like (After (port_place host_text cut) (DigitViolation port_text))
+    (After (port_place host_text cut) (PortViolation port_text))
     (λ place rule h. record { inner = h.inner; moved = h.moved; holds = to h.inner rule h.holds })
     (λ place rule h. record { inner = h.inner; moved = h.moved; holds = from h.inner rule h.holds })
     before after adds)
@@ -259,17 +259,17 @@ port_scan_adds cut host_text port_text before after host port other adds =
 
 -- ---- the parts one after another
 
--- the refusal of a judged part is its least violation
-pub judged_least : {A : Type 0} (fits : A → Type 0) (violation : ℕ → Rule → Type 0) (judged : Judged A)
-    → IsJudged fits violation judged → IsLeast violation (refusal_of judged)
-judged_least fits violation (Valid value) is = is.1
-judged_least fits violation (Refused refusal) is = is
+-- the refusal of a checked part is its least violation
+pub checked_least : {A : Type 0} (fits : A → Type 0) (violation : ℕ → Rule → Type 0) (checked : Checked A)
+    → IsChecked fits violation checked → IsLeast violation (refusal_of checked)
+checked_least fits violation (Valid value) is = is.1
+checked_least fits violation (Refused refusal) is = is
 
 -- the host, the port and the path's start
-pub judged_adds : (setting : Setting) (cut : Cut) (a b c d : List Refusal)
+pub checked_adds : (setting : Setting) (cut : Cut) (a b c d : List Refusal)
     → AddsViolations (HostPartViolation setting cut) a b → AddsViolations (PortPartViolation cut) b c
-    → AddsViolations (OfPathStart setting cut) c d → AddsViolations (JudgedViolation setting cut) a d
-judged_adds setting cut a b c d host port start =
+    → AddsViolations (OfPathStart setting cut) c d → AddsViolations (CheckedViolation setting cut) a d
+checked_adds setting cut a b c d host port start =
     adds_both (HostPartViolation setting cut) (Either (PortPartViolation cut) (OfPathStart setting cut)) a b d
     (record {
       order = λ place later rule other h k. (host_first setting cut).order place later rule other h
@@ -310,18 +310,18 @@ start_adds setting text cut refusal before after least joined =
 
 -- and one whose start violates none
 pub started_adds : (setting : Setting) (text : List ℕ) (cut : Cut) (before after : List Refusal)
-    → IsStarted setting text cut → AddsViolations (JudgedViolation setting cut) before after
+    → IsStarted setting text cut → AddsViolations (CheckedViolation setting cut) before after
     → AddsViolations (FirstViolation setting text cut) before after
 started_adds setting text cut before after started adds =
-    adds_like (JudgedViolation setting cut) (FirstViolation setting text cut) (λ place rule h. inr (started, h)) from
+    adds_like (CheckedViolation setting cut) (FirstViolation setting text cut) (λ place rule h. inr (started, h)) from
     before after adds
   where
     from : (place : ℕ) (rule : Rule) → FirstViolation setting text cut place rule
-        → JudgedViolation setting cut place rule
+        → CheckedViolation setting cut place rule
     from place rule (inl h) = absurd (started place rule h)
     from place rule (inr (again, h)) = h
 
--- the first violations stand before those of what the path, the query and the fragment hold
+-- the first violations are before those of what the path, the query and the fragment hold
 first_before_held : (setting : Setting) (text : List ℕ) (cut : Cut)
     → Precedes (FirstViolation setting text cut) (ContentViolation setting cut)
 first_before_held setting text cut = record { order = order }
@@ -375,11 +375,11 @@ all_faults profile base text cut setting first found is made one two =
     to : (place : ℕ) (rule : Rule) → Either (FirstViolation setting text cut) (ContentViolation setting cut) place rule
         → ViolationOf setting text cut place rule
     to place rule (inl (inl start)) = inl start
-    to place rule (inl (inr judged)) = inr (inl judged)
+    to place rule (inl (inr checked)) = inr (inl checked)
     to place rule (inr held) = inr (inr held)
 
     from : (place : ℕ) (rule : Rule) → ViolationOf setting text cut place rule
         → Either (FirstViolation setting text cut) (ContentViolation setting cut) place rule
     from place rule (inl start) = inl (inl start)
-    from place rule (inr (inl judged)) = inl (inr judged)
+    from place rule (inr (inl checked)) = inl (inr checked)
     from place rule (inr (inr held)) = inr held

@@ -1,4 +1,4 @@
--- A link of plain parts is valid with them, and a text with a plain start is judged by what stands behind that.
+-- A link of plain parts is valid with them, and a text with a plain start is checked by what is after that.
 use Rattle.std.proofs.Common.{◌≡◌, ◌≢◌, ℕ, Bool, true, false, ◌==◌, List, [], ◌∷◌, ◌++◌, Option, Some, None, refl}
 use Rattle.std.proofs.Common.{sym, ap}
 use Rattle.std.proofs.Common.{◌∙◌, ◌<◌, ◌^◌, ◌||◌, length, subst, inl, arith, append_assoc}
@@ -20,7 +20,7 @@ use Rattle.uv_model.specs.Violations.Refusal.{IsLeast}
 use Rattle.uv_model.specs.Violations.Violation.{HostPartViolation, HostViolation, PortPartViolation}
 use Rattle.uv_model.specs.Cut.{IsCut, ends_at_host}
 use Rattle.uv_model.specs.Hosts.Domain.{IsDomain, is_form_code_point}
-use Rattle.uv_model.specs.Parts.{written_behind}
+use Rattle.uv_model.specs.Parts.{written_after}
 use Rattle.uv_model.specs.Path.{is_without, starts_with_slash}
 use Rattle.uv_model.specs.Records.Url.{Url}
 use Rattle.uv_model.specs.Setting.{Setting, setting_of}
@@ -30,16 +30,16 @@ use Rattle.uv_model.proofs.Texts.MarkLemmas.{is_without-cons, is_without-parts}
 use Rattle.uv_model.proofs.Hosts.ParserForms.{wide_host_not_stopped}
 use Rattle.uv_model.proofs.Violations.FaultlessHosts.{host_text_faultless, port_faultless}
 use Rattle.uv_grammar.specs.Built.{built}
-use Rattle.uv_grammar.specs.PartViolations.{BehindAuthority, IsCountable}
+use Rattle.uv_grammar.specs.PartViolations.{AfterAuthority, IsCountable}
 use Rattle.uv_grammar.specs.PartValues.{FitsHostPart}
 use Rattle.uv_grammar.specs.declared.plain_links.PlainCut.{PlainCut}
 use Rattle.uv_grammar.specs.PlainLinks.{IsPlainCut, IsPlainLink, IsStartCut}
-use Rattle.uv_grammar.specs.PlainLinks.{begins_behind}
+use Rattle.uv_grammar.specs.PlainLinks.{begins_after}
 use Rattle.uv_grammar.specs.Slices.{chars_of, chars_of_option}
-use Rattle.uv_grammar.proofs.SpecialLinkLemmas.{IsBehindCut, IsSpecialLink, link_cut, link_judged, link_port}
+use Rattle.uv_grammar.proofs.SpecialLinkLemmas.{IsAfterCut, IsSpecialLink, link_checked, link_cut, link_port}
 use Rattle.uv_grammar.proofs.SpecialLinkLemmas.{parts_are_cut, special_class, special_started, word_cut}
 use Rattle.uv_grammar.specs.Verdict.{IsAccepted, IsRefused, IsValidity}
-use Rattle.uv_grammar.proofs.VerdictLemmas.{accepted, countable, refused_behind}
+use Rattle.uv_grammar.proofs.VerdictLemmas.{accepted, countable, refused_after}
 use Rattle.uv_text.proofs.SplitsLemmas.{chars-ascii_first}
 use Rattle.uv_model.proofs.Violations.ViolationsExcludeParts.{special_host_faultless}
 
@@ -62,11 +62,11 @@ plain_link : (profile : Profile) (base : Option Url) (text : List ℕ) (scheme :
     → IsPlainLink profile base text scheme name form port_text port path query fragment
     → IsSpecialLink base text scheme name port_text port path query fragment
 plain_link profile base text scheme name form port_text port path query fragment own l = record {
-  behind = l.behind;
-  rest = l.rest;
   after = l.after;
+  rest = l.rest;
+  remaining = l.remaining;
   special = l.special;
-  host_cut = word_cut l.behind name l.rest l.named.joined (name_word name form own l.named.wide);
+  host_cut = word_cut l.after name l.rest l.named.joined (name_word name form own l.named.wide);
   port_cut = l.port_cut;
   units = l.units;
 }
@@ -111,9 +111,9 @@ plain_accepted profile base text scheme name form port_text port path query frag
     let own = own_form name form l.named.wide same in
     let cut = link_cut scheme name port_text path query fragment in
     let setting = setting_of profile base scheme in
-    let judged = link_judged profile base text scheme name port_text port path query fragment
+    let checked = link_checked profile base text scheme name port_text port path query fragment
     (plain_link profile base text scheme name form port_text port path query fragment own l) in
-    accepted profile base text cut setting judged.is_cut refl judged.started
+    accepted profile base text cut setting checked.is_cut refl checked.started
     (built cut (Some (Domain form)) port)
     (record {
       host = Some (Domain form);
@@ -121,9 +121,9 @@ plain_accepted profile base text scheme name form port_text port path query frag
       built = refl;
       fits_host =
           plain_host setting scheme name form port_text path query fragment own
-          (special_class base text scheme l.behind l.special) l.named.wide l.named.domain;
-      fits_port = judged.fits_port;
-      silent = judged.silent;
+          (special_class base text scheme l.after l.special) l.named.wide l.named.domain;
+      fits_port = checked.fits_port;
+      silent = checked.silent;
     })
 
 -- so it is valid
@@ -139,19 +139,19 @@ plain_valid profile base text cut plain = (
 -- ---- a plain start before other parts
 
 -- bytes that begin a path, a query or a fragment are a text that does
-pub begins_chars : (bytes : List ℕ) → begins_behind bytes ≡ true → begins_behind (chars bytes) ≡ true
-begins_chars [] begins = ap begins_behind chars-nil
+pub begins_chars : (bytes : List ℕ) → begins_after bytes ≡ true → begins_after (chars bytes) ≡ true
+begins_chars [] begins = ap begins_after chars-nil
 begins_chars (c ∷ rest) begins =
     let small : c < 128 = grind (arith, nat_tests) in
-    ap begins_behind (chars-ascii_first c rest small) ∙ begins
+    ap begins_after (chars-ascii_first c rest small) ∙ begins
 
 -- a path that isn't empty begins with `/`, where the text that it begins does with `/`, `?` or `#`
-begins_slashed : (after path more : List ℕ) → begins_behind after ≡ true → after ≡ path ++ more
+begins_slashed : (remaining path more : List ℕ) → begins_after remaining ≡ true → remaining ≡ path ++ more
     → is_without number_sign path ≡ true → is_without question_mark path ≡ true
     → path ≢ [] → starts_with_slash path ≡ true
-begins_slashed after [] more begins same no_number_sign no_question_mark some = absurd (some refl)
-begins_slashed after (c ∷ rest) more begins same no_number_sign no_question_mark some =
-    let first = ap begins_behind (sym same) ∙ begins in
+begins_slashed remaining [] more begins same no_number_sign no_question_mark some = absurd (some refl)
+begins_slashed remaining (c ∷ rest) more begins same no_number_sign no_question_mark some =
+    let first = ap begins_after (sym same) ∙ begins in
     let hash = (is_without-cons number_sign c rest no_number_sign).0 in
     let mark = (is_without-cons question_mark c rest no_question_mark).0 in
     slash_left (c == slash) (rw (hash, mark) at first)
@@ -160,16 +160,16 @@ begins_slashed after (c ∷ rest) more begins same no_number_sign no_question_ma
     slash_left true h = refl
     slash_left false h = h
 
--- the texts behind a plain start are cut at their marks
-pub behind_cut : (after prefix path : List ℕ) (query fragment : Option (List ℕ)) → begins_behind after ≡ true
-    → after ≡ prefix ++ written_behind number_sign fragment → is_without number_sign prefix ≡ true
-    → prefix ≡ path ++ written_behind question_mark query → is_without question_mark path ≡ true
-    → IsBehindCut after path query fragment
-behind_cut after prefix path query fragment begins joined no_number_sign split no_question_mark =
-    let asked = written_behind question_mark query in
-    let behind = written_behind number_sign fragment in
-    let whole : after ≡ path ++ (asked ++ behind) =
-    joined ∙ ap (λ (s : List ℕ). s ++ behind) split ∙ append_assoc path asked behind in
+-- the texts after a plain start are cut at their marks
+pub after_cut : (remaining prefix path : List ℕ) (query fragment : Option (List ℕ)) → begins_after remaining ≡ true
+    → remaining ≡ prefix ++ written_after number_sign fragment → is_without number_sign prefix ≡ true
+    → prefix ≡ path ++ written_after question_mark query → is_without question_mark path ≡ true
+    → IsAfterCut remaining path query fragment
+after_cut remaining prefix path query fragment begins joined no_number_sign split no_question_mark =
+    let asked = written_after question_mark query in
+    let after = written_after number_sign fragment in
+    let whole : remaining ≡ path ++ (asked ++ after) =
+    joined ∙ ap (λ (s : List ℕ). s ++ after) split ∙ append_assoc path asked after in
     let parts = is_without-parts number_sign path asked
     (subst (λ (s : List ℕ). is_without number_sign s ≡ true) split no_number_sign) in
     record {
@@ -177,17 +177,17 @@ behind_cut after prefix path query fragment begins joined no_number_sign split n
       no_question_mark = no_question_mark;
       no_number_sign = parts.0;
       none_in_query = parts.1;
-      slashed = begins_slashed after path (asked ++ behind) begins whole parts.0 no_question_mark;
+      slashed = begins_slashed remaining path (asked ++ after) begins whole parts.0 no_question_mark;
     }
 
 start_is_cut : (profile : Profile) (base : Option Url) (text : List ℕ) (scheme : Option (List ℕ))
     (name form : List ℕ) (port_text : Option (List ℕ)) (port : Option ℕ)
-    (after path : List ℕ) (query fragment : Option (List ℕ)) → name ≡ form
-    → IsStartCut profile base text scheme name form port_text port after → IsBehindCut after path query fragment
+    (remaining path : List ℕ) (query fragment : Option (List ℕ)) → name ≡ form
+    → IsStartCut profile base text scheme name form port_text port remaining → IsAfterCut remaining path query fragment
     → IsCut base text (link_cut scheme name port_text path query fragment)
-start_is_cut profile base text scheme name form port_text port after path query fragment own l b =
-    parts_are_cut base text scheme l.behind name l.rest port_text port after path query fragment l.special
-    (word_cut l.behind name l.rest l.named.joined (name_word name form own l.named.wide)) l.port_cut b
+start_is_cut profile base text scheme name form port_text port remaining path query fragment own l b =
+    parts_are_cut base text scheme l.after name l.rest port_text port remaining path query fragment l.special
+    (word_cut l.after name l.rest l.named.joined (name_word name form own l.named.wide)) l.port_cut b
 
 -- its host is valid
 start_host : (setting : Setting) (scheme : Option (List ℕ)) (name form : List ℕ) (port_text : Option (List ℕ))
@@ -210,42 +210,42 @@ start_port scheme name None path query fragment valid place rule h = h
 start_port scheme name (Some port_text) path query fragment valid place rule h =
     port_faultless port_text valid h.inner rule h.holds
 
--- a text with a plain start is refused by the least violation of what stands behind it
+-- a text with a plain start is refused by the least violation of what is after it
 pub start_refused : (profile : Profile) (base : Option Url) (text : List ℕ) (scheme : Option (List ℕ))
     (name form : List ℕ)
-    (port_text : Option (List ℕ)) (port : Option ℕ) (after path : List ℕ) (query fragment : Option (List ℕ))
-    (refusal : Refusal) → chars form ≡ name → IsStartCut profile base text scheme name form port_text port after
-    → IsBehindCut after path query fragment
-    → IsLeast (BehindAuthority (setting_of profile base scheme)
+    (port_text : Option (List ℕ)) (port : Option ℕ) (remaining path : List ℕ) (query fragment : Option (List ℕ))
+    (refusal : Refusal) → chars form ≡ name → IsStartCut profile base text scheme name form port_text port remaining
+    → IsAfterCut remaining path query fragment
+    → IsLeast (AfterAuthority (setting_of profile base scheme)
     (link_cut scheme name port_text path query fragment)) (Some refusal)
     → IsRefused profile base text refusal
-start_refused profile base text scheme name form port_text port after path query fragment refusal same l b least =
+start_refused profile base text scheme name form port_text port remaining path query fragment refusal same l b least =
     let own = own_form name form l.named.wide same in
     let setting = setting_of profile base scheme in
-    refused_behind profile base text (link_cut scheme name port_text path query fragment) setting refusal
-    (start_is_cut profile base text scheme name form port_text port after path query fragment own l b) refl
-    (special_started profile base text scheme l.behind name port_text path query fragment l.special)
+    refused_after profile base text (link_cut scheme name port_text path query fragment) setting refusal
+    (start_is_cut profile base text scheme name form port_text port remaining path query fragment own l b) refl
+    (special_started profile base text scheme l.after name port_text path query fragment l.special)
     (start_host setting scheme name form port_text path query fragment own
-    (special_class base text scheme l.behind l.special) l.named.wide l.named.domain)
+    (special_class base text scheme l.after l.special) l.named.wide l.named.domain)
     (start_port scheme name port_text path query fragment l.port_cut.valid) least
 
 -- and is valid where there is none
 pub start_accepted : (profile : Profile) (base : Option Url) (text : List ℕ) (scheme : Option (List ℕ))
     (name form : List ℕ)
-    (port_text : Option (List ℕ)) (port : Option ℕ) (after path : List ℕ) (query fragment : Option (List ℕ))
-    → chars form ≡ name → IsStartCut profile base text scheme name form port_text port after
-    → IsBehindCut after path query fragment
-    → IsLeast (BehindAuthority (setting_of profile base scheme)
+    (port_text : Option (List ℕ)) (port : Option ℕ) (remaining path : List ℕ) (query fragment : Option (List ℕ))
+    → chars form ≡ name → IsStartCut profile base text scheme name form port_text port remaining
+    → IsAfterCut remaining path query fragment
+    → IsLeast (AfterAuthority (setting_of profile base scheme)
     (link_cut scheme name port_text path query fragment)) None
     → IsAccepted profile base text (built (link_cut scheme name port_text path query fragment) (Some
     (Domain form)) port)
-start_accepted profile base text scheme name form port_text port after path query fragment same l b silent =
+start_accepted profile base text scheme name form port_text port remaining path query fragment same l b silent =
     let own = own_form name form l.named.wide same in
     let cut = link_cut scheme name port_text path query fragment in
     let setting = setting_of profile base scheme in
     accepted profile base text cut setting
-    (start_is_cut profile base text scheme name form port_text port after path query fragment own l b) refl
-    (special_started profile base text scheme l.behind name port_text path query fragment l.special)
+    (start_is_cut profile base text scheme name form port_text port remaining path query fragment own l b) refl
+    (special_started profile base text scheme l.after name port_text path query fragment l.special)
     (built cut (Some (Domain form)) port)
     (record {
       host = Some (Domain form);
@@ -253,30 +253,30 @@ start_accepted profile base text scheme name form port_text port after path quer
       built = refl;
       fits_host =
           plain_host setting scheme name form port_text path query fragment own
-          (special_class base text scheme l.behind l.special) l.named.wide l.named.domain;
-      fits_port = link_port setting scheme name port_text port path query fragment l.rest after l.port_cut;
+          (special_class base text scheme l.after l.special) l.named.wide l.named.domain;
+      fits_port = link_port setting scheme name port_text port path query fragment l.rest remaining l.port_cut;
       silent = silent;
     })
 
 -- such a text is countable
 pub start_countable : (profile : Profile) (base : Option Url) (bytes : List ℕ) (scheme : Option (List ℕ))
     (name form : List ℕ) (port_text : Option (List ℕ)) (port : Option ℕ)
-    (after path : List ℕ) (query fragment : Option (List ℕ)) → IsUtf8 bytes → length bytes < 2 ^ 64
-    → chars form ≡ name → IsStartCut profile base (chars bytes) scheme name form port_text port after
-    → IsBehindCut after path query fragment → IsCountable (link_cut scheme name port_text path query fragment)
-start_countable profile base bytes scheme name form port_text port after path query fragment utf8 small same l b =
+    (remaining path : List ℕ) (query fragment : Option (List ℕ)) → IsUtf8 bytes → length bytes < 2 ^ 64
+    → chars form ≡ name → IsStartCut profile base (chars bytes) scheme name form port_text port remaining
+    → IsAfterCut remaining path query fragment → IsCountable (link_cut scheme name port_text path query fragment)
+start_countable profile base bytes scheme name form port_text port remaining path query fragment utf8 small same l b =
     countable bytes (link_cut scheme name port_text path query fragment) utf8 small
-    (start_is_cut profile base (chars bytes) scheme name form port_text port after path query fragment
+    (start_is_cut profile base (chars bytes) scheme name form port_text port remaining path query fragment
     (own_form name form l.named.wide same) l b).whole
 
 -- such a text is cut into its start and what follows
 pub start_cut : (profile : Profile) (base : Option Url) (text : List ℕ) (scheme : Option (List ℕ))
-    (name form : List ℕ) (port_text : Option (List ℕ)) (port : Option ℕ) (after path : List ℕ)
+    (name form : List ℕ) (port_text : Option (List ℕ)) (port : Option ℕ) (remaining path : List ℕ)
     (query fragment : Option (List ℕ)) → chars form ≡ name
-    → IsStartCut profile base text scheme name form port_text port after → IsBehindCut after path query fragment
+    → IsStartCut profile base text scheme name form port_text port remaining → IsAfterCut remaining path query fragment
     → IsCut base text (link_cut scheme name port_text path query fragment)
-start_cut profile base text scheme name form port_text port after path query fragment same l b =
-    start_is_cut profile base text scheme name form port_text port after path query fragment
+start_cut profile base text scheme name form port_text port remaining path query fragment same l b =
+    start_is_cut profile base text scheme name form port_text port remaining path query fragment
     (own_form name form l.named.wide same) l b
 
 -- a plain link is cut into its texts
@@ -292,5 +292,5 @@ plain_is_cut profile base text cut l =
     let query = chars_of_option cut.query in
     let fragment = chars_of_option cut.fragment in
     let own = own_form name form l.named.wide refl in
-    (link_judged profile base text scheme name port_text cut.port path query fragment
+    (link_checked profile base text scheme name port_text cut.port path query fragment
     (plain_link profile base text scheme name form port_text cut.port path query fragment own l)).is_cut

@@ -31,7 +31,7 @@ use Rattle.uv_grammar.specs.PartValues.{FitsPort, without_default}
 use Rattle.uv_grammar.specs.declared.plain_links.PlainStart.{PlainStart}
 use Rattle.uv_grammar.specs.PlainLinks.{HasAsciiPrefix, IsNameCut, IsPrefixCut, IsPartCut, IsPlainStart, IsPortCut}
 use Rattle.uv_grammar.specs.PlainLinks.{IsReferenceStart, IsSpecialBase, IsSpecialCut, IsSpecialPrefix, IsSpecialStart}
-use Rattle.uv_grammar.specs.PlainLinks.{IsStartBehind}
+use Rattle.uv_grammar.specs.PlainLinks.{IsStartAfter}
 use Rattle.uv_grammar.specs.Slices.{chars_of, chars_of_option}
 use Rattle.uv_grammar.specs.TextSplits.{SplitsScheme}
 use Rattle.uv_grammar.proofs.PlainUnitLemmas.{split_joined, url_units}
@@ -46,7 +46,7 @@ prefix_boundary bytes end utf8 prefix =
     IsCharBoundary-from_take bytes end utf8 prefix.0
     (IsUtf8-from_ascii (take end bytes) (IsAscii-from_test (take end bytes) prefix.1))
 
--- the two sides of the cut behind an ASCII prefix
+-- the two sides of the cut after an ASCII prefix
 pub prefix_cut : (bytes prefix rest : List ℕ) (end : ℕ) → HasAsciiPrefix bytes end → prefix ≡ take end bytes → rest
     ≡ drop end bytes
     → IsPrefixCut bytes end prefix rest
@@ -85,31 +85,31 @@ unfolding scheme_class default_port
 ws_special = refl
 
 -- a special scheme in the bytes
-pub special_prefix : (bytes name behind : List ℕ) → bytes ≡ name ++ colon ∷ slash ∷ slash ∷ behind → is_scheme name
+pub special_prefix : (bytes name after : List ℕ) → bytes ≡ name ++ colon ∷ slash ∷ slash ∷ after → is_scheme name
     ≡ true
     → scheme_class name ≡ SpecialNotFile → IsSpecialPrefix bytes (length name)
-special_prefix bytes name behind same is special =
+special_prefix bytes name after same is special =
     let prefix : take (length name) bytes ≡ name = ap (take (length name)) same ∙ take-append_seam name
-    (colon ∷ slash ∷ slash ∷ behind) in
+    (colon ∷ slash ∷ slash ∷ after) in
     record {
-      inside = omega (arith, ap length same, length-append name (colon ∷ slash ∷ slash ∷ behind));
+      inside = omega (arith, ap length same, length-append name (colon ∷ slash ∷ slash ∷ after));
       scheme = ap is_scheme prefix ∙ is;
       special = ap scheme_class prefix ∙ special;
-      behind = behind;
-      mark = ap (drop (length name)) same ∙ drop-append_seam name (colon ∷ slash ∷ slash ∷ behind);
+      after = after;
+      mark = ap (drop (length name)) same ∙ drop-append_seam name (colon ∷ slash ∷ slash ∷ after);
     }
 
--- behind it stands `://`
-pub mark_ascii : (bytes behind : List ℕ) (end : ℕ) → IsSpecialPrefix bytes end → behind ≡ drop end bytes
-    → HasAsciiPrefix behind 3
-mark_ascii bytes behind end is same = rw (same, is.mark) (omega arith, refl)
+-- after it is `://`
+pub mark_ascii : (bytes after : List ℕ) (end : ℕ) → IsSpecialPrefix bytes end → after ≡ drop end bytes
+    → HasAsciiPrefix after 3
+mark_ascii bytes after end is same = rw (same, is.mark) (omega arith, refl)
 
--- the cut behind a special scheme
-pub special_cut : (bytes scheme behind none rest : List ℕ) (end : ℕ) → IsSpecialPrefix bytes end
-    → IsPrefixCut bytes end scheme behind
-    → IsPrefixCut behind 3 none rest → IsSpecialCut (chars bytes) (chars scheme) (chars rest)
-special_cut bytes scheme behind none rest end is a b =
-    let three : take 3 behind ≡ colon ∷ slash ∷ slash ∷ [] = ap (take 3) (a.is_rest ∙ is.mark) in
+-- the cut after a special scheme
+pub special_cut : (bytes scheme after none rest : List ℕ) (end : ℕ) → IsSpecialPrefix bytes end
+    → IsPrefixCut bytes end scheme after
+    → IsPrefixCut after 3 none rest → IsSpecialCut (chars bytes) (chars scheme) (chars rest)
+special_cut bytes scheme after none rest end is a b =
+    let three : take 3 after ≡ colon ∷ slash ∷ slash ∷ [] = ap (take 3) (a.is_rest ∙ is.mark) in
     record {
       joined =
           a.joined
@@ -120,35 +120,35 @@ special_cut bytes scheme behind none rest end is a b =
     }
 
 -- a special scheme in any case
-pub scheme_cut : (text scheme rest behind : List ℕ) → SplitsScheme text (Some scheme) rest → rest
-    ≡ slash ∷ slash ∷ behind
-    → scheme_class scheme ≡ SpecialNotFile → IsSpecialCut text scheme behind
-scheme_cut text scheme rest behind split slashes special = record {
+pub scheme_cut : (text scheme rest after : List ℕ) → SplitsScheme text (Some scheme) rest → rest
+    ≡ slash ∷ slash ∷ after
+    → scheme_class scheme ≡ SpecialNotFile → IsSpecialCut text scheme after
+scheme_cut text scheme rest after split slashes special = record {
   joined =
       split.joined ∙ append_assoc scheme (colon ∷ []) rest ∙ ap (λ (s : List ℕ). scheme ++ colon ∷ s) slashes;
   named = split.scheme;
   special = special;
 }
 
--- the cut behind a prefix
+-- the cut after a prefix
 pub cut_joined : (bytes prefix rest : List ℕ) (end : ℕ) → IsPrefixCut bytes end prefix rest → chars bytes
     ≡ chars prefix ++ chars rest
 cut_joined bytes prefix rest end cut = cut.joined ∙ ap (λ s. s ++ chars rest) (sym cut.code_points)
 
 -- two slashes are ASCII
-pub slashes_ascii : (bytes behind : List ℕ) → bytes ≡ slash ∷ slash ∷ behind → HasAsciiPrefix bytes 2
-slashes_ascii bytes behind same = rw same (omega arith, refl)
+pub slashes_ascii : (bytes after : List ℕ) → bytes ≡ slash ∷ slash ∷ after → HasAsciiPrefix bytes 2
+slashes_ascii bytes after same = rw same (omega arith, refl)
 
--- the cut behind them
-pub slashes_cut : (bytes none rest behind : List ℕ) → bytes ≡ slash ∷ slash ∷ behind → IsPrefixCut bytes 2 none rest
+-- the cut after them
+pub slashes_cut : (bytes none rest after : List ℕ) → bytes ≡ slash ∷ slash ∷ after → IsPrefixCut bytes 2 none rest
     → chars bytes ≡ slash ∷ slash ∷ chars rest
-slashes_cut bytes none rest behind same cut = cut.joined ∙ ap (λ s. s ++ chars rest) (ap (take 2) same)
+slashes_cut bytes none rest after same cut = cut.joined ∙ ap (λ s. s ++ chars rest) (ap (take 2) same)
 
--- what stands behind them is behind the start of a reference, against a base of a special scheme
-pub reference_cut : (base : Option Url) (text behind scheme : List ℕ) → text ≡ slash ∷ slash ∷ behind
-    → IsSpecialBase base scheme → IsReferenceStart base text behind
-reference_cut None text behind scheme joined is = absurd is
-reference_cut (Some url) text behind scheme joined is = record {
+-- what is after them is after the start of a reference, against a base of a special scheme
+pub reference_cut : (base : Option Url) (text after scheme : List ℕ) → text ≡ slash ∷ slash ∷ after
+    → IsSpecialBase base scheme → IsReferenceStart base text after
+reference_cut None text after scheme joined is = absurd is
+reference_cut (Some url) text after scheme joined is = record {
   joined = joined;
   special = ap scheme_class is.0 ∙ is.1;
   segments = is.2;
@@ -159,15 +159,15 @@ pub base_scheme : (base : Option Url) (scheme : List ℕ) → IsSpecialBase base
 base_scheme None scheme is = absurd is
 base_scheme (Some url) scheme is = is.0
 
--- behind a scheme, written or the base's, and a name by the profile such a start is a plain one
-pub start_behind : (profile : Profile) (base : Option Url) (text behind rest scheme : List ℕ)
+-- after a scheme, written or the base's, and a name by the profile such a start is a plain one
+pub start_after : (profile : Profile) (base : Option Url) (text after rest scheme : List ℕ)
     (written : Option (Bor (List ℕ))) (name : Bor (List ℕ)) (start : PlainStart)
-    → IsSpecialStart base text (chars_of_option written) behind → scheme_or base (chars_of_option written) ≡ scheme
-    → IsNameCut profile behind (chars_of name) name.now rest → IsStartBehind written scheme name rest start
+    → IsSpecialStart base text (chars_of_option written) after → scheme_or base (chars_of_option written) ≡ scheme
+    → IsNameCut profile after (chars_of name) name.now rest → IsStartAfter written scheme name rest start
     → IsPlainStart profile base text start
-start_behind profile base text behind rest scheme written name start special same named is =
+start_after profile base text after rest scheme written name start special same named is =
     rw (is.written_scheme, is.same_name) (record {
-      behind = behind;
+      after = after;
       rest = rest;
       special = special;
       named = named;
@@ -191,17 +191,17 @@ no_part mark text = record { joined = refl; units = tt }
 pub byte_ascii : (mark : ℕ) (bytes : List ℕ) → mark < 128 → bytes ≡ mark ∷ drop 1 bytes → HasAsciiPrefix bytes 1
 byte_ascii mark bytes small same = rw same (omega arith, rw (lt-ltb mark 128 small) refl)
 
--- a text that begins with the mark has a part of units behind it
-pub some_part : (mark : ℕ) (bytes none behind prefix rest : List ℕ) (held : ℕ → Bool) → bytes ≡ mark ∷ drop 1 bytes
-    → IsPrefixCut bytes 1 none behind → HoldsUrlBytes held → HasHexDigits held
-    → IsUnitSplit held (chars behind) (chars prefix) (chars rest)
+-- a text that begins with the mark has a part of units after it
+pub some_part : (mark : ℕ) (bytes none after prefix rest : List ℕ) (held : ℕ → Bool) → bytes ≡ mark ∷ drop 1 bytes
+    → IsPrefixCut bytes 1 none after → HoldsUrlBytes held → HasHexDigits held
+    → IsUnitSplit held (chars after) (chars prefix) (chars rest)
     → IsPartCut mark (chars bytes) (Some (chars prefix)) (chars rest)
-some_part mark bytes none behind prefix rest held same a holds digits cut = record {
+some_part mark bytes none after prefix rest held same a holds digits cut = record {
   joined =
       a.joined
-      ∙ ap (λ s. s ++ chars behind) (ap (take 1) same)
-      ∙ ap (λ s. mark ∷ s) (split_joined held (chars behind) (chars prefix) (chars rest) cut);
-  units = url_units held (chars behind) (chars prefix) (chars rest) holds digits cut;
+      ∙ ap (λ s. s ++ chars after) (ap (take 1) same)
+      ∙ ap (λ s. mark ∷ s) (split_joined held (chars after) (chars prefix) (chars rest) cut);
+  units = url_units held (chars after) (chars prefix) (chars rest) holds digits cut;
 }
 
 -- the bytes of a scheme are ASCII
@@ -227,14 +227,14 @@ pub no_port : (default : Option ℕ) (text : List ℕ) → IsPortCut default tex
 no_port default text = record { joined = refl; valid = tt; given = refl }
 
 -- and one with a port
-pub some_port : (default : Option ℕ) (bytes none behind port rest : List ℕ) (end : ℕ) (number value : Option ℕ)
-    → bytes ≡ colon ∷ drop 1 bytes → IsPrefixCut bytes 1 none behind → IsPrefixCut behind end port rest
+pub some_port : (default : Option ℕ) (bytes none after port rest : List ℕ) (end : ℕ) (number value : Option ℕ)
+    → bytes ≡ colon ∷ drop 1 bytes → IsPrefixCut bytes 1 none after → IsPrefixCut after end port rest
     → FitsPort (chars port) number → value ≡ without_default default number
     → IsPortCut default (chars bytes) (Some (chars port)) value (chars rest)
-some_port default bytes none behind port rest end number value same a b fits given = record {
+some_port default bytes none after port rest end number value same a b fits given = record {
   joined =
-      a.joined ∙ ap (λ s. s ++ chars behind) (ap (take 1) same)
-      ∙ ap (λ s. colon ∷ s) (cut_joined behind port rest end b);
+      a.joined ∙ ap (λ s. s ++ chars after) (ap (take 1) same)
+      ∙ ap (λ s. colon ∷ s) (cut_joined after port rest end b);
   valid = fits.0;
   given = given ∙ (ap (without_default default) fits.1 ∙ given_number default (chars port));
 }
@@ -263,17 +263,17 @@ prefix_ends bytes prefix k few long front back =
     sym (take-take k 4 bytes few) ∙ (ap (take k) front ∙ take-take k 4 prefix few) in
     let last : take 4 (drop k prefix) ≡ drop k prefix =
     take_all 4 (drop k prefix) (omega (arith, length-drop k prefix)) in
-    let behind : drop k bytes ≡ drop k prefix ++ drop (k + 4) bytes =
+    let after : drop k bytes ≡ drop k prefix ++ drop (k + 4) bytes =
     sym (take-append-drop 4 (drop k bytes))
     ∙ ap (λ s. s ++ drop 4 (drop k bytes)) (back ∙ last)
     ∙ ap (λ s. drop k prefix ++ s) (drop-drop 4 k bytes) in
     sym (take-append-drop k bytes)
     ∙ ap (λ s. s ++ drop k bytes) first
-    ∙ ap (λ s. take k prefix ++ s) behind
+    ∙ ap (λ s. take k prefix ++ s) after
     ∙ sym (append_assoc (take k prefix) (drop k prefix) (drop (k + 4) bytes))
     ∙ ap (λ s. s ++ drop (k + 4) bytes) (take-append-drop k prefix)
 
--- four bytes of a list, and none behind its end, are bytes
+-- four bytes of a list, and none after its end, are bytes
 four_small : (bytes : List ℕ) (place i : ℕ) → ((k : ℕ) → Fits w8 (get_or bytes k 0))
     → get_or (take 4 (drop place bytes)) i 0 < 256
 four_small bytes place i fit = elim (cases_Bool (nat_lt i 4)) [
@@ -282,7 +282,7 @@ four_small bytes place i fit = elim (cases_Bool (nat_lt i 4)) [
       let fits : get_or bytes (place + i) 0 < 256 = (fit (place + i)).fits in
       rw (get_or-take 4 (drop place bytes) i 0 inside, get_or-drop place bytes i 0) fits
   | inr far ↦
-      let behind : 4 ≤ i = grind (arith, nat_tests) in
+      let after : 4 ≤ i = grind (arith, nat_tests) in
       rw (get_or_past (take 4 (drop place bytes)) i 0
       (omega (arith, length-take 4 (drop place bytes), min-le_left 4 (length (drop place bytes))))) (omega arith)
 ]

@@ -38,7 +38,7 @@ module _ (held : ℕ → Bool) where
   split_joined text prefix rest cut =
       rw (cut.is_prefix, cut.is_rest) (sym (take-append-drop (unit_length held text) text))
 
-  -- the hex digits behind a `%` are in the prefix
+  -- the hex digits after a `%` are in the prefix
   hex_prefix : HasHexDigits held → (rest : List ℕ) → starts_with_two_hex rest ≡ true
       → starts_with_two_hex (prefix rest) ≡ true
   hex_prefix digits [] hex = absurd (false≢true hex)

@@ -37,7 +37,7 @@ foreign_here (c ∷ rest) some = elim (cases_Bool (is_ascii_digit c)) [
   | inr other ↦ rw other (record { code_point = c; rest = rest; here = refl; foreign = other })
 ]
 
--- no other stands before it
+-- no other is before it
 foreign_first : (text : List ℕ) (place : ℕ) → HasForeignDigit text place → prefix_len is_ascii_digit text ≤ place
 foreign_first [] place h = omega arith
 foreign_first (c ∷ rest) zero h =

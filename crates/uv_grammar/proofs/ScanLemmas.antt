@@ -1,4 +1,4 @@
--- Texts that are judged code point by code point, and lists to which violations are added.
+-- Texts that are checked code point by code point, and lists to which violations are added.
 use Rattle.std.proofs.Common.{◌≡◌, ◌≢◌, ℕ, ◌+◌, ◌<◌, ◌≤◌, ◌⊎◌, Bool, List, [], ◌∷◌, ◌++◌, true, false, Option, Some}
 use Rattle.std.proofs.Common.{None}
 use Rattle.std.proofs.Common.{length, drop, inl, inr, arith, refl, sym, ap, ◌∙◌, subst, append_assoc, append-nil}
@@ -11,7 +11,7 @@ use Rattle.uv_model.specs.declared.rule.Refusal.{Refusal}
 use Rattle.uv_model.specs.declared.rule.Rule.TheVariants.{CodePoint, HostCodePoint, HostIpv6, Percent, PortDigit}
 use Rattle.uv_model.specs.Violations.AllViolations.{ListsViolations}
 use Rattle.uv_model.specs.Ascii.{percent_sign}
-use Rattle.uv_model.specs.Violations.Violation.{Behind, refusal_behind}
+use Rattle.uv_model.specs.Violations.Violation.{After, refusal_after}
 use Rattle.uv_model.specs.Hosts.OpaqueHost.{is_forbidden_host, starts_with_bracket}
 use Rattle.uv_model.specs.Violations.OpaqueHostViolation.{OpaqueHostViolation}
 use Rattle.uv_model.specs.Violations.Refusal.{IsLeast}
@@ -29,15 +29,15 @@ use Rattle.uv_grammar.specs.Scan.{DigitViolation, HostUnitViolation, ScanViolati
 
 -- ---- violations of a code point and of what follows it
 
--- what stands at a place is one code point
+-- what is at a place is one code point
 one_code_point : (text : List ℕ) (place c d : ℕ) (rest more : List ℕ) → drop place text ≡ c ∷ rest
     → drop place text ≡ d ∷ more → c ≡ d
 one_code_point text place c d rest more here again = cc
 
--- a bare `%` behind a prefix
-percent_behind : (prefix : ℕ) (text : List ℕ) (place : ℕ) → HasBarePercent text (prefix + place)
+-- a bare `%` after a prefix
+percent_after : (prefix : ℕ) (text : List ℕ) (place : ℕ) → HasBarePercent text (prefix + place)
     → HasBarePercent (drop prefix text) place
-percent_behind prefix text place h =
+percent_after prefix text place h =
     record { rest = h.rest; here = drop-drop place prefix text ∙ h.here; bare = h.bare }
 
 percent_whole : (prefix : ℕ) (text : List ℕ) (place : ℕ) → HasBarePercent (drop prefix text) place
@@ -46,7 +46,7 @@ percent_whole prefix text place h =
     record { rest = h.rest; here = sym (drop-drop place prefix text) ∙ h.here; bare = h.bare }
 
 pub units_scan : IsScan UnitViolation
-units_scan = record { one = one; behind = behind; whole = whole }
+units_scan = record { one = one; after = after; whole = whole }
   where
     one : (text : List ℕ) (place : ℕ) (rule other : Rule) → UnitViolation text place rule
         → UnitViolation text place other → rule ≡ other
@@ -60,17 +60,17 @@ units_scan = record { one = one; behind = behind; whole = whole }
     one text place Percent _ h k = absurd k
     one text place _ other h k = absurd h
 
-    behind : (prefix : ℕ) (text : List ℕ) (place : ℕ) (rule : Rule) → UnitViolation text (prefix + place) rule
+    after : (prefix : ℕ) (text : List ℕ) (place : ℕ) (rule : Rule) → UnitViolation text (prefix + place) rule
         → UnitViolation (drop prefix text) place rule
-    behind prefix text place CodePoint h = record {
+    after prefix text place CodePoint h = record {
       code_point = h.code_point;
       rest = h.rest;
       here = drop-drop place prefix text ∙ h.here;
       foreign = h.foreign;
       no_escape = h.no_escape;
     }
-    behind prefix text place Percent h = percent_behind prefix text place h
-    behind prefix text place _ h = absurd h
+    after prefix text place Percent h = percent_after prefix text place h
+    after prefix text place _ h = absurd h
 
     whole : (prefix : ℕ) (text : List ℕ) (place : ℕ) (rule : Rule) → UnitViolation (drop prefix text) place rule
         → UnitViolation text (prefix + place) rule
@@ -95,7 +95,7 @@ foreign_no_percent c (inl forbidden) same =
 foreign_no_percent c (inr foreign) same = foreign.1 same
 
 host_scan : IsScan HostUnitViolation
-host_scan = record { one = one; behind = behind; whole = whole }
+host_scan = record { one = one; after = after; whole = whole }
   where
     one : (text : List ℕ) (place : ℕ) (rule other : Rule) → HostUnitViolation text place rule
         → HostUnitViolation text place other → rule ≡ other
@@ -111,16 +111,16 @@ host_scan = record { one = one; behind = behind; whole = whole }
     one text place Percent _ h k = absurd k
     one text place _ other h k = absurd h
 
-    behind : (prefix : ℕ) (text : List ℕ) (place : ℕ) (rule : Rule) → HostUnitViolation text (prefix + place) rule
+    after : (prefix : ℕ) (text : List ℕ) (place : ℕ) (rule : Rule) → HostUnitViolation text (prefix + place) rule
         → HostUnitViolation (drop prefix text) place rule
-    behind prefix text place HostCodePoint h = record {
+    after prefix text place HostCodePoint h = record {
       code_point = h.code_point;
       rest = h.rest;
       here = drop-drop place prefix text ∙ h.here;
       foreign = h.foreign;
     }
-    behind prefix text place Percent h = percent_behind prefix text place h
-    behind prefix text place _ h = absurd h
+    after prefix text place Percent h = percent_after prefix text place h
+    after prefix text place _ h = absurd h
 
     whole : (prefix : ℕ) (text : List ℕ) (place : ℕ) (rule : Rule) → HostUnitViolation (drop prefix text) place rule
         → HostUnitViolation text (prefix + place) rule
@@ -150,7 +150,7 @@ host_least text least none = IsLeast-like (OpaqueHostViolation text) (HostUnitVi
     from place _ h = absurd h
 
 digit_scan : IsScan DigitViolation
-digit_scan = record { one = one; behind = behind; whole = whole }
+digit_scan = record { one = one; after = after; whole = whole }
   where
     one : (text : List ℕ) (place : ℕ) (rule other : Rule) → DigitViolation text place rule
         → DigitViolation text place other → rule ≡ other
@@ -158,15 +158,15 @@ digit_scan = record { one = one; behind = behind; whole = whole }
     one text place PortDigit _ h k = absurd k
     one text place _ other h k = absurd h
 
-    behind : (prefix : ℕ) (text : List ℕ) (place : ℕ) (rule : Rule) → DigitViolation text (prefix + place) rule
+    after : (prefix : ℕ) (text : List ℕ) (place : ℕ) (rule : Rule) → DigitViolation text (prefix + place) rule
         → DigitViolation (drop prefix text) place rule
-    behind prefix text place PortDigit h = record {
+    after prefix text place PortDigit h = record {
       code_point = h.code_point;
       rest = h.rest;
       here = drop-drop place prefix text ∙ h.here;
       foreign = h.foreign;
     }
-    behind prefix text place _ h = absurd h
+    after prefix text place _ h = absurd h
 
     whole : (prefix : ℕ) (text : List ℕ) (place : ℕ) (rule : Rule) → DigitViolation (drop prefix text) place rule
         → DigitViolation text (prefix + place) rule
@@ -178,38 +178,38 @@ digit_scan = record { one = one; behind = behind; whole = whole }
     }
     whole prefix text place _ h = absurd h
 
--- a space that is taken behind a prefix
-space_behind : (followed : Bool) (prefix : ℕ) (text : List ℕ) (place : ℕ) → IsTakenSpace followed text (prefix + place)
+-- a space that is taken after a prefix
+space_after : (followed : Bool) (prefix : ℕ) (text : List ℕ) (place : ℕ) → IsTakenSpace followed text (prefix + place)
     → IsTakenSpace followed (drop prefix text) place
-space_behind followed prefix text place h =
-    record { rest = h.rest; here = drop-drop place prefix text ∙ h.here; behind = h.behind }
+space_after followed prefix text place h =
+    record { rest = h.rest; here = drop-drop place prefix text ∙ h.here; after = h.after }
 
 pub space_whole : (followed : Bool) (prefix : ℕ) (text : List ℕ) (place : ℕ)
     → IsTakenSpace followed (drop prefix text) place → IsTakenSpace followed text (prefix + place)
 space_whole followed prefix text place h =
-    record { rest = h.rest; here = sym (drop-drop place prefix text) ∙ h.here; behind = h.behind }
+    record { rest = h.rest; here = sym (drop-drop place prefix text) ∙ h.here; after = h.after }
 
 spaced_scan : (followed : Bool) → IsScan (PathUnitViolation Parser true followed)
 spaced_scan followed = record {
   one = λ text place rule other h k. units_scan.one text place rule other h.0 k.0;
-  behind = λ prefix text place rule h. (
-    units_scan.behind prefix text place rule h.0,
+  after = λ prefix text place rule h. (
+    units_scan.after prefix text place rule h.0,
     λ taken. h.1 (space_whole followed prefix text place taken),
   );
   whole = λ prefix text place rule h. (
     units_scan.whole prefix text place rule h.0,
-    λ taken. h.1 (space_behind followed prefix text place taken),
+    λ taken. h.1 (space_after followed prefix text place taken),
   );
 }
 
--- each text that is scanned is judged so
+-- each text that is scanned is checked so
 pub scan_of : (scan : Scan) → IsScan (ScanViolation scan)
 scan_of Units = units_scan
 scan_of (SpacedUnits followed) = spaced_scan followed
 scan_of OpaqueHost = host_scan
 scan_of Digits = digit_scan
 
--- a fault stands within the text
+-- a fault is within the text
 pub scan_within : (scan : Scan) (text : List ℕ) (place : ℕ) (rule : Rule) → ScanViolation scan text place rule
     → place < length text
 scan_within Units text place rule h = (unit_violation_bounds text place rule h).0
@@ -263,13 +263,13 @@ pub record ScansOn (scan : Scan) (start : ℕ) (text : List ℕ) (before found :
     : Type 0 where
   pub utf8 : IsUtf8 left
   pub inside : here + length (chars left) ≤ start + length (chars text)
-  pub rest : (list : List Refusal) → ListsViolations (Behind here (ScanViolation scan (chars left))) list
-      → AddsViolations (Behind start (ScanViolation scan (chars text))) before (found ++ list)
+  pub rest : (list : List Refusal) → ListsViolations (After here (ScanViolation scan (chars left))) list
+      → AddsViolations (After start (ScanViolation scan (chars text))) before (found ++ list)
 
--- behind a fault
+-- after a fault
 pub scan_goes_on : (scan : Scan) (start : ℕ) (text : List ℕ) (before found after : List Refusal) (here : ℕ)
     (left next : List ℕ) (refusal : Refusal) → ScansOn scan start text before found here left → IsUtf8 next
-    → IsLeast (ScanViolation scan (chars left)) (Some refusal) → after ≡ found ++ refusal_behind here refusal ∷ []
+    → IsLeast (ScanViolation scan (chars left)) (Some refusal) → after ≡ found ++ refusal_after here refusal ∷ []
     → chars next ≡ drop (refusal.place + 1) (chars left)
     → ScansOn scan start text before after (here + (refusal.place + 1)) next
 scan_goes_on scan start text before found after here left next refusal held utf8 least pushed is_next = record {
@@ -286,24 +286,24 @@ scan_goes_on scan start text before found after here left next refusal held utf8
         omega arith
 
     rest : (list : List Refusal)
-        → ListsViolations (Behind (here + (refusal.place + 1)) (ScanViolation scan (chars next))) list
-        → AddsViolations (Behind start (ScanViolation scan (chars text))) before (after ++ list)
+        → ListsViolations (After (here + (refusal.place + 1)) (ScanViolation scan (chars next))) list
+        → AddsViolations (After start (ScanViolation scan (chars text))) before (after ++ list)
     rest list is =
         let F = ScanViolation scan in
-        let later = subst (λ (s : List ℕ). ListsViolations (Behind (here + (refusal.place + 1)) (F s)) list) is_next
+        let later = subst (λ (s : List ℕ). ListsViolations (After (here + (refusal.place + 1)) (F s)) list) is_next
         is in
-        let all = held.rest (refusal_behind here refusal ∷ list)
+        let all = held.rest (refusal_after here refusal ∷ list)
         (lists_scan F (scan_of scan) here (chars left) refusal list least later) in
-        subst (λ (l : List Refusal). AddsViolations (Behind start (F (chars text))) before l)
-        (sym (ap (λ (l : List Refusal). l ++ list) pushed ∙ append_assoc found (refusal_behind here refusal ∷ []) list))
+        subst (λ (l : List Refusal). AddsViolations (After start (F (chars text))) before l)
+        (sym (ap (λ (l : List Refusal). l ++ list) pushed ∙ append_assoc found (refusal_after here refusal ∷ []) list))
         all
 
 -- and where no fault is left
 pub scan_ends : (scan : Scan) (start : ℕ) (text : List ℕ) (before found : List Refusal) (here : ℕ) (left : List ℕ)
     → ScansOn scan start text before found here left → IsLeast (ScanViolation scan (chars left)) None
-    → AddsViolations (Behind start (ScanViolation scan (chars text))) before found
+    → AddsViolations (After start (ScanViolation scan (chars text))) before found
 scan_ends scan start text before found here left held none =
-    subst (λ (l : List Refusal). AddsViolations (Behind start (ScanViolation scan (chars text))) before l)
+    subst (λ (l : List Refusal). AddsViolations (After start (ScanViolation scan (chars text))) before l)
     (append-nil found)
-    (held.rest [] (lists_none (Behind here (ScanViolation scan (chars left)))
+    (held.rest [] (lists_none (After here (ScanViolation scan (chars left)))
     (λ place rule h. none h.inner rule h.holds)))

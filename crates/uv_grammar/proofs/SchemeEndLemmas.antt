@@ -1,4 +1,4 @@
--- Lemmas on the `:` behind the scheme of a text, in its bytes and in its code points.
+-- Lemmas on the `:` after the scheme of a text, in its bytes and in its code points.
 use Rattle.std.proofs.Common.{◌≡◌, ℕ, suc, ◌+◌, ◌<◌, Bool, true, false, ◌&&◌, ◌==◌, List, [], ◌∷◌, ◌++◌, length, take}
 use Rattle.std.proofs.Common.{drop, refl, sym, ap, ◌∙◌, subst, arith, inl, inr, Some, None, lit<, append_assoc, cond}
 use Rattle.std.specs.Prelude.{◌||◌, slice_range}
@@ -17,33 +17,33 @@ use Rattle.uv_model.proofs.Cuts.SchemeCutLemmas.{starts_with_written_scheme}
 use Rattle.uv_model.proofs.Texts.AsciiLemmas.{IsAscii-from_test}
 use Rattle.uv_text.specs.Splits.{starts_in}
 use Rattle.uv_grammar.specs.TextSplits.{IsFirstMark, IsSchemeEnd, SplitsScheme}
-use Rattle.uv_grammar.proofs.SliceLemmas.{byte_behind, splits_at_mark}
+use Rattle.uv_grammar.proofs.SliceLemmas.{byte_after, splits_at_mark}
 use Rattle.uv_grammar.proofs.TestLemmas.{PassesByPrefix, is_scheme-chars, prefix_test, scheme_ascii}
 use Rattle.uv_text.proofs.SplitsLemmas.{prefix_slice}
 
--- a letter may stand in a scheme
+-- a letter may be in a scheme
 letter_in_scheme : (c : ℕ) → is_ascii_alphabetic c ≡ true → is_scheme_code_point c ≡ true
 letter_in_scheme c is = grind (arith, nat_tests)
 
--- the run of a scheme's code points is one longer than behind the first
-run_behind : (c : ℕ) (rest : List ℕ) → is_scheme_code_point c ≡ true
+-- the run of a scheme's code points is one longer than after the first
+run_after : (c : ℕ) (rest : List ℕ) → is_scheme_code_point c ≡ true
     → prefix_len is_scheme_code_point (c ∷ rest) ≡ suc (prefix_len is_scheme_code_point rest)
-run_behind c rest held =
+run_after c rest held =
     ap (λ (b : Bool). cond b (1 + prefix_len is_scheme_code_point rest) 0) held
     ∙ omega arith
 
--- `:` stands behind the run
+-- `:` is after the run
 abbrev ends_run : List ℕ → Bool
 ends_run text = starts_in (λ c. c == colon) (drop (prefix_len is_scheme_code_point text) text)
 
--- what goes on to `:` goes on to it behind the run
+-- what goes on to `:` goes on to it after the run
 goes_on_by_run : (text : List ℕ) → goes_on_to_colon text ≡ ends_run text
 goes_on_by_run [] = refl
 goes_on_by_run (c ∷ rest) = elim (cases_Bool (is_scheme_code_point c)) [
   | inl held ↦
-      let behind : ends_run rest ≡ ends_run (c ∷ rest)
-      = ap (λ (n : ℕ). starts_in (λ d. d == colon) (drop n (c ∷ rest))) (sym (run_behind c rest held)) in
-      goes c rest (is_scheme_code_point c) held (scheme_not_colon c held) ∙ (goes_on_by_run rest ∙ behind)
+      let after : ends_run rest ≡ ends_run (c ∷ rest)
+      = ap (λ (n : ℕ). starts_in (λ d. d == colon) (drop n (c ∷ rest))) (sym (run_after c rest held)) in
+      goes c rest (is_scheme_code_point c) held (scheme_not_colon c held) ∙ (goes_on_by_run rest ∙ after)
   | inr other ↦
       stays c rest (is_scheme_code_point c) other
       ∙ ap (λ (n : ℕ). starts_in (λ d. d == colon) (drop n (c ∷ rest)))
@@ -60,15 +60,15 @@ goes_on_by_run (c ∷ rest) = elim (cases_Bool (is_scheme_code_point c)) [
     stays c rest true other = absurd (false≢true (sym other))
     stays c rest false other = elim (cases_Bool (c == colon)) [ inl same ↦ rw same refl | inr mark ↦ rw mark refl ]
 
--- a text begins with a scheme where a letter begins it and `:` stands behind the run
+-- a text begins with a scheme where a letter begins it and `:` is after the run
 starts_by_run : (text : List ℕ) → starts_with_scheme text ≡ (starts_in is_ascii_alphabetic text && ends_run text)
 starts_by_run [] = refl
 starts_by_run (c ∷ rest) = elim (cases_Bool (is_ascii_alphabetic c)) [
   | inl letter ↦
-      let behind : ends_run rest ≡ ends_run (c ∷ rest)
+      let after : ends_run rest ≡ ends_run (c ∷ rest)
       = ap (λ (n : ℕ). starts_in (λ d. d == colon) (drop n (c ∷ rest)))
-      (sym (run_behind c rest (letter_in_scheme c letter))) in
-      ap (λ (b : Bool). is_ascii_alphabetic c && b) (goes_on_by_run rest ∙ behind)
+      (sym (run_after c rest (letter_in_scheme c letter))) in
+      ap (λ (b : Bool). is_ascii_alphabetic c && b) (goes_on_by_run rest ∙ after)
   | inr other ↦ both (is_ascii_alphabetic c) (goes_on_to_colon rest) (ends_run (c ∷ rest)) other
 ]
   where
@@ -82,7 +82,7 @@ run_of_scheme : (scheme rest : List ℕ) → list_all is_scheme_code_point schem
 run_of_scheme [] rest each = refl
 run_of_scheme (c ∷ scheme) rest each =
     let parts = and_parts (is_scheme_code_point c) (list_all is_scheme_code_point scheme) each in
-    run_behind c (scheme ++ colon ∷ rest) parts.0 ∙ ap suc (run_of_scheme scheme rest parts.1)
+    run_after c (scheme ++ colon ∷ rest) parts.0 ∙ ap suc (run_of_scheme scheme rest parts.1)
 
 -- a scheme consists of such code points
 scheme_each : (scheme : List ℕ) → is_scheme scheme ≡ true → list_all is_scheme_code_point scheme ≡ true
@@ -91,7 +91,7 @@ scheme_each (c ∷ rest) is =
     let parts = and_parts (is_ascii_alphabetic c) (list_all is_scheme_code_point rest) is in
     and_from _ _ (letter_in_scheme c parts.0) parts.1
 
--- a letter at the start and `:` behind the run
+-- a letter at the start and `:` after the run
 pub scheme_found : (text : List ℕ) (end : ℕ) → end ≡ prefix_len is_scheme_code_point text
     → (starts_in is_ascii_alphabetic text && starts_in (λ c. c == colon) (drop end text)) ≡ true
     → IsSchemeEnd text (Some end)
@@ -108,7 +108,7 @@ scheme_found text end run found =
     let whole : IsSchemeEnd (split.scheme ++ colon ∷ split.rest) (Some (length split.scheme))
     = (
       inside,
-      byte_behind split.scheme split.rest colon,
+      byte_after split.scheme split.rest colon,
       ap is_scheme (take-append_seam split.scheme (colon ∷ split.rest)) ∙ split.is,
     ) in
     subst (λ (s : List ℕ). IsSchemeEnd s (Some end)) (sym split.joined)
@@ -145,7 +145,7 @@ starts_with_scheme-chars bytes utf8 = prefix_test starts_with_scheme passes byte
               ∙ starts_with_written_scheme split.scheme other split.is;
         }
 
--- behind the `:` the text may be cut
+-- after the `:` the text may be cut
 pub scheme_boundary : (bytes : List ℕ) (end : ℕ) → IsUtf8 bytes → IsSchemeEnd bytes (Some end)
     → IsCharBoundary bytes (end + 1)
 scheme_boundary bytes end utf8 found =

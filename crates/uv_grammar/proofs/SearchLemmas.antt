@@ -14,7 +14,7 @@ use Rattle.uv_model.specs.Path.{is_without}
 use Rattle.uv_model.proofs.Texts.MarkLemmas.{is_without-more}
 use Rattle.uv_grammar.specs.TextSplits.{IsFirstMark}
 
--- a text at none of whose places the mark stands
+-- a text at none of whose places the mark is
 pub nowhere : (mark : ℕ) (bytes : List ℕ) → ((k : ℕ) → k < length bytes → slice_index bytes k ≢ mark)
     → is_without mark bytes ≡ true
 nowhere mark [] none = refl
@@ -54,7 +54,7 @@ some_lane p (x ∷ xs) some =
 
 module _ (mark : ℕ) (bytes : List ℕ) (from lanes found : ℕ) (within : from + lanes ≤ length bytes)
     (mask : found ≡ mask_l (map (λ x. eqb x mark) (chunk from lanes bytes))) where
-  -- where no bit is set, the byte stands nowhere in the load
+  -- where no bit is set, the byte is nowhere in the load
   pub none_of_load : found ≡ 0 → Nowhere (Passes (is_byte mark) bytes) from (from + lanes)
   none_of_load none = λ k low high here.
       false≢true (sym (none_from_empty_mask (λ x. eqb x mark) bytes from lanes 0 within (sym mask ∙ none) k low high)

@@ -22,8 +22,8 @@ pub path_relative : (text : List ℕ) → IsUnits text → is_without question_m
 path_relative text units none start = record { joins = joined_pieces text units none; start = start }
 
 -- what follows the first code point of units is units
-units_behind : (c : ℕ) (rest : List ℕ) → IsUnits (c ∷ rest) → IsUnits rest
-units_behind c rest units =
+units_after : (c : ℕ) (rest : List ℕ) → IsUnits (c ∷ rest) → IsUnits rest
+units_after c rest units =
     IsUnits-faultless rest
     (and_parts (is_unit_at c rest) (is_faultless rest) (is_faultless-units (c ∷ rest) units)).1
 
@@ -33,9 +33,9 @@ pub path_slashed : (text : List ℕ) → IsUnits text → is_without question_ma
 path_slashed [] units none start = absurd (false≢true start)
 path_slashed (c ∷ rest) units none start =
     rw start (record {
-      behind = rest;
+      after = rest;
       slashed = ap (λ x. x ∷ rest) (eqb-true c slash start);
-      joins = joined_pieces rest (units_behind c rest units) (is_without-cons question_mark c rest none).1;
+      joins = joined_pieces rest (units_after c rest units) (is_without-cons question_mark c rest none).1;
     })
 
 -- what follows one `/` doesn't begin with another
@@ -52,9 +52,9 @@ path_absolute [] units none start two = absurd (false≢true start)
 path_absolute (c ∷ rest) units none start two =
     let first : c ≡ slash = eqb-true c slash start in
     rw start (record {
-      behind = rest;
+      after = rest;
       slashed = ap (λ x. x ∷ rest) first;
-      relative = path_relative rest (units_behind c rest units) (is_without-cons question_mark c rest none).1
+      relative = path_relative rest (units_after c rest units) (is_without-cons question_mark c rest none).1
           (one_slash c rest first two);
     })
 

@@ -17,21 +17,21 @@ use Rattle.uv_grammar.specs.TextSplits.{IsFirstMark, SplitsAtSlash}
 use Rattle.uv_grammar.proofs.TestLemmas.{starts_with_slash-chars}
 use Rattle.uv_text.proofs.SplitsLemmas.{chars-ascii_first, prefix_slice}
 
--- the byte behind a prefix
-pub byte_behind : (xs ys : List ℕ) (c : ℕ) → get_or (xs ++ (c ∷ ys)) (length xs) 0 ≡ c
-byte_behind [] ys c = refl
-byte_behind (x ∷ xs) ys c = byte_behind xs ys c
+-- the byte after a prefix
+pub byte_after : (xs ys : List ℕ) (c : ℕ) → get_or (xs ++ (c ∷ ys)) (length xs) 0 ≡ c
+byte_after [] ys c = refl
+byte_after (x ∷ xs) ys c = byte_after xs ys c
 
 -- both sides of an ASCII byte are text
 pub sides_utf8 : (xs ys : List ℕ) (c : ℕ) → IsUtf8 (xs ++ (c ∷ ys)) → c < 128 → IsUtf8 xs × IsUtf8 ys
 sides_utf8 xs ys c u small =
-    let here = byte_behind xs ys c in
+    let here = byte_after xs ys c in
     let low : get_or (xs ++ (c ∷ ys)) (length xs) 0 < 128 = omega (arith, here) in
     let inside : length xs < length (xs ++ (c ∷ ys)) = simp (length-append) (omega arith) in
     let before = IsCharBoundary-before_ascii (xs ++ (c ∷ ys)) (length xs) inside low in
-    let after = IsCharBoundary-after_ascii (xs ++ (c ∷ ys)) (length xs) u inside low in (
+    let remaining = IsCharBoundary-after_ascii (xs ++ (c ∷ ys)) (length xs) u inside low in (
       rw take-append_seam at (IsUtf8-take (xs ++ (c ∷ ys)) (length xs) u before),
-      rw drop-append-add at (IsUtf8-drop (xs ++ (c ∷ ys)) (length xs + 1) u after),
+      rw drop-append-add at (IsUtf8-drop (xs ++ (c ∷ ys)) (length xs + 1) u remaining),
     )
 
 -- the code points of a text with an ASCII mark in it
@@ -71,7 +71,7 @@ pub around : (bytes : List ℕ) (at mark : ℕ) → at < length bytes → get_or
 around bytes at mark inside here =
     sym (take-append-drop at bytes) ∙ ap (λ s. take at bytes ++ s) (drop_at bytes at mark inside here)
 
--- behind an ASCII mark the text may be cut
+-- after an ASCII mark the text may be cut
 pub first_mark_boundary : (mark : ℕ) (bytes : List ℕ) (end : ℕ) → mark < 128 → IsUtf8 bytes
     → IsFirstMark mark bytes (Some end) → IsCharBoundary bytes (end + 1)
 first_mark_boundary mark bytes end small utf8 first =
@@ -93,8 +93,8 @@ splits_at_mark mark bytes prefix rest end small utf8 first is_prefix is_rest =
 -- ---- the first `/`
 
 -- what begins with a mark is text
-pub behind_utf8 : (c : ℕ) (ys : List ℕ) → IsUtf8 (c ∷ ys) → c < 128 → IsUtf8 ys
-behind_utf8 c ys u small = (sides_utf8 [] ys c u small).1
+pub after_utf8 : (c : ℕ) (ys : List ℕ) → IsUtf8 (c ∷ ys) → c < 128 → IsUtf8 ys
+after_utf8 c ys u small = (sides_utf8 [] ys c u small).1
 
 -- without `/` at the start of the bytes, none is at the start of the text
 pub no_slash_first : (bytes : List ℕ) → IsUtf8 bytes → ((rest : List ℕ) → bytes ≢ slash ∷ rest)
@@ -106,16 +106,16 @@ no_slash_first bytes utf8 none = starts_with_slash-chars bytes utf8 ∙ first by
     first (c ∷ rest) none = ne_eqb c slash (λ e. none rest (ap (λ k. k ∷ rest) e))
 
 -- the two sides of the first `/`
-pub splits_at_slash : (bytes prefix behind : List ℕ) (end : ℕ) → IsUtf8 bytes → IsFirstMark slash bytes (Some end)
-    → prefix ≡ slice_range bytes 0 end → behind ≡ drop end bytes
-    → SplitsAtSlash (chars bytes) (chars prefix) (chars behind)
-splits_at_slash bytes prefix behind end utf8 found is_prefix is_behind =
+pub splits_at_slash : (bytes prefix after : List ℕ) (end : ℕ) → IsUtf8 bytes → IsFirstMark slash bytes (Some end)
+    → prefix ≡ slice_range bytes 0 end → after ≡ drop end bytes
+    → SplitsAtSlash (chars bytes) (chars prefix) (chars after)
+splits_at_slash bytes prefix after end utf8 found is_prefix is_after =
     let before : IsUtf8 (take end bytes)
     = IsUtf8-take bytes end utf8 (IsCharBoundary-before_ascii bytes end found.0 (rw found.1 (lit< tt))) in
     let first : chars (drop end bytes) ≡ slash ∷ chars (drop (end + 1) bytes)
     = ap chars (drop_at bytes end slash found.0 found.1)
     ∙ chars-ascii_first slash (drop (end + 1) bytes) (lit< tt) in
-    rw (is_prefix, is_behind, prefix_slice) (record {
+    rw (is_prefix, is_after, prefix_slice) (record {
       joined = ap chars (sym (take-append-drop end bytes)) ∙ chars-append (take end bytes) (drop end bytes) before;
       no_slash = is_without-chars slash (take end bytes) (lit< tt) before found.2;
       path = λ some. subst (λ (s : List ℕ). starts_with_slash s ≡ true) (sym first) refl;
@@ -133,8 +133,8 @@ splits_at_end bytes rest utf8 none empty =
     }
 
 -- what follows a `/` at the text's start
-pub behind_first_slash : (bytes : List ℕ) (rest : Option (Bor (List ℕ))) → IsUtf8 bytes
+pub after_first_slash : (bytes : List ℕ) (rest : Option (Bor (List ℕ))) → IsUtf8 bytes
     → MatchOption rest ((other : List ℕ) → bytes ≢ slash ∷ other) (λ r. bytes ≡ slash ∷ r.now)
     → MatchOption rest (starts_with_slash (chars bytes) ≡ false) (λ r. chars bytes ≡ slash ∷ chars r.now)
-behind_first_slash bytes None utf8 none = no_slash_first bytes utf8 none
-behind_first_slash bytes (Some rest) utf8 is = ap chars is ∙ chars-ascii_first slash rest.now (lit< tt)
+after_first_slash bytes None utf8 none = no_slash_first bytes utf8 none
+after_first_slash bytes (Some rest) utf8 is = ap chars is ∙ chars-ascii_first slash rest.now (lit< tt)

@@ -1,4 +1,4 @@
--- Opaque paths of the parser's profile, judged from one violation of units to the next.
+-- Opaque paths of the parser's profile, checked from one violation of units to the next.
 use Rattle.std.proofs.Common.{◌≡◌, ◌≢◌, ℕ, ◌+◌, ◌-◌, ◌<◌, ◌≤◌, Bool, true, false, List, [], ◌∷◌, drop, length, Option}
 use Rattle.std.proofs.Common.{Some, None, sym, ap, subst, ◌∙◌, arith, inl, inr, refl, zero, suc, eqb-true, ◌==◌}
 use Rattle.std.specs.Str.{IsUtf8, chars}
@@ -17,7 +17,7 @@ use Rattle.uv_model.specs.Cut.{Cut, is_followed}
 use Rattle.uv_model.specs.Setting.{Setting}
 use Rattle.uv_model.specs.Violations.Refusal.{IsLeast}
 use Rattle.uv_model.specs.Violations.UnitViolation.{IsTakenSpace, PathUnitViolation, UnitViolation, only_spaces}
-use Rattle.uv_model.specs.Violations.Violation.{Behind, PathContentViolation, has_opaque_path}
+use Rattle.uv_model.specs.Violations.Violation.{After, PathContentViolation, has_opaque_path}
 use Rattle.uv_model.proofs.Violations.RefusalLemmas.{IsLeast-like}
 use Rattle.uv_model.proofs.Violations.SpacedPathLemmas.{path_violation-unit}
 use Rattle.uv_grammar.specs.Faults.{AddsViolations}
@@ -74,10 +74,10 @@ spaced_least setting cut least takes =
 
 -- all violations at a place, where no spaces are taken
 pub plain_adds : (setting : Setting) (cut : Cut) (start : ℕ) (before after : List Refusal)
-    → takes_spaces setting cut ≡ false → AddsViolations (Behind start (UnitViolation cut.path_text)) before after
-    → AddsViolations (Behind start (PathContentViolation setting cut)) before after
+    → takes_spaces setting cut ≡ false → AddsViolations (After start (UnitViolation cut.path_text)) before after
+    → AddsViolations (After start (PathContentViolation setting cut)) before after
 plain_adds setting cut start before after none =
-    adds_like (Behind start (UnitViolation cut.path_text)) (Behind start (PathContentViolation setting cut))
+    adds_like (After start (UnitViolation cut.path_text)) (After start (PathContentViolation setting cut))
     (λ place rule h. record {
       inner = h.inner;
       moved = h.moved;
@@ -95,11 +95,11 @@ plain_adds setting cut start before after none =
 -- and where they are
 pub spaced_adds : (setting : Setting) (cut : Cut) (start : ℕ) (before after : List Refusal)
     → takes_spaces setting cut ≡ true
-    → AddsViolations (Behind start (PathUnitViolation Parser true (is_followed cut) cut.path_text)) before after
-    → AddsViolations (Behind start (PathContentViolation setting cut)) before after
+    → AddsViolations (After start (PathUnitViolation Parser true (is_followed cut) cut.path_text)) before after
+    → AddsViolations (After start (PathContentViolation setting cut)) before after
 spaced_adds setting cut start before after takes =
-    adds_like (Behind start (PathUnitViolation Parser true (is_followed cut) cut.path_text))
-    (Behind start (PathContentViolation setting cut))
+    adds_like (After start (PathUnitViolation Parser true (is_followed cut) cut.path_text))
+    (After start (PathContentViolation setting cut))
     (λ place rule h. record {
       inner = h.inner;
       moved = h.moved;
@@ -135,10 +135,10 @@ taken_from : (followed : Bool) (c : ℕ) (rest : List ℕ) (i : ℕ) → c ≡ s
     → (followed ≡ false → drop (prefix_len is_space rest) rest ≢ [])
     → ((k : ℕ) → k < prefix_len is_space rest → IsTakenSpace followed rest k) → IsTakenSpace followed (c ∷ rest) i
 taken_from followed c rest zero is within some later =
-    record { rest = rest; here = ap (λ d. d ∷ rest) is; behind = λ alone. others_follow rest (some alone) }
+    record { rest = rest; here = ap (λ d. d ∷ rest) is; after = λ alone. others_follow rest (some alone) }
 taken_from followed c rest (suc i) is within some later =
     let next = later i (omega arith) in
-    record { rest = next.rest; here = next.here; behind = next.behind }
+    record { rest = next.rest; here = next.here; after = next.after }
 
 -- each of the spaces at the start is taken, if a query or a fragment follows, or another code point after them
 taken_run : (followed : Bool) (text : List ℕ) → (followed ≡ false → drop (prefix_len is_space text) text ≢ [])
@@ -147,9 +147,9 @@ taken_run followed [] some i within = absurd (omega arith)
 taken_run followed (c ∷ rest) some i within = elim (cases_Bool (c == space)) [
   | inl same ↦
       let further = rw same at some in
-      let behind : followed ≡ false → drop (prefix_len is_space rest) rest ≢ []
+      let after : followed ≡ false → drop (prefix_len is_space rest) rest ≢ []
       = λ alone none. further alone (after_one c rest (prefix_len is_space rest) ∙ none) in
-      taken_from followed c rest i (eqb-true c space same) (rw same at within) behind (taken_run followed rest behind)
+      taken_from followed c rest i (eqb-true c space same) (rw same at within) after (taken_run followed rest after)
   | inr other ↦ (let none = rw other at within in absurd (omega arith))
 ]
 
@@ -176,7 +176,7 @@ none_taken_at_end followed text alone ends taken =
     let all : drop (prefix_len is_space (space ∷ taken.rest)) (space ∷ taken.rest) ≡ []
     = ap (λ xs. drop (prefix_len is_space xs) xs) (sym taken.here) ∙ ends in
     let rest = ends_with_them taken.rest (sym (after_one space taken.rest (prefix_len is_space taken.rest)) ∙ all) in
-    false≢true (sym (taken.behind alone) ∙ rest)
+    false≢true (sym (taken.after alone) ∙ rest)
 
 -- all spaces at the start, where they are taken
 pub run_taken : (followed : Bool) (text : List ℕ) (count : ℕ) → count ≡ prefix_len is_space text
@@ -209,20 +209,20 @@ chars_fewer bytes utf8 =
     let spelled = ap length (encodes-chars bytes utf8) in
     omega arith
 
--- what is left of the text is behind so many code points, and no violation stands before it
+-- what is left of the text is after so many code points, and no violation is before it
 pub record SpacedOn (followed : Bool) (text : List ℕ) (here : ℕ) (left : List ℕ) : Type 0 where
-  pub behind : left ≡ drop here text
+  pub after : left ≡ drop here text
   pub inside : here + length left ≤ length text
   pub quiet : (place : ℕ) (rule : Rule) → PathUnitViolation Parser true followed text place rule → here ≤ place
 
--- a violation behind so many code points is one of what is left
+-- a violation after so many code points is one of what is left
 in_left : (followed : Bool) (text : List ℕ) (here : ℕ) (left : List ℕ) → SpacedOn followed text here left
     → (place : ℕ) (rule : Rule) → PathUnitViolation Parser true followed text place rule
     → UnitViolation left (place - here) rule
 in_left followed text here left on place rule h =
     let first = on.quiet place rule h in
     let same : place ≡ here + (place - here) = omega arith in
-    rw on.behind (units_scan.behind here text (place - here) rule
+    rw on.after (units_scan.after here text (place - here) rule
     (subst (λ (n : ℕ). UnitViolation text n rule) same h.0))
 
 -- a violation of units that is no space which is taken is the least violation
@@ -244,24 +244,24 @@ spaced_found followed text here left refusal on least foreign = record {
 }
   where
     whole : UnitViolation text (here + refusal.place) refusal.rule
-    whole = units_scan.whole here text refusal.place refusal.rule (rw (← on.behind) least.stands)
+    whole = units_scan.whole here text refusal.place refusal.rule (rw (← on.after) least.stands)
 
     moved : IsTakenSpace followed text (here + refusal.place) → IsTakenSpace followed (drop refusal.place left) 0
     moved taken = record {
       rest = taken.rest;
-      here = rw on.behind (drop-drop refusal.place here text ∙ taken.here);
-      behind = taken.behind;
+      here = rw on.after (drop-drop refusal.place here text ∙ taken.here);
+      after = taken.after;
     }
 
--- behind spaces that are taken
+-- after spaces that are taken
 pub spaced_goes_on : (followed : Bool) (text : List ℕ) (here : ℕ) (left found next : List ℕ) (refusal : Refusal)
     (spaces : ℕ) → SpacedOn followed text here left → IsLeast (UnitViolation left) (Some refusal)
     → found ≡ drop refusal.place left → next ≡ drop spaces found → refusal.place < length left
     → IsTakenRun followed found spaces
     → SpacedOn followed text (here + (refusal.place + spaces)) next
 spaced_goes_on followed text here left found next refusal spaces on least is_found is_next within run = record {
-  behind = is_next ∙ ap (drop spaces) is_found ∙ drop-drop spaces refusal.place left
-      ∙ ap (drop (refusal.place + spaces)) on.behind ∙ drop-drop (refusal.place + spaces) here text;
+  after = is_next ∙ ap (drop spaces) is_found ∙ drop-drop spaces refusal.place left
+      ∙ ap (drop (refusal.place + spaces)) on.after ∙ drop-drop (refusal.place + spaces) here text;
   inside =
       let shorter = ap length is_next ∙ length-drop spaces found in
       let seen = ap length is_found ∙ length-drop refusal.place left in
@@ -269,11 +269,11 @@ spaced_goes_on followed text here left found next refusal spaces on least is_fou
       let fits = run.fits in
       omega arith;
   quiet = λ place rule h. elim (cases_order (place - here) refusal.place) [
-    | inl same ↦ at_or_behind place rule h (omega arith)
+    | inl same ↦ at_or_after place rule h (omega arith)
     | inr (inl less) ↦
         let first = least.first (place - here) rule (in_left followed text here left on place rule h) in
         absurd (omega arith)
-    | inr (inr more) ↦ at_or_behind place rule h (omega arith)
+    | inr (inr more) ↦ at_or_after place rule h (omega arith)
   ];
 }
   where
@@ -282,9 +282,9 @@ spaced_goes_on followed text here left found next refusal spaces on least is_fou
         let here_taken = run.taken i less in
         rw stands (record {
           rest = here_taken.rest;
-          here = sym (drop-drop (refusal.place + i) here text) ∙ ap (drop (refusal.place + i)) (sym on.behind)
+          here = sym (drop-drop (refusal.place + i) here text) ∙ ap (drop (refusal.place + i)) (sym on.after)
               ∙ sym (drop-drop i refusal.place left) ∙ ap (drop i) (sym is_found) ∙ here_taken.here;
-          behind = here_taken.behind;
+          after = here_taken.after;
         })
 
     not_within : (place : ℕ) (rule : Rule) → PathUnitViolation Parser true followed text place rule
@@ -293,9 +293,9 @@ spaced_goes_on followed text here left found next refusal spaces on least is_fou
         let later = on.quiet place rule h in
         h.1 (at_space place (place - here - refusal.place) (omega arith) less)
 
-    at_or_behind : (place : ℕ) (rule : Rule) → PathUnitViolation Parser true followed text place rule
+    at_or_after : (place : ℕ) (rule : Rule) → PathUnitViolation Parser true followed text place rule
         → refusal.place ≤ place - here → here + (refusal.place + spaces) ≤ place
-    at_or_behind place rule h far =
+    at_or_after place rule h far =
         let later = on.quiet place rule h in
         elim (cases_order (place - here - refusal.place) spaces) [
           | inl same ↦ omega arith

@@ -1,4 +1,4 @@
--- The links of a special scheme: the cut of one whose host is any text is known, and what stands behind the host is
+-- The links of a special scheme: the cut of one whose host is any text is known, and what is after the host is
 -- valid.
 use Rattle.std.proofs.Common.{◌≡◌, ℕ, Bool, true, false, ◌==◌, List, [], ◌∷◌, ◌++◌, Option, Some, None, refl, sym, ap}
 use Rattle.std.proofs.Common.{◌≢◌, take, drop, lit<, ◌+◌, ◌∙◌, subst, inl, inr, append_assoc, append-nil}
@@ -23,7 +23,7 @@ use Rattle.uv_model.specs.Violations.Violation.{ContentViolation, IsStarted, May
 use Rattle.uv_model.specs.Violations.Violation.{has_opaque_path}
 use Rattle.uv_model.specs.Cut.{Cut, IsCut, IsHostCut, IsSchemeCut, ends_at_host, is_followed, starts_with_two_slashes}
 use Rattle.uv_model.specs.Cut.{written_start}
-use Rattle.uv_model.specs.Parts.{written_authority, written_behind, written_scheme}
+use Rattle.uv_model.specs.Parts.{written_after, written_authority, written_scheme}
 use Rattle.uv_model.specs.Path.{is_without, starts_with_slash}
 use Rattle.uv_model.specs.Records.Url.{Url}
 use Rattle.uv_model.specs.Scheme.{default_port, is_scheme_code_point, scheme_class}
@@ -36,23 +36,23 @@ use Rattle.uv_model.proofs.Violations.FaultlessHosts.{host_not_empty}
 use Rattle.uv_model.proofs.Violations.SpacedPathLemmas.{path_violation-unit}
 use Rattle.uv_model.proofs.Violations.UnitViolationLemmas.{no_violation-faultless}
 use Rattle.uv_model.proofs.Violations.ViolationsExcludeParts.{one_slash_start}
-use Rattle.uv_grammar.specs.PartViolations.{BehindAuthority}
+use Rattle.uv_grammar.specs.PartViolations.{AfterAuthority}
 use Rattle.uv_grammar.specs.PartValues.{FitsHostPart, FitsPortPart}
-use Rattle.uv_grammar.specs.PlainLinks.{AreUnitsBehind, IsPortCut, IsSpecialStart, MayBeUnits}
-use Rattle.uv_grammar.specs.SpecialLinks.{IsAddressOrBare, IsHostTextCut, IsJudgedButHost}
+use Rattle.uv_grammar.specs.PlainLinks.{AreUnitsAfter, IsPortCut, IsSpecialStart, MayBeUnits}
+use Rattle.uv_grammar.specs.SpecialLinks.{IsAddressOrBare, IsCheckedButHost, IsHostTextCut}
 use Rattle.uv_grammar.specs.TextSplits.{IsFirstMark}
 use Rattle.uv_grammar.proofs.SliceLemmas.{first_mark_boundary}
 
 -- the texts of such a link: what follows its host is a port or none, and units
 pub record IsSpecialLink (base : Option Url) (text : List ℕ) (scheme : Option (List ℕ)) (name : List ℕ)
     (port_text : Option (List ℕ)) (port : Option ℕ) (path : List ℕ) (query fragment : Option (List ℕ)) : Type 0 where
-  pub behind : List ℕ
-  pub rest : List ℕ
   pub after : List ℕ
-  pub special : IsSpecialStart base text scheme behind
-  pub host_cut : IsHostTextCut behind name rest
-  pub port_cut : IsPortCut (default_port (scheme_or base scheme)) rest port_text port after
-  pub units : AreUnitsBehind after path query fragment
+  pub rest : List ℕ
+  pub remaining : List ℕ
+  pub special : IsSpecialStart base text scheme after
+  pub host_cut : IsHostTextCut after name rest
+  pub port_cut : IsPortCut (default_port (scheme_or base scheme)) rest port_text port remaining
+  pub units : AreUnitsAfter remaining path query fragment
 
 -- ---- the cut
 
@@ -67,7 +67,7 @@ link_cut scheme name port_text path query fragment = record {
   fragment = fragment;
 }
 
--- what stands before the query lacks a mark that each part lacks
+-- what is before the query lacks a mark that each part lacks
 pub start_without : (mark : ℕ) (before name port path : List ℕ) → (slash == mark) ≡ false
     → is_without mark before ≡ true → is_without mark name ≡ true → is_without mark port ≡ true
     → is_without mark path ≡ true
@@ -81,46 +81,46 @@ start_without mark before name port path slash_other a b p c =
 
 -- a query lacks `#`
 pub part_without : (part : Option (List ℕ)) → MayBeUnits part
-    → is_without number_sign (written_behind question_mark part) ≡ true
+    → is_without number_sign (written_after question_mark part) ≡ true
 part_without None units = refl
 part_without (Some text) units = is_without-more number_sign question_mark text refl units.no_number_sign
 
 -- a port lacks a mark that is neither `:` nor a digit
 pub port_without : (mark : ℕ) (port_text : Option (List ℕ)) → (colon == mark) ≡ false → is_ascii_digit mark ≡ false
-    → MayBePortText port_text → is_without mark (written_behind colon port_text) ≡ true
+    → MayBePortText port_text → is_without mark (written_after colon port_text) ≡ true
 port_without mark None other fails valid = refl
 port_without mark (Some text) other fails valid =
     is_without-more mark colon text other (is_without-passes is_ascii_digit mark text fails valid.digits)
 
 -- a text with a special start is what its scheme is written as, `//` and a rest
-pub special_joined : (base : Option Url) (text : List ℕ) (scheme : Option (List ℕ)) (behind : List ℕ)
-    → IsSpecialStart base text scheme behind → text ≡ written_scheme scheme ++ slash ∷ slash ∷ behind
-special_joined base text (Some scheme) behind special =
-    special.joined ∙ sym (append_assoc scheme (colon ∷ []) (slash ∷ slash ∷ behind))
-special_joined None text None behind special = absurd special
-special_joined (Some url) text None behind special = special.joined
+pub special_joined : (base : Option Url) (text : List ℕ) (scheme : Option (List ℕ)) (after : List ℕ)
+    → IsSpecialStart base text scheme after → text ≡ written_scheme scheme ++ slash ∷ slash ∷ after
+special_joined base text (Some scheme) after special =
+    special.joined ∙ sym (append_assoc scheme (colon ∷ []) (slash ∷ slash ∷ after))
+special_joined None text None after special = absurd special
+special_joined (Some url) text None after special = special.joined
 
 -- its class is that of its scheme, or of the base's
-pub special_class : (base : Option Url) (text : List ℕ) (scheme : Option (List ℕ)) (behind : List ℕ)
-    → IsSpecialStart base text scheme behind → scheme_class (scheme_or base scheme) ≡ SpecialNotFile
-special_class base text (Some scheme) behind special = special.special
-special_class None text None behind special = absurd special
-special_class (Some url) text None behind special = special.special
+pub special_class : (base : Option Url) (text : List ℕ) (scheme : Option (List ℕ)) (after : List ℕ)
+    → IsSpecialStart base text scheme after → scheme_class (scheme_or base scheme) ≡ SpecialNotFile
+special_class base text (Some scheme) after special = special.special
+special_class None text None after special = absurd special
+special_class (Some url) text None after special = special.special
 
 -- the scheme, where there is one, is a URL-scheme string, and `/` begins none
-pub special_scheme : (base : Option Url) (text : List ℕ) (scheme : Option (List ℕ)) (behind name : List ℕ)
-    (port_text : Option (List ℕ)) (path : List ℕ) → IsSpecialStart base text scheme behind
+pub special_scheme : (base : Option Url) (text : List ℕ) (scheme : Option (List ℕ)) (after name : List ℕ)
+    (port_text : Option (List ℕ)) (path : List ℕ) → IsSpecialStart base text scheme after
     → IsSchemeCut scheme (written_authority (Some name) port_text ++ path)
-special_scheme base text (Some scheme) behind name port_text path special = special.named
-special_scheme base text None behind name port_text path special = refl
+special_scheme base text (Some scheme) after name port_text path special = special.named
+special_scheme base text None after name port_text path special = refl
 
 -- nor has it a mark that no scheme has
-pub special_without : (mark : ℕ) (base : Option Url) (text : List ℕ) (scheme : Option (List ℕ)) (behind : List ℕ)
+pub special_without : (mark : ℕ) (base : Option Url) (text : List ℕ) (scheme : Option (List ℕ)) (after : List ℕ)
     → is_scheme_code_point mark ≡ false → is_ascii_alphabetic mark ≡ false → (colon == mark) ≡ false
-    → IsSpecialStart base text scheme behind → is_without mark (written_scheme scheme) ≡ true
-special_without mark base text (Some scheme) behind other letter differs special =
+    → IsSpecialStart base text scheme after → is_without mark (written_scheme scheme) ≡ true
+special_without mark base text (Some scheme) after other letter differs special =
     scheme_without mark scheme other letter differs special.named
-special_without mark base text None behind other letter differs special = refl
+special_without mark base text None after other letter differs special = refl
 
 start_joined : (before middle query fragment : List ℕ)
     → ((before ++ (slash ∷ slash ∷ middle)) ++ query) ++ fragment
@@ -140,20 +140,20 @@ arranged before name port path query fragment =
     ∙ sym (start_joined before ((name ++ port) ++ path) query fragment)
 
 -- a path, a query and a fragment are cut so
-pub record IsBehindCut (after path : List ℕ) (query fragment : Option (List ℕ)) : Type 0 where
-  pub joined : after ≡ path ++ (written_behind question_mark query ++ written_behind number_sign fragment)
+pub record IsAfterCut (remaining path : List ℕ) (query fragment : Option (List ℕ)) : Type 0 where
+  pub joined : remaining ≡ path ++ (written_after question_mark query ++ written_after number_sign fragment)
   pub no_question_mark : is_without question_mark path ≡ true
   pub no_number_sign : is_without number_sign path ≡ true
-  pub none_in_query : is_without number_sign (written_behind question_mark query) ≡ true
+  pub none_in_query : is_without number_sign (written_after question_mark query) ≡ true
   pub slashed : path ≢ [] → starts_with_slash path ≡ true
 
 -- units are
-pub units_cut : (after path : List ℕ) (query fragment : Option (List ℕ)) → AreUnitsBehind after path query fragment
-    → IsBehindCut after path query fragment
-units_cut after path query fragment units = record {
+pub units_cut : (remaining path : List ℕ) (query fragment : Option (List ℕ))
+    → AreUnitsAfter remaining path query fragment → IsAfterCut remaining path query fragment
+units_cut remaining path query fragment units = record {
   joined =
       units.path_cut.joined ∙ ap (λ s. path ++ s) (units.query_cut.joined
-      ∙ ap (λ s. written_behind question_mark query ++ s) (units.fragment_cut.joined ∙ append-nil _));
+      ∙ ap (λ s. written_after question_mark query ++ s) (units.fragment_cut.joined ∙ append-nil _));
   no_question_mark = units.path_cut.units.no_question_mark refl;
   no_number_sign = units.path_cut.units.no_number_sign;
   none_in_query = part_without query units.query_cut.units;
@@ -161,35 +161,35 @@ units_cut after path query fragment units = record {
 }
 
 -- a special start, the text of a host, a port and such parts are a cut
-pub parts_are_cut : (base : Option Url) (text : List ℕ) (scheme : Option (List ℕ)) (behind name rest : List ℕ)
-    (port_text : Option (List ℕ)) (port : Option ℕ) (after path : List ℕ) (query fragment : Option (List ℕ))
-    → IsSpecialStart base text scheme behind → IsHostTextCut behind name rest
-    → IsPortCut (default_port (scheme_or base scheme)) rest port_text port after
-    → IsBehindCut after path query fragment → IsCut base text (link_cut scheme name port_text path query fragment)
-parts_are_cut base text scheme behind name rest port_text port after path query fragment special host ported cut =
-    let port_part = written_behind colon port_text in
-    let asked = written_behind question_mark query in
+pub parts_are_cut : (base : Option Url) (text : List ℕ) (scheme : Option (List ℕ)) (after name rest : List ℕ)
+    (port_text : Option (List ℕ)) (port : Option ℕ) (remaining path : List ℕ) (query fragment : Option (List ℕ))
+    → IsSpecialStart base text scheme after → IsHostTextCut after name rest
+    → IsPortCut (default_port (scheme_or base scheme)) rest port_text port remaining
+    → IsAfterCut remaining path query fragment → IsCut base text (link_cut scheme name port_text path query fragment)
+parts_are_cut base text scheme after name rest port_text port remaining path query fragment special host ported cut =
+    let port_part = written_after colon port_text in
+    let asked = written_after question_mark query in
     record {
       whole =
-          special_joined base text scheme behind special
+          special_joined base text scheme after special
           ∙ ap (λ s. written_scheme scheme ++ slash ∷ slash ∷ s)
           (host.joined ∙ ap (λ s. name ++ s) (ported.joined ∙ ap (λ s. port_part ++ s) cut.joined))
-          ∙ arranged (written_scheme scheme) name port_part path asked (written_behind number_sign fragment);
+          ∙ arranged (written_scheme scheme) name port_part path asked (written_after number_sign fragment);
       prefix =
           is_without-append number_sign (written_start (link_cut scheme name port_text path query fragment)) asked
           (start_without number_sign (written_scheme scheme) name port_part path refl
-          (special_without number_sign base text scheme behind refl refl refl special)
+          (special_without number_sign base text scheme after refl refl refl special)
           host.no_number_sign (port_without number_sign port_text refl refl ported.valid) cut.no_number_sign)
           cut.none_in_query;
       start =
           start_without question_mark (written_scheme scheme) name port_part path refl
-          (special_without question_mark base text scheme behind refl refl refl special)
+          (special_without question_mark base text scheme after refl refl refl special)
           host.no_question_mark (port_without question_mark port_text refl refl ported.valid) cut.no_question_mark;
-      scheme = special_scheme base text scheme behind name port_text path special;
+      scheme = special_scheme base text scheme after name port_text path special;
       authority = (
         is_without-append slash name port_part host.no_slash (port_without slash port_text refl refl ported.valid),
         cut.slashed,
-        subst (λ k. IsHostCut k name port_text) (sym (special_class base text scheme behind special))
+        subst (λ k. IsHostCut k name port_text) (sym (special_class base text scheme after special))
             (host.ends port_text),
       );
     }
@@ -207,19 +207,19 @@ scheme_started setting text scheme name port_text path query fragment place _ h 
 
 -- nor does an authority against a base of a special scheme
 pub special_started : (profile : Profile) (base : Option Url) (text : List ℕ) (scheme : Option (List ℕ))
-    (behind name : List ℕ) (port_text : Option (List ℕ)) (path : List ℕ) (query fragment : Option (List ℕ))
-    → IsSpecialStart base text scheme behind
+    (after name : List ℕ) (port_text : Option (List ℕ)) (path : List ℕ) (query fragment : Option (List ℕ))
+    → IsSpecialStart base text scheme after
     → IsStarted (setting_of profile base scheme) text (link_cut scheme name port_text path query fragment)
-special_started profile base text (Some scheme) behind name port_text path query fragment special place rule h =
+special_started profile base text (Some scheme) after name port_text path query fragment special place rule h =
     scheme_started (setting_of profile base (Some scheme)) text scheme name port_text path query fragment place rule h
-special_started profile None text None behind name port_text path query fragment special place rule h = absurd special
-special_started profile (Some url) text None behind name port_text path query fragment special place NoScheme h =
+special_started profile None text None after name port_text path query fragment special place rule h = absurd special
+special_started profile (Some url) text None after name port_text path query fragment special place NoScheme h =
     none-some url (sym h.1)
-special_started profile (Some url) text None behind name port_text path query fragment special place OpaqueBase h =
+special_started profile (Some url) text None after name port_text path query fragment special place OpaqueBase h =
     false≢true (sym special.segments ∙ h.1)
-special_started profile (Some url) text None behind name port_text path query fragment special place TwoSlashes h =
+special_started profile (Some url) text None after name port_text path query fragment special place TwoSlashes h =
     none-some name (sym h.0.2)
-special_started profile (Some url) text None behind name port_text path query fragment special place _ h = absurd h
+special_started profile (Some url) text None after name port_text path query fragment special place _ h = absurd h
 
 path_start_silent : (setting : Setting) (scheme : Option (List ℕ)) (name : List ℕ) (port_text : Option (List ℕ))
     (path : List ℕ)
@@ -239,54 +239,55 @@ part_silent start (Some text) place rule units h = no_violation-faultless text u
 
 -- nor do a path, a query and a fragment of units hold what violates one
 pub units_silent : (setting : Setting) (scheme : Option (List ℕ)) (name : List ℕ) (port_text : Option (List ℕ))
-    (after path : List ℕ) (query fragment : Option (List ℕ)) → AreUnitsBehind after path query fragment → (place : ℕ)
-    (rule : Rule) → ContentViolation setting (link_cut scheme name port_text path query fragment) place rule → ⊥
-units_silent setting scheme name port_text after path query fragment units place rule (inl h) =
+    (remaining path : List ℕ) (query fragment : Option (List ℕ)) → AreUnitsAfter remaining path query fragment
+    → (place : ℕ) (rule : Rule)
+    → ContentViolation setting (link_cut scheme name port_text path query fragment) place rule → ⊥
+units_silent setting scheme name port_text remaining path query fragment units place rule (inl h) =
     no_violation-faultless path units.path_cut.units.units h.inner rule
     (path_violation-unit setting.profile
     (has_opaque_path setting.class (link_cut scheme name port_text path query fragment))
     (is_followed (link_cut scheme name port_text path query fragment)) path h.inner rule h.holds)
-units_silent setting scheme name port_text after path query fragment units place rule (inr (inl h)) =
+units_silent setting scheme name port_text remaining path query fragment units place rule (inr (inl h)) =
     part_silent _ query place rule units.query_cut.units h
-units_silent setting scheme name port_text after path query fragment units place rule (inr (inr h)) =
+units_silent setting scheme name port_text remaining path query fragment units place rule (inr (inr h)) =
     part_silent _ fragment place rule units.fragment_cut.units h
 
 link_silent : (setting : Setting) (base : Option Url) (text : List ℕ) (scheme : Option (List ℕ)) (name : List ℕ)
     (port_text : Option (List ℕ)) (port : Option ℕ) (path : List ℕ) (query fragment : Option (List ℕ))
     → setting.class ≡ SpecialNotFile → IsSpecialLink base text scheme name port_text port path query fragment
     → (place : ℕ) (rule : Rule)
-    → BehindAuthority setting (link_cut scheme name port_text path query fragment) place rule → ⊥
+    → AfterAuthority setting (link_cut scheme name port_text path query fragment) place rule → ⊥
 link_silent setting base text scheme name port_text port path query fragment special l place rule (inl h) =
     path_start_silent setting scheme name port_text path query fragment h.inner rule special l.units.path_cut.single
     h.holds
 link_silent setting base text scheme name port_text port path query fragment special l place rule (inr h) =
-    units_silent setting scheme name port_text l.after path query fragment l.units place rule h
+    units_silent setting scheme name port_text l.remaining path query fragment l.units place rule h
 
 pub link_port : (setting : Setting) (scheme : Option (List ℕ)) (name : List ℕ) (port_text : Option (List ℕ))
     (port : Option ℕ)
-    (path : List ℕ) (query fragment : Option (List ℕ)) (rest after : List ℕ)
-    → IsPortCut setting.default_port rest port_text port after
+    (path : List ℕ) (query fragment : Option (List ℕ)) (rest remaining : List ℕ)
+    → IsPortCut setting.default_port rest port_text port remaining
     → FitsPortPart setting (link_cut scheme name port_text path query fragment) port
-link_port setting scheme name None port path query fragment rest after cut = cut.given
-link_port setting scheme name (Some text) port path query fragment rest after cut = (cut.valid, cut.given)
+link_port setting scheme name None port path query fragment rest remaining cut = cut.given
+link_port setting scheme name (Some text) port path query fragment rest remaining cut = (cut.valid, cut.given)
 
 -- such a link is valid but for its host
-pub link_judged : (profile : Profile) (base : Option Url) (text : List ℕ) (scheme : Option (List ℕ)) (name : List ℕ)
+pub link_checked : (profile : Profile) (base : Option Url) (text : List ℕ) (scheme : Option (List ℕ)) (name : List ℕ)
     (port_text : Option (List ℕ)) (port : Option ℕ) (path : List ℕ) (query fragment : Option (List ℕ))
     → IsSpecialLink base text scheme name port_text port path query fragment
-    → IsJudgedButHost profile base text (link_cut scheme name port_text path query fragment) port
-link_judged profile base text scheme name port_text port path query fragment l =
+    → IsCheckedButHost profile base text (link_cut scheme name port_text path query fragment) port
+link_checked profile base text scheme name port_text port path query fragment l =
     let setting = setting_of profile base scheme in
     record {
       is_cut =
-          parts_are_cut base text scheme l.behind name l.rest port_text port l.after path query fragment l.special
-          l.host_cut l.port_cut (units_cut l.after path query fragment l.units);
-      special = special_class base text scheme l.behind l.special;
-      started = special_started profile base text scheme l.behind name port_text path query fragment l.special;
-      fits_port = link_port setting scheme name port_text port path query fragment l.rest l.after l.port_cut;
+          parts_are_cut base text scheme l.after name l.rest port_text port l.remaining path query fragment l.special
+          l.host_cut l.port_cut (units_cut l.remaining path query fragment l.units);
+      special = special_class base text scheme l.after l.special;
+      started = special_started profile base text scheme l.after name port_text path query fragment l.special;
+      fits_port = link_port setting scheme name port_text port path query fragment l.rest l.remaining l.port_cut;
       silent =
           link_silent setting base text scheme name port_text port path query fragment
-          (special_class base text scheme l.behind l.special) l;
+          (special_class base text scheme l.after l.special) l;
     }
 
 -- a text that is a host by each profile is that of a cut, where the class is SpecialNotFile

@@ -20,7 +20,7 @@ use Rattle.uv_model.proofs.Violations.RefusedLemmas.{FromHost, host_passes, host
 use Rattle.uv_model.proofs.Violations.RefusedLemmas.{port_refuses, refused_at_start}
 use Rattle.uv_grammar.specs.Laws.{PartsAreTheText}
 use Rattle.uv_grammar.specs.NoMemory.{HostPartTakesNoMemory, TakesNoMemory}
-use Rattle.uv_grammar.specs.PartViolations.{BehindAuthority, IsCountable}
+use Rattle.uv_grammar.specs.PartViolations.{AfterAuthority, IsCountable}
 use Rattle.uv_grammar.specs.Verdict.{IsAccepted, IsBuilt, IsRefused}
 use Rattle.uv_grammar.proofs.BuiltLemmas.{valid_built}
 
@@ -33,7 +33,7 @@ countable bytes cut utf8 small same =
     let whole = ap length same in
     omega arith
 
--- the least violation excludes all parts, and stands within the text
+-- the least violation excludes all parts, and is within the text
 pub refused : (profile : Profile) (base : Option Url) (text : List ℕ) (refusal : Refusal)
     → IsLeast (Violation profile base text) (Some refusal) → IsRefused profile base text refusal
 refused profile base text refusal least = record {
@@ -52,7 +52,7 @@ refused_start profile base text cut setting refusal is made least =
     (refused_at_start profile base text cut refusal is
     (subst (λ (s : Setting). IsLeast (StartViolation s text cut) (Some refusal)) made least))
 
--- a text whose start is valid is refused by its host, its port or what stands behind them
+-- a text whose start is valid is refused by its host, its port or what is after them
 refused_started : (profile : Profile) (base : Option Url) (text : List ℕ) (cut : Cut) (setting : Setting)
     (refusal : Refusal)
     → IsCut base text cut → setting ≡ setting_of profile base cut.scheme → IsStarted setting text cut
@@ -81,13 +81,13 @@ refused_port profile base text cut setting refusal is made started host least =
     refused_started profile base text cut setting refusal is made started
     (host_passes setting cut (Some refusal) host (port_refuses setting cut refusal least))
 
--- a text that is refused behind its authority
-pub refused_behind : (profile : Profile) (base : Option Url) (text : List ℕ) (cut : Cut) (setting : Setting)
+-- a text that is refused after its authority
+pub refused_after : (profile : Profile) (base : Option Url) (text : List ℕ) (cut : Cut) (setting : Setting)
     (refusal : Refusal)
     → IsCut base text cut → setting ≡ setting_of profile base cut.scheme → IsStarted setting text cut
     → IsLeast (HostPartViolation setting cut) None → IsLeast (PortPartViolation cut) None
-    → IsLeast (BehindAuthority setting cut) (Some refusal) → IsRefused profile base text refusal
-refused_behind profile base text cut setting refusal is made started host port least =
+    → IsLeast (AfterAuthority setting cut) (Some refusal) → IsRefused profile base text refusal
+refused_after profile base text cut setting refusal is made started host port least =
     refused_started profile base text cut setting refusal is made started
     (host_passes setting cut (Some refusal) host (port_passes setting cut (Some refusal) port least))
 

@@ -1,4 +1,4 @@
--- Where the parts of a text end in its bytes, each behind its delimiter, after the order of URL Standard, section 4.3.
+-- Where the parts of a text end in its bytes, each after its delimiter, after the order of URL Standard, section 4.3.
 use Rattle.std.specs.Prelude.{◌≢◌, ℕ, ◌+◌, ◌-◌, ◌≤◌, ◌==◌, List, length, Option, Some, None, slice_range}
 use Rattle.std.specs.Prelude.{if◌then◌else◌}
 use Rattle.std.specs.Str.{IsCharBoundary, chars, encode_utf8_all}
@@ -52,7 +52,7 @@ ends_of cut = record {
 abbrev pub scheme_before : List ℕ → ℕ → Option (List ℕ)
 scheme_before bytes end = if end == 0 then None else Some (chars (slice_range bytes 0 (end - 1)))
 
--- the text between two ends behind a delimiter of so many bytes, or none between equal ones
+-- the text between two ends after a delimiter of so many bytes, or none between equal ones
 abbrev pub part_between : List ℕ → ℕ → ℕ → ℕ → Option (List ℕ)
 part_between bytes mark from to = if from == to then None else Some (chars (slice_range bytes (from + mark) to))
 
@@ -71,7 +71,7 @@ cut_at bytes ends = record {
 abbrev pub IsRange : List ℕ → ℕ → ℕ → Type 0
 IsRange bytes from to = (from ≤ to) × IsCharBoundary bytes from × IsCharBoundary bytes to
 
--- so it may be behind a delimiter, where the ends differ
+-- so it may be after a delimiter, where the ends differ
 abbrev pub MayBePart : List ℕ → ℕ → ℕ → ℕ → Type 0
 MayBePart bytes mark from to = from ≢ to → IsRange bytes (from + mark) to
 

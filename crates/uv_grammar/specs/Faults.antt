@@ -3,7 +3,7 @@ use Rattle.std.specs.Prelude.{◌≡◌, ℕ, ◌⊎◌, List, [], ◌∷◌, �
 use Rattle.uv_model.specs.declared.rule.Rule.{Rule}
 use Rattle.uv_model.specs.declared.rule.Refusal.{Refusal}
 use Rattle.uv_model.specs.Violations.AllViolations.{ListsViolations}
-use Rattle.uv_model.specs.Violations.Violation.{IsStarted, JudgedViolation, StartViolation}
+use Rattle.uv_model.specs.Violations.Violation.{CheckedViolation, IsStarted, StartViolation}
 use Rattle.uv_model.specs.Cut.{Cut}
 use Rattle.uv_model.specs.Setting.{Setting}
 
@@ -22,4 +22,4 @@ fault_list (Some refusal) = refusal ∷ []
 abbrev pub FirstViolation : Setting → List ℕ → Cut → ℕ → Rule → Type 0
 FirstViolation setting text cut place rule =
     StartViolation setting text cut place rule
-    ⊎ (IsStarted setting text cut × JudgedViolation setting cut place rule)
+    ⊎ (IsStarted setting text cut × CheckedViolation setting cut place rule)

@@ -26,12 +26,12 @@ FitsSomeHost profile File last text (Some host) =
     (is_stopped profile File last text ≡ false) × IsFileHostText profile text host
 FitsSomeHost profile Other last text host = IsOpaqueHostText text host
 
--- the empty host of a file URL may stand before this path
+-- the empty host of a file URL may be before this path
 abbrev pub MayBeEmptyFile : Profile → List ℕ → Type 0
 MayBeEmptyFile Parser path_text = Unit {0}
 MayBeEmptyFile _ path_text = starts_with_slash path_text ≡ true
 
--- an empty host may stand before this path, or without a port
+-- an empty host may be before this path, or without a port
 abbrev pub MayBeEmpty : Profile → Class → Option (List ℕ) → List ℕ → Type 0
 MayBeEmpty profile SpecialNotFile port_text path_text = ⊥
 MayBeEmpty profile File port_text path_text = MayBeEmptyFile profile path_text
@@ -43,7 +43,7 @@ FitsHost profile class last text port_text path_text host =
     ((text ≢ []) × FitsSomeHost profile class last text host)
     ⊎ ((text ≡ []) × (host ≡ Some Empty) × MayBeEmpty profile class port_text path_text)
 
--- a violation of a whole host stands at its start
+-- a violation of a whole host is at its start
 abbrev pub AtStart : (Rule → Type 0) → ℕ → Rule → Type 0
 AtStart violation place rule = violation rule × (place ≡ 0)
 
@@ -53,7 +53,7 @@ NameViolation profile text HostDomain = ShouldBeDomain profile text × HasNoForm
 NameViolation profile text HostNumber = ShouldBeDomain profile text × IsNumberText profile text
 NameViolation profile text _ = ⊥
 
--- the text of an opaque host that is neither empty nor in brackets, which is judged code point by code point
+-- the text of an opaque host that is neither empty nor in brackets, which is checked code point by code point
 abbrev pub is_scanned : Class → List ℕ → Bool
 is_scanned Other [] = false
 is_scanned Other (c ∷ rest) = not (starts_with_bracket (c ∷ rest))

@@ -5,7 +5,7 @@ pub mod Faults
 pub mod Form
 pub mod PartsHost
 pub mod HostValues
-pub mod Judged
+pub mod Checked
 pub mod Laws
 pub mod NoMemory
 pub mod PartViolations

@@ -1,4 +1,4 @@
--- Texts that are judged without memory: those of whose host no form of a domain is made, or whose host is its own form,
+-- Texts checked without memory: those of whose host no form of a domain is made, or whose host is its own form,
 -- after the URL Standard, sections 3.3 and 4.3.
 use Rattle.std.specs.Prelude.{◌≡◌, ℕ, ◌⊎◌, true, false, List, [], Option, Some, None}
 use Rattle.uv_model.specs.declared.profile.Profile.{Profile}
@@ -38,13 +38,13 @@ abbrev pub HostPartTakesNoMemory : Setting → Option (List ℕ) → Type 0
 HostPartTakesNoMemory setting None = Unit {0}
 HostPartTakesNoMemory setting (Some text) = HostTakesNoMemory setting.profile setting.class text
 
--- the start of the text violates a rule, so that no host is judged, or there is no host or such a one
+-- the start of the text violates a rule, so that no host is checked, or there is no host or such a one
 abbrev pub TakesNoMemory : Setting → List ℕ → Cut → Type 0
 TakesNoMemory setting text cut =
     ((place : ℕ) × (rule : Rule) × StartViolation setting text cut place rule)
     ⊎ HostPartTakesNoMemory setting cut.host_text
 
--- the text is judged against the base without memory
+-- the text is checked against the base without memory
 abbrev pub TakesNoMemoryAgainst : Profile → Option Url → List ℕ → Type 0
 TakesNoMemoryAgainst profile base text =
     TakesNoMemory (setting_of profile base (cut_of base text).scheme) text (cut_of base text)

@@ -25,7 +25,7 @@ port_number (digit ∷ rest) = Some (digits_value 10 (digit ∷ rest))
 abbrev pub FitsPort : List ℕ → Option ℕ → Type 0
 FitsPort text number = IsPortText text × (number ≡ port_number text)
 
--- the port of a cut text: valid where there is one behind a host
+-- the port of a cut text: valid where there is one after a host
 abbrev pub FitsPortPart : Setting → Cut → Option ℕ → Type 0
 FitsPortPart setting cut value = fits cut.host_text cut.port_text
   where

@@ -11,7 +11,7 @@ use Rattle.uv_model.specs.declared.scheme.Class.TheVariants.{SpecialNotFile}
 use Rattle.uv_model.specs.Ascii.{colon, number_sign, question_mark, slash}
 use Rattle.uv_model.specs.Cut.{starts_with_two_slashes}
 use Rattle.uv_model.specs.Hosts.Domain.{IsDomain}
-use Rattle.uv_model.specs.Parts.{written_behind}
+use Rattle.uv_model.specs.Parts.{written_after}
 use Rattle.uv_model.specs.Path.{is_without, starts_with_slash}
 use Rattle.uv_model.specs.Records.Url.{Url, is_opaque}
 use Rattle.uv_model.specs.Scheme.{default_port, is_scheme, scheme_class}
@@ -26,20 +26,20 @@ use Rattle.uv_grammar.specs.Slices.{chars_of, chars_of_option}
 abbrev pub HasAsciiPrefix : List ℕ → ℕ → Type 0
 HasAsciiPrefix bytes end = (end ≤ length bytes) × (list_all is_ascii (take end bytes) ≡ true)
 
--- the bytes are cut behind an ASCII prefix
+-- the bytes are cut after an ASCII prefix
 pub record IsPrefixCut (bytes : List ℕ) (end : ℕ) (prefix rest : List ℕ) : Type 0 where
   pub is_prefix : prefix ≡ take end bytes
   pub is_rest : rest ≡ drop end bytes
   pub code_points : chars prefix ≡ take end bytes
   pub joined : chars bytes ≡ take end bytes ++ chars rest
 
--- so many bytes are a special scheme, behind which `://` stands
+-- so many bytes are a special scheme, after which `://` is
 pub record IsSpecialPrefix (bytes : List ℕ) (end : ℕ) : Type 0 where
   pub inside : end ≤ length bytes
   pub scheme : is_scheme (take end bytes) ≡ true
   pub special : scheme_class (take end bytes) ≡ SpecialNotFile
-  pub behind : List ℕ
-  pub mark : drop end bytes ≡ colon ∷ slash ∷ slash ∷ behind
+  pub after : List ℕ
+  pub mark : drop end bytes ≡ colon ∷ slash ∷ slash ∷ after
 
 -- the text is a special scheme, `://` and a rest
 pub record IsSpecialCut (text scheme rest : List ℕ) : Type 0 where
@@ -58,7 +58,7 @@ abbrev pub IsReferenceStart : Option Url → List ℕ → List ℕ → Type 0
 IsReferenceStart None text rest = ⊥
 IsReferenceStart (Some base) text rest = IsReferenceCut base text rest
 
--- what stands before the host of a special URL: its scheme and `://`, or `//` against a base
+-- what is before the host of a special URL: its scheme and `://`, or `//` against a base
 abbrev pub IsSpecialStart : Option Url → List ℕ → Option (List ℕ) → List ℕ → Type 0
 IsSpecialStart base text (Some scheme) rest = IsSpecialCut text scheme rest
 IsSpecialStart base text None rest = IsReferenceStart base text rest
@@ -78,7 +78,7 @@ pub record IsNameCut (profile : Profile) (text name form rest : List ℕ) : Type
 -- the text is `:` and a valid port, or none, with the number that it gives beside a default port, and a rest
 pub record IsPortCut (default : Option ℕ) (text : List ℕ) (port_text : Option (List ℕ)) (port : Option ℕ)
     (rest : List ℕ) : Type 0 where
-  pub joined : text ≡ written_behind colon port_text ++ rest
+  pub joined : text ≡ written_after colon port_text ++ rest
   pub valid : MayBePortText port_text
   pub given : port ≡ port_given default port_text
 
@@ -88,7 +88,7 @@ pub record AreUnits (has_question_marks : Bool) (text : List ℕ) : Type 0 where
   pub no_number_sign : is_without number_sign text ≡ true
   pub no_question_mark : has_question_marks ≡ false → is_without question_mark text ≡ true
 
--- the text is a path of units, empty or behind `/`, and a rest
+-- the text is a path of units, empty or after `/`, and a rest
 pub record IsPathCut (text path rest : List ℕ) : Type 0 where
   pub joined : text ≡ path ++ rest
   pub units : AreUnits false path
@@ -100,28 +100,28 @@ abbrev pub MayBeUnits : Option (List ℕ) → Type 0
 MayBeUnits None = Unit {0}
 MayBeUnits (Some text) = AreUnits true text
 
--- the text is units behind the mark, where it begins with it, and a rest
+-- the text is units after the mark, where it begins with it, and a rest
 pub record IsPartCut (mark : ℕ) (text : List ℕ) (part : Option (List ℕ)) (rest : List ℕ) : Type 0 where
-  pub joined : text ≡ written_behind mark part ++ rest
+  pub joined : text ≡ written_after mark part ++ rest
   pub units : MayBeUnits part
 
 -- the texts of a special scheme or of none against a special base, a domain of the profile and a port, and what follows
 -- them
 pub record IsStartCut (profile : Profile) (base : Option Url) (text : List ℕ) (scheme : Option (List ℕ))
-    (name form : List ℕ) (port_text : Option (List ℕ)) (port : Option ℕ) (after : List ℕ) : Type 0 where
-  pub behind : List ℕ
+    (name form : List ℕ) (port_text : Option (List ℕ)) (port : Option ℕ) (remaining : List ℕ) : Type 0 where
+  pub after : List ℕ
   pub rest : List ℕ
-  pub special : IsSpecialStart base text scheme behind
-  pub named : IsNameCut profile behind name form rest
-  pub port_cut : IsPortCut (default_port (scheme_or base scheme)) rest port_text port after
+  pub special : IsSpecialStart base text scheme after
+  pub named : IsNameCut profile after name form rest
+  pub port_cut : IsPortCut (default_port (scheme_or base scheme)) rest port_text port remaining
 
--- the text begins a path behind an authority, a query or a fragment, or is empty
-abbrev pub begins_behind : List ℕ → Bool
-begins_behind [] = true
-begins_behind (c ∷ rest) = (c == slash) || ((c == question_mark) || (c == number_sign))
+-- the text begins a path after an authority, a query or a fragment, or is empty
+abbrev pub begins_after : List ℕ → Bool
+begins_after [] = true
+begins_after (c ∷ rest) = (c == slash) || ((c == question_mark) || (c == number_sign))
 
 -- the text is a path of units, `?` and a query of units or none, and `#` and a fragment of units or none
-pub record AreUnitsBehind (text path : List ℕ) (query fragment : Option (List ℕ)) : Type 0 where
+pub record AreUnitsAfter (text path : List ℕ) (query fragment : Option (List ℕ)) : Type 0 where
   pub tail : List ℕ
   pub end : List ℕ
   pub path_cut : IsPathCut text path tail
@@ -132,13 +132,13 @@ pub record AreUnitsBehind (text path : List ℕ) (query fragment : Option (List 
 pub record IsPlainLink (profile : Profile) (base : Option Url) (text : List ℕ) (scheme : Option (List ℕ))
     (name form : List ℕ) (port_text : Option (List ℕ)) (port : Option ℕ) (path : List ℕ)
     (query fragment : Option (List ℕ)) : Type 0 where
-  pub behind : List ℕ
-  pub rest : List ℕ
   pub after : List ℕ
-  pub special : IsSpecialStart base text scheme behind
-  pub named : IsNameCut profile behind name form rest
-  pub port_cut : IsPortCut (default_port (scheme_or base scheme)) rest port_text port after
-  pub units : AreUnitsBehind after path query fragment
+  pub rest : List ℕ
+  pub remaining : List ℕ
+  pub special : IsSpecialStart base text scheme after
+  pub named : IsNameCut profile after name form rest
+  pub port_cut : IsPortCut (default_port (scheme_or base scheme)) rest port_text port remaining
+  pub units : AreUnitsAfter remaining path query fragment
 
 -- the text, against the base, is by the profile a plain link of these texts and this port
 abbrev pub IsPlainCut : Profile → Option Url → List ℕ → PlainCut → Type 0
@@ -147,9 +147,9 @@ IsPlainCut profile base text cut =
     (chars_of_option cut.port_text) cut.port (chars_of cut.path_text) (chars_of_option cut.query)
     (chars_of_option cut.fragment)
 
--- the start has this scheme, written or not, and this name, and the text behind the name begins with its port, or has
+-- the start has this scheme, written or not, and this name, and the text after the name begins with its port, or has
 -- none, beside the default port of the scheme
-pub record IsStartBehind (written : Option (Bor (List ℕ))) (scheme : List ℕ) (name : Bor (List ℕ)) (text : List ℕ)
+pub record IsStartAfter (written : Option (Bor (List ℕ))) (scheme : List ℕ) (name : Bor (List ℕ)) (text : List ℕ)
     (start : PlainStart) : Type 0 where
   pub written_scheme : start.scheme ≡ written
   pub same_name : start.name ≡ name

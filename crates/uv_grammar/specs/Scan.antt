@@ -1,4 +1,4 @@
--- The violations of texts that are judged code point by code point, after the URL Standard, sections 3.2, 3.4 and 4.3.
+-- The violations of texts that are checked code point by code point, after the URL Standard, sections 3.2, 3.4 and 4.3.
 use Rattle.std.specs.Prelude.{ℕ, true, List}
 use Rattle.uv_model.specs.declared.profile.Profile.TheVariants.{Parser}
 use Rattle.uv_grammar.specs.declared.scan.Scan.{Scan}

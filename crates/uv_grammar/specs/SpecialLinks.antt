@@ -12,9 +12,9 @@ use Rattle.uv_model.specs.Setting.{setting_of}
 use Rattle.uv_model.specs.Violations.Refusal.{IsLeast}
 use Rattle.uv_model.specs.Violations.Violation.{IsStarted}
 use Rattle.uv_grammar.specs.PartValues.{FitsPortPart}
-use Rattle.uv_grammar.specs.PartViolations.{BehindAuthority}
+use Rattle.uv_grammar.specs.PartViolations.{AfterAuthority}
 
--- the text is that of a host, in which no mark stands that ends one but a `:` within brackets, and a rest
+-- the text is that of a host, in which no mark is that ends one but a `:` within brackets, and a rest
 pub record IsHostTextCut (text name rest : List ℕ) : Type 0 where
   pub joined : text ≡ name ++ rest
   pub no_slash : is_without slash name ≡ true
@@ -24,13 +24,13 @@ pub record IsHostTextCut (text name rest : List ℕ) : Type 0 where
 
 -- the text, against the base, is that of a special URL, is cut so and has this port, and by the profile nothing but its
 -- host can be wrong
-pub record IsJudgedButHost (profile : Profile) (base : Option Url) (text : List ℕ) (cut : Cut) (port : Option ℕ)
+pub record IsCheckedButHost (profile : Profile) (base : Option Url) (text : List ℕ) (cut : Cut) (port : Option ℕ)
     : Type 0 where
   pub is_cut : IsCut base text cut
   pub special : class_in base cut.scheme ≡ SpecialNotFile
   pub started : IsStarted (setting_of profile base cut.scheme) text cut
   pub fits_port : FitsPortPart (setting_of profile base cut.scheme) cut port
-  pub silent : IsLeast (BehindAuthority (setting_of profile base cut.scheme) cut) None
+  pub silent : IsLeast (AfterAuthority (setting_of profile base cut.scheme) cut) None
 
 -- the text of a host is an IPv6 address in brackets, or doesn't begin with `[`
 abbrev pub IsAddressOrBare : List ℕ → Type 0

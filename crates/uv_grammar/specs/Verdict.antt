@@ -3,7 +3,7 @@ use Rattle.std.specs.Prelude.{◌≡◌, ℕ, ◌≤◌, Bool, true, false, List
 use Rattle.uv_grammar.specs.declared.checker.Verdict.{Verdict}
 use Rattle.uv_grammar.specs.declared.checker.Verdict.TheVariants.{Yes, No}
 use Rattle.uv_grammar.specs.Built.{built}
-use Rattle.uv_grammar.specs.PartViolations.{BehindAuthority}
+use Rattle.uv_grammar.specs.PartViolations.{AfterAuthority}
 use Rattle.uv_grammar.specs.PartValues.{FitsHostPart, FitsPortPart}
 use Rattle.uv_model.specs.declared.host.Host.{Host}
 use Rattle.uv_model.specs.declared.profile.Profile.{Profile}
@@ -48,4 +48,4 @@ pub record IsBuilt (setting : Setting) (cut : Cut) (parts : Parts) : Type 0 wher
   pub built : parts ≡ built cut host port
   pub fits_host : FitsHostPart setting cut host
   pub fits_port : FitsPortPart setting cut port
-  pub silent : IsLeast (BehindAuthority setting cut) None
+  pub silent : IsLeast (AfterAuthority setting cut) None

@@ -1,8 +1,8 @@
-//! All the faults of a text at once, by the judges of its parts.
+//! All the faults of a text at once, by the checks of its parts.
 ghost use Rattle.std.specs.Prelude.{◌≡◌, ◌++◌, IfOk, OnOk, Some, option_copied};
 ghost use Rattle.std.specs.Str.{chars};
 ghost use Rattle.uv_model.specs.Violations.AllViolations.{AreFaults};
-ghost use Rattle.uv_model.specs.Violations.Violation.{ContentViolation, HostPartViolation, JudgedViolation};
+ghost use Rattle.uv_model.specs.Violations.Violation.{CheckedViolation, ContentViolation, HostPartViolation};
 ghost use Rattle.uv_model.specs.Violations.Violation.{PortPartViolation};
 ghost use Rattle.uv_model.specs.Records.Url.{Url};
 ghost use Rattle.uv_grammar.specs.Bases.{IsOfKind, as_base};
@@ -10,7 +10,7 @@ ghost use Rattle.uv_grammar.specs.Faults.{AddsViolations, FirstViolation, fault_
 ghost use Rattle.uv_grammar.specs.HostValues.{is_scanned};
 ghost use Rattle.uv_grammar.specs.PartViolations.{IsCountable, OfFragment, OfPath, OfQuery};
 
-use crate::authority::{judge_host_part, judge_port_part};
+use crate::authority::{check_host_part, check_port_part};
 use crate::bases::{Base, BaseKind};
 use crate::cut::{Cut, cut_text};
 use crate::marks::beginnings::{are_digits, has_bracket};
@@ -25,7 +25,7 @@ use uv_model::{Class, Profile, Record, Refusal};
 /// All that is wrong with a text by the profile, alone or against a base: each rule at each place where it is violated,
 /// once, by place and at one place by the rule's number (URL Standard, section 4.3). The first is the refusal of
 /// `check`, and there is none exactly where `check` says yes. Where the start of the text violates a rule, as a special
-/// scheme without `//`, no host, no port and no start of a path is judged. The error is out of memory.
+/// scheme without `//`, no host, no port and no start of a path is checked. The error is out of memory.
 pub fn faults(
     alloc: Global,
     text: &str,
@@ -80,12 +80,12 @@ fn push_first_faults(
 {
     match start_fault(text, cut, setting) {
         Some(refusal) => push_fault(found, Some(refusal)),
-        None => push_judged_faults(alloc, found, cut, setting),
+        None => push_checked_faults(alloc, found, cut, setting),
     }
 }
 
 // The faults of the host, the port and the path's start.
-fn push_judged_faults(
+fn push_checked_faults(
     alloc: Global,
     found: &mut Vec<Refusal>,
     cut: &Cut,
@@ -93,7 +93,7 @@ fn push_judged_faults(
 ) -> Result<(), AllocError>
     requires { IsCountable cut.now }
     ensures { OnOk result
-        (AddsViolations (JudgedViolation setting.now cut.now) found.old.items found.new.items) }
+        (AddsViolations (CheckedViolation setting.now cut.now) found.old.items found.new.items) }
 {
     push_host_faults(alloc, found, cut, setting)?;
     push_port_faults(found, cut, setting)?;
@@ -117,7 +117,7 @@ fn push_host_faults(
     if is_scanned(setting.class, host_text) {
         return push_scan(found, Scan::OpaqueHost, host_place(cut), host_text);
     }
-    push_fault(found, judge_host_part(alloc, cut, setting)?.into_refusal())
+    push_fault(found, check_host_part(alloc, cut, setting)?.into_refusal())
 }
 
 // Whether the host is an opaque one, neither empty nor in brackets.
@@ -148,7 +148,7 @@ fn push_port_faults(
     if !are_digits(port_text) {
         return push_scan(found, Scan::Digits, port_place(cut, host_text), port_text);
     }
-    push_fault(found, judge_port_part(cut, setting).into_refusal())
+    push_fault(found, check_port_part(cut, setting).into_refusal())
 }
 
 // The faults of what the path, the query and the fragment hold.

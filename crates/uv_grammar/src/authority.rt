@@ -5,55 +5,55 @@ ghost use Rattle.uv_model.specs.Cut.{ends_at_host};
 ghost use Rattle.uv_model.specs.Setting.{Setting};
 ghost use Rattle.uv_model.specs.Violations.Violation.{HostPartViolation, PortPartViolation};
 ghost use Rattle.uv_grammar.specs.PartsHost.{FitsPartsHost};
-ghost use Rattle.uv_grammar.specs.Judged.{IsJudged};
+ghost use Rattle.uv_grammar.specs.Checked.{IsChecked};
 ghost use Rattle.uv_grammar.specs.NoMemory.{HostPartTakesNoMemory};
 ghost use Rattle.uv_grammar.specs.PartViolations.{IsCountable};
 ghost use Rattle.uv_grammar.specs.PartValues.{FitsHostPart, FitsPortPart, without_default};
 
+use crate::checked::Checked;
 use crate::cut::Cut;
-use crate::host::judge_host;
-use crate::judged::Judged;
+use crate::host::check_host;
 use crate::parser_paths::is_followed;
 use crate::parts_host::PartsHost;
-use crate::places::{host_place, port_place, refusal_behind};
-use crate::port::judge_port;
+use crate::places::{host_place, port_place, refusal_after};
+use crate::port::check_port;
 use crate::setting::Setting;
 use std::alloc::{AllocError, Global};
 use uv_model::{Class, Profile};
 
 /// The host of a cut text, a refusal counted from the text's start. The error is out of memory.
 #[inline(always)]
-pub(crate) fn judge_host_part<'t>(
+pub(crate) fn check_host_part<'t>(
     alloc: Global,
     cut: &Cut<'t>,
     setting: &Setting,
-) -> Result<Judged<Option<PartsHost<'t>>>, AllocError>
+) -> Result<Checked<Option<PartsHost<'t>>>, AllocError>
     requires { IsCountable cut.now }
     ensures answer { IfOk result
-        (IsJudged (FitsPartsHost (FitsHostPart setting.now cut.now)) (HostPartViolation setting.now cut.now)) }
+        (IsChecked (FitsPartsHost (FitsHostPart setting.now cut.now)) (HostPartViolation setting.now cut.now)) }
     ensures memory { HostPartTakesNoMemory setting.now cut.now.host_text → IsOk result }
 {
-    judge_host_of_class(alloc, cut, setting.class, setting.profile)
+    check_host_of_class(alloc, cut, setting.class, setting.profile)
 }
 
 /// The same by the class and the profile of the setting. It is inlined, as the texts of the cut would else be stored.
 #[inline(always)]
-pub(crate) fn judge_host_of_class<'t>(
+pub(crate) fn check_host_of_class<'t>(
     alloc: Global,
     cut: &Cut<'t>,
     class: Class,
     profile: Profile,
-) -> Result<Judged<Option<PartsHost<'t>>>, AllocError>
+) -> Result<Checked<Option<PartsHost<'t>>>, AllocError>
     requires { IsCountable cut.now }
     ensures answer { (setting : Setting) → setting.class ≡ class → setting.profile ≡ profile → IfOk result
-        (IsJudged (FitsPartsHost (FitsHostPart setting cut.now)) (HostPartViolation setting cut.now)) }
+        (IsChecked (FitsPartsHost (FitsHostPart setting cut.now)) (HostPartViolation setting cut.now)) }
     ensures memory { (setting : Setting) → setting.class ≡ class → setting.profile ≡ profile
         → HostPartTakesNoMemory setting cut.now.host_text → IsOk result }
 {
     let Some(host_text) = cut.host_text else {
-        return Ok(Judged::Valid(None));
+        return Ok(Checked::Valid(None));
     };
-    match judge_host(
+    match check_host(
         alloc,
         class,
         host_text,
@@ -62,12 +62,12 @@ pub(crate) fn judge_host_of_class<'t>(
         ends_at_host(cut),
         profile,
     )? {
-        Judged::Valid(host) => Ok(Judged::Valid(host)),
-        Judged::Refused(refusal) => Ok(Judged::Refused(refusal_behind(host_place(cut), refusal))),
+        Checked::Valid(host) => Ok(Checked::Valid(host)),
+        Checked::Refused(refusal) => Ok(Checked::Refused(refusal_after(host_place(cut), refusal))),
     }
 }
 
-// Nothing of the text stands behind the host.
+// Nothing of the text is after the host.
 #[inline(always)]
 fn ends_at_host(cut: &Cut) -> bool
     ensures { result ≡ ends_at_host cut.now }
@@ -83,18 +83,18 @@ fn is_blank(text: &str) -> bool
 }
 
 /// The port of a cut text, a refusal counted from the text's start.
-pub(crate) fn judge_port_part(cut: &Cut, setting: &Setting) -> Judged<Option<u16>>
+pub(crate) fn check_port_part(cut: &Cut, setting: &Setting) -> Checked<Option<u16>>
     requires { IsCountable cut.now }
-    ensures { IsJudged (FitsPortPart setting.now cut.now) (PortPartViolation cut.now) result }
+    ensures { IsChecked (FitsPortPart setting.now cut.now) (PortPartViolation cut.now) result }
 {
     match (cut.host_text, cut.port_text) {
-        (Some(host_text), Some(port_text)) => match judge_port(port_text) {
-            Judged::Valid(number) => Judged::Valid(without_default(setting.default_port, number)),
-            Judged::Refused(refusal) => {
-                Judged::Refused(refusal_behind(port_place(cut, host_text), refusal))
+        (Some(host_text), Some(port_text)) => match check_port(port_text) {
+            Checked::Valid(number) => Checked::Valid(without_default(setting.default_port, number)),
+            Checked::Refused(refusal) => {
+                Checked::Refused(refusal_after(port_place(cut, host_text), refusal))
             }
         },
-        _ => Judged::Valid(None),
+        _ => Checked::Valid(None),
     }
 }
 

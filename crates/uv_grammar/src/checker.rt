@@ -4,27 +4,26 @@ ghost use Rattle.std.specs.Str.{chars};
 ghost use Rattle.uv_model.specs.Records.Url.{Url};
 ghost use Rattle.uv_grammar.specs.Bases.{IsOfKind, as_base};
 ghost use Rattle.uv_grammar.specs.NoMemory.{TakesNoMemoryAgainst};
-ghost use Rattle.uv_grammar.specs.PlainLinks.{IsPlainStart, begins_behind};
-ghost use Rattle.uv_grammar.specs.SpecialLinks.{IsJudgedButHost};
+ghost use Rattle.uv_grammar.specs.PlainLinks.{IsPlainStart, begins_after};
+ghost use Rattle.uv_grammar.specs.SpecialLinks.{IsCheckedButHost};
 ghost use Rattle.uv_grammar.specs.Verdict.{IsVerdict};
 
-use crate::authority::{judge_host_of_class, judge_host_part, judge_port_part};
+use crate::authority::{check_host_of_class, check_host_part, check_port_part};
 use crate::bases::{Base, BaseKind};
 use crate::built::build;
+use crate::checked::Checked;
 use crate::cut::{Cut, cut_text};
 use crate::file_links::file_parts;
-use crate::judged::Judged;
 use crate::marks::split_marks;
 use crate::parts::Parts;
 use crate::parts_host::{AsciiText, PartsHost};
 use crate::plain_links::{
-    PlainStart, begins_behind, may_start_otherwise, other_start, plain_cut, plain_parts,
-    plain_start,
+    PlainStart, begins_after, may_start_otherwise, other_start, plain_cut, plain_parts, plain_start,
 };
 use crate::setting::Setting;
 use crate::special_links::{address_of, begins_with_http_or_file, is_bracketed, special_cut};
 use crate::start_rules::start_fault;
-use crate::unit_faults::fault_behind_authority;
+use crate::unit_faults::fault_after_authority;
 use std::alloc::{AllocError, Global};
 use uv_model::{Class, Profile, Record, Refusal};
 
@@ -111,8 +110,8 @@ pub(crate) fn check_started<'t>(
     ensures memory { TakesNoMemoryAgainst profile (as_base base.entry) (chars text.now) → IsOk result }
 {
     let rest = start.rest.as_str();
-    if begins_behind(rest) {
-        check_behind(text, start, base, profile)
+    if begins_after(rest) {
+        check_after(text, start, base, profile)
     } else if goes_on_wide(rest, profile) {
         check_other_start(alloc, text, base, profile)
     } else {
@@ -138,7 +137,7 @@ pub(crate) fn check_unstarted<'t>(
     }
 }
 
-// Whether the profile is the wide one and a low line stands here, by which a name goes on in it alone. It spares other
+// Whether the profile is the wide one and a low line is here, by which a name goes on in it alone. It spares other
 // texts a second look, and no verdict rests on it.
 fn goes_on_wide(rest: &str, profile: Profile) -> bool {
     match profile {
@@ -147,17 +146,17 @@ fn goes_on_wide(rest: &str, profile: Profile) -> bool {
     }
 }
 
-/// The verdict on a text with a plain start that a path, a query or a fragment follows, or nothing: these are judged.
+/// The verdict on a text with a plain start that a path, a query or a fragment follows, or nothing: these are checked.
 /// It is never inlined, as plain links would then have to keep registers free for it.
 #[inline(never)]
-pub(crate) fn check_behind<'t>(
+pub(crate) fn check_after<'t>(
     text: &'t str,
     start: PlainStart<'t>,
     base: Option<Base<'_>>,
     profile: Profile,
 ) -> Result<Verdict<'t>, AllocError>
     requires start { IsPlainStart profile (as_base base) (chars text.now) start }
-    requires behind { begins_behind (chars start.rest) ≡ true }
+    requires after { begins_after (chars start.rest) ≡ true }
     ensures answer { IfOk result (IsVerdict profile (as_base base.entry) (chars text.now)) }
     ensures memory { IsOk result }
 {
@@ -171,7 +170,7 @@ pub(crate) fn check_behind<'t>(
         fragment,
     };
     let setting = Setting::of(base, start.scheme, profile);
-    match fault_behind_authority(&cut, &setting) {
+    match fault_after_authority(&cut, &setting) {
         Some(refusal) => Ok(Verdict::No(refusal)),
         None => {
             let host = PartsHost::Plain(AsciiText::of(start.name));
@@ -198,8 +197,8 @@ pub(crate) fn check_other_start<'t>(
     if let Some(cut) = plain_cut(&start) {
         return Ok(Verdict::Yes(plain_parts(text, &cut)));
     }
-    if begins_behind(start.rest.as_str()) {
-        check_behind(text, start, base, profile)
+    if begins_after(start.rest.as_str()) {
+        check_after(text, start, base, profile)
     } else {
         check_otherwise(alloc, text, base, profile)
     }
@@ -223,7 +222,7 @@ pub(crate) fn check_otherwise<'t>(
                 return Ok(Verdict::Yes(build(text, cut, Some(PartsHost::Made(address)), port)));
             }
             if !is_bracketed(&cut) {
-                return check_host(alloc, text, cut, port, base, profile);
+                return check_by_host(alloc, text, cut, port, base, profile);
             }
         }
         if let Some(parts) = file_parts(text) {
@@ -233,9 +232,9 @@ pub(crate) fn check_otherwise<'t>(
     check_by_parts(alloc, text, base, profile)
 }
 
-// The same of a text of which nothing but the host can be wrong: that alone is judged.
+// The same of a text of which nothing but the host can be wrong: that alone is checked.
 #[inline(always)]
-fn check_host<'t>(
+fn check_by_host<'t>(
     alloc: Global,
     text: &'t str,
     cut: Cut<'t>,
@@ -243,13 +242,13 @@ fn check_host<'t>(
     base: Option<Base<'_>>,
     profile: Profile,
 ) -> Result<Verdict<'t>, AllocError>
-    requires { IsJudgedButHost profile (as_base base) (chars text.now) cut port }
+    requires { IsCheckedButHost profile (as_base base) (chars text.now) cut port }
     ensures answer { IfOk result (IsVerdict profile (as_base base.entry) (chars text.now)) }
     ensures memory { TakesNoMemoryAgainst profile (as_base base.entry) (chars text.now) → IsOk result }
 {
-    match judge_host_of_class(alloc, &cut, Class::SpecialNotFile, profile)? {
-        Judged::Valid(host) => Ok(Verdict::Yes(build(text, cut, host, port))),
-        Judged::Refused(refusal) => refused(refusal),
+    match check_host_of_class(alloc, &cut, Class::SpecialNotFile, profile)? {
+        Checked::Valid(host) => Ok(Verdict::Yes(build(text, cut, host, port))),
+        Checked::Refused(refusal) => refused(refusal),
     }
 }
 
@@ -268,15 +267,15 @@ fn check_by_parts<'t>(
     if let Some(refusal) = start_fault(text, &cut, &setting) {
         return refused(refusal);
     }
-    let host = match judge_host_part(alloc, &cut, &setting)? {
-        Judged::Valid(host) => host,
-        Judged::Refused(refusal) => return refused(refusal),
+    let host = match check_host_part(alloc, &cut, &setting)? {
+        Checked::Valid(host) => host,
+        Checked::Refused(refusal) => return refused(refusal),
     };
-    let port = match judge_port_part(&cut, &setting) {
-        Judged::Valid(port) => port,
-        Judged::Refused(refusal) => return refused(refusal),
+    let port = match check_port_part(&cut, &setting) {
+        Checked::Valid(port) => port,
+        Checked::Refused(refusal) => return refused(refusal),
     };
-    match fault_behind_authority(&cut, &setting) {
+    match fault_after_authority(&cut, &setting) {
         Some(refusal) => refused(refusal),
         None => Ok(Verdict::Yes(build(text, cut, host, port))),
     }

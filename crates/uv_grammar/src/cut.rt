@@ -1,7 +1,7 @@
-//! The cut of a text into the texts of its parts, none of them judged.
+//! The cut of a text into the texts of its parts, none of them checked.
 ghost use Rattle.std.specs.Prelude.{◌≡◌, MatchOption, false, true};
 ghost use Rattle.std.specs.Str.{chars};
-ghost use Rattle.uv_model.specs.Cut.{IsCut, host_before, is_within, port_behind, starts_with_two_slashes};
+ghost use Rattle.uv_model.specs.Cut.{IsCut, host_before, is_within, port_after, starts_with_two_slashes};
 ghost use Rattle.uv_model.specs.Hosts.OpaqueHost.{starts_with_bracket};
 ghost use Rattle.uv_model.specs.Setting.{setting_of};
 ghost use Rattle.uv_grammar.specs.Bases.{as_base};
@@ -11,7 +11,7 @@ ghost use Rattle.uv_grammar.specs.TextSplits.{IsPortMark, SplitsAuthority, Split
 use crate::bases::Base;
 use crate::marks::beginnings::{bracket_first, scheme_end};
 use crate::marks::search::first_mark;
-use crate::marks::{behind_slash, split_at_slash, split_marks};
+use crate::marks::{after_slash, split_at_slash, split_marks};
 use crate::setting::Setting;
 use std::marker::Model;
 use uv_model::{Class, Profile};
@@ -98,8 +98,8 @@ fn split_authority<'t>(text: &'t str) -> Option<(&'t str, &'t str)>
     ensures { MatchOption result (starts_with_two_slashes (chars text.now) ≡ false)
         (λ r. SplitsAuthority (chars text.now) (chars_of r.0) (chars_of r.1)) }
 {
-    match behind_slash(text) {
-        Some(rest) => match behind_slash(rest) {
+    match after_slash(text) {
+        Some(rest) => match after_slash(rest) {
             Some(rest) => Some(split_at_slash(rest)),
             None => None,
         },
@@ -120,7 +120,7 @@ fn split_host<'t>(authority: &'t str, class: Class) -> (&'t str, Option<&'t str>
 // The host of an authority and the text of its port, where it isn't the authority of a file URL.
 fn split_port<'t>(authority: &'t str) -> (&'t str, Option<&'t str>)
     ensures host { chars_of result.0 ≡ host_before false (chars authority.now) }
-    ensures port { chars_of_option result.1 ≡ port_behind false (chars authority.now) }
+    ensures port { chars_of_option result.1 ≡ port_after false (chars authority.now) }
 {
     match port_mark(authority.as_bytes()) {
         Some(end) => (&authority[..end], Some(&authority[end + 1..])),
@@ -133,7 +133,7 @@ fn port_mark(bytes: &[u8]) -> Option<usize>
     ensures { IsPortMark bytes.now result }
 {
     if bracket_first(bytes) {
-        return port_mark_behind_bracket(bytes);
+        return port_mark_after_bracket(bytes);
     }
     match first_mark(bytes, b':') {
         Some(end) => match first_mark(&bytes[..end], b'[') {
@@ -146,7 +146,7 @@ fn port_mark(bytes: &[u8]) -> Option<usize>
 
 // The same, where the authority begins with `[`: no `:` before the first `]` is that of a port, so the many in an IPv6
 // address are passed by one search.
-fn port_mark_behind_bracket(bytes: &[u8]) -> Option<usize>
+fn port_mark_after_bracket(bytes: &[u8]) -> Option<usize>
     requires { starts_with_bracket bytes.now ≡ true }
     ensures { IsPortMark bytes.now result }
 {
@@ -159,7 +159,7 @@ fn port_mark_behind_bracket(bytes: &[u8]) -> Option<usize>
     }
 }
 
-// The same, where brackets may stand before it.
+// The same, where brackets may be before it.
 fn port_mark_by_brackets(bytes: &[u8]) -> Option<usize>
     ensures { IsPortMark bytes.now result }
 {
@@ -173,7 +173,7 @@ fn port_mark_by_brackets(bytes: &[u8]) -> Option<usize>
     None
 }
 
-// Whether the place behind a byte is within brackets, where `within` says it of the place before it.
+// Whether the place after a byte is within brackets, where `within` says it of the place before it.
 fn is_within(within: bool, b: u8) -> bool
     ensures { result ≡ is_within within b }
 {

@@ -10,15 +10,15 @@ use crate::cut::Cut;
 /// does, and a fragment ends with the text.
 #[derive(Clone, Copy)]
 pub(crate) struct Ends {
-    /// Behind the scheme and its `:`.
+    /// After the scheme and its `:`.
     pub(crate) scheme: usize,
-    /// Behind `//` and the host.
+    /// After `//` and the host.
     pub(crate) host: usize,
-    /// Behind `:` and the port.
+    /// After `:` and the port.
     pub(crate) port: usize,
-    /// Behind the path.
+    /// After the path.
     pub(crate) path: usize,
-    /// Behind `?` and the query.
+    /// After `?` and the query.
     pub(crate) query: usize,
 }
 
@@ -68,7 +68,7 @@ pub(crate) fn scheme_before<'t>(text: &'t str, end: usize) -> Option<&'t str>
     }
 }
 
-/// The text between two ends behind a delimiter of so many bytes, or none between equal ones.
+/// The text between two ends after a delimiter of so many bytes, or none between equal ones.
 #[inline(always)]
 pub(crate) fn part_between<'t>(
     text: &'t str,

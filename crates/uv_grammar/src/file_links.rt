@@ -1,4 +1,4 @@
-//! Links to files with an empty host, judged at one pass.
+//! Links to files with an empty host, checked at one pass.
 ghost use Rattle.std.specs.Prelude.{Option, IfSome};
 ghost use Rattle.std.specs.Str.{chars};
 ghost use Rattle.uv_model.specs.declared.profile.Profile.{Profile};
@@ -10,7 +10,7 @@ use crate::cut::Cut;
 use crate::marks::beginnings::has_slash;
 use crate::parts::Parts;
 use crate::parts_host::PartsHost;
-use crate::plain_links::split_behind;
+use crate::plain_links::split_after;
 use crate::plain_prefixes::{has_prefix, split_prefix};
 use uv_model::Host;
 use uv_text::Tail;
@@ -25,10 +25,10 @@ pub(crate) fn file_parts<'t>(text: &'t str) -> Option<Parts<'t>>
     if !has_prefix(text.as_bytes(), b"file://") {
         return None;
     }
-    let (scheme, behind) = split_prefix(&Tail::of(text), 4);
-    let (_, rest) = split_prefix(&behind, 3);
+    let (scheme, after) = split_prefix(&Tail::of(text), 4);
+    let (_, rest) = split_prefix(&after, 3);
     let (host_text, _) = split_prefix(&rest, 0);
-    let Some((path_text, query, fragment)) = split_behind(&rest) else {
+    let Some((path_text, query, fragment)) = split_after(&rest) else {
         return None;
     };
     if !has_slash(path_text) {

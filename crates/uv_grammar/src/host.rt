@@ -1,4 +1,4 @@
-//! The host of a text, judged by its class.
+//! The host of a text, checked by its class.
 ghost use Rattle.std.specs.Prelude.{◌≡◌, ◌≢◌, ◌↔◌, Bool, IfOk, IsOk, IsTrue, [], codes, false};
 ghost use Rattle.std.specs.Str.{bytes_eq, chars};
 ghost use Rattle.uv_model.specs.Violations.Violation.{HostContentViolation, HostViolation, LacksFileHost};
@@ -6,23 +6,23 @@ ghost use Rattle.uv_model.specs.Violations.OpaqueHostViolation.{OpaqueHostViolat
 ghost use Rattle.uv_model.specs.Valid.{IsOpaqueHostText, without_localhost};
 ghost use Rattle.uv_grammar.specs.PartsHost.{FitsPartsHost, as_host};
 ghost use Rattle.uv_grammar.specs.HostValues.{FitsHost, FitsSomeHost, MayBeEmptyFile};
-ghost use Rattle.uv_grammar.specs.Judged.{IsJudged};
+ghost use Rattle.uv_grammar.specs.Checked.{IsChecked};
 ghost use Rattle.uv_grammar.specs.NoMemory.{HostTakesNoMemory, MakesNoForm};
 ghost use Rattle.uv_grammar.specs.Slices.{chars_of_option};
 
-use crate::host_text::judge_host_text;
-use crate::judged::Judged;
+use crate::checked::Checked;
+use crate::host_text::check_host_text;
 use crate::marks::beginnings::has_slash;
 use crate::parts_host::PartsHost;
 use std::alloc::{AllocError, Global};
 use uv_host::{bracketed_ipv6, opaque_fault};
 use uv_model::{Class, Host, Profile, Refusal, Rule};
 
-/// The host, judged by its class, beside the port and the path that follow it, with its value where it isn't an opaque
+/// The host, checked by its class, beside the port and the path that follow it, with its value where it isn't an opaque
 /// host. Nothing of the text follows the host where `last` says so. A refusal's place is counted in code points from
 /// the host's start. The error is out of memory. It is inlined, as a host would else be copied once more.
 #[inline(always)]
-pub(crate) fn judge_host<'t>(
+pub(crate) fn check_host<'t>(
     alloc: Global,
     class: Class,
     host_text: &'t str,
@@ -30,8 +30,8 @@ pub(crate) fn judge_host<'t>(
     path_text: &str,
     last: bool,
     profile: Profile,
-) -> Result<Judged<Option<PartsHost<'t>>>, AllocError>
-    ensures answer { IfOk result (IsJudged
+) -> Result<Checked<Option<PartsHost<'t>>>, AllocError>
+    ensures answer { IfOk result (IsChecked
         (FitsPartsHost (FitsHost profile class last (chars host_text.now) (chars_of_option port_text.entry)
         (chars path_text.now)))
         (HostViolation profile class last (chars host_text.now) (chars_of_option port_text.entry)
@@ -39,24 +39,24 @@ pub(crate) fn judge_host<'t>(
     ensures memory { HostTakesNoMemory profile class (chars host_text.now) → IsOk result }
 {
     if host_text.is_empty() {
-        return Ok(judge_empty_host(class, port_text, path_text, profile));
+        return Ok(check_empty_host(class, port_text, path_text, profile));
     }
     match class {
-        Class::SpecialNotFile => judge_special_host(alloc, host_text, last, profile),
-        Class::File => judge_file_host(alloc, host_text, last, profile),
-        Class::Other => Ok(judge_opaque_host(host_text)),
+        Class::SpecialNotFile => check_special_host(alloc, host_text, last, profile),
+        Class::File => check_file_host(alloc, host_text, last, profile),
+        Class::Other => Ok(check_opaque_host(host_text)),
     }
 }
 
 // An empty host.
-fn judge_empty_host<'t>(
+fn check_empty_host<'t>(
     class: Class,
     port_text: Option<&str>,
     path_text: &str,
     profile: Profile,
-) -> Judged<Option<PartsHost<'t>>>
+) -> Checked<Option<PartsHost<'t>>>
     ensures { (last : Bool)
-        → IsJudged (FitsPartsHost (FitsHost profile class last [] (chars_of_option port_text.entry)
+        → IsChecked (FitsPartsHost (FitsHost profile class last [] (chars_of_option port_text.entry)
         (chars path_text.now)))
         (HostViolation profile class last [] (chars_of_option port_text.entry) (chars path_text.now)) result }
 {
@@ -66,12 +66,12 @@ fn judge_empty_host<'t>(
         Class::Other => port_text.is_some(),
     };
     if is_missing {
-        Judged::Refused(Refusal {
+        Checked::Refused(Refusal {
             place: 0,
             rule: Rule::HostMissing,
         })
     } else {
-        Judged::Valid(Some(PartsHost::Made(Host::Empty)))
+        Checked::Valid(Some(PartsHost::Made(Host::Empty)))
     }
 }
 
@@ -88,39 +88,39 @@ fn lacks_path(path_text: &str, profile: Profile) -> bool
 
 // The host of a special URL, which isn't empty.
 #[inline(always)]
-fn judge_special_host<'t>(
+fn check_special_host<'t>(
     alloc: Global,
     text: &'t str,
     last: bool,
     profile: Profile,
-) -> Result<Judged<Option<PartsHost<'t>>>, AllocError>
+) -> Result<Checked<Option<PartsHost<'t>>>, AllocError>
     requires { chars text.now ≢ [] }
-    ensures answer { IfOk result (IsJudged
+    ensures answer { IfOk result (IsChecked
         (FitsPartsHost (FitsSomeHost profile Class.SpecialNotFile last (chars text.now)))
         (HostContentViolation profile Class.SpecialNotFile last (chars text.now))) }
     ensures memory { MakesNoForm profile (chars text.now) → IsOk result }
 {
-    match judge_host_text(alloc, text, Class::SpecialNotFile, last, profile)? {
-        Judged::Valid(host) => Ok(Judged::Valid(Some(host))),
-        Judged::Refused(refusal) => Ok(Judged::Refused(refusal)),
+    match check_host_text(alloc, text, Class::SpecialNotFile, last, profile)? {
+        Checked::Valid(host) => Ok(Checked::Valid(Some(host))),
+        Checked::Refused(refusal) => Ok(Checked::Refused(refusal)),
     }
 }
 
 // The host of a file URL, which isn't empty.
-fn judge_file_host<'t>(
+fn check_file_host<'t>(
     alloc: Global,
     text: &'t str,
     last: bool,
     profile: Profile,
-) -> Result<Judged<Option<PartsHost<'t>>>, AllocError>
+) -> Result<Checked<Option<PartsHost<'t>>>, AllocError>
     requires { chars text.now ≢ [] }
-    ensures answer { IfOk result (IsJudged (FitsPartsHost (FitsSomeHost profile Class.File last (chars text.now)))
+    ensures answer { IfOk result (IsChecked (FitsPartsHost (FitsSomeHost profile Class.File last (chars text.now)))
         (HostContentViolation profile Class.File last (chars text.now))) }
     ensures memory { MakesNoForm profile (chars text.now) → IsOk result }
 {
-    match judge_host_text(alloc, text, Class::File, last, profile)? {
-        Judged::Valid(host) => Ok(Judged::Valid(Some(without_localhost(host)))),
-        Judged::Refused(refusal) => Ok(Judged::Refused(refusal)),
+    match check_host_text(alloc, text, Class::File, last, profile)? {
+        Checked::Valid(host) => Ok(Checked::Valid(Some(without_localhost(host)))),
+        Checked::Refused(refusal) => Ok(Checked::Refused(refusal)),
     }
 }
 
@@ -163,16 +163,16 @@ fn is_localhost(form: &str) -> bool
 }
 
 // The host of any other URL, which isn't empty.
-fn judge_opaque_host(text: &str) -> Judged<Option<PartsHost<'_>>>
+fn check_opaque_host(text: &str) -> Checked<Option<PartsHost<'_>>>
     requires { chars text.now ≢ [] }
-    ensures { IsJudged (FitsPartsHost (IsOpaqueHostText (chars text.now)))
+    ensures { IsChecked (FitsPartsHost (IsOpaqueHostText (chars text.now)))
         (OpaqueHostViolation (chars text.now)) result }
 {
     if let Some(refusal) = opaque_fault(text) {
-        return Judged::Refused(refusal);
+        return Checked::Refused(refusal);
     }
     match bracketed_ipv6(text) {
-        Some(pieces) => Judged::Valid(Some(PartsHost::Made(Host::V6(pieces)))),
-        None => Judged::Valid(None),
+        Some(pieces) => Checked::Valid(Some(PartsHost::Made(Host::V6(pieces)))),
+        None => Checked::Valid(None),
     }
 }

@@ -4,7 +4,7 @@ ghost use Rattle.std.specs.Str.{chars};
 ghost use Rattle.memchr.specs.Find.{IsFirstByte, is_byte2};
 ghost use Rattle.uv_model.specs.Ascii.{number_sign, question_mark, slash};
 ghost use Rattle.uv_model.specs.Path.{is_without, starts_with_slash};
-ghost use Rattle.uv_model.specs.Parts.{written_behind};
+ghost use Rattle.uv_model.specs.Parts.{written_after};
 ghost use Rattle.uv_grammar.specs.Slices.{chars_of, chars_of_option};
 ghost use Rattle.uv_grammar.specs.TextSplits.{SplitsAtSlash, SplitsMarks};
 
@@ -14,10 +14,10 @@ pub(crate) mod search;
 use crate::marks::search::first_mark;
 use memchr::memchr2;
 
-/// What stands before the first such mark, and what follows it where there is one.
+/// What is before the first such mark, and what follows it where there is one.
 pub(crate) fn split_at_mark<'t>(text: &'t str, mark: char) -> (&'t str, Option<&'t str>)
     requires { mark < 128 }
-    ensures joined { chars text.now ≡ chars_of result.0 ++ written_behind mark (chars_of_option result.1) }
+    ensures joined { chars text.now ≡ chars_of result.0 ++ written_after mark (chars_of_option result.1) }
     ensures first { is_without mark (chars_of result.0) ≡ true }
 {
     match first_mark(text.as_bytes(), mark as u8) {
@@ -26,7 +26,7 @@ pub(crate) fn split_at_mark<'t>(text: &'t str, mark: char) -> (&'t str, Option<&
     }
 }
 
-/// What stands before the first `?` or `#`, the query where `?` comes first, and the fragment behind the first `#`. In
+/// What is before the first `?` or `#`, the query where `?` comes first, and the fragment after the first `#`. In
 /// a text of 32 bytes or more both are searched for at once, since most texts have neither.
 pub(crate) fn split_marks<'t>(text: &'t str) -> (&'t str, Option<&'t str>, Option<&'t str>)
     ensures { SplitsMarks (chars text.now) (chars_of result.0) (chars_of_option result.1) (chars_of_option result.2) }
@@ -35,7 +35,7 @@ pub(crate) fn split_marks<'t>(text: &'t str) -> (&'t str, Option<&'t str>, Optio
         return split_marks_in_turn(text);
     }
     match memchr2(b'?', b'#', text.as_bytes()) {
-        Some(end) => split_behind_mark(text, end),
+        Some(end) => split_after_mark(text, end),
         None => (text, None, None),
     }
 }
@@ -50,7 +50,7 @@ fn split_marks_in_turn<'t>(text: &'t str) -> (&'t str, Option<&'t str>, Option<&
 }
 
 // The same, where this is the place of the first of both.
-fn split_behind_mark<'t>(text: &'t str, end: usize) -> (&'t str, Option<&'t str>, Option<&'t str>)
+fn split_after_mark<'t>(text: &'t str, end: usize) -> (&'t str, Option<&'t str>, Option<&'t str>)
     requires { IsFirstByte (is_byte2 question_mark number_sign) text.now (Some end) }
     ensures { SplitsMarks (chars text.now) (chars_of result.0) (chars_of_option result.1) (chars_of_option result.2) }
 {
@@ -70,7 +70,7 @@ fn has_question_mark(bytes: &[u8], place: usize) -> bool
     bytes[place] == b'?'
 }
 
-/// What stands before the first `/`, and what begins with it.
+/// What is before the first `/`, and what begins with it.
 pub(crate) fn split_at_slash<'t>(text: &'t str) -> (&'t str, &'t str)
     ensures { SplitsAtSlash (chars text.now) (chars_of result.0) (chars_of result.1) }
 {
@@ -81,7 +81,7 @@ pub(crate) fn split_at_slash<'t>(text: &'t str) -> (&'t str, &'t str)
 }
 
 /// What follows a `/` at the text's start.
-pub(crate) fn behind_slash<'t>(text: &'t str) -> Option<&'t str>
+pub(crate) fn after_slash<'t>(text: &'t str) -> Option<&'t str>
     ensures { MatchOption result (starts_with_slash (chars text.now) ≡ false)
         (λ r. chars text.now ≡ slash ∷ chars_of r) }
 {

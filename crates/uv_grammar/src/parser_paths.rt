@@ -13,7 +13,7 @@ use crate::cut::Cut;
 use crate::marks::beginnings::has_slash;
 use crate::setting::Setting;
 use crate::start_rules::holds_any;
-use uv_model::{Class, Profile, Refusal, behind_code_points, first_code_point};
+use uv_model::{Class, Profile, Refusal, after_code_points, first_code_point};
 use uv_text::first_fault;
 
 /// The path of the cut text may hold spaces: the profile is the parser's, and the path is opaque.
@@ -26,7 +26,7 @@ pub(crate) fn takes_spaces(cut: &Cut, setting: &Setting) -> bool
     }
 }
 
-// The path is opaque: behind a scheme of class Other without an authority, and it doesn't begin with `/`.
+// The path is opaque: after a scheme of class Other without an authority, and it doesn't begin with `/`.
 fn has_opaque_path(cut: &Cut, class: Class) -> bool
     ensures { result ≡ has_opaque_path class cut.now }
 {
@@ -52,7 +52,7 @@ pub(crate) fn first_spaced_fault(text: &str, followed: bool) -> Option<Refusal>
     let mut left = text;
     let mut here = 0;
     while let Some(refusal) = first_fault(left) {
-        let found = behind_code_points(left, refusal.place);
+        let found = after_code_points(left, refusal.place);
         let spaces = taken_spaces(found, followed);
         if spaces == 0 {
             return Some(Refusal {
@@ -61,7 +61,7 @@ pub(crate) fn first_spaced_fault(text: &str, followed: bool) -> Option<Refusal>
             });
         }
         here += refusal.place + spaces;
-        left = behind_code_points(found, spaces);
+        left = after_code_points(found, spaces);
     }
     None
 }
@@ -75,7 +75,7 @@ fn taken_spaces(text: &str, followed: bool) -> usize
     if followed {
         return spaces;
     }
-    if holds_any(behind_code_points(text, spaces)) {
+    if holds_any(after_code_points(text, spaces)) {
         spaces
     } else {
         0
@@ -88,12 +88,12 @@ fn count_spaces(text: &str) -> usize
 {
     let mut left = text;
     let mut count = 0;
-    while let Some((c, behind)) = first_code_point(left) {
+    while let Some((c, after)) = first_code_point(left) {
         if c != ' ' {
             return count;
         }
         count += 1;
-        left = behind;
+        left = after;
     }
     count
 }

@@ -33,10 +33,10 @@ fn is_stopped_by_class(text: &str, class: Class, last: bool) -> bool
 fn is_drive(text: &str) -> bool
     ensures { result ≡ path_spec.is_drive_letter (chars text.now) }
 {
-    let Some((letter, behind)) = first_code_point(text) else {
+    let Some((letter, after)) = first_code_point(text) else {
         return false;
     };
-    match first_code_point(behind) {
+    match first_code_point(after) {
         Some((mark, rest)) => letter.is_ascii_alphabetic()
             && ((mark == ':' || mark == '|') && first_code_point(rest).is_none()),
         None => false,
@@ -77,9 +77,9 @@ fn ends_with_control(text: &str) -> bool
 {
     let mut left = text;
     let mut ends = false;
-    while let Some((c, behind)) = first_code_point(left) {
+    while let Some((c, after)) = first_code_point(left) {
         ends = c <= ' ';
-        left = behind;
+        left = after;
     }
     ends
 }

@@ -10,7 +10,7 @@ ghost use Rattle.uv_model.specs.Path.{left_segments, segments_of};
 
 use crate::ends::{Ends, part_between, scheme_before};
 use crate::form::Form;
-use crate::marks::{behind_slash, split_at_mark};
+use crate::marks::{after_slash, split_at_mark};
 use crate::parts_host::{HostRef, PartsHost};
 use std::alloc::{AllocError, Global};
 use std::marker::{Model, PhantomData};
@@ -156,24 +156,24 @@ impl<'p, 't> Segments<'p, 't> {
     }
 }
 
-// The text of the segments of a path by its form: what stands behind a `/` at its start, where there are any.
+// The text of the segments of a path by its form: what is after a `/` at its start, where there are any.
 fn segments_text<'t>(form: Form, path_text: &'t str) -> Option<&'t str>
     ensures { left_segments (chars_of_option result) ≡ segments_in (seen_form form) (chars path_text.now) }
 {
     match form {
         Form::SchemeOpaque => None,
-        _ => behind_first(path_text),
+        _ => after_first(path_text),
     }
 }
 
-// What stands behind a `/` at the start of a path that isn't empty.
-fn behind_first<'t>(path_text: &'t str) -> Option<&'t str>
+// What is after a `/` at the start of a path that isn't empty.
+fn after_first<'t>(path_text: &'t str) -> Option<&'t str>
     ensures { left_segments (chars_of_option result) ≡ segments_of (chars path_text.now) }
 {
     if path_text.is_empty() {
         return None;
     }
-    match behind_slash(path_text) {
+    match after_slash(path_text) {
         Some(rest) => Some(rest),
         None => Some(path_text),
     }

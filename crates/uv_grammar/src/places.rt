@@ -1,7 +1,7 @@
 //! The places of the parts of a cut text, in code points from 0 at the text's start.
 ghost use Rattle.std.specs.Prelude.{◌≡◌, ◌+◌, ◌<◌, ◌^◌, IsSome, Some, length};
 ghost use Rattle.std.specs.Str.{chars};
-ghost use Rattle.uv_model.specs.Violations.Violation.{refusal_behind, slashes_place};
+ghost use Rattle.uv_model.specs.Violations.Violation.{refusal_after, slashes_place};
 ghost use Rattle.uv_model.specs.Cut.{fragment_place, host_place, path_place, port_place, query_place, scheme_end};
 ghost use Rattle.uv_model.specs.Parts.{written_authority};
 ghost use Rattle.uv_grammar.specs.PartViolations.{IsCountable};
@@ -21,7 +21,7 @@ fn count(text: &str) -> usize
     }
 }
 
-/// The place behind a scheme and `:`.
+/// The place after a scheme and `:`.
 pub(crate) fn scheme_end(cut: &Cut) -> usize
     requires { IsCountable cut.now }
     ensures { result ≡ scheme_end cut.now }
@@ -32,7 +32,7 @@ pub(crate) fn scheme_end(cut: &Cut) -> usize
     }
 }
 
-/// The first of the two code points behind a scheme and `:` that isn't `/`, or the text's end.
+/// The first of the two code points after a scheme and `:` that isn't `/`, or the text's end.
 pub(crate) fn slashes_place(cut: &Cut) -> usize
     requires { IsCountable cut.now }
     ensures { result ≡ slashes_place cut.now }
@@ -53,7 +53,7 @@ pub(crate) fn host_place(cut: &Cut) -> usize
     scheme_end(cut) + 2
 }
 
-/// The place of the port behind a host.
+/// The place of the port after a host.
 pub(crate) fn port_place(cut: &Cut, host_text: &str) -> usize
     requires count { IsCountable cut.now }
     requires host { cut.now.host_text ≡ Some (chars host_text.now) }
@@ -105,9 +105,9 @@ pub(crate) fn fragment_place(cut: &Cut) -> usize
 }
 
 /// The refusal of a part, counted from the text's start.
-pub(crate) fn refusal_behind(start: usize, refusal: Refusal) -> Refusal
+pub(crate) fn refusal_after(start: usize, refusal: Refusal) -> Refusal
     requires { start + refusal.place < 2 ^ 64 }
-    ensures { result ≡ refusal_behind start refusal }
+    ensures { result ≡ refusal_after start refusal }
 {
     Refusal {
         place: start + refusal.place,

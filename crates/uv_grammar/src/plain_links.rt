@@ -1,6 +1,6 @@
-//! The links that people write, judged at one pass: a special scheme, a plain domain, a port or none, and a path, a
+//! The links that people write, checked at one pass: a special scheme, a plain domain, a port or none, and a path, a
 //! query and a fragment of URL units; against a base of a special scheme also without the scheme. Where only what
-//! stands before the path is so, that is known of the text, and all other texts are judged by their parts.
+//! is before the path is so, that is known of the text, and all other texts are checked by their parts.
 ghost use Rattle.std.specs.Prelude.{◌≡◌, ◌≢◌, ◌<◌, [], ℕ, List, false, true, Option, IfSome, IsTrue};
 ghost use Rattle.std.specs.Str.{chars};
 ghost use Rattle.uv_model.specs.declared.profile.Profile.{Profile};
@@ -9,8 +9,8 @@ ghost use Rattle.uv_model.specs.Path.{starts_with_slash};
 ghost use Rattle.uv_model.specs.Records.Url.{Url};
 ghost use Rattle.uv_model.specs.Setting.{scheme_or};
 ghost use Rattle.uv_grammar.specs.Bases.{as_base};
-ghost use Rattle.uv_grammar.specs.PlainLinks.{AreUnitsBehind, IsPartCut, IsPathCut, IsPlainCut, IsPlainStart};
-ghost use Rattle.uv_grammar.specs.PlainLinks.{IsSpecialBase, IsSpecialStart, IsStartBehind, begins_behind};
+ghost use Rattle.uv_grammar.specs.PlainLinks.{AreUnitsAfter, IsPartCut, IsPathCut, IsPlainCut, IsPlainStart};
+ghost use Rattle.uv_grammar.specs.PlainLinks.{IsSpecialBase, IsSpecialStart, IsStartAfter, begins_after};
 ghost use Rattle.uv_grammar.specs.Slices.{chars_of, chars_of_option};
 ghost use Rattle.uv_grammar.specs.Verdict.{IsAccepted};
 
@@ -77,13 +77,13 @@ pub(crate) fn plain_start<'t>(text: &'t str) -> Option<PlainStart<'t>>
     ensures { IfSome result (λ start. (profile : Profile) (base : Option Url)
         → IsPlainStart profile base (chars text.now) start) }
 {
-    let Some((scheme, behind)) = split_special(text) else {
+    let Some((scheme, after)) = split_special(text) else {
         return None;
     };
-    let Some((name, rest)) = split_name(&behind) else {
+    let Some((name, rest)) = split_name(&after) else {
         return None;
     };
-    start_behind(Some(scheme), scheme, name, rest)
+    start_after(Some(scheme), scheme, name, rest)
 }
 
 /// Whether a text may have another plain start: `//` without a scheme, or a scheme that begins with a capital.
@@ -92,7 +92,7 @@ pub(crate) fn may_start_otherwise(text: &str) -> bool {
 }
 
 /// The same by the profile and against the base: also `//` in place of the scheme and `://`, a scheme in any case, and
-/// a domain in which low lines stand.
+/// a domain in which low lines are.
 #[inline(always)]
 pub(crate) fn other_start<'t>(
     text: &'t str,
@@ -104,10 +104,10 @@ pub(crate) fn other_start<'t>(
     if has_slash(text) {
         return reference_start(text, base, profile);
     }
-    let Some((scheme, behind)) = split_written(text) else {
+    let Some((scheme, after)) = split_written(text) else {
         return None;
     };
-    named_start(Some(scheme), scheme, &behind, profile)
+    named_start(Some(scheme), scheme, &after, profile)
 }
 
 // The same of a reference, against a base of a special scheme: `//` in place of the scheme and `://`.
@@ -118,13 +118,13 @@ fn reference_start<'t>(
 ) -> Option<PlainStart<'t>>
     ensures { IfSome result (IsPlainStart profile (as_base base.entry) (chars text.now)) }
 {
-    let Some(behind) = split_slashes(text) else {
+    let Some(after) = split_slashes(text) else {
         return None;
     };
     let Some(scheme) = special_base(base) else {
         return None;
     };
-    named_start(None, scheme, &behind, profile)
+    named_start(None, scheme, &after, profile)
 }
 
 // The start with a scheme that is written or the base's: a name of the profile follows, and a port or none.
@@ -132,29 +132,29 @@ fn reference_start<'t>(
 fn named_start<'t>(
     written: Option<&'t str>,
     scheme: &str,
-    behind: &Tail<'t>,
+    after: &Tail<'t>,
     profile: Profile,
 ) -> Option<PlainStart<'t>>
     ensures { IfSome result (λ start. (base : Option Url) (text : List ℕ)
-        → IsSpecialStart base text (chars_of_option written.entry) (chars behind.now)
+        → IsSpecialStart base text (chars_of_option written.entry) (chars after.now)
         → scheme_or base (chars_of_option written.entry) ≡ chars scheme.now
         → IsPlainStart profile base text start) }
 {
-    let Some((name, rest)) = split_name_by(behind, profile) else {
+    let Some((name, rest)) = split_name_by(after, profile) else {
         return None;
     };
-    start_behind(written, scheme, name, rest)
+    start_after(written, scheme, name, rest)
 }
 
 // The start with this name and a scheme that is written or the base's: a port follows, or none.
 #[inline(always)]
-fn start_behind<'t>(
+fn start_after<'t>(
     written: Option<&'t str>,
     scheme: &str,
     name: &'t str,
     rest: Tail<'t>,
 ) -> Option<PlainStart<'t>>
-    ensures { IfSome result (IsStartBehind written.entry (chars scheme.now) name.entry (chars rest.entry)) }
+    ensures { IfSome result (IsStartAfter written.entry (chars scheme.now) name.entry (chars rest.entry)) }
 {
     let Some((port_text, port, rest)) = split_port(rest, scheme) else {
         return None;
@@ -175,7 +175,7 @@ pub(crate) fn plain_cut<'t>(start: &PlainStart<'t>) -> Option<PlainCut<'t>>
     ensures { IfSome result (λ cut. (profile : Profile) (base : Option Url) (text : List ℕ)
         → IsPlainStart profile base text start.now → IsPlainCut profile base text cut) }
 {
-    let Some((path_text, query, fragment)) = split_behind(&start.rest) else {
+    let Some((path_text, query, fragment)) = split_after(&start.rest) else {
         return None;
     };
     Some(PlainCut {
@@ -191,10 +191,10 @@ pub(crate) fn plain_cut<'t>(start: &PlainStart<'t>) -> Option<PlainCut<'t>>
 
 /// A path, a query and a fragment of URL units, which are the whole of a text. Where there are none, that says nothing.
 #[inline(always)]
-pub(crate) fn split_behind<'t>(
+pub(crate) fn split_after<'t>(
     text: &Tail<'t>,
 ) -> Option<(&'t str, Option<&'t str>, Option<&'t str>)>
-    ensures { IfSome result (λ r. AreUnitsBehind (chars text.now) (chars_of r.0) (chars_of_option r.1)
+    ensures { IfSome result (λ r. AreUnitsAfter (chars text.now) (chars_of r.0) (chars_of_option r.1)
         (chars_of_option r.2)) }
 {
     let Some((path_text, rest)) = split_path(text) else {
@@ -208,16 +208,16 @@ pub(crate) fn split_behind<'t>(
     Some((path_text, query, fragment))
 }
 
-/// Whether a text is empty, or begins a path behind an authority, a query or a fragment.
-pub(crate) fn begins_behind(text: &str) -> bool
-    ensures { IsTrue result → begins_behind (chars text.now) ≡ true }
+/// Whether a text is empty, or begins a path after an authority, a query or a fragment.
+pub(crate) fn begins_after(text: &str) -> bool
+    ensures { IsTrue result → begins_after (chars text.now) ≡ true }
 {
-    has_behind(text.as_bytes())
+    has_after(text.as_bytes())
 }
 
 // The same of bytes.
-fn has_behind(bytes: &[u8]) -> bool
-    ensures { result ≡ begins_behind bytes.now }
+fn has_after(bytes: &[u8]) -> bool
+    ensures { result ≡ begins_after bytes.now }
 {
     match bytes {
         [first, ..] => *first == b'/' || (*first == b'?' || *first == b'#'),
@@ -255,7 +255,7 @@ fn split_path<'t>(text: &Tail<'t>) -> Option<(&'t str, Tail<'t>)>
     }
 }
 
-// Whether a text may begin the path behind a host: it is empty, or begins with one `/`.
+// Whether a text may begin the path after a host: it is empty, or begins with one `/`.
 fn begins_path(text: &str) -> bool
     ensures slashed { IsTrue result → chars text.now ≢ [] → starts_with_slash (chars text.now) ≡ true }
     ensures single { IsTrue result → starts_with_two_slashes (chars text.now) ≡ false }
@@ -266,7 +266,7 @@ fn begins_path(text: &str) -> bool
     text.is_empty() || has_slash(text)
 }
 
-// The units behind a mark, where the text begins with it, and what follows.
+// The units after a mark, where the text begins with it, and what follows.
 #[inline(always)]
 fn split_part<'t>(text: Tail<'t>, mark: u8) -> (Option<&'t str>, Tail<'t>)
     requires { mark < 128 }
@@ -275,7 +275,7 @@ fn split_part<'t>(text: Tail<'t>, mark: u8) -> (Option<&'t str>, Tail<'t>)
     if !begins_with(text.as_str().as_bytes(), mark) {
         return (None, text);
     }
-    let (_, behind) = split_prefix(&text, 1);
-    let (part, rest) = split_tail(&behind, UnitClass::Url);
+    let (_, after) = split_prefix(&text, 1);
+    let (part, rest) = split_tail(&after, UnitClass::Url);
     (Some(part), rest)
 }

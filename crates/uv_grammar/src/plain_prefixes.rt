@@ -1,4 +1,4 @@
-//! The texts before the path of a plain link, each cut behind an ASCII prefix: its scheme and `://`, or `//` alone, its
+//! The texts before the path of a plain link, each cut after an ASCII prefix: its scheme and `://`, or `//` alone, its
 //! domain and its port.
 ghost use Rattle.std.specs.Prelude.{◌≡◌, ◌≤◌, ◌+◌, ◌++◌, ◌∷◌, true, Option, IfSome, IsTrue, drop, length, take};
 ghost use Rattle.std.specs.Char.{is_ascii_digit};
@@ -13,16 +13,16 @@ ghost use Rattle.uv_grammar.specs.PlainLinks.{IsSpecialPrefix};
 ghost use Rattle.uv_grammar.specs.Slices.{chars_of, chars_of_option};
 
 use crate::authority::without_default;
+use crate::checked::Checked;
 use crate::cut::split_scheme;
-use crate::judged::Judged;
+use crate::marks::after_slash;
 use crate::marks::beginnings::two_slashes_first;
-use crate::marks::behind_slash;
-use crate::port::judge_port;
+use crate::port::check_port;
 use uv_host::{is_plain_domain, is_plain_wide_domain, name_prefix, wide_name_prefix};
 use uv_model::{Class, Profile, class_of, default_port};
 use uv_text::Tail;
 
-/// A special scheme but `file`, in lower case, and what stands behind its `://`.
+/// A special scheme but `file`, in lower case, and what is after its `://`.
 #[inline(always)]
 pub(crate) fn split_special<'t>(text: &'t str) -> Option<(&'t str, Tail<'t>)>
     ensures { IfSome result (λ r. IsSpecialCut (chars text.now) (chars_of r.0) (chars r.1)) }
@@ -30,8 +30,8 @@ pub(crate) fn split_special<'t>(text: &'t str) -> Option<(&'t str, Tail<'t>)>
     let Some(end) = special_end(text.as_bytes()) else {
         return None;
     };
-    let (scheme, behind) = split_prefix(&Tail::of(text), end);
-    let (_, rest) = split_prefix(&behind, 3);
+    let (scheme, after) = split_prefix(&Tail::of(text), end);
+    let (_, rest) = split_prefix(&after, 3);
     Some((scheme, rest))
 }
 
@@ -55,11 +55,11 @@ fn split_any_case<'t>(text: &'t str) -> Option<(&'t str, Tail<'t>)>
     let Some(scheme) = scheme else {
         return None;
     };
-    let Some(behind) = behind_two_slashes(rest) else {
+    let Some(after) = after_two_slashes(rest) else {
         return None;
     };
     match class_of(scheme) {
-        Class::SpecialNotFile => Some((scheme, Tail::of(behind))),
+        Class::SpecialNotFile => Some((scheme, Tail::of(after))),
         Class::File | Class::Other => None,
     }
 }
@@ -73,16 +73,16 @@ pub(crate) fn begins_upper(text: &str) -> bool {
 }
 
 // What follows `//` at the text's start.
-fn behind_two_slashes<'t>(text: &'t str) -> Option<&'t str>
+fn after_two_slashes<'t>(text: &'t str) -> Option<&'t str>
     ensures { IfSome result (λ r. chars text.now ≡ slash ∷ slash ∷ chars_of r) }
 {
-    match behind_slash(text) {
-        Some(rest) => behind_slash(rest),
+    match after_slash(text) {
+        Some(rest) => after_slash(rest),
         None => None,
     }
 }
 
-/// What stands behind `//` at the text's start.
+/// What is after `//` at the text's start.
 #[inline(always)]
 pub(crate) fn split_slashes<'t>(text: &'t str) -> Option<Tail<'t>>
     ensures { IfSome result (λ rest. chars text.now ≡ slash ∷ slash ∷ chars rest) }
@@ -204,14 +204,14 @@ pub(crate) fn split_port<'t>(
     if !begins_with(text.as_str().as_bytes(), b':') {
         return Some((None, None, text));
     }
-    let (_, behind) = split_prefix(&text, 1);
-    let (port_text, rest) = split_prefix(&behind, digits_prefix(behind.as_str().as_bytes()));
-    match judge_port(port_text) {
-        Judged::Valid(number) => {
+    let (_, after) = split_prefix(&text, 1);
+    let (port_text, rest) = split_prefix(&after, digits_prefix(after.as_str().as_bytes()));
+    match check_port(port_text) {
+        Checked::Valid(number) => {
             let port = without_default(default_port(scheme), number);
             Some((Some(port_text), port, rest))
         }
-        Judged::Refused(_) => None,
+        Checked::Refused(_) => None,
     }
 }
 

@@ -5,22 +5,22 @@ ghost use Rattle.std.specs.List.{list_all, prefix_len};
 ghost use Rattle.std.specs.Str.{chars};
 ghost use Rattle.uv_model.specs.Violations.Violation.{PortViolation};
 ghost use Rattle.uv_model.specs.Violations.Refusal.{IsLeast};
-ghost use Rattle.uv_grammar.specs.Judged.{IsJudged};
+ghost use Rattle.uv_grammar.specs.Checked.{IsChecked};
 ghost use Rattle.uv_grammar.specs.PartValues.{FitsPort};
 ghost use Rattle.uv_grammar.specs.Scan.{DigitViolation};
 
-use crate::judged::Judged;
+use crate::checked::Checked;
 use crate::marks::beginnings::are_digits;
 use uv_model::{Refusal, Rule};
 
-/// The text of a port, judged (URL Standard, section 4.3), with its number where it isn't empty. A refusal's place is
+/// The text of a port, checked (URL Standard, section 4.3), with its number where it isn't empty. A refusal's place is
 /// counted in code points from the port's start.
-pub(crate) fn judge_port(text: &str) -> Judged<Option<u16>>
-    ensures { IsJudged (FitsPort (chars text.now)) (PortViolation (chars text.now)) result }
+pub(crate) fn check_port(text: &str) -> Checked<Option<u16>>
+    ensures { IsChecked (FitsPort (chars text.now)) (PortViolation (chars text.now)) result }
 {
     match digit_fault(text) {
-        Some(refusal) => Judged::Refused(refusal),
-        None => judge_digits(text),
+        Some(refusal) => Checked::Refused(refusal),
+        None => check_digits(text),
     }
 }
 
@@ -39,16 +39,16 @@ pub(crate) fn digit_fault(text: &str) -> Option<Refusal>
 }
 
 // The text of a port that is digits alone.
-fn judge_digits(text: &str) -> Judged<Option<u16>>
+fn check_digits(text: &str) -> Checked<Option<u16>>
     requires { list_all is_ascii_digit (chars text.now) ≡ true }
-    ensures { IsJudged (FitsPort (chars text.now)) (PortViolation (chars text.now)) result }
+    ensures { IsChecked (FitsPort (chars text.now)) (PortViolation (chars text.now)) result }
 {
     if text.is_empty() {
-        return Judged::Valid(None);
+        return Checked::Valid(None);
     }
     match text.parse::<u16>() {
-        Ok(number) => Judged::Valid(Some(number)),
-        Err(_) => Judged::Refused(Refusal {
+        Ok(number) => Checked::Valid(Some(number)),
+        Err(_) => Checked::Refused(Refusal {
             place: 0,
             rule: Rule::PortRange,
         }),

@@ -1,18 +1,18 @@
-//! Texts that are judged code point by code point.
+//! Texts that are checked code point by code point.
 ghost use Rattle.std.specs.Prelude.{◌≡◌, ◌+◌, ◌<◌, ◌^◌, OnOk, length};
 ghost use Rattle.std.specs.Str.{chars};
-ghost use Rattle.uv_model.specs.Violations.Violation.{Behind};
+ghost use Rattle.uv_model.specs.Violations.Violation.{After};
 ghost use Rattle.uv_model.specs.Violations.Refusal.{IsLeast};
 ghost use Rattle.uv_grammar.specs.Faults.{AddsViolations};
 ghost use Rattle.uv_grammar.specs.Scan.{HostUnitViolation, ScanViolation};
 
 use crate::marks::beginnings::has_bracket;
 use crate::parser_paths::first_spaced_fault;
-use crate::places::refusal_behind;
+use crate::places::refusal_after;
 use crate::port::digit_fault;
 use std::alloc::AllocError;
 use uv_host::opaque_fault;
-use uv_model::{Refusal, Rule, behind_code_points};
+use uv_model::{Refusal, Rule, after_code_points};
 use uv_text::first_fault;
 
 /// What a text should consist of.
@@ -20,7 +20,7 @@ use uv_text::first_fault;
 pub(crate) enum Scan {
     /// URL units.
     Units,
-    /// URL units and spaces, of which none stands at the end unless a query or a fragment follows.
+    /// URL units and spaces, of which none is at the end unless a query or a fragment follows.
     SpacedUnits(bool),
     /// What an opaque host without brackets may hold.
     OpaqueHost,
@@ -28,7 +28,7 @@ pub(crate) enum Scan {
     Digits,
 }
 
-/// Each fault of a text is pushed, where so many code points stand before the text. After an error some were.
+/// Each fault of a text is pushed, where so many code points are before the text. After an error some were.
 pub(crate) fn push_scan(
     found: &mut Vec<Refusal>,
     scan: Scan,
@@ -37,14 +37,14 @@ pub(crate) fn push_scan(
 ) -> Result<(), AllocError>
     requires { start + length (chars text.now) < 2 ^ 64 }
     ensures { OnOk result
-        (AddsViolations (Behind start (ScanViolation scan (chars text.now))) found.old.items found.new.items) }
+        (AddsViolations (After start (ScanViolation scan (chars text.now))) found.old.items found.new.items) }
 {
     let mut left = text;
     let mut here = start;
     while let Some(refusal) = next_fault(scan, left) {
-        found.push(refusal_behind(here, refusal))?;
+        found.push(refusal_after(here, refusal))?;
         here += refusal.place + 1;
-        left = behind_code_points(left, refusal.place + 1);
+        left = after_code_points(left, refusal.place + 1);
     }
     Ok(())
 }

@@ -1,4 +1,4 @@
-//! Links of a special scheme with any host, of which all but the host is judged at one pass.
+//! Links of a special scheme with any host, of which all but the host is checked at one pass.
 ghost use Rattle.std.specs.Prelude.{◌≡◌, Option, IfSome, Some, false, true};
 ghost use Rattle.std.specs.Str.{chars};
 ghost use Rattle.uv_model.specs.declared.profile.Profile.{Profile};
@@ -8,12 +8,12 @@ ghost use Rattle.uv_model.specs.Records.Url.{Url};
 ghost use Rattle.uv_model.specs.Setting.{Setting};
 ghost use Rattle.uv_grammar.specs.PartValues.{FitsHostPart};
 ghost use Rattle.uv_grammar.specs.Slices.{chars_of};
-ghost use Rattle.uv_grammar.specs.SpecialLinks.{IsAddressOrBare, IsHostTextCut, IsJudgedButHost};
+ghost use Rattle.uv_grammar.specs.SpecialLinks.{IsAddressOrBare, IsCheckedButHost, IsHostTextCut};
 
 use crate::cut::Cut;
 use crate::marks::beginnings::has_bracket;
 use crate::marks::search::first_mark;
-use crate::plain_links::{begins_behind, split_behind};
+use crate::plain_links::{begins_after, split_after};
 use crate::plain_prefixes::{has_prefix, split_port, split_special};
 use uv_host::{bracketed_ipv6, ipv4};
 use uv_model::Host;
@@ -31,12 +31,12 @@ pub(crate) fn begins_with_http_or_file(text: &str) -> bool {
 #[inline(always)]
 pub(crate) fn special_cut<'t>(text: &'t str) -> Option<(Cut<'t>, Option<u16>)>
     ensures { IfSome result (λ r. IfSome r.0.host_text IsAddressOrBare → (profile : Profile) (base : Option Url)
-        → IsJudgedButHost profile base (chars text.now) r.0 r.1) }
+        → IsCheckedButHost profile base (chars text.now) r.0 r.1) }
 {
-    let Some((scheme, behind)) = split_special(text) else {
+    let Some((scheme, after)) = split_special(text) else {
         return None;
     };
-    let Some((host_text, rest)) = split_host(&behind) else {
+    let Some((host_text, rest)) = split_host(&after) else {
         return None;
     };
     if !may_end_host(rest.as_str()) {
@@ -45,7 +45,7 @@ pub(crate) fn special_cut<'t>(text: &'t str) -> Option<(Cut<'t>, Option<u16>)>
     let Some((port_text, port, rest)) = split_port(rest, scheme) else {
         return None;
     };
-    let Some((path_text, query, fragment)) = split_behind(&rest) else {
+    let Some((path_text, query, fragment)) = split_after(&rest) else {
         return None;
     };
     let cut = Cut {
@@ -64,7 +64,7 @@ pub(crate) fn special_cut<'t>(text: &'t str) -> Option<(Cut<'t>, Option<u16>)>
 fn may_end_host(text: &str) -> bool {
     match text.as_bytes() {
         [first, next, ..] if *first == b':' => next.is_ascii_digit(),
-        _ => begins_behind(text),
+        _ => begins_after(text),
     }
 }
 
@@ -113,7 +113,7 @@ fn split_host<'t>(text: &Tail<'t>) -> Option<(&'t str, Tail<'t>)>
     Some(split_tail(text, UnitClass::OpaqueHost))
 }
 
-// The same of a text that begins with `[`, up to the next `]`. No mark is searched for in the host, since none stands
+// The same of a text that begins with `[`, up to the next `]`. No mark is searched for in the host, since none is
 // in an address.
 fn split_bracketed<'t>(text: &Tail<'t>) -> Option<(&'t str, Tail<'t>)>
     requires { starts_with_bracket (chars text.now) ≡ true }

@@ -11,11 +11,11 @@ ghost use Rattle.uv_grammar.specs.StartRules.{base_fault};
 use crate::bases::Base;
 use crate::cut::Cut;
 use crate::marks::beginnings::{has_drive, has_number_sign, has_two_slashes};
-use crate::places::{path_place, refusal_behind, slashes_place};
+use crate::places::{path_place, refusal_after, slashes_place};
 use crate::setting::Setting;
 use uv_model::{Class, Profile, Refusal, Rule};
 
-/// The least refusal under which no host, port and start of a path is judged: a text without a scheme against no base
+/// The least refusal under which no host, port and start of a path is checked: a text without a scheme against no base
 /// or an opaque one, and a special scheme without `//`.
 pub(crate) fn start_fault(text: &str, cut: &Cut, setting: &Setting) -> Option<Refusal>
     requires { IsCountable cut.now }
@@ -66,7 +66,7 @@ pub(crate) fn path_start_fault(cut: &Cut, setting: &Setting) -> Option<Refusal>
     ensures { IsLeast (OfPathStart setting.now cut.now) result }
 {
     match first_segment_fault(cut, setting) {
-        Some(refusal) => Some(refusal_behind(path_place(cut), refusal)),
+        Some(refusal) => Some(refusal_after(path_place(cut), refusal)),
         None => None,
     }
 }

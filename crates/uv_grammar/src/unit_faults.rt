@@ -3,21 +3,21 @@ ghost use Rattle.std.specs.Prelude.{◌+◌, ◌<◌, ◌^◌, length};
 ghost use Rattle.std.specs.Str.{chars};
 ghost use Rattle.uv_model.specs.Violations.Refusal.{IsLeast};
 ghost use Rattle.uv_model.specs.Violations.Violation.{PathContentViolation};
-ghost use Rattle.uv_grammar.specs.PartViolations.{BehindAuthority, IsCountable, OfFragment, OfPath, OfQuery};
+ghost use Rattle.uv_grammar.specs.PartViolations.{AfterAuthority, IsCountable, OfFragment, OfPath, OfQuery};
 
 use crate::cut::Cut;
 use crate::parser_paths::{first_spaced_fault, is_followed, takes_spaces};
-use crate::places::{fragment_place, path_place, query_place, refusal_behind};
+use crate::places::{fragment_place, path_place, query_place, refusal_after};
 use crate::setting::Setting;
 use crate::start_rules::path_start_fault;
 use uv_model::Refusal;
 use uv_text::first_fault;
 
-/// The least refusal of what stands behind the authority: the path with its start, the query and the fragment.
+/// The least refusal of what is after the authority: the path with its start, the query and the fragment.
 #[inline(always)]
-pub(crate) fn fault_behind_authority(cut: &Cut, setting: &Setting) -> Option<Refusal>
+pub(crate) fn fault_after_authority(cut: &Cut, setting: &Setting) -> Option<Refusal>
     requires { IsCountable cut.now }
-    ensures { IsLeast (BehindAuthority setting.now cut.now) result }
+    ensures { IsLeast (AfterAuthority setting.now cut.now) result }
 {
     if let Some(refusal) = path_start_fault(cut, setting) {
         return Some(refusal);
@@ -38,7 +38,7 @@ fn path_fault(cut: &Cut, setting: &Setting) -> Option<Refusal>
     ensures { IsLeast (OfPath setting.now cut.now) result }
 {
     match path_text_fault(cut, setting) {
-        Some(refusal) => Some(refusal_behind(path_place(cut), refusal)),
+        Some(refusal) => Some(refusal_after(path_place(cut), refusal)),
         None => None,
     }
 }
@@ -63,7 +63,7 @@ fn query_fault(cut: &Cut) -> Option<Refusal>
 {
     match cut.query {
         Some(query) => match first_fault(query) {
-            Some(refusal) => Some(refusal_behind(query_place(cut), refusal)),
+            Some(refusal) => Some(refusal_after(query_place(cut), refusal)),
             None => None,
         },
         None => None,
@@ -78,7 +78,7 @@ fn fragment_fault(cut: &Cut) -> Option<Refusal>
 {
     match cut.fragment {
         Some(fragment) => match first_fault(fragment) {
-            Some(refusal) => Some(refusal_behind(fragment_place(cut), refusal)),
+            Some(refusal) => Some(refusal_after(fragment_place(cut), refusal)),
             None => None,
         },
         None => None,

@@ -25,9 +25,9 @@ enclosed_ascii inner ascii =
 -- the brackets are two bytes
 pub enclosed_length : (text inner : List ℕ) → text ≡ enclosed inner → length text ≡ length inner + 2
 enclosed_length text inner same =
-    let behind : length (inner ++ right_bracket ∷ []) ≡ length inner + 1 =
+    let after : length (inner ++ right_bracket ∷ []) ≡ length inner + 1 =
     length-append inner (right_bracket ∷ []) in
-    ap length same ∙ omega (arith, behind)
+    ap length same ∙ omega (arith, after)
 
 -- the last byte is a bracket
 pub enclosed_last : (text inner : List ℕ) → text ≡ enclosed inner → get_or text (length text - 1) 0 ≡ right_bracket
@@ -40,12 +40,12 @@ enclosed_last text inner same =
 pub bracketed_parts : (text : List ℕ) → 2 ≤ length text → get_or text 0 0 ≡ left_bracket
     → get_or text (length text - 1) 0 ≡ right_bracket → text ≡ enclosed (take (length text - 1 - 1) (drop 1 text))
 bracketed_parts [] long first last = elim long [ ]
-bracketed_parts (b ∷ behind) long first last =
-    let end : length (b ∷ behind) - 1 ≡ suc (length behind - 1) = omega (arith, long) in
-    let before_end : length (b ∷ behind) - 1 - 1 ≡ length behind - 1 = omega arith in
-    let closed : get_or behind (length behind - 1) 0 ≡ right_bracket =
-    ap (λ n. get_or (b ∷ behind) n 0) (sym end) ∙ last in
-    rw (before_end, first) (rw closed at (ap (λ l. left_bracket ∷ l) (end_parts behind (omega (arith, long)))))
+bracketed_parts (b ∷ after) long first last =
+    let end : length (b ∷ after) - 1 ≡ suc (length after - 1) = omega (arith, long) in
+    let before_end : length (b ∷ after) - 1 - 1 ≡ length after - 1 = omega arith in
+    let closed : get_or after (length after - 1) 0 ≡ right_bracket =
+    ap (λ n. get_or (b ∷ after) n 0) (sym end) ∙ last in
+    rw (before_end, first) (rw closed at (ap (λ l. left_bracket ∷ l) (end_parts after (omega (arith, long)))))
 
 -- the bytes of an IPv6 text in brackets are its code points
 pub bracketed_bytes : (text inner pieces : List ℕ) → IsUtf8 text → chars text ≡ enclosed inner → IsIpv6 inner pieces
@@ -70,8 +70,8 @@ reads_enclosed text inner (Some pieces) utf8 spelled is =
     (inner, ap chars spelled ∙ whole, is)
 reads_enclosed text inner None utf8 spelled none = λ pieces (own, shown, is).
     let same : enclosed inner ≡ enclosed own = sym spelled ∙ bracketed_bytes text own pieces utf8 shown is in
-    let behind : inner ++ right_bracket ∷ [] ≡ own ++ right_bracket ∷ [] = cc in
-    let between : inner ≡ own = append_cancel_right inner own (right_bracket ∷ []) behind in
+    let after : inner ++ right_bracket ∷ [] ≡ own ++ right_bracket ∷ [] = cc in
+    let between : inner ≡ own = append_cancel_right inner own (right_bracket ∷ []) after in
     none pieces (rw between is)
 
 -- a text that isn't enclosed in brackets denotes nothing

@@ -66,7 +66,7 @@ abbrev AreChains : Bool → ℕ → List (List ℕ) → Type 0
 AreChains low n [] = Unit {0}
 AreChains low n (label ∷ rest) = (is_chain low false label ≡ true) × (length label ≤ n) × AreChains low n rest
 
--- and the first goes on from what stands before
+-- and the first goes on from what is before
 abbrev GoOn : Bool → Bool → ℕ → List (List ℕ) → Type 0
 GoOn low signed n [] = ⊥
 GoOn low signed n (label ∷ rest) = (is_chain low signed label ≡ true) × (length label ≤ n) × AreChains low n rest
@@ -247,7 +247,7 @@ full_stop_form : (low : Bool) → is_form_code_point (profile_of low) full_stop 
 full_stop_form true = refl
 full_stop_form false = refl
 
--- a name with a full stop behind it or without one holds a form's code points alone
+-- a name with a full stop after it or without one holds a form's code points alone
 pub rooted_form_of : (low : Bool) (name : List ℕ) → is_rooted_chain_of low name ≡ true
     → list_all (is_form_code_point (profile_of low)) name ≡ true
 rooted_form_of low name h = elim (cases_Bool (is_full_stop (slice_index name (length name - 1)))) [
@@ -259,7 +259,7 @@ rooted_form_of low name h = elim (cases_Bool (is_full_stop (slice_index name (le
   | inr other ↦ chain_form low false name (rw other at h)
 ]
 
--- and its hyphens stand where the strict settings take them
+-- and its hyphens are where the strict settings take them
 rooted_placed : (low : Bool) (name : List ℕ) → is_rooted_chain_of low name ≡ true
     → list_all (passes_hyphens Check) (labels_of name) ≡ true
 rooted_placed low name h = elim (cases_Bool (is_full_stop (slice_index name (length name - 1)))) [

@@ -101,9 +101,9 @@ inserted_stands (suc turns) n i bias output (c ∷ input) decoded h is =
 -- the parts have no more code points than the whole
 parts_fewer : (input : List ℕ) → length (basic_part input) + length (extended_part input) ≤ length input
 parts_fewer input =
-    let after = suffix_len (λ c. not (c == 0x2D)) input in
-    let before = length-take (length input - after - 1) input in
-    let behind = length-drop (length input - after) input in
+    let remaining = suffix_len (λ c. not (c == 0x2D)) input in
+    let before = length-take (length input - remaining - 1) input in
+    let after = length-drop (length input - remaining) input in
     elim (cases_Bool (length (basic_part input) == 0)) [
       | inl none ↦ rw none (omega (arith, eqb-true _ 0 none))
       | inr some ↦ rw some (omega arith)

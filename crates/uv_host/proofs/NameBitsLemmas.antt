@@ -113,10 +113,10 @@ module _ (low signed : Bool) (xs : List ℕ) (few : length xs ≤ 32) where
 
   joined-small : joined < 2 ^ 32
   joined-small =
-      let behind = bit_or (signs * 2 ^ 1 % 2 ^ 64) (cond signed 1 0) in
+      let after = bit_or (signs * 2 ^ 1 % 2 ^ 64) (cond signed 1 0) in
       let small = mask-small (is_in_rows JOINT_ROWS) xs few in
-      let less = and_le_l joints behind in
-      or_lt 32 signs (bit_and joints behind) (mask-small (is_sign low) xs few) (omega arith)
+      let less = and_le_l joints after in
+      or_lt 32 signs (bit_and joints after) (mask-small (is_sign low) xs few) (omega arith)
 
   -- a bit of them is that of a byte that goes on
   goes : (k : ℕ) → bit_at joined k ≡ 1

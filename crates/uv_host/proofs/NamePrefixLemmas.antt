@@ -32,20 +32,20 @@ chain_prefix low signed (c ∷ rest) (suc n) goes =
     last zero = refl
     last (suc n) = refl
 
--- more that go on behind them
+-- more that go on after them
 pub goes_further : (low : Bool) (text : List ℕ) (end ahead : ℕ) → IsJoined low false text end
     → IsJoined low (signed_before low false text end) (drop end text) ahead → IsJoined low false text (end + ahead)
-goes_further low text end ahead prefix behind =
+goes_further low text end ahead prefix after =
     let long = length-drop end text in
     let whole = prefix.inside in
-    let more = behind.inside in
+    let more = after.inside in
     record {
       inside = omega arith;
       each = λ k below. elim (cases_lt k end) [
         | inl here ↦ prefix.each k here
         | inr later ↦ (
             let at : end + (k - end) ≡ k = omega arith in
-            let goes = behind.each (k - end) (omega arith) in
+            let goes = after.each (k - end) (omega arith) in
             subst (λ j. goes_on low (signed_before low false text j) (slice_index text j) ≡ true) at
             (moved (k - end) goes)
             )
@@ -84,7 +84,7 @@ name_goes_on low text (suc n) goes some other =
           let name : is_chain low false (take (suc n) text) ≡ true = chain_prefix low false text (suc n) goes ∙ sign in
           rw (end_other low false (take (suc n) text) full_stop (no_stop_sign low) refl name) name
       | inr mark ↦
-          let both = stop_behind (signed_before low false text n) last mark on no_hyphen in
+          let both = stop_after (signed_before low false text n) last mark on no_hyphen in
           let inside = goes.inside in
           let prefix : IsJoined low false text n = record {
             inside = omega arith;
@@ -97,10 +97,10 @@ name_goes_on low text (suc n) goes some other =
           ∙ (chain_prefix low false text n prefix ∙ both.1)
     ]
   where
-    stop_behind : (signed : Bool) (c : ℕ) → is_sign low c ≡ false → goes_on low signed c ≡ true → c ≢ hyphen
+    stop_after : (signed : Bool) (c : ℕ) → is_sign low c ≡ false → goes_on low signed c ≡ true → c ≢ hyphen
         → (c ≡ full_stop) × (signed ≡ true)
-    stop_behind true c none on other =
+    stop_after true c none on other =
         let no : (c == hyphen) ≡ false = ne_eqb c hyphen other in
         let stop : (c == full_stop) ≡ true = rw (none, no) at on in
         (eqb-true c full_stop stop, refl)
-    stop_behind false c none on other = absurd (false≢true (rw none at on))
+    stop_after false c none on other = absurd (false≢true (rw none at on))

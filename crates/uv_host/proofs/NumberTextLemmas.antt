@@ -117,7 +117,7 @@ no_stop_decimal n small =
     no_stop_from (decimal n) (λ k within same.
     let digit = digit_at (decimal n) k numeral.1 within in omega (arith, digit.0, same))
 
--- what stands on both sides of the first full stop
+-- what is on both sides of the first full stop
 split_unique : (xs ys r s : List ℕ) → HasNoStop xs → HasNoStop ys → xs ++ full_stop ∷ r ≡ ys ++ full_stop ∷ s
     → (xs ≡ ys) × (r ≡ s)
 split_unique [] [] r s none none' same = (refl, cc)
@@ -127,10 +127,10 @@ split_unique (x ∷ xs) [] r s none none' same =
     absurd (All-head (λ c. c ≢ full_stop) x xs none (let e : x ≡ full_stop = cc in e))
 split_unique (x ∷ xs) (y ∷ ys) r s none none' same =
     let first : x ≡ y = cc in
-    let behind : xs ++ full_stop ∷ r ≡ ys ++ full_stop ∷ s = cc in
+    let after : xs ++ full_stop ∷ r ≡ ys ++ full_stop ∷ s = cc in
     let (others, rest) =
     split_unique xs ys r s (All-tail (λ c. c ≢ full_stop) x xs none) (All-tail (λ c. c ≢ full_stop) y ys none')
-    behind in
+    after in
     (cc, rest)
 
 -- a text with a full stop isn't one without
@@ -170,10 +170,10 @@ next_weight : (more : ℕ) → weight_of (suc more) / 256 ≡ weight_of more
 next_weight more = omega arith
 
 -- a number before a full stop and others
-pub behind_to : (more : ℕ) (text first rest : List ℕ) (n value : ℕ) → text ≡ first ++ full_stop ∷ rest
+pub after_to : (more : ℕ) (text first rest : List ℕ) (n value : ℕ) → text ≡ first ++ full_stop ∷ rest
     → IsByteText first n → IsWeighedText more rest value
     → IsWeighedText (suc more) text (n * weight_of (suc more) + value)
-behind_to more text first rest n value split (small, written) is =
+after_to more text first rest n value split (small, written) is =
     by_numbers is.numbers is.some is.few is.fit is.spelled is.valued
   where
     by_numbers : (numbers : List ℕ) → 0 < length numbers → length numbers ≤ suc more → AreBytes numbers
@@ -190,18 +190,18 @@ behind_to more text first rest n value split (small, written) is =
           (valued ∙ ap (λ w. value_from w (next ∷ others)) (sym (next_weight more)));
     }
 
--- a text of numbers with a full stop is a number before the first one, and others behind it
+-- a text of numbers with a full stop is a number before the first one, and others after it
 pub record HasNumberBefore (more : ℕ) (first rest : List ℕ) : Type 0 where
   pub fewer : ℕ
   pub is_more : more ≡ suc fewer
   pub number : ℕ
   pub before : IsByteText first number
   pub value : ℕ
-  pub behind : IsWeighedText fewer rest value
+  pub after : IsWeighedText fewer rest value
 
-pub behind_from : (more : ℕ) (text first rest : List ℕ) (value : ℕ) → text ≡ first ++ full_stop ∷ rest
+pub after_from : (more : ℕ) (text first rest : List ℕ) (value : ℕ) → text ≡ first ++ full_stop ∷ rest
     → HasNoStop first → IsWeighedText more text value → HasNumberBefore more first rest
-behind_from more text first rest value split none is =
+after_from more text first rest value split none is =
     by_numbers more is.numbers is.some is.few is.fit is.spelled
   where
     by_numbers : (more : ℕ) (numbers : List ℕ) → 0 < length numbers → length numbers ≤ suc more → AreBytes numbers
@@ -211,7 +211,7 @@ behind_from more text first rest value split none is =
         absurd (stop_within first rest (subst HasNoStop (sym spelled ∙ split) (no_stop_decimal n fit.0)))
     by_numbers zero (n ∷ next ∷ others) some few fit spelled = absurd (omega (arith, few))
     by_numbers (suc fewer) (n ∷ next ∷ others) some few fit spelled =
-        let (before, behind) =
+        let (before, after) =
         split_unique first (decimal n) rest (join_with_byte full_stop (map decimal (next ∷ others))) none
         (no_stop_decimal n fit.0) (sym split ∙ spelled) in
         record {
@@ -220,12 +220,12 @@ behind_from more text first rest value split none is =
           number = n;
           before = (fit.0, before);
           value = value_from (weight_of fewer) (next ∷ others);
-          behind = record {
+          after = record {
             numbers = next ∷ others;
             some = omega arith;
             few = omega (arith, few);
             fit = fit.1;
-            spelled = behind;
+            spelled = after;
             valued = refl;
           };
         }
@@ -243,12 +243,12 @@ value_small more [] few fit = let w = some_weight more in omega (arith, w)
 value_small more (n ∷ []) few fit = let w = some_weight more in omega (arith, w, fit.0)
 value_small zero (n ∷ next ∷ others) few fit = absurd (omega (arith, few))
 value_small (suc more) (n ∷ next ∷ others) few fit =
-    let behind = value_small more (next ∷ others) (omega (arith, few)) fit.1 in
+    let after = value_small more (next ∷ others) (omega (arith, few)) fit.1 in
     let same : value_from (weight_of (suc more) / 256) (next ∷ others) ≡ value_from (weight_of more) (next ∷ others)
     = ap (λ w. value_from w (next ∷ others)) (next_weight more) in
     let most : n * weight_of (suc more) ≤ 255 * weight_of (suc more)
     = mul-le-mul_right (weight_of (suc more)) (omega (arith, fit.0)) in
-    omega (arith, behind, same, most)
+    omega (arith, after, same, most)
 
 -- a count that isn't 0 is one more than another
 pub fewer_than : (more : ℕ) → more ≢ 0 → (fewer : ℕ) × (more ≡ suc fewer)

@@ -42,7 +42,7 @@ Unbracketed text place HostCodePoint = HasForeignHostCodePoint text place
 Unbracketed text place Percent = HasBarePercent text place
 Unbracketed text place _ = ⊥
 
--- a violation stands one place later behind one more code point
+-- a violation is one place later after one more code point
 later : (c : ℕ) (rest : List ℕ) (place : ℕ) (rule : Rule) → Unbracketed rest place rule
     → Unbracketed (c ∷ rest) (suc place) rule
 later c rest place HostCodePoint h =
@@ -122,11 +122,11 @@ stands c rest rule fault =
 
 -- ---- the whole text
 
--- the violations of a text before which so many code points stand
+-- the violations of a text before which so many code points are
 abbrev From : ℕ → List ℕ → ℕ → Rule → Type 0
 From start text place rule = (inner : ℕ) × (place ≡ start + inner) × Unbracketed text inner rule
 
--- the least violation behind one more code point, by that code point's fault
+-- the least violation after one more code point, by that code point's fault
 step : (start c : ℕ) (rest : List ℕ) (fault : Option Rule) → host_fault c rest ≡ fault
     → IsLeast (From (start + 1) rest) (first_host_fault (start + 1) rest)
     → IsLeast (From start (c ∷ rest)) (fault_at_or start fault (first_host_fault (start + 1) rest))
@@ -230,8 +230,8 @@ silent_units start [] none = (refl, refl)
 silent_units start (c ∷ rest) none =
     let parts = none_parts start (host_fault c rest) (first_host_fault (start + 1) rest) none in
     let here = allowed_here c rest parts.0 in
-    let behind = silent_units (start + 1) rest parts.1 in
-    (and_from _ _ here.0 behind.0, and_from _ _ here.1 behind.1)
+    let after = silent_units (start + 1) rest parts.1 in
+    (and_from _ _ here.0 after.0, and_from _ _ here.1 after.1)
 
 -- and such a text has no fault
 units_silent : (start : ℕ) (text : List ℕ) → is_faultless text ≡ true → permits text ≡ true

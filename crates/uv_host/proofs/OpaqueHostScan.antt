@@ -1,4 +1,4 @@
--- The first fault of an opaque host is the code point behind the longest prefix of units that it may hold.
+-- The first fault of an opaque host is the code point after the longest prefix of units that it may hold.
 use Rattle.std.proofs.Common.{◌≡◌, ℕ, suc, ◌+◌, ◌≤◌, ◌==◌, Bool, true, false, not, ◌&&◌, ◌||◌, List, [], ◌∷◌, drop}
 use Rattle.std.proofs.Common.{length, Option, Some, None, refl, sym, ap, ◌∙◌, inl, inr, arith, lt-ltb, le-ltb, ne_eqb}
 use Rattle.std.specs.Prelude.{if◌then◌else◌, nat_le}
@@ -68,24 +68,24 @@ abbrev fault_at : ℕ → List ℕ → Option Refusal
 fault_at place [] = None
 fault_at place (c ∷ rest) = Some (record { place = place; rule = host_rule c })
 
--- the first fault is the code point behind the units, at the place that counts them
-fault_behind : (held : ℕ → Bool) → HoldsOpaqueHostBytes held → (place : ℕ) (text : List ℕ)
+-- the first fault is the code point after the units, at the place that counts them
+fault_after : (held : ℕ → Bool) → HoldsOpaqueHostBytes held → (place : ℕ) (text : List ℕ)
     → first_host_fault place text ≡ fault_at (place + unit_length held text) (drop (unit_length held text) text)
-fault_behind held holds place [] = refl
-fault_behind held holds place (c ∷ rest) =
+fault_after held holds place [] = refl
+fault_after held holds place (c ∷ rest) =
     elim (cases_Bool (begins_unit held c rest)) [
       | inl begins ↦
           let none : host_fault c rest ≡ None = begins_host held holds c rest ∙ rw begins refl in
           let next : place + 1 + unit_length held rest ≡ place + suc (unit_length held rest) = omega arith in
-          let more = fault_behind held holds (place + 1) rest in
-          let behind = drop (unit_length held rest) rest in
-          rw (none, begins) (more ∙ ap (λ p. fault_at p behind) next)
+          let more = fault_after held holds (place + 1) rest in
+          let after = drop (unit_length held rest) rest in
+          rw (none, begins) (more ∙ ap (λ p. fault_at p after) next)
       | inr stops ↦
           let some : host_fault c rest ≡ Some (host_rule c) = begins_host held holds c rest ∙ rw stops refl in
           rw (some, stops) (ap (λ p. Some (record { place = p; rule = host_rule c })) (omega arith))
     ]
 
--- a code point behind the units
+-- a code point after the units
 pub fault_found : (held : ℕ → Bool) (text prefix rest : List ℕ) (c : ℕ) (more : List ℕ) (place : ℕ) (rule : Rule)
     → HoldsOpaqueHostBytes held → IsUnitSplit held text prefix rest → rest ≡ c ∷ more → place ≡ length prefix
     → rule ≡ host_rule c → Some (record { place = place; rule = rule }) ≡ first_host_fault 0 text
@@ -93,10 +93,10 @@ fault_found held text prefix rest c more place rule holds cut first counted name
     let n = unit_length held text in
     let here : place ≡ 0 + n =
     counted ∙ ap length cut.is_prefix ∙ length-take-le n text (unit_length-le held text) ∙ omega arith in
-    rw (here, named) (ap (fault_at (0 + n)) (sym first ∙ cut.is_rest)) ∙ sym (fault_behind held holds 0 text)
+    rw (here, named) (ap (fault_at (0 + n)) (sym first ∙ cut.is_rest)) ∙ sym (fault_after held holds 0 text)
 
--- none behind them
+-- none after them
 pub no_fault : (held : ℕ → Bool) (text prefix rest : List ℕ) → HoldsOpaqueHostBytes held
     → IsUnitSplit held text prefix rest → rest ≡ [] → None ≡ first_host_fault 0 text
 no_fault held text prefix rest holds cut none =
-    ap (fault_at (0 + unit_length held text)) (sym none ∙ cut.is_rest) ∙ sym (fault_behind held holds 0 text)
+    ap (fault_at (0 + unit_length held text)) (sym none ∙ cut.is_rest) ∙ sym (fault_after held holds 0 text)

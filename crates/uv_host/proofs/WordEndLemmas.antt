@@ -1,4 +1,4 @@
--- A name whose last label ends with a letter that stands in no number doesn't end in a number.
+-- A name whose last label ends with a letter that is in no number doesn't end in a number.
 use Rattle.std.proofs.Common.{◌≡◌, ℕ, suc, ◌+◌, ◌-◌, ◌≤◌, Bool, true, false, not, ◌&&◌, ◌||◌, nat_eq, nat_lt, List, []}
 use Rattle.std.proofs.Common.{◌∷◌, ◌++◌, length, take, drop, get_or, get_or-take, refl, sym, ap, ◌∙◌, inl, inr, arith}
 use Rattle.std.proofs.Common.{take_all, length-append}
@@ -50,7 +50,7 @@ no_number prefix c word =
         rw (all_but_last is_ascii_hexdigit prefix c no_hex)
         (and_false _)
 
--- what stands behind the last full stop ends as the text does
+-- what is after the last full stop ends as the text does
 last_ends : (prefix : List ℕ) (c : ℕ) → is_full_stop c ≡ false
     → (label : List ℕ) × (after_last is_full_stop (prefix ++ c ∷ []) ≡ label ++ c ∷ [])
 last_ends prefix c other =

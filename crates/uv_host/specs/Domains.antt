@@ -37,7 +37,7 @@ abbrev pub is_lower_name : Profile → List ℕ → Bool
 is_lower_name profile name =
     list_all (is_form_code_point profile) name && list_all (passes_hyphens Allow) (labels_of name)
 
--- the profile takes the hyphens of a name as they stand: the strict settings of ToASCII do by the standard profile
+-- the profile takes the hyphens of a name as they are: the strict settings of ToASCII do by the standard profile
 abbrev pub takes_hyphens : Profile → List ℕ → Bool
 takes_hyphens Standard name = list_all (passes_hyphens Check) (labels_of name)
 takes_hyphens _ name = true

@@ -1,4 +1,4 @@
--- The text of an opaque host, judged code point by code point (URL Standard, sections 3.2, 3.4 and 4.3).
+-- The text of an opaque host, checked code point by code point (URL Standard, sections 3.2, 3.4 and 4.3).
 use Rattle.std.specs.Prelude.{◌≡◌, ℕ, ◌+◌, ◌⊎◌, not, ◌||◌, ◌==◌, List, [], ◌∷◌, Option, Some, None, if◌then◌else◌}
 use Rattle.uv_model.specs.declared.rule.Rule.{Rule}
 use Rattle.uv_model.specs.declared.rule.Rule.TheVariants.{HostCodePoint, Percent}
@@ -23,7 +23,7 @@ abbrev pub fault_at_or : ℕ → Option Rule → Option Refusal → Option Refus
 fault_at_or place None later = later
 fault_at_or place (Some rule) later = Some (record { place = place; rule = rule })
 
--- the first fault of the text, where so many code points stand before it
+-- the first fault of the text, where so many code points are before it
 abbrev pub first_host_fault : ℕ → List ℕ → Option Refusal
 first_host_fault place [] = None
 first_host_fault place (c ∷ rest) = fault_at_or place (host_fault c rest) (first_host_fault (place + 1) rest)

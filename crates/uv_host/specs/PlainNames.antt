@@ -13,11 +13,11 @@ is_sign low c = is_ascii_lowercase c || (is_ascii_digit c || (low && (c == under
 abbrev pub is_joint : ℕ → Bool
 is_joint c = (c == hyphen) || (c == full_stop)
 
--- a letter or a digit, or a hyphen or a full stop where one stands before it
+-- a letter or a digit, or a hyphen or a full stop where one is before it
 abbrev pub goes_on : Bool → Bool → ℕ → Bool
 goes_on low signed c = is_sign low c || (signed && is_joint c)
 
--- a letter or a digit stands before the code point of so many, as `signed` says before the first
+-- a letter or a digit is before the code point of so many, as `signed` says before the first
 abbrev pub signed_before : Bool → Bool → List ℕ → ℕ → Bool
 signed_before low signed text zero = signed
 signed_before low signed text (suc k) = is_sign low (slice_index text k)
@@ -27,7 +27,7 @@ pub record IsJoined (low signed : Bool) (text : List ℕ) (n : ℕ) : Type 0 whe
   pub inside : n ≤ length text
   pub each : (k : ℕ) → k < n → goes_on low (signed_before low signed text k) (slice_index text k) ≡ true
 
--- letters and digits, with single hyphens and full stops between them, where `signed` says whether one stands before
+-- letters and digits, with single hyphens and full stops between them, where `signed` says whether one is before
 abbrev pub is_chain : Bool → Bool → List ℕ → Bool
 is_chain low signed [] = signed
 is_chain low signed (c ∷ rest) = goes_on low signed c && is_chain low (is_sign low c) rest

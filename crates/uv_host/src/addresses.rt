@@ -19,7 +19,7 @@ pub fn ipv4(text: &str) -> Option<u32>
     }
 }
 
-/// The eight pieces of an IPv6 text, or `None` where the text is no IPv6 text (URL Standard, section 3.4). It stands
+/// The eight pieces of an IPv6 text, or `None` where the text is no IPv6 text (URL Standard, section 3.4). It is
 /// without brackets.
 pub fn ipv6(text: &str) -> Option<[u16; 8]>
     ensures { Reads IsIpv6 (chars text.now) result }

@@ -47,7 +47,7 @@ pub fn domain(alloc: Global, text: &str, profile: Profile) -> Result<DomainAnswe
         return Ok(DomainAnswer::Not);
     }
     match lower_form(alloc, text, &name, profile)? {
-        Some(form) => Ok(judge_form(form, profile)),
+        Some(form) => Ok(check_form(form, profile)),
         None => mapped_domain(alloc, text, profile),
     }
 }
@@ -125,7 +125,7 @@ fn is_own_form(name: &Name<'_>, profile: Profile) -> bool
 }
 
 /// The answer on every text whose form this is but for its lengths.
-fn judge_form(form: String, profile: Profile) -> DomainAnswer
+fn check_form(form: String, profile: Profile) -> DomainAnswer
     requires { IsAscii (string_bytes form) }
     ensures { (text : List ℕ) → HasFormByLengths profile text (string_bytes form) → IsAnswer profile text result }
 {
@@ -160,13 +160,13 @@ pub fn plain_answer(name: &str, profile: Profile) -> Option<PlainAnswer>
 {
     let known = Name::of(name.as_bytes());
     if known.is_simple() {
-        return Some(judge_own(name, profile));
+        return Some(check_own(name, profile));
     }
     if !is_lower_name(&known, profile) {
         return None;
     }
     if takes_hyphens(&known, profile) {
-        Some(judge_own(name, profile))
+        Some(check_own(name, profile))
     } else {
         Some(PlainAnswer::Not)
     }
@@ -179,7 +179,7 @@ fn is_lower_name(name: &Name<'_>, profile: Profile) -> bool
     name.is_form(profile) && name.is_without_punycode()
 }
 
-/// Whether the profile takes the hyphens of a name as they stand, where no label begins with `xn--`.
+/// Whether the profile takes the hyphens of a name as they are, where no label begins with `xn--`.
 fn takes_hyphens(name: &Name<'_>, profile: Profile) -> bool
     ensures { result ≡ takes_hyphens profile name.now }
 {
@@ -190,7 +190,7 @@ fn takes_hyphens(name: &Name<'_>, profile: Profile) -> bool
 }
 
 /// The answer on a name that is its own form but for its lengths.
-fn judge_own(name: &str, profile: Profile) -> PlainAnswer
+fn check_own(name: &str, profile: Profile) -> PlainAnswer
     requires { HasFormByLengths profile (chars name.now) name.now }
     ensures { IsPlainAnswer profile (chars name.now) name.now result }
 {

@@ -87,7 +87,7 @@ fn unicode_name<'a>(
     }
 }
 
-/// Whether a name in Unicode, or a label of it, has more code points than that of any domain. A full stop may stand at
+/// Whether a name in Unicode, or a label of it, has more code points than that of any domain. A full stop may be at
 /// its end.
 fn is_long_name(name: &str) -> bool
     ensures { result ≡ is_long_name (chars name.now) }

@@ -33,7 +33,7 @@ fn weighed_value(text: &str, more: usize) -> Option<u32>
         return None;
     };
     match weighed_value(rest, more - 1) {
-        Some(behind) => Some(u32::from(number) * weight_of(more) + behind),
+        Some(after) => Some(u32::from(number) * weight_of(more) + after),
         None => None,
     }
 }

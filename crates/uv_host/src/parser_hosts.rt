@@ -40,13 +40,13 @@ pub fn parser_host(alloc: Global, text: &str) -> Result<ParserHost, AllocError>
     ensures { IfOk result (IsParserAnswer (chars text.now)) }
 {
     match any_form(alloc, text)? {
-        Some(form) => Ok(judge_form(form)),
+        Some(form) => Ok(check_form(form)),
         None => Ok(ParserHost::Not),
     }
 }
 
 // The answer on every text of this form.
-fn judge_form(form: String) -> ParserHost
+fn check_form(form: String) -> ParserHost
     requires { IsAscii (string_bytes form) }
     ensures { (text : List ℕ) → spec.IsForm Profile.Parser text (string_bytes form) → IsParserAnswer text result }
 {

@@ -22,7 +22,7 @@ const JOINT_ROWS: [u8; 16] = byte_rows!(b'-' | b'.');
 
 /// How many bytes a name has at the start of a text: lower-case letters and digits, with single hyphens and full stops
 /// between them, and the root's full stop at its end or none. It ends where none of these follows; no verdict rests on
-/// that, and only the time of one does, since a text whose name was missed or cut short is judged by its parts.
+/// that, and only the time of one does, since a text whose name was missed or cut short is checked by its parts.
 #[inline(always)]
 pub fn name_prefix(text: &Tail<'_>) -> Option<usize>
     ensures { IfSome result (IsChainPrefix text.now) }
@@ -64,7 +64,7 @@ fn chain_end(text: &Tail<'_>, low: bool) -> usize
     end + ahead
 }
 
-// How many of the 32 bytes from a place on go on so, where `signed` says whether a letter or a digit stands before
+// How many of the 32 bytes from a place on go on so, where `signed` says whether a letter or a digit is before
 // them; and whether the last of them is one, where all do.
 #[inline(always)]
 fn chain_run(text: &Tail<'_>, place: usize, signed: bool, low: bool) -> (usize, bool)
@@ -76,8 +76,8 @@ fn chain_run(text: &Tail<'_>, place: usize, signed: bool, low: bool) -> (usize, 
     let load = text.load(place);
     let signs = sign_bits(&load, low);
     let joints = load.row_bits(&JOINT_ROWS);
-    let behind_signs = signs << 1 | u64::from(signed);
-    let joined = signs | joints & behind_signs;
+    let after_signs = signs << 1 | u64::from(signed);
+    let joined = signs | joints & after_signs;
     (joined.trailing_ones() as usize, signs >> 31 == 1)
 }
 
@@ -106,7 +106,7 @@ pub fn is_plain_wide_domain(name: &str) -> bool
     is_fitting(name) && !is_number(name)
 }
 
-// Whether the last label ends with a letter that stands in no number, as most do. Where the answer is no, that says
+// Whether the last label ends with a letter that is in no number, as most do. Where the answer is no, that says
 // nothing.
 pub(crate) fn ends_in_word(name: &[u8]) -> bool
     ensures { IsTrue result → spec.ends_in_number name.now ≡ false }

@@ -1,4 +1,4 @@
--- A report in its frame: from a run over lines to one with what stands around them.
+-- A report in its frame: from a run over lines to one with what is around them.
 use Rattle.std.proofs.Common.{◌≡◌, ◌≢◌, ℕ, ◌+◌, ◌<◌, ◌≤◌, Bool, true, false, List, [], ◌++◌, drop, Option, Result, Ok}
 use Rattle.std.proofs.Common.{Err, OnOk, IfErr, length, take, refl, sym, ap, ◌∙◌, subst, arith, inl, inr, take_all}
 use Rattle.std.proofs.lemmas.Bool.{cases_lt}
@@ -112,54 +112,54 @@ wrote_three : (old mid now new : Option (List ℕ)) (begin text end : List ℕ) 
 wrote_three old mid now new begin text end first second third =
     Appends-trans old mid new begin (text ++ end) first (Appends-trans mid now new text end second third)
 
--- the report was written, with what stands around it
-framed_wrote : {S : Type 0} (P : List (List ℕ) → List ℕ → S → Type 0) (begin : List ℕ) (behind : S → List ℕ)
+-- the report was written, with what is around it
+framed_wrote : {S : Type 0} (P : List (List ℕ) → List ℕ → S → Type 0) (begin : List ℕ) (after : S → List ℕ)
     (lines : List (List ℕ)) (old mid now new : Option (List ℕ)) (q : S) → Appends old mid begin
-    → Wrote P lines mid now q → Appends now new (behind q) → Wrote (Framed P begin behind) lines old new q
-framed_wrote P begin behind lines old mid now new q begun all ended = record {
-  text = begin ++ (all.text ++ behind q);
+    → Wrote P lines mid now q → Appends now new (after q) → Wrote (Framed P begin after) lines old new q
+framed_wrote P begin after lines old mid now new q begun all ended = record {
+  text = begin ++ (all.text ++ after q);
   reported = record { said = all.text; reported = all.reported; whole = refl };
-  wrote = wrote_three old mid now new begin all.text (behind q) begun all.wrote ended;
+  wrote = wrote_three old mid now new begin all.text (after q) begun all.wrote ended;
 }
 
--- what stands after it was cut
-framed_cut : {S : Type 0} (P : List (List ℕ) → List ℕ → S → Type 0) (begin : List ℕ) (behind : S → List ℕ)
+-- what is after it was cut
+framed_cut : {S : Type 0} (P : List (List ℕ) → List ℕ → S → Type 0) (begin : List ℕ) (after : S → List ℕ)
     (lines : List (List ℕ)) (old mid now new : Option (List ℕ)) (q : S) (prefix : ℕ) → Appends old mid begin
-    → Wrote P lines mid now q → Appends now new (take prefix (behind q)) → Cut (Framed P begin behind) lines old new q
-framed_cut P begin behind lines old mid now new q prefix begun all cut = record {
-  text = begin ++ (all.text ++ behind q);
+    → Wrote P lines mid now q → Appends now new (take prefix (after q)) → Cut (Framed P begin after) lines old new q
+framed_cut P begin after lines old mid now new q prefix begun all cut = record {
+  text = begin ++ (all.text ++ after q);
   reported = record { said = all.text; reported = all.reported; whole = refl };
   prefix = length begin + (length all.text + prefix);
   wrote = rw (
-    take-append-add begin (all.text ++ behind q) (length all.text + prefix),
-    take-append-add all.text (behind q) prefix,
-  ) (wrote_three old mid now new begin all.text (take prefix (behind q)) begun all.wrote cut);
+    take-append-add begin (all.text ++ after q) (length all.text + prefix),
+    take-append-add all.text (after q) prefix,
+  ) (wrote_three old mid now new begin all.text (take prefix (after q)) begun all.wrote cut);
 }
 
 -- it was cut itself
-framed_prefix : {S : Type 0} (P : List (List ℕ) → List ℕ → S → Type 0) (begin : List ℕ) (behind : S → List ℕ)
+framed_prefix : {S : Type 0} (P : List (List ℕ) → List ℕ → S → Type 0) (begin : List ℕ) (after : S → List ℕ)
     (lines : List (List ℕ)) (old mid new : Option (List ℕ)) (q : S) → Appends old mid begin → Cut P lines mid new q
-    → Cut (Framed P begin behind) lines old new q
-framed_prefix P begin behind lines old mid new q begun all =
-    let prefix = prefix_of all.prefix all.text (behind q) in
+    → Cut (Framed P begin after) lines old new q
+framed_prefix P begin after lines old mid new q begun all =
+    let prefix = prefix_of all.prefix all.text (after q) in
     record {
-      text = begin ++ (all.text ++ behind q);
+      text = begin ++ (all.text ++ after q);
       reported = record { said = all.text; reported = all.reported; whole = refl };
       prefix = length begin + prefix.0;
-      wrote = rw (take-append-add begin (all.text ++ behind q) prefix.0, prefix.1)
+      wrote = rw (take-append-add begin (all.text ++ after q) prefix.0, prefix.1)
           (Appends-trans old mid new begin (take all.prefix all.text) begun all.wrote);
     }
 
--- what stands before it was cut
-pub begin_cut : {S : Type 0} (P : List (List ℕ) → List ℕ → S → Type 0) (begin : List ℕ) (behind : S → List ℕ)
+-- what is before it was cut
+pub begin_cut : {S : Type 0} (P : List (List ℕ) → List ℕ → S → Type 0) (begin : List ℕ) (after : S → List ℕ)
     (start : S) (old new : Option (List ℕ)) (k : ℕ) → P [] [] start → Appends old new (take k begin)
-    → WrotePrefix (Framed P begin behind) old [] start new
-begin_cut P begin behind start old new k none wrote =
-    let prefix = prefix_of k begin ([] ++ behind start) in (
+    → WrotePrefix (Framed P begin after) old [] start new
+begin_cut P begin after start old new k none wrote =
+    let prefix = prefix_of k begin ([] ++ after start) in (
       0,
       omega arith,
       record {
-        text = begin ++ ([] ++ behind start);
+        text = begin ++ ([] ++ after start);
         reported = record { said = []; reported = none; whole = refl };
         prefix = prefix.0;
         wrote = rw prefix.1 wrote;
@@ -383,17 +383,17 @@ reads_of end TooManyLines reads reads' r = (omega (arith, r), λ some. inl (omeg
 reads_of end Endless reads reads' r = (omega (arith, r), λ some. inl (omega (arith, r)))
 
 -- after a fault
-fails_behind : {F : Type 0} (end : List ℕ) (e : LineFault F) (result : Result (Unit {0}) (LineFault F))
+fails_after : {F : Type 0} (end : List ℕ) (e : LineFault F) (result : Result (Unit {0}) (LineFault F))
     (now new : Option (List ℕ)) (reads reads' writes writes' writes'' : ℕ) (is : Bool) → is_write e ≡ is
     → (reads' ≡ reads + reads_failed e) × (writes' ≡ writes + writes_failed e)
     → FollowsFault is end e result now new writes' writes'' → Fails end result reads reads' writes writes''
-fails_behind end e result now new reads reads' writes writes' writes'' true is stop (reported, same, quiet) =
+fails_after end e result now new reads reads' writes writes' writes'' true is stop (reported, same, quiet) =
     subst (λ r. Fails end r reads reads' writes writes'') (sym reported)
     ((reads_of end e reads reads' stop.0).0, quiet ∙ stop.1)
-fails_behind end e result now new reads reads' writes writes' writes'' false is stop (inl writes_end) =
+fails_after end e result now new reads reads' writes writes' writes'' false is stop (inl writes_end) =
     subst (λ r. Fails end r reads reads' writes writes'') (sym writes_end.reported)
     ((reads_of end e reads reads' stop.0).0, writes_end.quiet ∙ stop.1)
-fails_behind end e result now new reads reads' writes writes' writes'' false is stop (inr cuts) =
+fails_after end e result now new reads reads' writes writes' writes'' false is stop (inr cuts) =
     subst (λ r. Fails end r reads reads' writes writes'') (sym cuts.reported) (
       (reads_of end e reads reads' stop.0).1 cuts.some,
       (let failed = cuts.failed in
@@ -421,7 +421,7 @@ fails last end (Ok u) result now new reads reads' writes writes' writes'' stop (
     subst (λ r. Fails end r reads reads' writes writes'') (sym cuts.reported)
     (inl stop.0, cuts.failed ∙ ap (λ n. n + 1) stop.1)
 fails last end (Err e) result now new reads reads' writes writes' writes'' stop follows =
-    fails_behind end e result now new reads reads' writes writes' writes'' (is_write e) refl stop follows
+    fails_after end e result now new reads reads' writes writes' writes'' (is_write e) refl stop follows
 
 -- ---- from the clauses of the calls, and to those of a run
 

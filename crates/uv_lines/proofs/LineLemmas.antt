@@ -13,7 +13,7 @@ use Rattle.uv_lines.specs.Lines.{line_feed, put_prefix, split, closed_lines, ope
 
 -- ---- two texts, one after the other
 
--- what stands before each LF of two texts joined, and what follows the last one
+-- what is before each LF of two texts joined, and what follows the last one
 abbrev pub join : List (List ℕ) → List ℕ → List (List ℕ) → List ℕ → (List (List ℕ)) × List ℕ
 join ws l [] m = (ws, l ++ m)
 join ws l (v ∷ vs) m = (ws ++ (l ++ v) ∷ vs, m)
@@ -59,7 +59,7 @@ split-without (x ∷ xs) none =
     let rest : split xs ≡ ([], xs) = split-without xs (λ k below. none (suc k) (omega (arith, below))) in
     rw (other, rest) refl
 
--- behind a text that holds no LF and an LF a line is closed
+-- after a text that holds no LF and an LF a line is closed
 pub split-closing : (xs prefix : List ℕ) → split prefix ≡ ([], prefix)
     → split (xs ++ (prefix ++ line_feed ∷ [])) ≡ ((split xs).0 ++ ((split xs).1 ++ prefix) ∷ [], [])
 split-closing xs prefix none =
@@ -68,7 +68,7 @@ split-closing xs prefix none =
     ∙ ap (λ l. (l ∷ [], [])) (append-nil prefix) in
     split-append xs (prefix ++ line_feed ∷ []) ∙ ap (λ p. join (split xs).0 (split xs).1 p.0 p.1) tail
 
--- behind a text that holds no LF the last part has grown by it
+-- after a text that holds no LF the last part has grown by it
 pub split-growing : (xs rest : List ℕ) → split rest ≡ ([], rest)
     → split (xs ++ rest) ≡ ((split xs).0, (split xs).1 ++ rest)
 split-growing xs rest none =
@@ -137,7 +137,7 @@ last_some (x ∷ xs) h =
       | false ↦ λ e. put_last x s.0 s.1 e
     ]
 
--- a text with more behind it has more lines than the text closes
+-- a text with more after it has more lines than the text closes
 pub lines_more : (xs ys : List ℕ) → 0 < length ys → length (closed_lines xs) < length (lines_of (xs ++ ys))
 lines_more xs ys h =
     rw (length-map (split xs).0 strip_carriage_return)
@@ -187,7 +187,7 @@ pub rest_is : (piece : List ℕ) (start : ℕ) → take (length piece - start) (
 rest_is piece start =
     take_all (length piece - start) (drop start piece) (let size = length-drop start piece in omega (arith, size))
 
--- a line in it has as many bytes as stand between its ends
+-- a line in it has as many bytes as are between its ends
 pub prefix_is : (piece : List ℕ) (start size : ℕ)
     → take (start + size - start) (drop start piece) ≡ take size (drop start piece)
 prefix_is piece start size = ap (λ n. take n (drop start piece)) (omega arith)

@@ -118,7 +118,7 @@ memory-fault reports lines limits start old now read rest p q begun text waits a
     let left = room-left reports lines limits.line_bytes start all.said read rest p q begun all.stands same in
     (all.said, rw kept all.passes, left)
 
--- it began behind as many as may come
+-- it began after as many as may come
 pub many-fault : {S : Type 0} (reports : S → Option (List ℕ) → List ℕ → S → Type 0) (lines : S → ℕ)
     (limits : LineLimits) (start : S)
     (old now : Option (List ℕ)) (read rest : List ℕ) (p : S) (begun text : List ℕ)
@@ -224,7 +224,7 @@ abbrev pub IsPartOfSome : {S : Type 0} → (S → Option (List ℕ) → List ℕ
 IsPartOfSome reports begins n start read now text =
     (count : ℕ) × (count ≤ length (lines_of read)) × IsPartOfFirst reports begins n start read count now text
 
--- it is where a run stands
+-- it is where a run is
 pub waits_standing : {S : Type 0} (reports : S → Option (List ℕ) → List ℕ → S → Type 0)
     (begins : S → Option (List ℕ) → List ℕ → Type 0) (lines : S → ℕ) (n : ℕ)
     (start : S) (said read : List ℕ) (q : S) (begun : List ℕ)
@@ -344,7 +344,7 @@ passing_reads reports begins limits start Read old read q new left = absurd left
 passing_reads reports begins limits start Write old read q new left = refl
 passing_reads reports begins limits start Endless old read q new left = refl
 
--- nor is one behind the last piece
+-- nor is one after the last piece
 pub finishing_reads : {S F : Type 0} (reports : S → Option (List ℕ) → List ℕ → S → Type 0)
     (begins : S → Option (List ℕ) → List ℕ → Type 0) (limits : LineLimits) (start : S) (fault : LineFault F)
     (old : Option (List ℕ)) (read : List ℕ) (q : S) (new : Option (List ℕ))

@@ -1,4 +1,4 @@
--- Where a run stands when a line has ended or gone on, and what its faults leave.
+-- Where a run is when a line has ended or gone on, and what its faults leave.
 use Rattle.std.proofs.Common.{◌≡◌, ℕ, ◌+◌, ◌<◌, ◌≤◌, List, [], ◌∷◌, ◌++◌, Option, length, take, refl, sym, ap, ◌∙◌}
 use Rattle.std.proofs.Common.{subst, arith, append_assoc, append-nil, inl, inr}
 use Rattle.std.proofs.lemmas.List.{length-append, length-take}
@@ -32,7 +32,7 @@ Stands-start reports lines n p begun count none = record {
 
 -- ---- the line that ends
 
--- the line that ends behind this prefix of a piece
+-- the line that ends after this prefix of a piece
 abbrev pub closing : List ℕ → List ℕ → List ℕ
 closing read prefix = strip_carriage_return ((split read).1 ++ prefix)
 
@@ -118,7 +118,7 @@ room-left reports lines n start said read rest p q begun h same = (
   rw same (prefix_report reports lines n start said read rest p begun h),
 )
 
--- a further line has begun behind as many as may come
+-- a further line has begun after as many as may come
 pub many-left : {S : Type 0} (reports : S → Option (List ℕ) → List ℕ → S → Type 0) (lines : S → ℕ) (n most : ℕ)
     (start : S) (said read rest : List ℕ) (p : S) (begun : List ℕ)
     → Stands reports lines n start said read p begun → lines p ≡ most → 0 < length rest

@@ -87,18 +87,18 @@ leaves_none begins fault before waited waits line a b is same =
 
 -- ---- parts of a line
 
--- parts came behind others
-pub parts_behind : {F : Type 0} (P Q : List ℕ → Type 0) (e : ReportFault F) (waited said : List ℕ)
+-- parts came after others
+pub parts_after : {F : Type 0} (P Q : List ℕ → Type 0) (e : ReportFault F) (waited said : List ℕ)
     (a m b : Option (List ℕ)) (mid waits : List ℕ) → Passes (waited ++ said) a m mid
     → ((parts : List ℕ) → P parts → Q (said ++ parts)) → LeavesParts P e mid m waits b
     → LeavesParts Q e waited a waits b
-parts_behind P Q (Reporter fault) waited said a m b mid waits before is left = (
+parts_after P Q (Reporter fault) waited said a m b mid waits before is left = (
   said ++ left.0,
   is left.0 left.1,
   subst (λ t. Passes t a b waits) (append_assoc waited said left.0)
       (passes_more (waited ++ said) left.0 a m b mid waits before left.2),
 )
-parts_behind P Q Write waited said a m b mid waits before is left = (
+parts_after P Q Write waited said a m b mid waits before is left = (
   said ++ left.0,
   is left.0 left.1,
   subst (λ t. CutsOff t a b) (append_assoc waited said left.0)

@@ -1,4 +1,4 @@
--- A run whose report stands in a frame: what the frame begins with, what is said of the lines, what the reporter says
+-- A run whose report is in a frame: what the frame begins with, what is said of the lines, what the reporter says
 -- after the last of them where no fault came, and what the frame ends with, after each fault but one of a write.
 use Rattle.std.specs.Prelude.{◌≡◌, ◌≢◌, ℕ, ◌+◌, ◌⊎◌, Bool, true, false, List, [], ◌++◌, Option, Result, Ok, Err, take}
 use Rattle.std.specs.Io.KnownBytes.{Appends}
@@ -10,12 +10,12 @@ use Rattle.uv_lines.specs.Lines.{lines_of}
 use Rattle.uv_lines.specs.Reported.{Cut}
 use Rattle.uv_lines.specs.Run.{Leaves}
 
--- the text is a beginning, the report on the lines, and what stands after it
+-- the text is a beginning, the report on the lines, and what is after it
 pub record Framed {S : Type 0} (IsReport : List (List ℕ) → List ℕ → S → Type 0) (begin : List ℕ)
-    (behind : S → List ℕ) (lines : List (List ℕ)) (text : List ℕ) (now : S) : Type 0 where
+    (after : S → List ℕ) (lines : List (List ℕ)) (text : List ℕ) (now : S) : Type 0 where
   pub said : List ℕ
   pub reported : IsReport lines said now
-  pub whole : text ≡ begin ++ (said ++ behind now)
+  pub whole : text ≡ begin ++ (said ++ after now)
 
 -- what a fault leaves: the report on some lines or a part of it, or a prefix of the whole one on all lines, where a
 -- write failed after them

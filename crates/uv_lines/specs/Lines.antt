@@ -14,7 +14,7 @@ abbrev pub put_prefix : ℕ → List (List ℕ) → List ℕ → (List (List ℕ
 put_prefix x [] last = ([], x ∷ last)
 put_prefix x (l ∷ ls) last = ((x ∷ l) ∷ ls, last)
 
--- what stands before each LF, and what follows the last one
+-- what is before each LF, and what follows the last one
 abbrev pub split : List ℕ → (List (List ℕ)) × List ℕ
 split [] = ([], [])
 split (x ∷ xs) =

@@ -1,4 +1,4 @@
--- Where a run stands between two pieces, and what its faults leave.
+-- Where a run is between two pieces, and what its faults leave.
 use Rattle.std.specs.Prelude.{◌≡◌, ℕ, ◌+◌, ◌≤◌, ◌<◌, Bool, true, false, List, Option, length, take}
 use Rattle.std.specs.Str.Lines.{strip_carriage_return}
 use Rattle.uv_lines.specs.declared.fault.LineFault.{LineFault}

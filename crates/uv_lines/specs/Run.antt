@@ -67,7 +67,7 @@ pub record Waits {S : Type 0} (reports : S → Option (List ℕ) → List ℕ �
   pub passes : Passes said old new text
   pub stands : Stands reports lines line_bytes start said read now begun
 
--- What a fault leaves while lines are taken: behind a failed write a prefix of a part of the report was written, behind
+-- What a fault leaves while lines are taken: after a failed write a prefix of a part of the report was written, after
 -- each other one such a part was written or waits to be.
 abbrev pub WaitFault : {S F : Type 0} → Bool → (S → Option (List ℕ) → List ℕ → S → Type 0)
     → (S → Option (List ℕ) → List ℕ → Type 0) → LineLimits → S → LineFault F → Option (List ℕ) → List ℕ → S → List ℕ

@@ -28,7 +28,7 @@ abbrev pub AreFirstParts : {S : Type 0} → (S → Option (List ℕ) → List �
     → Type 0
 AreFirstParts begins before line parts = (parts ≡ []) ⊎ begins before line parts
 
--- what a fault leaves of what waited before and of such parts of what is said: all of it is written or waits, or behind
+-- what a fault leaves of what waited before and of such parts of what is said: all of it is written or waits, or after
 -- a failed write a prefix of it is written
 abbrev pub LeavesParts : {F : Type 0} → (List ℕ → Type 0) → ReportFault F → List ℕ → Option (List ℕ) → List ℕ
     → Option (List ℕ) → Type 0

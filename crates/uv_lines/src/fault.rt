@@ -15,7 +15,7 @@ pub enum LineFault<F> {
     /// A write failed, or took nothing of a piece that had bytes. A beginning of the report was written, perhaps cut
     /// within what is said of a line.
     Write,
-    /// A further line began behind as many as the limits allow. The report on all those was written.
+    /// A further line began after as many as the limits allow. The report on all those was written.
     TooManyLines,
     /// 2^64 - 1 reads gave bytes, and none the end. The report on whole lines was written.
     Endless,

@@ -1,4 +1,4 @@
-//! A run over the lines of a list, with what stands around the report.
+//! A run over the lines of a list, with what is around the report.
 ghost use Rattle.std.specs.Prelude.{◌≡◌, ◌≢◌, ℕ, ◌+◌, ◌-◌, ◌^◌, ◌<◌, ◌≤◌, ◌++◌, List, [], true, IfErr, Ok, OnErr};
 ghost use Rattle.std.specs.Prelude.{OnOk, take};
 ghost use Rattle.std.specs.Io.KnownBytes.{Appends, Consumes, IsAtEnd};
@@ -14,7 +14,7 @@ use crate::run::run_between;
 use std::alloc::Global;
 use uv_io::{DeviceFault, Sink, Source, write_whole};
 
-/// What stands around the report on a list.
+/// What is around the report on a list.
 #[derive(Clone, Copy)]
 pub struct Frame<'a> {
     /// What is written before the first line is read.
@@ -24,7 +24,7 @@ pub struct Frame<'a> {
 }
 
 impl Frame<'static> {
-    /// Nothing stands around the report.
+    /// Nothing is around the report.
     pub fn none() -> Frame<'static>
         ensures begin { result.begin.now ≡ [] }
         ensures end { result.end.now ≡ [] }

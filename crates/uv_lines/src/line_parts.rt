@@ -7,7 +7,7 @@ ghost use Rattle.uv_lines.specs.Progress.{ended};
 
 use memchr::memchr;
 
-/// How many bytes stand before the next LF, where there is one.
+/// How many bytes are before the next LF, where there is one.
 pub fn line_end(rest: &[u8]) -> Option<usize>
     ensures some { IfSome result (λ at. (at < length rest.now) × (split (take at rest.now) ≡ ([], take at rest.now))
         × (drop at rest.now ≡ line_feed ∷ drop (at + 1) rest.now)) }
@@ -16,7 +16,7 @@ pub fn line_end(rest: &[u8]) -> Option<usize>
     memchr(b'\n', rest)
 }
 
-/// The text of what stands before an LF, or at the end of a list without one: an LF takes the CR before it with it.
+/// The text of what is before an LF, or at the end of a list without one: an LF takes the CR before it with it.
 pub fn line_text(line: &[u8], is_closed: bool) -> &[u8]
     ensures { result.now ≡ ended is_closed line.now }
 {

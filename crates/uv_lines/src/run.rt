@@ -1,4 +1,4 @@
-//! A run over the lines of a list, without what stands around the report.
+//! A run over the lines of a list, without what is around the report.
 ghost use Rattle.std.specs.Prelude.{◌≡◌, ℕ, ◌+◌, ◌-◌, ◌^◌, ◌<◌, ◌≤◌, List, IfErr, OnOk};
 ghost use Rattle.std.specs.Io.KnownBytes.{Consumes, IsAtEnd};
 ghost use Rattle.uv_lines.specs.Reported.{Reported, ReportedPart};

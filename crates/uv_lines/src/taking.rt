@@ -17,7 +17,7 @@ use std::alloc::{AllocError, Global};
 use uv_io::Sink;
 
 impl<R: Reporter> Progress<R> {
-    /// Reports on the line that an LF ends behind this prefix of a piece.
+    /// Reports on the line that an LF ends after this prefix of a piece.
     pub(crate) fn close_line<W: Sink>(
         &mut self,
         alloc: Global,

@@ -13,7 +13,7 @@ use Rattle.uv_links.specs.declared.counts.Counts.{Counts}
 use Rattle.uv_lines.specs.Lines.{lines_of}
 use Rattle.uv_second.specs.Second.{second_text}
 
--- what the lines are judged against: the profile, the base, and how many bytes a line may have
+-- what the lines are checked against: the profile, the base, and how many bytes a line may have
 pub record ListSetting : Type 0 where
   pub profile : Profile
   pub base : Option Url
@@ -54,7 +54,7 @@ AreSaid setting _ _ = ⊥
 
 -- ---- the text of the report
 
--- what stands behind the number in a line of the report, with the LF
+-- what is after the number in a line of the report, with the LF
 abbrev pub said_text : Said → List ℕ
 said_text (Same text) = codes " ok " ++ (text ++ codes "\n")
 said_text (Refused refusal) =

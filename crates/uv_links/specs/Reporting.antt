@@ -3,7 +3,7 @@ use Rattle.std.specs.Prelude.{◌≡◌, ℕ, ◌+◌, List, Option, Some, None}
 use Rattle.uv_links.specs.declared.counts.Counts.{Counts}
 use Rattle.uv_links.specs.Report.{ListSetting, Said, TooLong, IsSaid, counted, report_line}
 
--- what the lines are judged against, and the counts of those before
+-- what the lines are checked against, and the counts of those before
 pub record Reporting : Type 0 where
   pub setting : ListSetting
   pub counts : Counts

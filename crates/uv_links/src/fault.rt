@@ -26,7 +26,7 @@ pub enum LinkFault {
     /// The second parser refuses the base's text or reads it as another one. Nothing was written.
     #[error("base differs")]
     BaseDiffers,
-    /// A further line began behind as many as the limit allows. The report's lines of all those were written.
+    /// A further line began after as many as the limit allows. The report's lines of all those were written.
     #[error("too many lines")]
     TooManyLines,
     /// 2^64 - 1 reads gave bytes, and none the end. Whole lines of the report were written.

@@ -1,11 +1,11 @@
-//! Lists of links: each line judged, and each accepted one compared with a second parser.
+//! Lists of links: each line checked, and each accepted one compared with a second parser.
 #![tactic(auto)]
 
 mod counts;
 mod fault;
-mod judge;
 pub mod laws;
 mod limits;
+mod line_checker;
 mod reporter;
 mod run;
 mod said;

@@ -6,7 +6,7 @@ ghost use Rattle.uv_links.specs.Reporting.{IsSaidOf, Says, none_counted};
 ghost use Rattle.uv_links.specs.Said.{said_of};
 
 use crate::counts::{Counts, count_text};
-use crate::judge::Judge;
+use crate::line_checker::LineChecker;
 use crate::said::{Said, push_line};
 use std::alloc::{AllocError, Global};
 use std::marker::Model;
@@ -14,10 +14,10 @@ use uv_io::Sink;
 use uv_lines::{ReportFault, Reporter};
 use uv_second::RoomFault;
 
-/// What reports on a list of links: the judge of its lines, and the counts of the lines before.
+/// What reports on a list of links: the checker of its lines, and the counts of the lines before.
 #[derive(Drop)]
 pub(crate) struct LinkReporter<'b> {
-    judge: Judge<'b>,
+    checker: LineChecker<'b>,
     counts: Counts,
 }
 
@@ -27,15 +27,15 @@ impl<'b> Model for LinkReporter<'b> {
 
     ghost Value = { Reporting };
 
-    ghost view = { λ r. record { setting = r.judge; counts = r.counts } };
+    ghost view = { λ r. record { setting = r.checker; counts = r.counts } };
 
     ghost invariant = { λ r. r.counts.ok + r.counts.bad + r.counts.differs ≡ r.counts.lines };
 }
 
 impl<'b> LinkReporter<'b> {
     /// What reports on a list before its first line.
-    pub(crate) fn new(judge: Judge<'b>) -> LinkReporter<'b>
-        ensures { result ≡ record { setting = judge.entry; counts = none_counted } }
+    pub(crate) fn new(checker: LineChecker<'b>) -> LinkReporter<'b>
+        ensures { result ≡ record { setting = checker.entry; counts = none_counted } }
     {
         let counts = Counts {
             lines: 0,
@@ -43,7 +43,7 @@ impl<'b> LinkReporter<'b> {
             bad: 0,
             differs: 0,
         };
-        LinkReporter { judge, counts }
+        LinkReporter { checker, counts }
     }
 
     /// The counts of the lines on which it has reported.
@@ -65,7 +65,7 @@ impl<'b> LinkReporter<'b> {
             × (text.new.items ≡ text.old.items ++ said)) }
         ensures none { OnErr result ((self.new ≡ self.old) × (text.new.items ≡ text.old.items)) }
     {
-        let said = judge_line(alloc, &self.judge, line)?;
+        let said = check_line(alloc, &self.checker, line)?;
         match self.add(said, text) {
             Ok(()) => Ok(()),
             Err(AllocError) => Err(RoomFault::Memory),
@@ -136,15 +136,15 @@ impl<'b> Reporter for LinkReporter<'b> {
 }
 
 // What is said of a line; none stands for one that is too long.
-fn judge_line<'l>(
+fn check_line<'l>(
     alloc: Global,
-    judge: &Judge<'_>,
+    checker: &LineChecker<'_>,
     line: Option<&'l [u8]>,
 ) -> Result<Said<'l>, RoomFault>
-    ensures { IfOk result (λ said. IsSaidOf judge.now (option_copied line.entry) (said_of said)) }
+    ensures { IfOk result (λ said. IsSaidOf checker.now (option_copied line.entry) (said_of said)) }
 {
     match line {
-        Some(line) => judge.judge(alloc, line),
+        Some(line) => checker.check(alloc, line),
         None => Ok(Said::TooLong),
     }
 }

@@ -7,8 +7,8 @@ ghost use Rattle.uv_second.specs.Second.{AgreesOnBase};
 
 use crate::counts::Counts;
 use crate::fault::{LinkFault, fault_of_room};
-use crate::judge::Judge;
 use crate::limits::LinkLimits;
+use crate::line_checker::LineChecker;
 use crate::reporter::LinkReporter;
 use std::alloc::Global;
 use uv_io::{Sink, Source};
@@ -16,7 +16,7 @@ use uv_lines::{Frame, LineFault, LineLimits, run_lines};
 use uv_model::{Profile, Record};
 use uv_second::RoomFault;
 
-/// Reports on a list of links: each of its lines is judged by the profile, against the base where there is one, and
+/// Reports on a list of links: each of its lines is checked by the profile, against the base where there is one, and
 /// each accepted line compared with the crate `url`.
 ///
 /// A line ends with LF, and one CR before that is no part of it; a last part without LF is a line where it isn't empty.
@@ -56,15 +56,15 @@ pub fn run_links<R: Source, W: Sink>(
     ensures quiet { OnOk result ((R.failed reader.new ≡ R.failed reader.old)
         × (W.failed writer.new ≡ W.failed writer.old)) }
 {
-    let judge = match Judge::new(alloc, base, limits.line_bytes(), profile) {
-        Ok(judge) => judge,
+    let checker = match LineChecker::new(alloc, base, limits.line_bytes(), profile) {
+        Ok(checker) => checker,
         Err(fault) => return Err(fault),
     };
     let limits = LineLimits {
         line_bytes: limits.line_bytes(),
         lines: limits.lines(),
     };
-    let reporter = LinkReporter::new(judge);
+    let reporter = LinkReporter::new(checker);
     let (reporter, answer) = run_lines(alloc, reader, writer, reporter, limits, Frame::none());
     match answer {
         Ok(()) => Ok(reporter.counts()),

@@ -1,4 +1,4 @@
--- The text of a diagnostic is that of its texts, wherever those stand.
+-- The text of a diagnostic is that of its texts, wherever those are.
 use Rattle.std.proofs.Common.{◌≡◌, ℕ, Bool, true, false, if◌then◌else◌, List, [], ◌∷◌, ◌++◌, Option, Some, None, refl}
 use Rattle.std.proofs.Common.{sym, ap, ◌∙◌}
 use Rattle.std.proofs.Common.{◌+◌, ◌<◌, append_assoc, append-nil, get_or, inl, inr, length, take}
@@ -32,7 +32,7 @@ use Rattle.uv_lint.specs.Report.{lent}
 use Rattle.uv_lint.specs.Reporting.{IsNoneOr}
 use Rattle.uv_lint.specs.ReportedView.{lent_if_mended}
 
--- a diagnostic on a text behind a reference, with its file's name behind another
+-- a diagnostic on a text after a reference, with its file's name after another
 abbrev pub diagnostic_in : Bor (List ℕ) → Bor (List ℕ) → ℕ → ℕ → ℕ → Profile → LineViolation → Option Mended
     → Diagnostic
 diagnostic_in file text line column end profile violation mended = record {
@@ -68,7 +68,7 @@ rdjson_lent : (offered is_first : Bool) (file text : Bor (List ℕ)) (line colum
 rdjson_lent true is_first file text line column end profile violation mended = refl
 rdjson_lent false is_first file text line column end profile violation mended = refl
 
--- a diagnostic's text is the same with its texts behind other references
+-- a diagnostic's text is the same with its texts after other references
 pub diagnostic_text-lent : (format : Format) (is_first : Bool) (file text : Bor (List ℕ)) (line column end : ℕ)
     (profile : Profile) (violation : LineViolation) (mended : Option Mended)
     → diagnostic_text format is_first (diagnostic_in file text line column end profile violation mended)
@@ -92,7 +92,7 @@ diagnostic_text-lent Rdjson is_first file text line column end profile violation
 diagnostic_text-lent Rdjson is_first file text line column end profile violation (Some mended) =
     rdjson_lent (is_offered text.now mended.text.now) is_first file text line column end profile violation mended
 
--- a text behind two references
+-- a text after two references
 abbrev pub reported_of : Bor (List ℕ) → Bor (List ℕ) → ℕ → ℕ → ReportedText
 reported_of file text line start = record { file = file.now; line = line; start = start; text = text.now }
 
@@ -107,14 +107,14 @@ pub push_one : (form : LineForm) (format : Format) (columns : Columns) (profile 
     → new ++ diagnostics_text form format columns profile (reported_of file text line start) false None rest
     ≡ old ++ diagnostics_text form format columns profile (reported_of file text line start) is_first
     (lent_if_mended mended) (violation ∷ rest)
-push_one form format columns profile file text line start column end is_first mended violation rest old new here behind
+push_one form format columns profile file text line start column end is_first mended violation rest old new here after
     pushed =
     let reported = reported_of file text line start in
     let one = framed_text form format file.now
     (diagnostic_text format is_first (diagnostic_on columns profile reported (lent_if_mended mended) violation)) in
     let more = diagnostics_text form format columns profile reported false None rest in
     ap (λ t. t ++ more) (pushed ∙ ap (λ t. old ++ framed_text form format file.now t)
-    (rw (here, behind) (diagnostic_text-lent format is_first file text line (column_at columns start text.now
+    (rw (here, after) (diagnostic_text-lent format is_first file text line (column_at columns start text.now
     (violation_place violation)) (column_at columns start text.now
     (violation_end violation)) profile violation mended)))
     ∙ append_assoc old one more
@@ -158,11 +158,11 @@ said_more : (form : LineForm) (format : Format) (columns : Columns) (profile : P
     (diagnostic_in file text line column end profile violation told))) false
     None
 said_more form format columns profile file text line start column end is_first now_first mended told before violation
-    said here behind is =
+    said here after is =
     λ rest.
     push_one form format columns profile file text line start column end now_first told violation rest said
     (said ++ framed_text form format file.now (diagnostic_text format now_first
-    (diagnostic_in file text line column end profile violation told))) here behind
+    (diagnostic_in file text line column end profile violation told))) here after
     refl
     ∙ is (violation ∷ rest)
     ∙ ap (λ vs. diagnostics_text form format columns profile (reported_of file text line start) is_first mended vs)
@@ -181,10 +181,10 @@ pub said_next : (form : LineForm) (format : Format) (columns : Columns) (profile
     (take (i + 1) violations) (said ++ framed_text form format file.now (diagnostic_text format now_first
     (diagnostic_in file text line column end profile (get_or violations i none) told))) false None
 said_next form format columns profile file text line start column end is_first now_first mended told violations i none
-    said within here behind is =
+    said within here after is =
     rw (take_more violations i none within)
     (said_more form format columns profile file text line start column end is_first now_first mended told
-    (take i violations) (get_or violations i none) said here behind is)
+    (take i violations) (get_or violations i none) said here after is)
 
 -- of one that may be said too the first diagnostics are those before it, or with it
 pub first_with : (form : LineForm) (format : Format) (columns : Columns) (profile : Profile) (reported : ReportedText)

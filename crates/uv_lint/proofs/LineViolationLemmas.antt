@@ -19,7 +19,7 @@ use Rattle.uv_lint.specs.declared.setting.LineForm.{LineForm}
 use Rattle.uv_lint.specs.declared.setting.LineForm.TheVariants.{Plain, Located}
 use Rattle.uv_lint.specs.Findings.{IsRefusedFirst, IsUtf8WhereRefused, bytes_by, is_refused, text_by}
 use Rattle.uv_lint.specs.LineViolations.{AreBytesViolations, AreReported, AreTextViolations, AreViolationsBy}
-use Rattle.uv_lint.specs.LineViolations.{AreWholeViolations, FileSetting, Judges}
+use Rattle.uv_lint.specs.LineViolations.{AreWholeViolations, Checks, FileSetting}
 use Rattle.uv_lint.specs.Located.{LocatedLink}
 
 -- nothing is found with a valid text
@@ -37,7 +37,7 @@ pub valid_violations : (setting : FileSetting) (text : List ℕ) (parts : Parts)
     → IsAccepted setting.profile setting.base text parts → AreTextViolations setting text []
 valid_violations setting text parts accepted = record {
   refusals = [];
-  judges = (parts, accepted.valid);
+  checks = (parts, accepted.valid);
   reported = reported_none setting.extent setting.profile setting.base text parts accepted;
   are = refl;
 }
@@ -47,7 +47,7 @@ pub least_violation : (setting : FileSetting) (text : List ℕ) (refusal : Refus
     → IsRefused setting.profile setting.base text refusal → AreTextViolations setting text (Refused refusal ∷ [])
 least_violation setting text refusal first refused = record {
   refusals = refusal ∷ [];
-  judges = refused;
+  checks = refused;
   reported = rw first refl;
   are = refl;
 }
@@ -59,12 +59,12 @@ refused_text : (setting : FileSetting) (bytes : List ℕ) (violations : List Lin
     → AreTextViolations setting (chars bytes) violations
     → IsRefusedFirst setting.profile setting.base violations bytes
 refused_text setting bytes violations are =
-    rw are.are (refused_first are.refusals are.judges)
+    rw are.are (refused_first are.refusals are.checks)
   where
-    refused_first : (refusals : List Refusal) → Judges setting.profile setting.base (chars bytes) refusals
+    refused_first : (refusals : List Refusal) → Checks setting.profile setting.base (chars bytes) refusals
         → IsRefusedFirst setting.profile setting.base (map Refused refusals) bytes
-    refused_first [] judges = tt {0}
-    refused_first (refusal ∷ rest) judges = judges
+    refused_first [] checks = tt {0}
+    refused_first (refusal ∷ rest) checks = checks
 
 -- bytes, as they are shown
 refused_bytes : (setting : FileSetting) (bytes : List ℕ) (violations : List LineViolation)

@@ -14,11 +14,11 @@ begins_other : (b : ℕ) (rest : List ℕ) → is_some (whole_number (b ∷ rest
     → first_number (b ∷ rest) ≡ first_number rest
 begins_other b rest other = rw other refl
 
--- the first one stands behind a place at which none stands
-pub behind_other : (text : List ℕ) (place : ℕ) → place < length text
+-- the first one is after a place at which none is
+pub after_other : (text : List ℕ) (place : ℕ) → place < length text
     → is_some (whole_number (drop place text)) ≡ false
     → first_number (drop place text) ≡ first_number (drop (place + 1) text)
-behind_other text place within other =
+after_other text place within other =
     let cut : drop place text ≡ get_or text place 0 ∷ drop (place + 1) text =
     rw add-one (drop-cons text place 0 within) in
     rw cut (begins_other (get_or text place 0) (drop (place + 1) text) (rw cut at other))

@@ -1,4 +1,4 @@
--- Lemmas on lines that say where their links stand.
+-- Lemmas on lines that say where their links are.
 use Rattle.std.proofs.Common.{◌≡◌, ℕ, suc, ◌+◌, ◌<◌, ◌≤◌, ◌^◌, List, [], ◌∷◌, true, false, drop, get_or, length, take}
 use Rattle.std.proofs.Common.{Option, Some, None, Ok, Err, is_some, option_map, refl, sym, ap, arith, inl, inr}
 use Rattle.std.proofs.Common.{add-one, drop-cons, le-ltb}
@@ -80,15 +80,15 @@ begins_none : (b : ℕ) (rest : List ℕ) → is_some (run_of (b ∷ rest)) ≡ 
     → file_length (b ∷ rest) ≡ file_length rest + 1
 begins_none b rest none = rw none refl
 
--- the run stands behind a place at which none stands
-pub behind_none : (text : List ℕ) (place : ℕ) → place < length text → is_some (run_of (drop place text)) ≡ false
+-- the run is after a place at which none is
+pub after_none : (text : List ℕ) (place : ℕ) → place < length text → is_some (run_of (drop place text)) ≡ false
     → file_length (drop place text) ≡ file_length (drop (place + 1) text) + 1
-behind_none text place within none =
+after_none text place within none =
     let cut : drop place text ≡ get_or text place 0 ∷ drop (place + 1) text =
     rw add-one (drop-cons text place 0 within) in
     rw cut (begins_none (get_or text place 0) (drop (place + 1) text) (rw cut at none))
 
--- and no more bytes than there are stand before it
+-- and no more bytes than there are come before it
 pub file_length-le : (text : List ℕ) → file_length text ≤ length text
 file_length-le [] = omega arith
 file_length-le (b ∷ rest) =

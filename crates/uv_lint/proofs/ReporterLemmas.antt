@@ -13,7 +13,7 @@ use Rattle.uv_lint.specs.declared.reported_line.Place.{Place}
 use Rattle.uv_lint.specs.Findings.{AreFindings, Findings, IsMended, MendedText, shown, text_by}
 use Rattle.uv_lint.specs.LineViolations.{AreViolations, link_of}
 use Rattle.uv_lint.specs.Located.{LocatedLink}
-use Rattle.uv_lint.specs.Report.{judged_line, line_text, reported_by}
+use Rattle.uv_lint.specs.Report.{checked_line, line_text, reported_by}
 use Rattle.uv_lint.specs.ReportedView.{place_view, shown_at}
 use Rattle.uv_lint.specs.Reporting.{Begins, HasBegun, HasBegunLine, HasReportedLine, Linting, Says, with_line}
 
@@ -44,20 +44,20 @@ pub parts_left : {F : Type 0} (answer : Result (Unit {0}) (ReportFault F)) (P Q 
 parts_left (Ok u) P Q waited a waits b is left = tt {0}
 parts_left (Err e) P Q waited a waits b is left = LeavesParts-map P Q e waited a waits b is left
 
--- what follows from what holds behind an answer without fault
+-- what follows from what holds after an answer without fault
 pub on_ok : {E : Type 0} (answer : Result (Unit {0}) E) (A B : Type 0) → (A → B) → OnOk answer A → OnOk answer B
 on_ok (Ok u) A B is holds = is holds
 on_ok (Err e) A B is holds = tt {0}
 
 -- ---- a line
 
--- the text that is reported of a line is the one that it is judged by
+-- the text that is reported of a line is the one that it is checked by
 pub reported_text : (file : List ℕ) (number : ℕ) (line : Option (List ℕ)) (link : Option LocatedLink)
     → (reported_by file number line link).text ≡ text_by link line
 reported_text file number line (Some link) = refl
 reported_text file number line None = refl
 
--- what is found with a line that is judged so, and reported so
+-- what is found with a line that is checked so, and reported so
 found_in : (before : Linting) (line : Option (List ℕ)) (found : List LineViolation) (mended : Option MendedText)
     → AreViolations before.setting line found
     → IsMended before.setting.format before.setting.profile before.setting.base found
@@ -69,27 +69,27 @@ found_in before line found mended are is = record {
       (reported_text before.setting.file (before.lines + 1) line (link_of before.setting.form line)) is;
 }
 
--- what was said of a line that was judged so, when these lines came before
-pub adds_line : (before now after : Linting) (lines : ℕ) (line judged : Option (List ℕ))
+-- what was said of a line that was checked so, when these lines came before
+pub adds_line : (before now after : Linting) (lines : ℕ) (line checked : Option (List ℕ))
     (found reported counted : List LineViolation) (waited : List ℕ) (a b : Option (List ℕ)) (waits : List ℕ)
-    → before.lines ≡ lines → judged ≡ judged_line lines line → AreViolations before.setting judged found
-    → reported ≡ found → HasReportedLine before judged reported waited a b waits
-    → now ≡ before → counted ≡ found → after ≡ with_line now judged counted
+    → before.lines ≡ lines → checked ≡ checked_line lines line → AreViolations before.setting checked found
+    → reported ≡ found → HasReportedLine before checked reported waited a b waits
+    → now ≡ before → counted ≡ found → after ≡ with_line now checked counted
     → Adds Says (λ r. r.lines) before waited a line after waits b
-adds_line before now after lines line judged found reported counted waited a b waits place judges are is_reported said
+adds_line before now after lines line checked found reported counted waited a b waits place checks are is_reported said
     kept is_counted counts =
-    let same : judged ≡ judged_line before.lines line = judges ∙ ap (λ n. judged_line n line) (sym place) in
-    let left : after ≡ with_line before (judged_line before.lines line) found =
+    let same : checked ≡ checked_line before.lines line = checks ∙ ap (λ n. checked_line n line) (sym place) in
+    let left : after ≡ with_line before (checked_line before.lines line) found =
     counts ∙ rw (kept, same, is_counted) refl in
-    let has : HasReportedLine before (judged_line before.lines line) found waited a b waits =
+    let has : HasReportedLine before (checked_line before.lines line) found waited a b waits =
     subst (λ j. HasReportedLine before j found waited a b waits) same
-    (subst (λ vs. HasReportedLine before judged vs waited a b waits) is_reported said) in
+    (subst (λ vs. HasReportedLine before checked vs waited a b waits) is_reported said) in
     let findings : Findings = record { violations = found; mended = has.0 } in
     record {
-      said = line_text before.setting (before.lines + 1) (judged_line before.lines line) before.is_first findings;
+      said = line_text before.setting (before.lines + 1) (checked_line before.lines line) before.is_first findings;
       reported = record {
         findings = findings;
-        found = found_in before (judged_line before.lines line) found has.0
+        found = found_in before (checked_line before.lines line) found has.0
             (subst (λ j. AreViolations before.setting j found) same are) has.1;
         written = refl;
         left = left;
@@ -98,7 +98,7 @@ adds_line before now after lines line judged found reported counted waited a b w
       passes = has.2;
     }
 
--- what was said first of what is shown of a text was said of the line that stands there
+-- what was said first of what is shown of a text was said of the line that is there
 pub line_begun : (before : Linting) (line : Option (List ℕ)) (place : Place) (text : List ℕ)
     (violations : List LineViolation) (parts : List ℕ)
     → place_view place ≡ reported_by before.setting.file (before.lines + 1) line (link_of before.setting.form line)
@@ -109,26 +109,26 @@ line_begun before line place text violations parts stands is begun =
 
 -- what was said first of it
 begins_line : (before : Linting) (line : Option (List ℕ)) (found : List LineViolation) (parts : List ℕ)
-    → AreViolations before.setting (judged_line before.lines line) found
-    → HasBegunLine before (judged_line before.lines line) found parts → AreFirstParts Begins before line parts
+    → AreViolations before.setting (checked_line before.lines line) found
+    → HasBegunLine before (checked_line before.lines line) found parts → AreFirstParts Begins before line parts
 begins_line before line found parts are (inl none) = inl none
 begins_line before line found parts are (inr begun) = inr (record {
   findings = record { violations = found; mended = begun.0 };
-  found = found_in before (judged_line before.lines line) found begun.0 are begun.1;
+  found = found_in before (checked_line before.lines line) found begun.0 are begun.1;
   count = begun.2.0;
   written = begun.2.1;
 })
 
--- what a fault within a line leaves, which was judged so when these lines came before
-pub leaves_line : {F : Type 0} (e : ReportFault F) (before : Linting) (lines : ℕ) (line judged : Option (List ℕ))
+-- what a fault within a line leaves, which was checked so when these lines came before
+pub leaves_line : {F : Type 0} (e : ReportFault F) (before : Linting) (lines : ℕ) (line checked : Option (List ℕ))
     (found reported : List LineViolation) (waited : List ℕ) (a b : Option (List ℕ)) (waits : List ℕ)
-    → before.lines ≡ lines → judged ≡ judged_line lines line → AreViolations before.setting judged found
-    → reported ≡ found → LeavesParts (HasBegunLine before judged reported) e waited a waits b
+    → before.lines ≡ lines → checked ≡ checked_line lines line → AreViolations before.setting checked found
+    → reported ≡ found → LeavesParts (HasBegunLine before checked reported) e waited a waits b
     → LeavesParts (AreFirstParts Begins before line) e waited a waits b
-leaves_line e before lines line judged found reported waited a b waits place judges are is_reported left =
-    let same : judged ≡ judged_line before.lines line = judges ∙ ap (λ n. judged_line n line) (sym place) in
-    LeavesParts-map (HasBegunLine before (judged_line before.lines line) found) (AreFirstParts Begins before line) e
+leaves_line e before lines line checked found reported waited a b waits place checks are is_reported left =
+    let same : checked ≡ checked_line before.lines line = checks ∙ ap (λ n. checked_line n line) (sym place) in
+    LeavesParts-map (HasBegunLine before (checked_line before.lines line) found) (AreFirstParts Begins before line) e
     waited a waits b
     (λ parts. begins_line before line found parts (subst (λ j. AreViolations before.setting j found) same are))
     (subst (λ j. LeavesParts (HasBegunLine before j found) e waited a waits b) same
-    (subst (λ vs. LeavesParts (HasBegunLine before judged vs) e waited a waits b) is_reported left))
+    (subst (λ vs. LeavesParts (HasBegunLine before checked vs) e waited a waits b) is_reported left))

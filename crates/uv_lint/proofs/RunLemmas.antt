@@ -17,7 +17,7 @@ use Rattle.uv_lint.specs.declared.fault.LintFault.{LintFault}
 use Rattle.uv_lint.specs.Findings.{AreAllFindings, Findings}
 use Rattle.uv_lint.specs.LineViolations.{FileSetting}
 use Rattle.uv_lint.specs.Report.{IsReport, IsReportBegun, first_found}
-use Rattle.uv_lint.specs.Report.{counted, judged_line, judged_lines, judged_of, line_text, lines_text}
+use Rattle.uv_lint.specs.Report.{checked_line, checked_lines, checked_of, counted, line_text, lines_text}
 use Rattle.uv_lint.specs.Report.{lines_within, list_begin_text, list_end_text, none_counted, refused_in, tally}
 use Rattle.uv_lint.specs.Reporting.{Begins, Linting, Says, with_line}
 use Rattle.uv_lint.specs.Run.{FailsReads, IsPartWithin, IsReportWithin, Leaves, answer_of_run, fault_of_run}
@@ -40,11 +40,11 @@ plus-counted : (c : LintCounts) (line : Option (List ℕ)) (found : Findings) (l
     (rest : List Findings)
     → plus (counted c line found.violations) (tally lines rest) ≡ plus c (tally (line ∷ lines) (found ∷ rest))
 plus-counted c line found lines rest =
-    let judged = sum_by-append judged_of (line ∷ []) lines in
+    let checked = sum_by-append checked_of (line ∷ []) lines in
     let refused = sum_by-append refused_in (found ∷ []) rest in
-    same_counts (c.lines + judged_of line + sum_by judged_of lines) (c.lines + sum_by judged_of (line ∷ lines))
+    same_counts (c.lines + checked_of line + sum_by checked_of lines) (c.lines + sum_by checked_of (line ∷ lines))
     (c.refused + refused_in found + sum_by refused_in rest) (c.refused + sum_by refused_in (found ∷ rest))
-    (omega (arith, judged)) (omega (arith, refused))
+    (omega (arith, checked)) (omega (arith, refused))
 
 plus-none : (d : LintCounts) → plus none_counted d ≡ d
 plus-none d = same_counts (0 + d.lines) d.lines (0 + d.refused) d.refused (zero-add d.lines) (zero-add d.refused)
@@ -55,9 +55,9 @@ plus-no_lines c = same_counts c.lines (c.lines + 0) c.refused (c.refused + 0) (o
 -- what was said of lines, one after the other
 record WasReported (n : ℕ) (p : Linting) (ls : List (List ℕ)) (text : List ℕ) (q : Linting) : Type 0 where
   findings : List Findings
-  found : AreAllFindings p.setting (judged_lines p.lines (map (short_line n) ls)) findings
-  lines : text ≡ lines_text p.setting (p.lines + 1) p.is_first (judged_lines p.lines (map (short_line n) ls)) findings
-  counts : q.counts ≡ plus p.counts (tally (judged_lines p.lines (map (short_line n) ls)) findings)
+  found : AreAllFindings p.setting (checked_lines p.lines (map (short_line n) ls)) findings
+  lines : text ≡ lines_text p.setting (p.lines + 1) p.is_first (checked_lines p.lines (map (short_line n) ls)) findings
+  counts : q.counts ≡ plus p.counts (tally (checked_lines p.lines (map (short_line n) ls)) findings)
 
 was_reported : (n : ℕ) (p q : Linting) (ls : List (List ℕ)) (text : List ℕ) → Reported Says n p ls text q
     → WasReported n p ls text q
@@ -70,7 +70,7 @@ was_reported n p q [] text all = record {
 was_reported n p q (l ∷ ls) text all =
     let rest = all.1 in
     let says = all.3 in
-    let line = judged_line p.lines (short_line n l) in
+    let line = checked_line p.lines (short_line n l) in
     let more : WasReported n (with_line p line says.findings.violations) ls rest q =
     subst (λ s. WasReported n s ls rest q) says.left (was_reported n all.2 q ls rest all.4) in
     record {
@@ -79,19 +79,19 @@ was_reported n p q (l ∷ ls) text all =
       lines = all.5 ∙ ap (λ t. t ++ rest) says.written
           ∙ ap (λ t. line_text p.setting (p.lines + 1) line p.is_first says.findings ++ t) more.lines;
       counts = more.counts ∙ plus-counted p.counts line says.findings
-          (judged_lines (p.lines + 1) (map (short_line n) ls)) more.findings;
+          (checked_lines (p.lines + 1) (map (short_line n) ls)) more.findings;
     }
 
 -- the same, and of a further line the first diagnostics alone
 record WasBegun (n : ℕ) (p : Linting) (ls : List (List ℕ)) (l : List ℕ) (text : List ℕ) (q : Linting) : Type 0 where
   findings : List Findings
   last : Findings
-  found : AreAllFindings p.setting (judged_lines p.lines (map (short_line n) (ls ++ l ∷ []))) (findings ++ last ∷ [])
+  found : AreAllFindings p.setting (checked_lines p.lines (map (short_line n) (ls ++ l ∷ []))) (findings ++ last ∷ [])
   count : ℕ
   lines : text
-      ≡ lines_text p.setting (p.lines + 1) p.is_first (judged_lines p.lines (map (short_line n) (ls ++ l ∷ [])))
+      ≡ lines_text p.setting (p.lines + 1) p.is_first (checked_lines p.lines (map (short_line n) (ls ++ l ∷ [])))
       (findings ++ first_found count last ∷ [])
-  counts : q.counts ≡ plus p.counts (tally (judged_lines p.lines (map (short_line n) ls)) findings)
+  counts : q.counts ≡ plus p.counts (tally (checked_lines p.lines (map (short_line n) ls)) findings)
 
 was_begun : (n : ℕ) (p q : Linting) (ls : List (List ℕ)) (l said parts : List ℕ) → Reported Says n p ls said q
     → Begins q (short_line n l) parts → WasBegun n p ls l (said ++ parts) q
@@ -103,14 +103,14 @@ was_begun n p q [] l said parts all begun =
       found = (first.found, tt {0});
       count = first.count;
       lines = ap (λ t. t ++ parts) all.0 ∙ first.written
-          ∙ sym (append-nil (line_text p.setting (p.lines + 1) (judged_line p.lines (short_line n l)) p.is_first
+          ∙ sym (append-nil (line_text p.setting (p.lines + 1) (checked_line p.lines (short_line n l)) p.is_first
           (first_found first.count first.findings)));
       counts = ap (λ r. r.counts) all.1 ∙ plus-no_lines p.counts;
     }
 was_begun n p q (k ∷ ls) l said parts all begun =
     let rest = all.1 in
     let says = all.3 in
-    let line = judged_line p.lines (short_line n k) in
+    let line = checked_line p.lines (short_line n k) in
     let more : WasBegun n (with_line p line says.findings.violations) ls l (rest ++ parts) q =
     subst (λ s. WasBegun n s ls l (rest ++ parts) q) says.left (was_begun n all.2 q ls l rest parts all.4 begun) in
     record {
@@ -122,7 +122,7 @@ was_begun n p q (k ∷ ls) l said parts all begun =
           ∙ append_assoc (line_text p.setting (p.lines + 1) line p.is_first says.findings) rest parts
           ∙ ap (λ t. line_text p.setting (p.lines + 1) line p.is_first says.findings ++ t) more.lines;
       counts = more.counts ∙ plus-counted p.counts line says.findings
-          (judged_lines (p.lines + 1) (map (short_line n) ls)) more.findings;
+          (checked_lines (p.lines + 1) (map (short_line n) ls)) more.findings;
     }
 
 -- ---- from a run over lines to the report
@@ -131,7 +131,7 @@ was_begun n p q (k ∷ ls) l said parts all begun =
 abbrev pub fresh : FileSetting → Bool → Linting
 fresh setting is_first = record { setting = setting; is_first = is_first; lines = 0; counts = none_counted }
 
--- what stands before the diagnostics, and behind them
+-- what is before the diagnostics, and after them
 abbrev begin_of : FileSetting → List ℕ
 begin_of setting = list_begin_text setting.form setting.format setting.file
 

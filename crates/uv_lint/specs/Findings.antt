@@ -18,7 +18,7 @@ use Rattle.uv_report.specs.Format.{shows_mended}
 use Rattle.uv_lint.specs.LineViolations.{AreViolations, FileSetting, link_of}
 use Rattle.uv_lint.specs.Located.{LocatedLink}
 
--- a valid text, and how it stands to the refused one
+-- a valid text, and how it is to the refused one
 pub record MendedText : Type 0 where
   pub text : List ℕ
   pub kind : MendKind
@@ -35,17 +35,17 @@ unmended violations = record { violations = violations; mended = None }
 -- ---- the text
 
 -- What is shown of a line: its text, where U+FFFD stands for what isn't UTF-8; and nothing of one that has more bytes
--- than a line may have, for which none stands.
+-- than a line may have, for which none is.
 abbrev pub shown : Option (List ℕ) → List ℕ
 shown None = []
 shown (Some line) = utf8_lossy line
 
--- the bytes that a line is judged by: its link's, where the line says where that stands
+-- the bytes that a line is checked by: its link's, where the line says where that is
 abbrev pub bytes_by : Option LocatedLink → Option (List ℕ) → Option (List ℕ)
 bytes_by (Some link) line = Some link.link
 bytes_by None line = line
 
--- the text that a line is judged by: its link's, where the line says where that stands
+-- the text that a line is checked by: its link's, where the line says where that is
 abbrev pub text_by : Option LocatedLink → Option (List ℕ) → List ℕ
 text_by (Some link) line = shown (Some link.link)
 text_by None line = shown line

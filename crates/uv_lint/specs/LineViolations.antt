@@ -25,7 +25,7 @@ use Rattle.uv_lint.specs.declared.setting.LintSetting.{LintSetting}
 use Rattle.uv_lint.specs.Located.{LocatedLink, located}
 use Rattle.uv_lint.specs.LocatedFault.{located_fault}
 
--- a file's name, what its lines are judged by, how what is found is written, what columns count, and what a line is
+-- a file's name, what its lines are checked by, how what is found is written, what columns count, and what a line is
 pub record FileSetting : Type 0 where
   pub file : List ℕ
   pub base : Option Url
@@ -54,11 +54,11 @@ violations_in (One violation) = violation ∷ []
 violations_in (lines.All violations) = violations.items
 
 -- there is no refusal and the text is valid, or the text is refused by the first of them
-abbrev pub Judges : Profile → Option Url → List ℕ → List Refusal → Type 0
-Judges profile base text [] = (parts : Parts) × Valid profile base text parts
-Judges profile base text (refusal ∷ rest) = IsRefused profile base text refusal
+abbrev pub Checks : Profile → Option Url → List ℕ → List Refusal → Type 0
+Checks profile base text [] = (parts : Parts) × Valid profile base text parts
+Checks profile base text (refusal ∷ rest) = IsRefused profile base text refusal
 
--- no refusal stands behind the first one
+-- no refusal is after the first one
 abbrev pub HasOneAtMost : List Refusal → Type 0
 HasOneAtMost [] = Unit {0}
 HasOneAtMost (refusal ∷ rest) = rest ≡ []
@@ -71,11 +71,11 @@ AreReported All profile base text refusals = AreFaults profile base text refusal
 -- what is wrong with a text: nothing where it is valid, else the violations of it that are reported
 pub record AreTextViolations (setting : FileSetting) (text : List ℕ) (violations : List LineViolation) : Type 0 where
   pub refusals : List Refusal
-  pub judges : Judges setting.profile setting.base text refusals
+  pub checks : Checks setting.profile setting.base text refusals
   pub reported : AreReported setting.extent setting.profile setting.base text refusals
   pub are : violations ≡ map Refused refusals
 
--- the place of the first byte that isn't UTF-8: so many code points stand before it
+-- the place of the first byte that isn't UTF-8: so many code points are before it
 abbrev pub foreign_place : List ℕ → ℕ
 foreign_place bytes = length (chars (take (utf8_valid_len bytes) bytes))
 
@@ -85,7 +85,7 @@ AreBytesViolations setting bytes violations =
     (IsUtf8 bytes × AreTextViolations setting (chars bytes) violations)
     ⊎ (¬ (IsUtf8 bytes) × (violations ≡ NotUtf8 (foreign_place bytes) ∷ []))
 
--- what is wrong with a line that is to say where its link stands and doesn't: that, or that it isn't UTF-8
+-- what is wrong with a line that is to say where its link is and doesn't: that, or that it isn't UTF-8
 abbrev pub AreStrayViolations : List ℕ → List LineViolation → Type 0
 AreStrayViolations line violations =
     (IsUtf8 line × (violations ≡ NotLocated (located_fault line) ∷ []))
@@ -96,13 +96,13 @@ abbrev pub AreWholeViolations : LineForm → FileSetting → List ℕ → List L
 AreWholeViolations Plain setting line violations = AreBytesViolations setting line violations
 AreWholeViolations Located setting line violations = AreStrayViolations line violations
 
--- the link of a line that says where it stands, where lines are to say it
+-- the link of a line that says where it is, where lines are to say it
 abbrev pub link_of : LineForm → Option (List ℕ) → Option LocatedLink
 link_of Plain line = None
 link_of Located line = option_and_then located line
 
 -- What is wrong with a line, and with its link where it has one; none stands for a line that has more bytes than a line
--- may have. Such a line is too long, and nothing is wrong with an empty line. An empty link is judged.
+-- may have. Such a line is too long, and nothing is wrong with an empty line. An empty link is checked.
 abbrev pub AreViolationsBy : FileSetting → Option LocatedLink → Option (List ℕ) → List LineViolation → Type 0
 AreViolationsBy setting (Some link) line violations = AreBytesViolations setting link.link violations
 AreViolationsBy setting None None violations = violations ≡ TooLong ∷ []

@@ -1,4 +1,4 @@
--- Why a line doesn't say where its link stands, as `FILE:LINE:COLUMN:LINK` does.
+-- Why a line doesn't say where its link is, as `FILE:LINE:COLUMN:LINK` does.
 use Rattle.std.specs.Prelude.{ℕ, ◌==◌, Bool, true, List, [], ◌∷◌, Option, Some, None, drop, if◌then◌else◌, is_none}
 use Rattle.std.specs.Prelude.{is_some, take}
 use Rattle.std.specs.Option.{option_and_then}
@@ -21,7 +21,7 @@ abbrev pub ends_number : List ℕ → Bool
 ends_number [] = true
 ends_number (b ∷ rest) = b == 0x3A
 
--- the number behind the colon that a text begins with, where a colon follows it or nothing does
+-- the number after the colon that a text begins with, where a colon follows it or nothing does
 abbrev pub whole_number : List ℕ → Option Number
 whole_number text =
     option_and_then (λ number. if ends_number number.rest then Some number else None) (number_of text)
@@ -39,7 +39,7 @@ number_fault (Some line) = if is_some (whole_number line.rest) then NoLink else 
 
 -- ---- the line
 
--- the same by the run of a line behind this FILE, where it has one
+-- the same by the run of a line after this FILE, where it has one
 abbrev pub fault_by : List ℕ → List ℕ → Option Run → LocatedFault
 fault_by line file (Some run) = run_fault file run
 fault_by line file None = number_fault (first_number line)

@@ -1,4 +1,4 @@
--- Located lines that are written out: where their links stand, why others aren't of the form, and the diagnostics on a
+-- Located lines that are written out: where their links are, why others aren't of the form, and the diagnostics on a
 -- list of them.
 use Rattle.std.specs.Prelude.{◌≡◌, ℕ, ◌++◌, true, List, [], ◌∷◌, Option, Some, None, codes, map}
 use Rattle.uv_model.specs.declared.extent.Extent.TheVariants.{First}
@@ -10,7 +10,7 @@ use Rattle.uv_report.specs.declared.line_violation.LineViolation.TheVariants.{Re
 use Rattle.uv_report.specs.declared.located_fault.LocatedFault.TheVariants.{NoFile, NoLine, LineRange, NoColumn}
 use Rattle.uv_report.specs.declared.located_fault.LocatedFault.TheVariants.{ColumnRange, NoLink}
 use Rattle.uv_report.specs.declared.format.Format.{Format}
-use Rattle.uv_report.specs.declared.format.Format.TheVariants.{Gnu, Checkstyle}
+use Rattle.uv_report.specs.declared.format.Format.TheVariants.{Checkstyle, Gnu}
 use Rattle.uv_lines.specs.Lines.{lines_of}
 use Rattle.uv_lint.specs.declared.setting.LineForm.TheVariants.{Located}
 use Rattle.uv_lint.specs.Findings.{Findings, unmended}
@@ -20,7 +20,7 @@ use Rattle.uv_lint.specs.LocatedFault.{located_fault}
 use Rattle.uv_lint.specs.Report.{lines_text, lines_within}
 use Rattle.uv_lint.specs.ReportRows.{list_setting}
 
--- a link that stands there
+-- a link that is there
 abbrev pub stands : List ℕ → ℕ → ℕ → List ℕ → Option LocatedLink
 stands file line column link = Some (record { file = file; line = line; column = column; link = link })
 
@@ -46,7 +46,7 @@ pub record LocatedRows : Type 0 where
   pub sign : located (codes "a:+1:2:x") ≡ None
   pub no_utf8 : located (255 ∷ codes ":1:2:x") ≡ None
 
--- why lines aren't of the form: what stands first between two colons, or between one and the end, is LINE
+-- why lines aren't of the form: what is first between two colons, or between one and the end, is LINE
 pub record LocatedFaultRows : Type 0 where
   pub no_line : located_fault (codes "a.html:http://h/") ≡ NoLine
   pub port : located_fault (codes "http://h:80/") ≡ NoLine
@@ -88,7 +88,7 @@ located_violations =
 abbrev pub located_findings : List Findings
 located_findings = map unmended located_violations
 
--- a link that stands in the column 10, with U+1F600 before a fault
+-- a link that is in the column 10, with U+1F600 before a fault
 abbrev pub wide_list : List ℕ
 wide_list = codes "a:3:10:urn:" ++ (0xF0 ∷ 0x9F ∷ 0x98 ∷ 0x80 ∷ codes " b")
 

@@ -12,6 +12,6 @@ number_view n = record { value = n.value; rest = n.rest.now }
 abbrev pub run_view : run.Run → Run
 run_view r = record { line = r.line; column = r.column; link = r.link.now }
 
--- a link and where it stands
+-- a link and where it is
 abbrev pub link_view : code.LocatedLink → LocatedLink
 link_view l = record { file = l.file.now; line = l.line; column = l.column; link = l.link.now }

@@ -1,5 +1,5 @@
--- The report on a file: what stands before its diagnostics, the diagnostics on each line, in order and numbered from 1,
--- and what stands behind them.
+-- The report on a file: what is before its diagnostics, the diagnostics on each line, in order and numbered from 1,
+-- and what is after them.
 use Rattle.std.specs.Prelude.{◌≡◌, ℕ, ◌+◌, ◌-◌, ◌^◌, ◌==◌, Bool, false, List, [], ◌∷◌, ◌++◌, Option, Some, None}
 use Rattle.std.specs.Prelude.{if◌then◌else◌, length, map, min, option_map, sum_by, take}
 use Rattle.std.specs.Borrow.{Bor}
@@ -24,17 +24,17 @@ use Rattle.uv_lint.specs.Located.{LocatedLink}
 
 -- ---- the diagnostics
 
--- a text behind a reference; where that points no diagnostic says
+-- a text after a reference; where that points no diagnostic says
 abbrev pub lent : List ℕ → Bor (List ℕ)
 lent text = record { ref_ptr = (0, 0); now = text }
 
--- What stands before the diagnostics of a file. Where lines say where their links stand, each diagnostic is about a
--- file of its own, and this stands before each diagnostic.
+-- What is before the diagnostics of a file. Where lines say where their links are, each diagnostic is about a
+-- file of its own, and this is before each diagnostic.
 abbrev pub list_begin_text : LineForm → Format → List ℕ → List ℕ
 list_begin_text Plain format file = file_begin_text format file
 list_begin_text Located format file = []
 
--- and what stands behind them
+-- and what is after them
 abbrev pub list_end_text : LineForm → Format → List ℕ
 list_end_text Plain format = file_end_text format
 list_end_text Located format = []
@@ -44,14 +44,14 @@ abbrev pub framed_text : LineForm → Format → List ℕ → List ℕ → List 
 framed_text Plain format file text = text
 framed_text Located format file text = file_begin_text format file ++ (text ++ file_end_text format)
 
--- a text and where it stands: the file, the number of the line, the column of its beginning, and what is shown of it
+-- a text and where it is: the file, the number of the line, the column of its beginning, and what is shown of it
 pub record ReportedText : Type 0 where
   pub file : List ℕ
   pub line : ℕ
   pub start : ℕ
   pub text : List ℕ
 
--- the column behind a text that begins in this one
+-- the column after a text that begins in this one
 abbrev pub end_column : Columns → ℕ → List ℕ → ℕ
 end_column columns start text = column_at columns start text (length (chars text))
 
@@ -64,7 +64,7 @@ mended_at columns start text mended =
 abbrev pub mended_on : Columns → ReportedText → Option MendedText → Option Mended
 mended_on columns reported mended = option_map (mended_at columns reported.start reported.text) mended
 
--- a diagnostic on a text that is judged by a profile: its columns are those of the place of the violation, and of the
+-- a diagnostic on a text that is checked by a profile: its columns are those of the place of the violation, and of the
 -- one at which what is wrong ends
 abbrev pub diagnostic_on : Columns → Profile → ReportedText → Option Mended → LineViolation → Diagnostic
 diagnostic_on columns profile reported mended violation = record {
@@ -78,7 +78,7 @@ diagnostic_on columns profile reported mended violation = record {
   mended = mended;
 }
 
--- in each unit the column of bytes that aren't UTF-8 is that behind their longest beginning that is
+-- in each unit the column of bytes that aren't UTF-8 is that after their longest beginning that is
 abbrev pub ForeignColumns : Type 0
 ForeignColumns =
     (columns : Columns) (start : ℕ) (bytes : List ℕ) → ¬ (IsUtf8 bytes)
@@ -107,7 +107,7 @@ text_diagnostics setting reported is_first findings =
     diagnostics_text setting.form setting.format setting.columns setting.profile reported is_first
     (mended_on setting.columns reported findings.mended) findings.violations
 
--- what the diagnostics on a line tell: its link, where the line says that it stands, else the line with this number
+-- what the diagnostics on a line tell: its link, where the line says that it is, else the line with this number
 abbrev pub reported_by : List ℕ → ℕ → Option (List ℕ) → Option LocatedLink → ReportedText
 reported_by file number line (Some link) =
     record { file = link.file; line = link.line; start = link.column; text = shown (Some link.link) }
@@ -135,28 +135,28 @@ lines_text setting number is_first (line ∷ lines) (findings ∷ rest) =
     ++ lines_text setting (number + 1) (is_still_first is_first findings.violations) lines rest
 lines_text setting number is_first _ _ = []
 
--- ---- the lines as they are judged
+-- ---- the lines as they are checked
 
--- A line as it is judged after so many others: a byte order mark at the file's start is no part of the first one. It is
--- among the bytes that a line may have.
-abbrev pub judged_line : ℕ → Option (List ℕ) → Option (List ℕ)
-judged_line before line = if before == 0 then option_map without_mark line else line
+-- A line as it is checked after so many others: a byte order mark at the file's start is no part of the first one. It
+-- is among the bytes that a line may have.
+abbrev pub checked_line : ℕ → Option (List ℕ) → Option (List ℕ)
+checked_line before line = if before == 0 then option_map without_mark line else line
 
--- lines as they are judged after so many others
-abbrev pub judged_lines : ℕ → List (Option (List ℕ)) → List (Option (List ℕ))
-judged_lines before [] = []
-judged_lines before (line ∷ lines) = judged_line before line ∷ judged_lines (before + 1) lines
+-- lines as they are checked after so many others
+abbrev pub checked_lines : ℕ → List (Option (List ℕ)) → List (Option (List ℕ))
+checked_lines before [] = []
+checked_lines before (line ∷ lines) = checked_line before line ∷ checked_lines (before + 1) lines
 
--- the lines of a file as they are judged, where none may have more than so many bytes
+-- the lines of a file as they are checked, where none may have more than so many bytes
 abbrev pub lines_within : ℕ → List (List ℕ) → List (Option (List ℕ))
-lines_within line_bytes lines = judged_lines 0 (map (short_line line_bytes) lines)
+lines_within line_bytes lines = checked_lines 0 (map (short_line line_bytes) lines)
 
 -- ---- the counts
 
--- a judged line counts once; an empty one isn't judged
-abbrev pub judged_of : Option (List ℕ) → ℕ
-judged_of (Some []) = 0
-judged_of _ = 1
+-- a checked line counts once; an empty one isn't checked
+abbrev pub checked_of : Option (List ℕ) → ℕ
+checked_of (Some []) = 0
+checked_of _ = 1
 
 -- and so does one of which something was found
 abbrev pub refused_of : List LineViolation → ℕ
@@ -174,13 +174,13 @@ none_counted = record { lines = 0; refused = 0 }
 -- the counts with a further line
 abbrev pub counted : LintCounts → Option (List ℕ) → List LineViolation → LintCounts
 counted counts line violations = record {
-  lines = counts.lines + judged_of line;
+  lines = counts.lines + checked_of line;
   refused = counts.refused + refused_of violations;
 }
 
 -- the counts of lines
 abbrev pub tally : List (Option (List ℕ)) → List Findings → LintCounts
-tally lines findings = record { lines = sum_by judged_of lines; refused = sum_by refused_in findings }
+tally lines findings = record { lines = sum_by checked_of lines; refused = sum_by refused_in findings }
 
 -- ---- the report
 
@@ -196,8 +196,8 @@ pub record IsReport (setting : FileSetting) (line_bytes : ℕ) (is_first : Bool)
       ++ list_end_text setting.form setting.format)
   pub counts_are : counts ≡ tally (lines_within line_bytes lines) findings
 
--- The text is the report on lines, on the last of which it has only some of the first diagnostics; its end stands
--- behind them. The counts are those of the lines before that.
+-- The text is the report on lines, on the last of which it has only some of the first diagnostics; its end is
+-- after them. The counts are those of the lines before that.
 pub record IsReportBegun (setting : FileSetting) (line_bytes : ℕ) (is_first : Bool) (lines : List (List ℕ))
     (text : List ℕ) (counts : LintCounts) : Type 0 where
   pub before : List (List ℕ)

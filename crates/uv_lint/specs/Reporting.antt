@@ -5,7 +5,7 @@ use Rattle.uv_lines.specs.Waiting.{Passes}
 use Rattle.uv_lint.specs.declared.counts.LintCounts.{LintCounts}
 use Rattle.uv_lint.specs.Findings.{AreFindings, Findings, IsMended, MendedText}
 use Rattle.uv_lint.specs.LineViolations.{FileSetting, link_of}
-use Rattle.uv_lint.specs.Report.{ReportedText, counted, first_found, is_still_first, judged_line, line_text}
+use Rattle.uv_lint.specs.Report.{ReportedText, checked_line, counted, first_found, is_still_first, line_text}
 use Rattle.uv_lint.specs.Report.{reported_by, text_diagnostics}
 
 -- the file's setting, whether no diagnostic of the report was written yet, how many lines came, and the counts of those
@@ -15,7 +15,7 @@ pub record Linting : Type 0 where
   pub lines : ℕ
   pub counts : LintCounts
 
--- behind a further line
+-- after a further line
 abbrev pub with_line : Linting → Option (List ℕ) → List LineViolation → Linting
 with_line before line violations = record {
   setting = before.setting;
@@ -62,16 +62,16 @@ HasBegunLine before line violations parts =
 -- the diagnostics on the next line, and what it leaves
 pub record Says (before : Linting) (line : Option (List ℕ)) (text : List ℕ) (after : Linting) : Type 0 where
   pub findings : Findings
-  pub found : AreFindings before.setting (judged_line before.lines line) findings
+  pub found : AreFindings before.setting (checked_line before.lines line) findings
   pub written : text
-      ≡ line_text before.setting (before.lines + 1) (judged_line before.lines line) before.is_first findings
-  pub left : after ≡ with_line before (judged_line before.lines line) findings.violations
+      ≡ line_text before.setting (before.lines + 1) (checked_line before.lines line) before.is_first findings
+  pub left : after ≡ with_line before (checked_line before.lines line) findings.violations
 
 -- some of the first diagnostics on the next line
 pub record Begins (before : Linting) (line : Option (List ℕ)) (text : List ℕ) : Type 0 where
   pub findings : Findings
-  pub found : AreFindings before.setting (judged_line before.lines line) findings
+  pub found : AreFindings before.setting (checked_line before.lines line) findings
   pub count : ℕ
   pub written : text
-      ≡ line_text before.setting (before.lines + 1) (judged_line before.lines line) before.is_first
+      ≡ line_text before.setting (before.lines + 1) (checked_line before.lines line) before.is_first
       (first_found count findings)

@@ -41,7 +41,7 @@ pub record WroteNothing (old : Option (List ℕ)) (read : List ℕ) (counts : Li
   pub none : counts ≡ none_counted
 
 -- What a fault of a run leaves, when these bytes were read. What was written is the report on some of the first lines
--- with its end, or a prefix of that behind a failed write. Where memory ran out, or a write failed, that report may
+-- with its end, or a prefix of that after a failed write. Where memory ran out, or a write failed, that report may
 -- have only some of the first diagnostics on the last of these lines; each of those is whole, but for the one that a
 -- failed write has cut.
 abbrev pub Leaves : LintFault → FileSetting → LineLimits → Bool → Option (List ℕ) → List ℕ → Type 0 → LintCounts
@@ -60,8 +60,8 @@ Leaves Endless setting limits is_first old read at_end counts new =
     WroteFirst (IsReportWithin setting limits is_first) old read (length (closed_lines read)) counts new
     × (2 ^ 64 - 1 ≤ length read)
 
--- how many reads have failed behind a fault, of so many before: one more for a read, and perhaps for a write, since
--- what stands behind the diagnostics is written behind a failed read too
+-- how many reads have failed after a fault, of so many before: one more for a read, and perhaps for a write, since
+-- what is after the diagnostics is written after a failed read too
 abbrev pub FailsReads : LintFault → ℕ → ℕ → Type 0
 FailsReads Read old new = new ≡ old + 1
 FailsReads Write old new = (new ≡ old) ⊎ (new ≡ old + 1)

@@ -1,6 +1,6 @@
-//! How many lines were judged, and of how many something was found.
+//! How many lines were checked, and of how many something was found.
 
-/// How many lines were judged, and of how many something was found.
+/// How many lines were checked, and of how many something was found.
 #[derive(Clone, Copy, Debug, PartialEq, Eq)]
 pub struct LintCounts {
     /// Lines that aren't empty.

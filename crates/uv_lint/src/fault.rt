@@ -16,7 +16,7 @@ pub enum LintFault {
     /// A write failed, or took nothing of a piece that had bytes. A beginning of the report was written, perhaps cut
     /// within a diagnostic. A read may have failed before.
     Write,
-    /// A further line began behind as many as may come. The report on all those was written, with its end.
+    /// A further line began after as many as may come. The report on all those was written, with its end.
     TooManyLines,
     /// 2^64 - 1 reads gave bytes, and none the end. The report on whole lines was written, with its end.
     Endless,

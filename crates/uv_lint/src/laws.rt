@@ -8,7 +8,7 @@ pub fn lint_rows()
     ensures { LintRows }
 {}
 
-/// Lines that are written out, with the place that each says its link to stand at, or without.
+/// Lines that are written out, with the place that each says its link to be at, or without.
 pub fn located_rows()
     ensures { LocatedRows }
 {}

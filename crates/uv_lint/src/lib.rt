@@ -1,4 +1,4 @@
-//! The faults of a list of links: each line of a file judged, and what is found written as diagnostics.
+//! The faults of a list of links: each line of a file checked, and what is found written as diagnostics.
 #![tactic(auto)]
 
 mod code_points;

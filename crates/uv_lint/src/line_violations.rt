@@ -144,7 +144,7 @@ impl<'a> LintReporter<'a> {
     }
 }
 
-// What is wrong with a line that is to say where its link stands, and doesn't.
+// What is wrong with a line that is to say where its link is, and doesn't.
 fn stray_violations(line: &[u8]) -> LineViolations
     ensures { AreStrayViolations line.now (violations_in result) }
 {

@@ -1,4 +1,4 @@
-//! Lines that say where their link stands.
+//! Lines that say where their link is.
 ghost use Rattle.std.specs.Prelude.{◌≡◌, option_copied, option_map, true};
 ghost use Rattle.std.specs.Char.{is_ascii_digit};
 ghost use Rattle.std.specs.List.{list_all};
@@ -10,7 +10,7 @@ ghost use Rattle.uv_lint.specs.LocatedViews.{link_view, number_view, run_view};
 use crate::setting::LineForm;
 use std::str::from_utf8;
 
-/// A link with the place where it stands, as its line says it.
+/// A link with the place where it is, as its line says it.
 #[derive(Clone, Copy)]
 pub(crate) struct LocatedLink<'l> {
     /// The name of the file, which isn't empty.
@@ -30,7 +30,7 @@ pub(crate) struct Number<'l> {
     pub(crate) rest: &'l [u8],
 }
 
-/// `:LINE:COLUMN:`: the two numbers, where they are from 1 to 2^32 - 1, and the link behind them.
+/// `:LINE:COLUMN:`: the two numbers, where they are from 1 to 2^32 - 1, and the link after them.
 #[derive(Clone, Copy)]
 pub(crate) struct Run<'l> {
     pub(crate) line: Option<u32>,
@@ -38,7 +38,7 @@ pub(crate) struct Run<'l> {
     pub(crate) link: &'l [u8],
 }
 
-/// The link of a line that says where it stands, where lines are to say it.
+/// The link of a line that says where it is, where lines are to say it.
 pub(crate) fn link_of(form: LineForm, line: Option<&[u8]>) -> Option<LocatedLink<'_>>
     ensures { option_map link_view result ≡ violations.link_of form (option_copied line.entry) }
 {
@@ -48,7 +48,7 @@ pub(crate) fn link_of(form: LineForm, line: Option<&[u8]>) -> Option<LocatedLink
     }
 }
 
-/// The link of a line `FILE:LINE:COLUMN:LINK`, and where it stands. FILE is all before the first `:digits:digits:`; it
+/// The link of a line `FILE:LINE:COLUMN:LINK`, and where it is. FILE is all before the first `:digits:digits:`; it
 /// isn't empty and is UTF-8, and both numbers are from 1 to 2^32 - 1. `None` stands for a line that isn't of this form.
 pub(crate) fn located(line: &[u8]) -> Option<LocatedLink<'_>>
     ensures { option_map link_view result ≡ spec.located line.now }
@@ -58,7 +58,7 @@ pub(crate) fn located(line: &[u8]) -> Option<LocatedLink<'_>>
     link_in(file, run)
 }
 
-/// How many bytes stand before the first run: all of them, where there is none.
+/// How many bytes are before the first run: all of them, where there is none.
 pub(crate) fn file_length(line: &[u8]) -> usize
     ensures { result ≡ spec.file_length line.now }
 {
@@ -71,7 +71,7 @@ pub(crate) fn file_length(line: &[u8]) -> usize
     line.len()
 }
 
-// The link of a run behind the name of a file.
+// The link of a run after the name of a file.
 fn link_in<'l>(file: &'l [u8], run: Run<'l>) -> Option<LocatedLink<'l>>
     ensures { option_map link_view result ≡ spec.link_in file.entry.now (run_view run.entry) }
 {
@@ -103,7 +103,7 @@ pub(crate) fn run_of(text: &[u8]) -> Option<Run<'_>>
 {
     let line = number_of(text)?;
     let column = number_of(line.rest)?;
-    let link = behind_colon(column.rest)?;
+    let link = after_colon(column.rest)?;
     Some(Run {
         line: line.value,
         column: column.value,
@@ -111,23 +111,23 @@ pub(crate) fn run_of(text: &[u8]) -> Option<Run<'_>>
     })
 }
 
-/// The digits behind the colon that a text begins with, and what follows them.
+/// The digits after the colon that a text begins with, and what follows them.
 pub(crate) fn number_of(text: &[u8]) -> Option<Number<'_>>
     ensures { option_map number_view result ≡ spec.number_of text.now }
 {
-    let behind = behind_colon(text)?;
-    let count = digit_count(behind);
+    let after = after_colon(text)?;
+    let count = digit_count(after);
     if count == 0 {
         return None;
     }
-    let (digits, rest) = behind.split_at(count);
+    let (digits, rest) = after.split_at(count);
     let value = value_of(digits);
     Some(Number { value, rest })
 }
 
 // What follows the colon that a text begins with.
-fn behind_colon(text: &[u8]) -> Option<&[u8]>
-    ensures { option_map (λ rest. rest.now) result ≡ spec.behind_colon text.now }
+fn after_colon(text: &[u8]) -> Option<&[u8]>
+    ensures { option_map (λ rest. rest.now) result ≡ spec.after_colon text.now }
 {
     match text {
         [b':', rest @ ..] => Some(rest),

@@ -1,4 +1,4 @@
-//! Why a line doesn't say where its link stands.
+//! Why a line doesn't say where its link is.
 ghost use Rattle.std.specs.Prelude.{◌≡◌, option_map};
 ghost use Rattle.uv_lint.specs.LocatedFault as spec;
 ghost use Rattle.uv_lint.specs.LocatedViews.{number_view, run_view};
@@ -17,7 +17,7 @@ pub(crate) fn located_fault(line: &[u8]) -> LocatedFault
     }
 }
 
-// Why a run behind the name of a file says no place of a link.
+// Why a run after the name of a file says no place of a link.
 fn run_fault(file: &[u8], run: Run<'_>) -> LocatedFault
     ensures { result ≡ spec.run_fault file.now (run_view run.entry) }
 {
@@ -57,7 +57,7 @@ fn first_number(line: &[u8]) -> Option<Number<'_>>
     None
 }
 
-// The number behind the colon that a text begins with, where a colon follows it or nothing does.
+// The number after the colon that a text begins with, where a colon follows it or nothing does.
 fn whole_number(text: &[u8]) -> Option<Number<'_>>
     ensures { option_map number_view result ≡ spec.whole_number text.now }
 {

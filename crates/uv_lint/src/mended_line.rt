@@ -12,7 +12,7 @@ use uv_mend::{MendKind, Mending, mend_refused};
 use uv_model::Refusal;
 use uv_report::{ColumnCounter, Columns, LineViolation, Mended};
 
-/// A valid text, and how it stands to the refused one.
+/// A valid text, and how it is to the refused one.
 #[derive(Drop)]
 pub(crate) struct MendedLine {
     pub(crate) text: String,
@@ -83,7 +83,7 @@ pub(crate) fn mended_in_place<'l>(
     }
 }
 
-// The column behind a text that begins in this one. Where columns count code points, it isn't walked by them.
+// The column after a text that begins in this one. Where columns count code points, it isn't walked by them.
 fn end_column(columns: Columns, start: u64, text: &str) -> u64
     ensures { result ≡ end_column columns start text.now }
 {

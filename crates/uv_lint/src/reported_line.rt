@@ -25,7 +25,7 @@ use uv_report::{
     push_seen_diagnostic, put_seen_diagnostic,
 };
 
-/// A line, or the link of one, with the place where it stands.
+/// A line, or the link of one, with the place where it is.
 #[derive(Clone, Copy)]
 pub(crate) struct Place<'l> {
     /// The name of the file.
@@ -39,7 +39,7 @@ pub(crate) struct Place<'l> {
 }
 
 impl<'l> Place<'l> {
-    /// Where a line with this number stands in a file, or its link, where it says where that stands.
+    /// Where a line with this number is in a file, or its link, where it says where that is.
     pub(crate) fn of(
         file: &'l str,
         number: u64,
@@ -80,7 +80,7 @@ pub(crate) struct ReportedLine<'l> {
 
 impl<'l> ReportedLine<'l> {
     /// Says a diagnostic for each violation, the first of which says what to write. It is given whether the first of
-    /// them is the first one of the report. A part ends behind each diagnostic; room for one is given.
+    /// them is the first one of the report. A part ends after each diagnostic; room for one is given.
     pub(crate) fn push<W: Sink>(
         &self,
         alloc: Global,
@@ -120,7 +120,7 @@ impl<'l> ReportedLine<'l> {
         Ok(())
     }
 
-    // A diagnostic on the text, which is judged by a profile, from this column up to another.
+    // A diagnostic on the text, which is checked by a profile, from this column up to another.
     fn diagnostic_in(
         &self,
         column: u64,
@@ -164,7 +164,7 @@ fn seen_text<'l>(text: &'l str, violations: &[LineViolation]) -> SeenText<'l>
     }
 }
 
-// Says a diagnostic whose text was seen, and ends a part behind it.
+// Says a diagnostic whose text was seen, and ends a part after it.
 fn say_framed<W: Sink>(
     alloc: Global,
     reported: &mut String,
@@ -245,7 +245,7 @@ fn put_framed(
     }
 }
 
-/// The text of a line of which this was found that is shown, as a slice of the line where that is UTF-8: U+FFFD stands
+/// The text of a line of which this was found that is shown, as a slice of the line where that is UTF-8: U+FFFD is
 /// for what isn't, and of a line that is too long nothing is shown. A line of which a rule is violated was seen to be
 /// UTF-8, and isn't looked at again.
 pub(crate) fn shown_text<'l>(

@@ -5,7 +5,7 @@ ghost use Rattle.uv_lines.specs.Fault.{failed_within};
 ghost use Rattle.uv_lines.specs.Waiting.{LeavesParts};
 ghost use Rattle.uv_lint.specs.Findings.{IsRefusedFirst};
 ghost use Rattle.uv_lint.specs.LineViolations.{AreViolations, file_setting};
-ghost use Rattle.uv_lint.specs.Report.{judged_of, none_counted};
+ghost use Rattle.uv_lint.specs.Report.{checked_of, none_counted};
 ghost use Rattle.uv_lint.specs.Report as spec;
 ghost use Rattle.uv_lint.specs.ReportedView.{shown_at};
 ghost use Rattle.uv_lint.specs.Reporting.{HasBegun, HasBegunLine, HasReported, HasReportedLine, with_line};
@@ -22,7 +22,7 @@ use uv_lines::{ReportFault, Reporter, without_mark};
 use uv_model::{Extent, Profile, Record};
 use uv_report::LineViolation;
 
-/// What reports on the lines of a file: what they are judged by, whether no diagnostic of the report was written yet,
+/// What reports on the lines of a file: what they are checked by, whether no diagnostic of the report was written yet,
 /// and the counts of the lines before.
 #[derive(Drop)]
 pub(crate) struct LintReporter<'a> {
@@ -147,7 +147,7 @@ impl<'a> LintReporter<'a> {
         self.report_text(alloc, place, shown.as_str(), violations, text, writer)
     }
 
-    // Says the diagnostics on what is shown of a text that stands there, with what to write in its place.
+    // Says the diagnostics on what is shown of a text that is there, with what to write in its place.
     fn report_text<'x, W: Sink>(
         &mut self,
         alloc: Global,
@@ -194,7 +194,7 @@ impl<'a> LintReporter<'a> {
         ensures { self.new ≡ with_line self.old (option_copied line.entry) violations.now }
     {
         self.lines += 1;
-        if is_judged(line) {
+        if is_checked(line) {
             self.counts.lines += 1;
         }
         if !violations.is_empty() {
@@ -222,7 +222,7 @@ impl<'a> Reporter for LintReporter<'a> {
         text: &mut Vec<u8>,
         writer: &mut W,
     ) -> Result<(), ReportFault<AllocError>> {
-        let line = judged_line(self.lines, line);
+        let line = checked_line(self.lines, line);
         let Ok(violations) = self.violations(alloc, line) else {
             return Err(ReportFault::Reporter(AllocError));
         };
@@ -246,9 +246,9 @@ impl<'a> Reporter for LintReporter<'a> {
     }
 }
 
-// Whether a line is judged: an empty one isn't.
-fn is_judged(line: Option<&[u8]>) -> bool
-    ensures { judged_of (option_copied line.entry) ≡ (if result then 1 else 0) }
+// Whether a line is checked: an empty one isn't.
+fn is_checked(line: Option<&[u8]>) -> bool
+    ensures { checked_of (option_copied line.entry) ≡ (if result then 1 else 0) }
 {
     match line {
         Some(line) => !line.is_empty(),
@@ -256,9 +256,9 @@ fn is_judged(line: Option<&[u8]>) -> bool
     }
 }
 
-// A line as it is judged after so many others: a byte order mark at the file's start is no part of the first one.
-fn judged_line(before: u64, line: Option<&[u8]>) -> Option<&[u8]>
-    ensures { option_copied result ≡ spec.judged_line before (option_copied line.entry) }
+// A line as it is checked after so many others: a byte order mark at the file's start is no part of the first one.
+fn checked_line(before: u64, line: Option<&[u8]>) -> Option<&[u8]>
+    ensures { option_copied result ≡ spec.checked_line before (option_copied line.entry) }
 {
     match line {
         Some(line) if before == 0 => Some(without_mark(line)),

@@ -20,21 +20,21 @@ const LINE_LIMITS: LineLimits = LineLimits {
     lines: 1_000_000_000,
 };
 
-/// Reports on one file: judges each of its lines and writes what stands before the file's diagnostics, a diagnostic for
-/// each violation, and what stands behind them. It is given the name by which diagnostics name the file, and whether no
+/// Reports on one file: checks each of its lines and writes what is before the file's diagnostics, a diagnostic for
+/// each violation, and what is after them. It is given the name by which diagnostics name the file, and whether no
 /// diagnostic of the report was written yet.
 ///
-/// A located line is `FILE:LINE:COLUMN:LINK`, where FILE is all before the first `:digits:digits:`. Its link is judged,
-/// also an empty one, and reported by that file and line and from that column on. What isn't of this form is reported
-/// by the name and number of the list's line. What stands round a file's diagnostics then stands round each diagnostic.
+/// A located line is `FILE:LINE:COLUMN:LINK`, where FILE is all before the first `:digits:digits:`. Its link is
+/// checked, also an empty one, and reported by that file and line and from that column on. What isn't of this form is
+/// reported by the name and number of the list's line. What is round a file's diagnostics then is round each diagnostic.
 ///
 /// A line ends with LF, and one CR before that is no part of it; a last part without LF is a line where it isn't empty.
 /// A byte order mark at the file's start is no part of the first line, though it is among the bytes that this may have.
-/// Lines are numbered from 1, and an empty line, which is numbered too, isn't judged. A line may have 65,536 bytes, and
-/// 1,000,000,000 lines may come. What is found with the lines that a read has ended is written before the next read,
-/// and sooner where 262,144 bytes or more wait behind a diagnostic. What stands behind the diagnostics is written
-/// behind each fault but one of a write. The writer isn't flushed. The counts are those of the lines that were reported
-/// on whole, also behind a fault. After a fault nothing is tried again, and how far the reader was read is open.
+/// Lines are numbered from 1, and an empty line, which is numbered too, isn't checked. A line may have 65,536 bytes,
+/// and 1,000,000,000 lines may come. What is found with the lines that a read has ended is written before the next read,
+/// and sooner where 262,144 bytes or more wait after a diagnostic. What is after the diagnostics is written
+/// after each fault but one of a write. The writer isn't flushed. The counts are those of the lines that were reported
+/// on whole, also after a fault. After a fault nothing is tried again, and how far the reader was read is open.
 pub fn run_lint<R: Source, W: Sink>(
     alloc: Global,
     reader: &mut R,
@@ -104,7 +104,7 @@ pub fn run_within<R: Source, W: Sink>(
     (reporter.counts(), answer_of_run(answer))
 }
 
-// What stands before the diagnostics of a file: nothing where each of them is about a file of its own.
+// What is before the diagnostics of a file: nothing where each of them is about a file of its own.
 fn list_begin(alloc: Global, setting: LintSetting<'_>, file: &str) -> Result<String, AllocError>
     ensures { IfOk result (λ begin. string_bytes begin
         ≡ list_begin_text setting.entry.form setting.entry.format file.now) }
@@ -116,7 +116,7 @@ fn list_begin(alloc: Global, setting: LintSetting<'_>, file: &str) -> Result<Str
     Ok(begin)
 }
 
-// What stands behind them.
+// What is after them.
 fn list_end(alloc: Global, setting: LintSetting<'_>) -> Result<String, AllocError>
     ensures { IfOk result (λ end. string_bytes end ≡ list_end_text setting.entry.form setting.entry.format) }
 {

@@ -1,9 +1,9 @@
-//! What the lines of a file are judged by, and how what is found is written.
+//! What the lines of a file are checked by, and how what is found is written.
 
 use uv_model::{Extent, Profile, Record};
 use uv_report::{Columns, Format};
 
-/// What the lines of a file are judged by, and how what is found is written.
+/// What the lines of a file are checked by, and how what is found is written.
 #[derive(Clone, Copy)]
 pub struct LintSetting<'b> {
     /// The base of relative links, where there is one.

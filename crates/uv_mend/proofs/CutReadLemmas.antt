@@ -1,4 +1,4 @@
--- The second parser cuts a text at its first `#`, and what stands before that at its first `?`.
+-- The second parser cuts a text at its first `#`, and what is before that at its first `?`.
 use Rattle.std.proofs.Common.{◌≡◌, ◌∙◌, ℕ, Bool, true, false, not, ◌&&◌, ◌||◌, ◌==◌, List, [], ◌∷◌, ◌++◌, refl, sym, ap}
 use Rattle.std.proofs.Common.{inl, inr, arith, map, Option, All}
 use Rattle.std.specs.Prelude.{if◌then◌else◌}
@@ -16,11 +16,11 @@ use Rattle.uv_model.specs.Ascii.{backslash, colon}
 use Rattle.uv_mend.specs.declared.prefixes.Stop.TheVariants.{Start}
 use Rattle.uv_mend.specs.Prefixes.{stops}
 use Rattle.uv_mend.specs.Readings.{class_of_kind}
-use Rattle.uv_mend.specs.Slashes.{as_slash, behind_marks, is_slash_mark, new_slashes, renews_slashes, slashed_behind}
+use Rattle.uv_mend.specs.Slashes.{after_marks, as_slash, is_slash_mark, new_slashes, renews_slashes, slashed_after}
 use Rattle.uv_mend.specs.Slashes.{starts_with_two_marks, with_slashes}
 use Rattle.uv_mend.proofs.TurnedLemmas.{isnt_turned, is_turned, turned}
 
--- what stands before the `?` and the `#`, and the query
+-- what is before the `?` and the `#`, and the query
 abbrev pub question_cut : List ℕ → List ℕ × Option (List ℕ)
 question_cut text = split_once 63 (split_once 35 text).0
 
@@ -32,7 +32,7 @@ neither : (x y : Bool) → (x || y) ≡ false → (x ≡ false) × (y ≡ false)
 neither false y none = (refl, none)
 neither true y none = absurd (false≢true (sym none))
 
--- nothing stands before such a mark at the start
+-- nothing is before such a mark at the start
 pub cut_stop : (c : ℕ) (rest : List ℕ) → stops Start c ≡ true → (question_cut (c ∷ rest)).0 ≡ []
 unfolding split_once
 cut_stop c rest stop = elim (cases_Bool (c == 35)) [
@@ -46,7 +46,7 @@ cut_stop c rest stop = elim (cases_Bool (c == 35)) [
     question true y either none = refl
     question false y either none = absurd (false≢true (sym none ∙ either))
 
--- another code point stands before them
+-- another code point is before them
 pub cut_step : (c : ℕ) (rest : List ℕ) → stops Start c ≡ false
     → (question_cut (c ∷ rest) ≡ (c ∷ (question_cut rest).0, (question_cut rest).1))
     × (hash_cut (c ∷ rest) ≡ hash_cut rest)
@@ -144,25 +144,25 @@ mark_goes c mark = grind (arith, nat_tests)
 stop_no_mark : (c : ℕ) → stops Start c ≡ true → is_slash_mark c ≡ false
 stop_no_mark c stop = grind (arith, nat_tests)
 
-marks_cut : (text : List ℕ) → HasCut text (behind_marks text) (behind_marks (question_cut text).0)
+marks_cut : (text : List ℕ) → HasCut text (after_marks text) (after_marks (question_cut text).0)
 unfolding split_once
 marks_cut [] = record { front_is = refl; query_is = refl; fragment_is = refl }
 marks_cut (c ∷ rest) = elim (cases_Bool (is_slash_mark c)) [
   | inl mark ↦
-      let less : behind_marks (c ∷ rest) ≡ behind_marks rest = cond-true _ _ _ mark in
+      let less : after_marks (c ∷ rest) ≡ after_marks rest = cond-true _ _ _ mark in
       let known = marks_cut rest in
       let one = cut_step c rest (mark_goes c mark) in
       record {
         front_is =
             ap (λ t. (question_cut t).0) less ∙ known.front_is ∙ sym (cond-true _ _ _ mark)
-            ∙ sym (ap (λ (r : List ℕ × Option (List ℕ)). behind_marks r.0) one.0);
+            ∙ sym (ap (λ (r : List ℕ × Option (List ℕ)). after_marks r.0) one.0);
         query_is =
             ap (λ t. (question_cut t).1) less ∙ known.query_is
             ∙ sym (ap (λ (r : List ℕ × Option (List ℕ)). r.1) one.0);
         fragment_is = ap hash_cut less ∙ known.fragment_is ∙ sym one.1;
       }
   | inr other ↦
-      let same : behind_marks (c ∷ rest) ≡ c ∷ rest = cond-false _ _ _ other in
+      let same : after_marks (c ∷ rest) ≡ c ∷ rest = cond-false _ _ _ other in
       record {
         front_is = ap (λ t. (question_cut t).0) same ∙ sym (front c rest other);
         query_is = ap (λ t. (question_cut t).1) same;
@@ -171,12 +171,12 @@ marks_cut (c ∷ rest) = elim (cases_Bool (is_slash_mark c)) [
 ]
   where
     front : (c : ℕ) (rest : List ℕ) → is_slash_mark c ≡ false
-        → behind_marks (question_cut (c ∷ rest)).0 ≡ (question_cut (c ∷ rest)).0
+        → after_marks (question_cut (c ∷ rest)).0 ≡ (question_cut (c ∷ rest)).0
     front c rest other = elim (cases_Bool (stops Start c)) [
-      | inl stop ↦ let none = cut_stop c rest stop in ap behind_marks none ∙ sym none
+      | inl stop ↦ let none = cut_stop c rest stop in ap after_marks none ∙ sym none
       | inr goes ↦
           let first = ap (λ (r : List ℕ × Option (List ℕ)). r.0) (cut_step c rest goes).0 in
-          ap behind_marks first ∙ cond-false _ _ _ other ∙ sym first
+          ap after_marks first ∙ cond-false _ _ _ other ∙ sym first
     ]
 
 pub two_marks : (text : List ℕ) → starts_with_two_marks text ≡ starts_with_two_marks (question_cut text).0
@@ -208,10 +208,10 @@ two_marks (c ∷ d ∷ rest) = elim (cases_Bool (stops Start c)) [
 
 -- ---- the slashes that are written anew
 
--- the text with new ones, each code point as it stands
+-- the text with new ones, each code point as it is
 abbrev pub renewed : Class → Bool → List ℕ → List ℕ
 renewed kind has_scheme text =
-    if renews_slashes kind has_scheme text then new_slashes kind ++ behind_marks text else text
+    if renews_slashes kind has_scheme text then new_slashes kind ++ after_marks text else text
 
 new_slashed : (kind : Class) (text : List ℕ)
     → new_slashes kind ++ with_slashes kind text ≡ with_slashes kind (new_slashes kind ++ text)
@@ -221,11 +221,11 @@ new_slashed class.File text = refl
 new_slashed class.Other text = refl
 
 pub slashed_renewed : (kind : Class) (has_scheme : Bool) (text : List ℕ)
-    → slashed_behind kind has_scheme text ≡ with_slashes kind (renewed kind has_scheme text)
-unfolding slashed_behind
+    → slashed_after kind has_scheme text ≡ with_slashes kind (renewed kind has_scheme text)
+unfolding slashed_after
 slashed_renewed kind has_scheme text = elim (cases_Bool (renews_slashes kind has_scheme text)) [
   | inl renews ↦
-      cond-true _ _ _ renews ∙ new_slashed kind (behind_marks text)
+      cond-true _ _ _ renews ∙ new_slashed kind (after_marks text)
       ∙ sym (ap (with_slashes kind) (cond-true _ _ _ renews))
   | inr stays ↦ cond-false _ _ _ stays ∙ sym (ap (with_slashes kind) (cond-false _ _ _ stays))
 ]
@@ -249,8 +249,8 @@ pub renewed_cut : (kind : Class) (has_scheme : Bool) (text : List ℕ)
     → HasCut text (renewed kind has_scheme text) (renewed kind has_scheme (question_cut text).0)
 renewed_cut kind has_scheme text = elim (cases_Bool (renews_slashes kind has_scheme text)) [
   | inl renews ↦
-      let new : renewed kind has_scheme text ≡ new_slashes kind ++ behind_marks text = cond-true _ _ _ renews in
-      let cut = new_cut kind (behind_marks text) in
+      let new : renewed kind has_scheme text ≡ new_slashes kind ++ after_marks text = cond-true _ _ _ renews in
+      let cut = new_cut kind (after_marks text) in
       let known = marks_cut text in
       record {
         front_is =

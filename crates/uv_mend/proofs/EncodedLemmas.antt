@@ -6,7 +6,7 @@ use Rattle.std.proofs.lemmas.Bool.{cases_Bool, cases_lt}
 use Rattle.std.proofs.lemmas.Bool.Decides.{nat_tests}
 use Rattle.std.proofs.lemmas.Str.{encode_ascii, encodes-append}
 use Rattle.uv_model.proofs.Texts.AsciiLemmas.{AreBeyond, AreBeyond-encode}
-use Rattle.uv_mend.specs.Prepared.{before_controls, behind_controls, is_control_or_space, is_tab_or_newline}
+use Rattle.uv_mend.specs.Prepared.{after_controls, before_controls, is_control_or_space, is_tab_or_newline}
 use Rattle.uv_mend.specs.Prepared.{on_one_line}
 use Rattle.uv_mend.proofs.PreparedLemmas.{before_controls-none, before_controls-one, before_controls-other, from_ends}
 
@@ -56,12 +56,12 @@ lines_encoded (c ∷ rest) = elim (cases_lt c 128) [
 
 -- ---- the start
 
-controls_beyond : (bytes rest : List ℕ) → IsBeyond bytes → behind_controls (bytes ++ rest) ≡ bytes ++ rest
+controls_beyond : (bytes rest : List ℕ) → IsBeyond bytes → after_controls (bytes ++ rest) ≡ bytes ++ rest
 controls_beyond bytes rest is =
     let shown : is_control_or_space is.first ≡ false = grind (arith, nat_tests, is.beyond.0) in
     rw is.some (rw shown refl)
 
-pub start_encoded : (text : List ℕ) → behind_controls (encode_utf8_all text) ≡ encode_utf8_all (behind_controls text)
+pub start_encoded : (text : List ℕ) → after_controls (encode_utf8_all text) ≡ encode_utf8_all (after_controls text)
 start_encoded [] = refl
 start_encoded (c ∷ rest) = elim (cases_lt c 128) [
   | inl low ↦ rw (encode_ascii c low) (elim (cases_Bool (is_control_or_space c)) [

@@ -15,9 +15,9 @@ use Rattle.uv_model.specs.Units.{is_unit_at}
 use Rattle.uv_model.specs.Scheme.{starts_with_scheme}
 use Rattle.uv_mend.specs.declared.prefixes.Stop.{Stop}
 use Rattle.uv_mend.specs.declared.prefixes.Stop.TheVariants.{Scheme, Authority}
-use Rattle.uv_mend.specs.CodePoints.{behind_one, first_alone}
-use Rattle.uv_mend.specs.Escapes.{IsEscapingOf, as_unit, as_units, escape, escaped, escaped_behind}
-use Rattle.uv_mend.specs.Prefixes.{authority_prefix, before, behind_authority, behind_scheme, onward, scheme_prefix}
+use Rattle.uv_mend.specs.CodePoints.{after_one, first_alone}
+use Rattle.uv_mend.specs.Escapes.{IsEscapingOf, as_unit, as_units, escape, escaped, escaped_after}
+use Rattle.uv_mend.specs.Prefixes.{after_authority, after_scheme, authority_prefix, before, onward, scheme_prefix}
 use Rattle.uv_mend.specs.Prefixes.{stops}
 
 -- an escape's code points are below 128
@@ -34,29 +34,29 @@ escape_is_ascii b =
 pub chars-escape : (b : ℕ) → chars (percent_encode_byte b) ≡ percent_encode_byte b
 chars-escape b = chars-IsAscii (percent_encode_byte b) (escape_is_ascii b)
 
--- ---- the prefixes and what stands behind them are the text
+-- ---- the prefixes and what is after them are the text
 
 pub prefix_parts : (stop : Stop) (text : List ℕ) → before stop text ++ onward stop text ≡ text
 prefix_parts stop [] = refl
 prefix_parts stop (c ∷ rest) =
     ⊎_elim (λ e. rw e refl) (λ e. rw e (ap (λ t. c ∷ t) (prefix_parts stop rest))) (cases_Bool (stops stop c))
 
-first_parts : (text : List ℕ) → first_alone text ++ behind_one text ≡ text
+first_parts : (text : List ℕ) → first_alone text ++ after_one text ≡ text
 first_parts [] = refl
 first_parts (c ∷ rest) = refl
 
 -- the scheme with its `:`
-pub scheme_parts : (text : List ℕ) → scheme_prefix text ++ behind_scheme text ≡ text
-unfolding scheme_prefix behind_scheme
+pub scheme_parts : (text : List ℕ) → scheme_prefix text ++ after_scheme text ≡ text
+unfolding scheme_prefix after_scheme
 scheme_parts text =
     ⊎_elim
-    (λ e. rw e (append_assoc (before Scheme text) (first_alone (onward Scheme text)) (behind_one (onward Scheme text))
+    (λ e. rw e (append_assoc (before Scheme text) (first_alone (onward Scheme text)) (after_one (onward Scheme text))
     ∙ ap (λ t. before Scheme text ++ t) (first_parts (onward Scheme text)) ∙ prefix_parts Scheme text))
     (λ e. rw e refl) (cases_Bool (starts_with_scheme text))
 
 -- `//` and the authority
-pub authority_parts : (text : List ℕ) → authority_prefix text ++ behind_authority text ≡ text
-unfolding authority_prefix behind_authority
+pub authority_parts : (text : List ℕ) → authority_prefix text ++ after_authority text ≡ text
+unfolding authority_prefix after_authority
 authority_parts [] = refl
 authority_parts (c ∷ []) = refl
 authority_parts (c ∷ d ∷ rest) =
@@ -71,10 +71,10 @@ authority_parts (c ∷ d ∷ rest) =
 -- ---- escapings
 
 -- a prefix may be kept
-escaping_behind : (prefix rest other : List ℕ) → IsEscapingOf rest other
+escaping_after : (prefix rest other : List ℕ) → IsEscapingOf rest other
     → IsEscapingOf (prefix ++ rest) (prefix ++ other)
-escaping_behind [] rest other is = is
-escaping_behind (c ∷ prefix) rest other is = (prefix ++ other, inl refl, escaping_behind prefix rest other is)
+escaping_after [] rest other is = is
+escaping_after (c ∷ prefix) rest other is = (prefix ++ other, inl refl, escaping_after prefix rest other is)
 
 -- a code point stays or is written as its escapes
 unit_cases : (in_fragment : Bool) (c : ℕ) (rest : List ℕ)
@@ -105,10 +105,10 @@ units_escaping in_fragment (c ∷ rest) = (
 pub escaped_escaping : (text : List ℕ) → IsEscapingOf text (escaped text)
 unfolding escaped
 escaped_escaping text =
-    let behind = behind_scheme text in
-    let inner : IsEscapingOf behind (escaped_behind behind) =
-    subst (λ t. IsEscapingOf t (escaped_behind behind)) (authority_parts behind)
-    (escaping_behind (authority_prefix behind) (behind_authority behind) (as_units false (behind_authority behind))
-    (units_escaping false (behind_authority behind))) in
-    subst (λ t. IsEscapingOf t (scheme_prefix text ++ escaped_behind behind)) (scheme_parts text)
-    (escaping_behind (scheme_prefix text) behind (escaped_behind behind) inner)
+    let after = after_scheme text in
+    let inner : IsEscapingOf after (escaped_after after) =
+    subst (λ t. IsEscapingOf t (escaped_after after)) (authority_parts after)
+    (escaping_after (authority_prefix after) (after_authority after) (as_units false (after_authority after))
+    (units_escaping false (after_authority after))) in
+    subst (λ t. IsEscapingOf t (scheme_prefix text ++ escaped_after after)) (scheme_parts text)
+    (escaping_after (scheme_prefix text) after (escaped_after after) inner)

@@ -8,7 +8,7 @@ use Rattle.std.proofs.lemmas.List.{length-drop, length-reverse, reverse-append, 
 use Rattle.url.specs.Input.{is_c0_control_or_space, is_tab_or_new_line, strip_tabs_and_new_lines}
 use Rattle.url.specs.Input.{trim_c0_control_and_space}
 use Rattle.url.specs.Input.{trim_end, trim_start}
-use Rattle.uv_mend.specs.Prepared.{before_controls, behind_controls, is_control_or_space, is_tab_or_newline}
+use Rattle.uv_mend.specs.Prepared.{after_controls, before_controls, is_control_or_space, is_tab_or_newline}
 use Rattle.uv_mend.specs.Prepared.{on_one_line, prepared}
 use Rattle.uv_mend.proofs.StepLemmas.{line_in, line_out}
 
@@ -29,7 +29,7 @@ stripped (b ∷ rest) = elim (cases_Bool (is_tab_or_newline b)) [
       cond-true _ _ _ (ap not (same_tab b ∙ other)) ∙ ap (λ t. b ∷ t) (stripped rest) ∙ sym (line_in b rest other)
 ]
 
-start_trimmed : (bytes : List ℕ) → trim_start is_c0_control_or_space bytes ≡ behind_controls bytes
+start_trimmed : (bytes : List ℕ) → trim_start is_c0_control_or_space bytes ≡ after_controls bytes
 start_trimmed [] = refl
 start_trimmed (b ∷ rest) = elim (cases_Bool (is_control_or_space b)) [
   | inl control ↦ rw (control, one-add) (start_trimmed rest)

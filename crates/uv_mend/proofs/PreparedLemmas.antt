@@ -1,23 +1,23 @@
 -- Texts without the controls and spaces at their end.
 use Rattle.std.proofs.Common.{◌≡◌, ℕ, true, false, List, [], ◌∷◌, ◌++◌, reverse, refl, subst, sym, ap, ◌∙◌}
 use Rattle.std.proofs.lemmas.List.{reverse-append, reverse-reverse}
-use Rattle.uv_mend.specs.Prepared.{before_controls, behind_controls, is_control_or_space}
+use Rattle.uv_mend.specs.Prepared.{after_controls, before_controls, is_control_or_space}
 
 -- of an empty text nothing is taken
 pub before_controls-none : before_controls [] ≡ []
 unfolding before_controls
 before_controls-none = refl
 
--- one behind the text is taken off
+-- one after the text is taken off
 pub before_controls-one : (text : List ℕ) (c : ℕ) → is_control_or_space c ≡ true
     → before_controls (text ++ c ∷ []) ≡ before_controls text
 unfolding before_controls
 before_controls-one text c is =
     let reversed = reverse-append text (c ∷ []) in
-    ap (λ t. reverse (behind_controls t)) reversed ∙ ap reverse (behind c (reverse text) is)
+    ap (λ t. reverse (after_controls t)) reversed ∙ ap reverse (after c (reverse text) is)
   where
-    behind : (c : ℕ) (rest : List ℕ) → is_control_or_space c ≡ true → behind_controls (c ∷ rest) ≡ behind_controls rest
-    behind c rest is = rw is refl
+    after : (c : ℕ) (rest : List ℕ) → is_control_or_space c ≡ true → after_controls (c ∷ rest) ≡ after_controls rest
+    after c rest is = rw is refl
 
 -- another code point ends the text
 pub before_controls-other : (text : List ℕ) (c : ℕ) → is_control_or_space c ≡ false
@@ -25,11 +25,11 @@ pub before_controls-other : (text : List ℕ) (c : ℕ) → is_control_or_space 
 unfolding before_controls
 before_controls-other text c isnt =
     let reversed = reverse-append text (c ∷ []) in
-    ap (λ t. reverse (behind_controls t)) reversed ∙ ap reverse (behind c (reverse text) isnt)
+    ap (λ t. reverse (after_controls t)) reversed ∙ ap reverse (after c (reverse text) isnt)
     ∙ ap reverse (sym reversed) ∙ reverse-reverse (text ++ c ∷ [])
   where
-    behind : (c : ℕ) (rest : List ℕ) → is_control_or_space c ≡ false → behind_controls (c ∷ rest) ≡ c ∷ rest
-    behind c rest isnt = rw isnt refl
+    after : (c : ℕ) (rest : List ℕ) → is_control_or_space c ≡ false → after_controls (c ∷ rest) ≡ c ∷ rest
+    after c rest isnt = rw isnt refl
 
 -- what holds of no code points, and of more by one at the end, holds of each text
 pub from_ends : (P : List ℕ → Type 0) → P [] → ((front : List ℕ) (c : ℕ) → P front → P (front ++ c ∷ []))

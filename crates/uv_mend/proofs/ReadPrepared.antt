@@ -3,7 +3,7 @@ use Rattle.std.proofs.Common.{◌≡◌, ◌∙◌, ℕ, List, Option, sym, ap, 
 use Rattle.url.specs.Input.{split_once}
 use Rattle.url.specs.Parser.{parse_by_scheme, parse_url, split_scheme}
 use Rattle.url.specs.Parts.{Parts}
-use Rattle.uv_mend.specs.Prepared.{before_controls, behind_controls, on_one_line, prepared}
+use Rattle.uv_mend.specs.Prepared.{after_controls, before_controls, on_one_line, prepared}
 use Rattle.uv_mend.specs.Readings.{PreparedTextsAreReadAlike}
 use Rattle.uv_mend.proofs.EncodedLemmas.{end_encoded, lines_encoded, start_encoded}
 use Rattle.uv_mend.proofs.PassedOver.{input_prepared}
@@ -13,7 +13,7 @@ use Rattle.uv_mend.proofs.StaysPrepared.{prepared_stays, whole}
 pub prepared_encoded : (text : List ℕ) → prepared (encode_utf8_all text) ≡ encode_utf8_all (prepared text)
 prepared_encoded text =
     ap (λ t. on_one_line (before_controls t)) (start_encoded text)
-    ∙ ap on_one_line (end_encoded (behind_controls text)) ∙ lines_encoded (before_controls (behind_controls text))
+    ∙ ap on_one_line (end_encoded (after_controls text)) ∙ lines_encoded (before_controls (after_controls text))
 
 -- nothing more is taken off
 pub prepared_twice : (text : List ℕ) → prepared (prepared text) ≡ prepared text

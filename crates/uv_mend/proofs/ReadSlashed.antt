@@ -23,10 +23,10 @@ use Rattle.uv_model.specs.Records.Url.{Url}
 use Rattle.uv_model.specs.Scheme.{goes_on_to_colon, is_scheme, is_scheme_code_point, starts_with_scheme}
 use Rattle.uv_model.proofs.Cuts.SchemeCutLemmas.{splits_at_scheme}
 use Rattle.uv_mend.specs.declared.prefixes.Stop.TheVariants.{Scheme, Start}
-use Rattle.uv_mend.specs.Prefixes.{before, behind_scheme, class_of_base, stops}
+use Rattle.uv_mend.specs.Prefixes.{after_scheme, before, class_of_base, stops}
 use Rattle.uv_mend.specs.Prepared.{prepared}
 use Rattle.uv_mend.specs.Readings.{KeepsItsSlashes, SlashedTextsAreReadAlike, class_of_kind, class_of_own}
-use Rattle.uv_mend.specs.Slashes.{behind_marks, new_slashes, renews_slashes, slashed, slashed_behind}
+use Rattle.uv_mend.specs.Slashes.{after_marks, new_slashes, renews_slashes, slashed, slashed_after}
 use Rattle.uv_mend.specs.Slashes.{starts_with_two_marks, with_slashes}
 use Rattle.uv_mend.proofs.CutReadLemmas.{HasCut, cut_scheme, cut_step, cut_stop, hash_cut, question_cut, renewed}
 use Rattle.uv_mend.proofs.CutReadLemmas.{renewed_cut, slashed_renewed, slashes_cut, slashes_stay, two_marks}
@@ -54,13 +54,13 @@ whole_read base bytes stays = ap (read_whole base) (input_prepared bytes ∙ who
 
 -- ---- what follows a scheme, or a text without one
 
-behind_read : (kind : SchemeType) → is_special kind ≡ true → (scheme : List ℕ) → scheme_type scheme ≡ kind
+after_read : (kind : SchemeType) → is_special kind ≡ true → (scheme : List ℕ) → scheme_type scheme ≡ kind
     → (scheme_is : Bool) (base : Option Parts) → IfSome base (λ b. b.scheme ≡ scheme) → (text : List ℕ)
     → IsKept scheme_is base (question_cut text).0
-    → let other = slashed_behind (class_of_kind kind) scheme_is text in
+    → let other = slashed_after (class_of_kind kind) scheme_is text in
     parse_parts scheme base (question_cut other).0 (question_cut other).1 (hash_cut other)
     ≡ parse_parts scheme base (question_cut text).0 (question_cut text).1 (hash_cut text)
-behind_read kind special scheme is scheme_is base same text kept =
+after_read kind special scheme is scheme_is base same text kept =
     let own = class_of_kind kind in
     let new = renewed own scheme_is text in
     let with = with_slashes own new in
@@ -80,8 +80,8 @@ behind_read kind special scheme is scheme_is base same text kept =
     ∙ renewed_read kind special scheme is scheme_is base same (question_cut text).0 kept query fragment
 
 -- a text of another kind stays
-other_stays : (scheme_is : Bool) (text : List ℕ) → slashed_behind class.Other scheme_is text ≡ text
-unfolding slashed_behind renews_slashes
+other_stays : (scheme_is : Bool) (text : List ℕ) → slashed_after class.Other scheme_is text ≡ text
+unfolding slashed_after renews_slashes
 other_stays scheme_is text = slashes_stay text
 
 -- ---- a text with a scheme
@@ -113,7 +113,7 @@ keeps : (base : Option Parts) (scheme rest : List ℕ) → is_scheme scheme ≡ 
 keeps base scheme rest is kept =
     let has = has_scheme scheme rest is in (
       λ _ some.
-          sym (two_marks rest) ∙ ap starts_with_two_marks (sym has.behind_colon)
+          sym (two_marks rest) ∙ ap starts_with_two_marks (sym has.after_colon)
           ∙ kept (and_from _ _ has.starts
           (ap (λ s. is_some (base_for_scheme base (lowercase s))) has.before_colon ∙ some)),
       λ none. absurd (false≢true (sym none)),
@@ -124,23 +124,23 @@ scheme_read : (url : Option Url) (base : Option Parts) (scheme rest : List ℕ) 
     → read_whole base (slashed url (scheme ++ colon ∷ rest)) ≡ read_whole base (scheme ++ colon ∷ rest)
 scheme_read url base scheme rest is kept =
     let name = lowercase scheme in
-    let other = slashed_behind (class_of_kind (scheme_type name)) true rest in
+    let other = slashed_after (class_of_kind (scheme_type name)) true rest in
     ap (read_whole base) (slashed_written url scheme rest is) ∙ written_read base scheme other is
     ∙ by_kind (scheme_type name) refl ∙ sym (written_read base scheme rest is)
   where
     special_read : (kind : SchemeType) → is_special kind ≡ true → scheme_type (lowercase scheme) ≡ kind
-        → let other = slashed_behind (class_of_kind (scheme_type (lowercase scheme))) true rest in
+        → let other = slashed_after (class_of_kind (scheme_type (lowercase scheme))) true rest in
         parse_parts (lowercase scheme) (base_for_scheme base (lowercase scheme)) (question_cut other).0
         (question_cut other).1 (hash_cut other)
         ≡ parse_parts (lowercase scheme) (base_for_scheme base (lowercase scheme)) (question_cut rest).0
         (question_cut rest).1 (hash_cut rest)
     special_read kind special same =
-        behind_read (scheme_type (lowercase scheme)) (ap is_special same ∙ special) (lowercase scheme) refl true
+        after_read (scheme_type (lowercase scheme)) (ap is_special same ∙ special) (lowercase scheme) refl true
         (base_for_scheme base (lowercase scheme)) (base_is base (lowercase scheme)) rest
         (keeps base scheme rest is kept)
 
     by_kind : (kind : SchemeType) → scheme_type (lowercase scheme) ≡ kind
-        → let other = slashed_behind (class_of_kind (scheme_type (lowercase scheme))) true rest in
+        → let other = slashed_after (class_of_kind (scheme_type (lowercase scheme))) true rest in
         parse_parts (lowercase scheme) (base_for_scheme base (lowercase scheme)) (question_cut other).0
         (question_cut other).1 (hash_cut other)
         ≡ parse_parts (lowercase scheme) (base_for_scheme base (lowercase scheme)) (question_cut rest).0
@@ -148,7 +148,7 @@ scheme_read url base scheme rest is kept =
     by_kind NotSpecial same =
         ap (λ t. parse_parts (lowercase scheme) (base_for_scheme base (lowercase scheme)) (question_cut t).0
         (question_cut t).1 (hash_cut t))
-        (ap (λ k. slashed_behind (class_of_kind k) true rest) same ∙ other_stays true rest)
+        (ap (λ k. slashed_after (class_of_kind k) true rest) same ∙ other_stays true rest)
     by_kind SpecialNotFile same = special_read SpecialNotFile refl same
     by_kind File same = special_read File refl same
 
@@ -208,7 +208,7 @@ starts_renewed own bytes none = elim (cases_Bool (renews_slashes own false bytes
 ]
   where
     new : (own : Class) → renews_slashes own false bytes ≡ true
-        → starts_with_scheme (new_slashes own ++ behind_marks bytes) ≡ false
+        → starts_with_scheme (new_slashes own ++ after_marks bytes) ≡ false
     new class.SpecialNotFile renews = refl
     new class.File renews = refl
     new class.Other renews = absurd (false≢true renews)
@@ -226,15 +226,15 @@ empty_renewed own bytes = elim (cases_Bool (renews_slashes own false bytes)) [
     some (c ∷ rest) two = is_empty_nonempty (c ∷ rest) (omega arith)
 
     new : (own : Class) (bytes : List ℕ) → renews_slashes own false bytes ≡ true
-        → is_empty (new_slashes own ++ behind_marks bytes) ≡ is_empty bytes
+        → is_empty (new_slashes own ++ after_marks bytes) ≡ is_empty bytes
     new class.SpecialNotFile bytes renews =
-        is_empty_nonempty (47 ∷ 47 ∷ behind_marks bytes) (omega arith) ∙ sym (some bytes renews)
+        is_empty_nonempty (47 ∷ 47 ∷ after_marks bytes) (omega arith) ∙ sym (some bytes renews)
     new class.File bytes renews = absurd (false≢true renews)
     new class.Other bytes renews = absurd (false≢true renews)
 
 -- a text whose slashes are as they are read is cut where the text is
 bare_cut : (base : Parts) → is_special (kind_of base) ≡ true → (text : List ℕ)
-    → HasCut text (slashed_behind (class_of_kind (kind_of base)) false text)
+    → HasCut text (slashed_after (class_of_kind (kind_of base)) false text)
     (map turned (renewed (class_of_kind (kind_of base)) false (question_cut text).0))
 bare_cut base special text =
     let own = class_of_kind (kind_of base) in
@@ -250,10 +250,10 @@ bare_cut base special text =
     }
 
 bare_read : (base : Parts) → is_special (kind_of base) ≡ true → (text : List ℕ) → starts_with_scheme text ≡ false
-    → read_whole (Some base) (slashed_behind (class_of_kind (kind_of base)) false text) ≡ read_whole (Some base) text
+    → read_whole (Some base) (slashed_after (class_of_kind (kind_of base)) false text) ≡ read_whole (Some base) text
 bare_read base special text none =
     let own = class_of_kind (kind_of base) in
-    let other = slashed_behind own false text in
+    let other = slashed_after own false text in
     let cut = bare_cut base special text in
     let bare : starts_with_scheme (question_cut text).0 ≡ false = starts_front text ∙ none in
     let still : starts_with_scheme (question_cut other).0 ≡ false
@@ -262,7 +262,7 @@ bare_read base special text none =
     let empty : is_empty (question_cut other).0 ≡ is_empty (question_cut text).0
     = ap is_empty cut.front_is ∙ empty_turned (renewed own false (question_cut text).0)
     ∙ empty_renewed own (question_cut text).0 in
-    let parts = behind_read (kind_of base) special base.scheme refl false (Some base) refl text
+    let parts = after_read (kind_of base) special base.scheme refl false (Some base) refl text
     (λ is _. absurd (false≢true is), λ _. refl) in
     ap (λ s. parse_by_scheme s (Some base) (question_cut other).0 (question_cut other).1 (hash_cut other))
     (split_none (question_cut other).0 still)
@@ -291,7 +291,7 @@ bare_other : (url : Option Url) (base : Option Parts) (text : List ℕ) → star
     → class_of_base url ≡ class.Other → read_whole base (slashed url text) ≡ read_whole base text
 bare_other url base text none is =
     ap (read_whole base)
-    (slashed_bare url text none ∙ ap (λ k. slashed_behind k false text) is ∙ other_stays false text)
+    (slashed_bare url text none ∙ ap (λ k. slashed_after k false text) is ∙ other_stays false text)
 
 no_scheme_read : (url : Option Url) (base : Option Parts) → class_of_base url ≡ class_of_own base → (text : List ℕ)
     → starts_with_scheme text ≡ false → read_whole base (slashed url text) ≡ read_whole base text
@@ -302,10 +302,10 @@ no_scheme_read url (Some base) is text none = by_kind (kind_of base) refl
         → read_whole (Some base) (slashed url text) ≡ read_whole (Some base) text
     by_kind NotSpecial same = bare_other url (Some base) text none (is ∙ ap class_of_kind same)
     by_kind SpecialNotFile same =
-        ap (read_whole (Some base)) (slashed_bare url text none ∙ ap (λ k. slashed_behind k false text) is)
+        ap (read_whole (Some base)) (slashed_bare url text none ∙ ap (λ k. slashed_after k false text) is)
         ∙ bare_read base (ap is_special same) text none
     by_kind File same =
-        ap (read_whole (Some base)) (slashed_bare url text none ∙ ap (λ k. slashed_behind k false text) is)
+        ap (read_whole (Some base)) (slashed_bare url text none ∙ ap (λ k. slashed_after k false text) is)
         ∙ bare_read base (ap is_special same) text none
 
 -- ---- both
@@ -334,8 +334,8 @@ kept_encoded base text kept is =
     let other = has_scheme split.scheme (encode_utf8_all split.rest) split.is in
     let same : before Scheme text ≡ before Scheme (encode_utf8_all text)
     = ap (before Scheme) split.joined ∙ one.before_colon ∙ sym (ap (before Scheme) bytes ∙ other.before_colon) in
-    ap starts_with_two_marks (ap behind_scheme bytes ∙ other.behind_colon) ∙ two_encoded split.rest
-    ∙ sym (ap starts_with_two_marks (ap behind_scheme split.joined ∙ one.behind_colon))
+    ap starts_with_two_marks (ap after_scheme bytes ∙ other.after_colon) ∙ two_encoded split.rest
+    ∙ sym (ap starts_with_two_marks (ap after_scheme split.joined ∙ one.after_colon))
     ∙ kept (and_from _ _ starts (ap named same ∙ parts.1))
 
 -- by code points, from which what the parser passes over is taken

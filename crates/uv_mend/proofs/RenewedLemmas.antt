@@ -1,4 +1,4 @@
--- The second parser reads the slashes that are written anew as it reads the slash marks that stood there.
+-- The second parser reads the slashes that are written anew as it reads the slash marks that was there.
 use Rattle.std.proofs.Common.{◌≡◌, ◌∙◌, ℕ, ◌+◌, Bool, true, false, not, ◌&&◌, ◌||◌, ◌==◌, List, [], ◌∷◌, ◌++◌, refl}
 use Rattle.std.proofs.Common.{sym, ap}
 use Rattle.std.proofs.Common.{arith, inl, inr, drop, Option, Some, None, Ok, one-add}
@@ -17,29 +17,29 @@ use Rattle.url.specs.Path.{is_windows_drive_letter, parse_path}
 use Rattle.url.specs.Scheme.{is_file, is_slash, is_special, scheme_type}
 use Rattle.url.proofs.InputLemmas.{is_empty_nonempty}
 use Rattle.uv_mend.specs.Readings.{class_of_kind}
-use Rattle.uv_mend.specs.Slashes.{behind_marks, is_slash_mark, new_slashes, renews_slashes, starts_with_two_marks}
+use Rattle.uv_mend.specs.Slashes.{after_marks, is_slash_mark, new_slashes, renews_slashes, starts_with_two_marks}
 use Rattle.uv_mend.proofs.CutReadLemmas.{renewed}
 use Rattle.uv_mend.proofs.TurnedLemmas.{start_is}
 
 -- ---- slash marks
 
-skip_is : (bytes : List ℕ) → skip_slashes bytes ≡ behind_marks bytes
+skip_is : (bytes : List ℕ) → skip_slashes bytes ≡ after_marks bytes
 skip_is [] = refl
 skip_is (b ∷ rest) = elim (cases_Bool (is_slash_mark b)) [
   | inl mark ↦ rw (mark, one-add) (skip_is rest)
   | inr shown ↦ rw shown refl
 ]
 
-marks_twice : (bytes : List ℕ) → behind_marks (behind_marks bytes) ≡ behind_marks bytes
+marks_twice : (bytes : List ℕ) → after_marks (after_marks bytes) ≡ after_marks bytes
 marks_twice [] = refl
 marks_twice (b ∷ rest) = elim (cases_Bool (is_slash_mark b)) [
   | inl mark ↦ rw mark (marks_twice rest)
-  | inr shown ↦ ap behind_marks (cond-false _ _ _ shown)
+  | inr shown ↦ ap after_marks (cond-false _ _ _ shown)
 ]
 
-new_skipped : (bytes : List ℕ) → skip_slashes (slash ∷ slash ∷ behind_marks bytes) ≡ skip_slashes bytes
+new_skipped : (bytes : List ℕ) → skip_slashes (slash ∷ slash ∷ after_marks bytes) ≡ skip_slashes bytes
 new_skipped bytes =
-    skip_is (slash ∷ slash ∷ behind_marks bytes) ∙ marks_twice bytes ∙ sym (skip_is bytes)
+    skip_is (slash ∷ slash ∷ after_marks bytes) ∙ marks_twice bytes ∙ sym (skip_is bytes)
 
 with_true : (x y : Bool) → (x || (y && true)) ≡ (x || y)
 with_true true y = refl
@@ -74,14 +74,14 @@ relative_two base special body two =
     ∙ ap (after_double_slash base.scheme) (cond-true _ _ _ special)
 
 -- what follows two slashes, with the query and the fragment
-abbrev behind_two : List ℕ → List ℕ → Option (List ℕ) → Option (List ℕ) → Parsed Parts
-behind_two scheme body query fragment =
+abbrev after_two : List ℕ → List ℕ → Option (List ℕ) → Option (List ℕ) → Parsed Parts
+after_two scheme body query fragment =
     and_then (after_double_slash scheme (skip_slashes body))
     (λ url. Ok (with_tail (before_tail url query fragment) query fragment))
 
 parts_two : (scheme : List ℕ) → scheme_type scheme ≡ SpecialNotFile → (base : Parts) → base.scheme ≡ scheme
     → (body : List ℕ) (query fragment : Option (List ℕ)) → starts_with_two_marks body ≡ true
-    → parse_parts scheme (Some base) body query fragment ≡ behind_two base.scheme body query fragment
+    → parse_parts scheme (Some base) body query fragment ≡ after_two base.scheme body query fragment
 unfolding parse_parts parse_body
 parts_two scheme kind base same [] query fragment two = absurd (false≢true two)
 parts_two scheme kind base same (b ∷ []) query fragment two = absurd (false≢true two)
@@ -93,15 +93,15 @@ parts_two scheme kind base same (b ∷ d ∷ rest) query fragment two =
 
 parts_alone : (scheme : List ℕ) → scheme_type scheme ≡ SpecialNotFile
     → (body : List ℕ) (query fragment : Option (List ℕ))
-    → parse_parts scheme None body query fragment ≡ behind_two scheme body query fragment
+    → parse_parts scheme None body query fragment ≡ after_two scheme body query fragment
 unfolding parse_parts parse_body
 parts_alone scheme kind body query fragment =
     ap (λ parsed. and_then parsed (λ url. Ok (with_tail (before_tail url query fragment) query fragment)))
     (cond-false _ _ _ (ap is_file kind) ∙ cond-true _ _ _ (ap is_special kind))
 
-new_behind_two : (scheme body : List ℕ) (query fragment : Option (List ℕ))
-    → behind_two scheme (slash ∷ slash ∷ behind_marks body) query fragment ≡ behind_two scheme body query fragment
-new_behind_two scheme body query fragment =
+new_after_two : (scheme body : List ℕ) (query fragment : Option (List ℕ))
+    → after_two scheme (slash ∷ slash ∷ after_marks body) query fragment ≡ after_two scheme body query fragment
+new_after_two scheme body query fragment =
     ap (λ bytes. and_then (after_double_slash scheme bytes)
     (λ url. Ok (with_tail (before_tail url query fragment) query fragment))) (new_skipped body)
 
@@ -115,7 +115,7 @@ unfolding parse_file leading_slashes after_file_double_slash is_windows_drive_le
 file_new bytes =
     ap (λ path. Ok (with_path (file_with_host (Domain [])) path)) (start_is File refl [] (slash ∷ bytes))
 
-file_old : (body : List ℕ) → starts_with_two_marks body ≡ false → parse_file None body ≡ file_path (behind_marks body)
+file_old : (body : List ℕ) → starts_with_two_marks body ≡ false → parse_file None body ≡ file_path (after_marks body)
 unfolding parse_file leading_slashes
 file_old [] few = refl
 file_old (b ∷ []) few = elim (cases_Bool (is_slash_mark b)) [
@@ -173,20 +173,20 @@ renewed_read kind special scheme is has_scheme base same body kept query fragmen
     new : (kind : SchemeType) → is_special kind ≡ true → scheme_type scheme ≡ kind
         → (has_scheme : Bool) (base : Option Parts) → IfSome base (λ b. b.scheme ≡ scheme)
         → IsKept has_scheme base body → renews_slashes (class_of_kind kind) has_scheme body ≡ true
-        → parse_parts scheme base (new_slashes (class_of_kind kind) ++ behind_marks body) query fragment
+        → parse_parts scheme base (new_slashes (class_of_kind kind) ++ after_marks body) query fragment
         ≡ parse_parts scheme base body query fragment
     new SpecialNotFile special is has_scheme None same kept renews =
-        parts_alone scheme is (slash ∷ slash ∷ behind_marks body) query fragment
-        ∙ new_behind_two scheme body query fragment ∙ sym (parts_alone scheme is body query fragment)
+        parts_alone scheme is (slash ∷ slash ∷ after_marks body) query fragment
+        ∙ new_after_two scheme body query fragment ∙ sym (parts_alone scheme is body query fragment)
     new SpecialNotFile special is has_scheme (Some base) same kept renews =
-        parts_two scheme is base same (slash ∷ slash ∷ behind_marks body) query fragment refl
-        ∙ new_behind_two base.scheme body query fragment
+        parts_two scheme is base same (slash ∷ slash ∷ after_marks body) query fragment refl
+        ∙ new_after_two base.scheme body query fragment
         ∙ sym (parts_two scheme is base same body query fragment (two has_scheme base kept renews))
     new File special is has_scheme None same kept renews =
         let few_marks = few has_scheme renews in
-        file_alone scheme is (slash ∷ slash ∷ slash ∷ behind_marks body) query fragment
+        file_alone scheme is (slash ∷ slash ∷ slash ∷ after_marks body) query fragment
         ∙ ap (λ parsed. and_then parsed (λ url. Ok (with_tail (before_tail url query fragment) query fragment)))
-        (file_new (behind_marks body) ∙ sym (file_old body few_marks.1))
+        (file_new (after_marks body) ∙ sym (file_old body few_marks.1))
         ∙ sym (file_alone scheme is body query fragment)
     new File special is has_scheme (Some base) same kept renews =
         let few_marks = few has_scheme renews in

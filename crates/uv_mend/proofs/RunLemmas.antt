@@ -1,4 +1,4 @@
--- Units stay as they are up to the code point behind them.
+-- Units stay as they are up to the code point after them.
 use Rattle.std.proofs.Common.{◌≡◌, ◌∙◌, ℕ, suc, ◌<◌, ◌-◌, Bool, true, false, ◌||◌, ◌==◌, List, [], ◌∷◌, ◌++◌}
 use Rattle.std.proofs.Common.{refl, sym, ap, inl, inr, arith, drop, take, length}
 use Rattle.std.proofs.lemmas.List.{length-drop}
@@ -45,7 +45,7 @@ run_stays in_fragment (c ∷ rest) =
           rw stops refl
     ]
 
--- the code point behind a run is no unit
+-- the code point after a run is no unit
 run_stops : (text : List ℕ) (c : ℕ) (rest : List ℕ) → drop (unit_length held text) text ≡ c ∷ rest
     → is_unit_at c rest ≡ false
 run_stops [] c rest is = cc
@@ -73,11 +73,11 @@ foreign_stands in_fragment c rest fault = rw fault refl
 pub is_run : (text units left rest : List ℕ) (c : ℕ) → IsUnitSplit held text units left → left ≡ c ∷ rest
     → IsRun text units c rest
 is_run text units left rest c split first in_fragment =
-    let behind : drop (unit_length held text) text ≡ c ∷ rest = sym split.is_rest ∙ first in
-    let fault = run_stops text c rest behind in
+    let after : drop (unit_length held text) text ≡ c ∷ rest = sym split.is_rest ∙ first in
+    let fault = run_stops text c rest after in
     run_stays in_fragment text
     ∙ ap (λ t. t ++ as_units in_fragment (drop (unit_length held text) text)) (sym split.is_prefix)
-    ∙ ap (λ t. units ++ as_units in_fragment t) behind
+    ∙ ap (λ t. units ++ as_units in_fragment t) after
     ∙ ap (λ t. units ++ (t ++ as_units (in_fragment || (c == number_sign)) rest))
     (foreign_stands in_fragment c rest fault)
 
@@ -85,9 +85,9 @@ is_run text units left rest c split first in_fragment =
 pub is_whole : (in_fragment : Bool) (text units left : List ℕ) → IsUnitSplit held text units left → left ≡ []
     → as_units in_fragment text ≡ units
 is_whole in_fragment text units left split none =
-    let behind : drop (unit_length held text) text ≡ [] = sym split.is_rest ∙ none in
+    let after : drop (unit_length held text) text ≡ [] = sym split.is_rest ∙ none in
     run_stays in_fragment text
-    ∙ ap (λ t. take (unit_length held text) text ++ as_units in_fragment t) behind
+    ∙ ap (λ t. take (unit_length held text) text ++ as_units in_fragment t) after
     ∙ append-nil (take (unit_length held text) text) ∙ sym split.is_prefix
 
 -- what follows is shorter
@@ -100,7 +100,7 @@ shorter text units left rest c split first =
 
 -- ---- the bytes
 
--- what was written, a run, what is written of the code point behind it, and what is left
+-- what was written, a run, what is written of the code point after it, and what is left
 pub written_further : (out bytes : List ℕ) (in_fragment : Bool) (text units : List ℕ) (c : ℕ) (rest : List ℕ)
     {t1 t2 : List ℕ} → IsRun text units c rest → encode_utf8_all units ≡ bytes → t1 ≡ out ++ bytes
     → t2 ≡ t1 ++ encode_utf8_all (foreign in_fragment c)

@@ -1,4 +1,4 @@
--- A text that begins with `https://` or `http://`, with one slash mark behind neither, without controls, backslashes
+-- A text that begins with `https://` or `http://`, with one slash mark after neither, without controls, backslashes
 -- and a space at its end, is settled.
 use Rattle.std.proofs.Common.{◌≡◌, ◌≢◌, ◌∙◌, ℕ, true, false, ◌==◌, List, [], ◌∷◌, ◌++◌}
 use Rattle.std.proofs.Common.{Option, arith, refl, sym, ap, inl, inr, subst}
@@ -12,10 +12,10 @@ use Rattle.uv_model.specs.Scheme.{default_port, scheme_class}
 use Rattle.uv_mend.specs.declared.prefixes.Stop.TheVariants.{Authority, Start}
 use Rattle.uv_text.specs.declared.web_links.WebLink.{WebLink}
 use Rattle.uv_text.specs.WebLinks.{IsWebLink, IsWebStart}
-use Rattle.uv_mend.specs.Prefixes.{before, behind_scheme, scheme_prefix, stops}
-use Rattle.uv_mend.specs.Prepared.{before_controls, behind_controls, is_tab_or_newline, on_one_line, prepared}
+use Rattle.uv_mend.specs.Prefixes.{after_scheme, before, scheme_prefix, stops}
+use Rattle.uv_mend.specs.Prepared.{after_controls, before_controls, is_tab_or_newline, on_one_line, prepared}
 use Rattle.uv_mend.specs.Settled.{EndsShown, IsSettled, stays}
-use Rattle.uv_mend.specs.Slashes.{as_slash, behind_marks, is_slash_mark, renews_slashes, slashed, slashed_behind}
+use Rattle.uv_mend.specs.Slashes.{after_marks, as_slash, is_slash_mark, renews_slashes, slashed, slashed_after}
 use Rattle.uv_mend.specs.Slashes.{with_slashes}
 use Rattle.uv_mend.proofs.PreparedLemmas.{before_controls-other}
 use Rattle.uv_mend.proofs.WebLinkLemmas.{before_is}
@@ -23,7 +23,7 @@ use Rattle.uv_mend.proofs.WebLinkLemmas.{before_is}
 -- ---- nothing is taken off
 
 -- at the start
-start_stays : (start rest : List ℕ) → IsWebStart start → behind_controls (start ++ rest) ≡ start ++ rest
+start_stays : (start rest : List ℕ) → IsWebStart start → after_controls (start ++ rest) ≡ start ++ rest
 start_stays start rest (inl is) = rw is refl
 start_stays start rest (inr is) = rw is refl
 
@@ -40,7 +40,7 @@ lines_stay (c ∷ rest) all =
     let no_end : is_tab_or_newline c ≡ false = grind (arith, nat_tests, parts.0) in
     rw no_end (ap (λ t. c ∷ t) (lines_stay rest parts.1))
 
--- ---- the slashes are read as they stand
+-- ---- the slashes are read as they are
 
 -- no backslash
 slashes_stay : (text : List ℕ) → list_all stays text ≡ true → with_slashes SpecialNotFile text ≡ text
@@ -55,7 +55,7 @@ slashes_stay (c ∷ rest) all =
     ]
 
 -- no further slash
-marks_stay : (rest : List ℕ) → before Authority rest ≢ [] → list_all stays rest ≡ true → behind_marks rest ≡ rest
+marks_stay : (rest : List ℕ) → before Authority rest ≢ [] → list_all stays rest ≡ true → after_marks rest ≡ rest
 marks_stay [] some all = refl
 marks_stay (c ∷ rest) some all =
     elim (cases_Bool (stops Authority c)) [
@@ -68,8 +68,8 @@ marks_stay (c ∷ rest) some all =
 
 -- the text with its slashes
 web_slashed : (base : Option Url) (start rest : List ℕ) → IsWebStart start
-    → slashed base (start ++ rest) ≡ start ++ with_slashes SpecialNotFile (behind_marks rest)
-unfolding scheme_prefix behind_scheme slashed_behind renews_slashes scheme_class default_port as_slash
+    → slashed base (start ++ rest) ≡ start ++ with_slashes SpecialNotFile (after_marks rest)
+unfolding scheme_prefix after_scheme slashed_after renews_slashes scheme_class default_port as_slash
 web_slashed base start rest (inl is) = rw is refl
 web_slashed base start rest (inr is) = rw is refl
 
@@ -87,8 +87,8 @@ settled text link web some all ends base =
     let start = link.start.now in
     let rest = web.onward in
     let joined = web.joined in
-    let begins : behind_controls text ≡ text =
-    ap behind_controls joined ∙ start_stays start rest web.starts ∙ sym joined in
+    let begins : after_controls text ≡ text =
+    ap after_controls joined ∙ start_stays start rest web.starts ∙ sym joined in
     let whole : prepared text ≡ text =
     ap (λ t. on_one_line (before_controls t)) begins ∙ ap on_one_line (end_stays text ends) ∙ lines_stay text all in
     let further = rest_all start rest web.starts (subst (λ t. list_all stays t ≡ true) joined all) in

@@ -22,11 +22,11 @@ use Rattle.uv_model.specs.Scheme.{starts_with_scheme}
 use Rattle.uv_model.proofs.Cuts.SchemeCutLemmas.{splits_at_scheme, starts_with_written_scheme}
 use Rattle.uv_model.proofs.Texts.AsciiLemmas.{AreBeyond, AreBeyond-encode}
 use Rattle.uv_mend.specs.declared.prefixes.Stop.TheVariants.{Scheme, Start}
-use Rattle.uv_mend.specs.CodePoints.{behind_one, first_alone}
-use Rattle.uv_mend.specs.Prefixes.{before, behind_scheme, class_of_base, onward, scheme_of, scheme_prefix, stops}
+use Rattle.uv_mend.specs.CodePoints.{after_one, first_alone}
+use Rattle.uv_mend.specs.Prefixes.{after_scheme, before, class_of_base, onward, scheme_of, scheme_prefix, stops}
 use Rattle.uv_mend.specs.Readings.{class_of_kind}
-use Rattle.uv_mend.specs.Slashes.{as_slash, behind_marks, is_slash_mark, new_slashes, renews_slashes, slashed}
-use Rattle.uv_mend.specs.Slashes.{slashed_behind, starts_with_two_marks, with_slashes}
+use Rattle.uv_mend.specs.Slashes.{after_marks, as_slash, is_slash_mark, new_slashes, renews_slashes, slashed}
+use Rattle.uv_mend.specs.Slashes.{slashed_after, starts_with_two_marks, with_slashes}
 use Rattle.uv_mend.proofs.EncodedLemmas.{IsBeyond, is_beyond}
 use Rattle.uv_mend.proofs.SchemeReadLemmas.{class_is, scheme_ascii, scheme_bytes}
 use Rattle.uv_mend.proofs.StaysPrepared.{StaysPrepared, ends_append, ends_more, ends_shown, is_in_line, is_shown}
@@ -48,15 +48,15 @@ before_is (c ∷ scheme) rest each =
       cond-false _ _ _ none ∙ more.1,
     )
 
--- what stands before the `:` and behind it
+-- what is before the `:` and after it
 pub record HasScheme (text scheme rest : List ℕ) : Type 0 where
   pub starts : starts_with_scheme text ≡ true
   pub before_colon : before Scheme text ≡ scheme
-  pub behind_colon : behind_scheme text ≡ rest
+  pub after_colon : after_scheme text ≡ rest
   pub prefix : scheme_prefix text ≡ scheme ++ colon ∷ []
 
 pub has_scheme : (scheme rest : List ℕ) → is_scheme scheme ≡ true → HasScheme (scheme ++ colon ∷ rest) scheme rest
-unfolding scheme_prefix behind_scheme
+unfolding scheme_prefix after_scheme
 has_scheme scheme rest is =
     let text = scheme ++ colon ∷ rest in
     let starts = starts_with_written_scheme scheme rest is in
@@ -64,7 +64,7 @@ has_scheme scheme rest is =
     record {
       starts = starts;
       before_colon = parts.0;
-      behind_colon = cond-true _ _ _ starts ∙ ap behind_one parts.1;
+      after_colon = cond-true _ _ _ starts ∙ ap after_one parts.1;
       prefix =
           cond-true _ _ _ starts ∙ ap (λ t. t ++ first_alone (onward Scheme text)) parts.0
           ∙ ap (λ t. scheme ++ first_alone t) parts.1;
@@ -72,31 +72,31 @@ has_scheme scheme rest is =
 
 pub slashed_written : (url : Option Url) (scheme rest : List ℕ) → is_scheme scheme ≡ true
     → slashed url (scheme ++ colon ∷ rest)
-    ≡ scheme ++ colon ∷ slashed_behind (class_of_kind (scheme_type (lowercase scheme))) true rest
+    ≡ scheme ++ colon ∷ slashed_after (class_of_kind (scheme_type (lowercase scheme))) true rest
 slashed_written url scheme rest is =
     let text = scheme ++ colon ∷ rest in
     let has = has_scheme scheme rest is in
     let own : scheme_of text ≡ Some scheme = cond-true _ _ _ has.starts ∙ ap Some has.before_colon in
     let kind = ap (class_in url) own ∙ class_is scheme in
-    ap (λ t. t ++ slashed_behind (class_in url (scheme_of text)) (starts_with_scheme text) (behind_scheme text))
+    ap (λ t. t ++ slashed_after (class_in url (scheme_of text)) (starts_with_scheme text) (after_scheme text))
     has.prefix
-    ∙ ap (λ k. (scheme ++ colon ∷ []) ++ slashed_behind k (starts_with_scheme text) (behind_scheme text)) kind
+    ∙ ap (λ k. (scheme ++ colon ∷ []) ++ slashed_after k (starts_with_scheme text) (after_scheme text)) kind
     ∙ ap (λ (b : Bool). (scheme ++ colon ∷ [])
-    ++ slashed_behind (class_of_kind (scheme_type (lowercase scheme))) b (behind_scheme text)) has.starts
-    ∙ ap (λ t. (scheme ++ colon ∷ []) ++ slashed_behind (class_of_kind (scheme_type (lowercase scheme))) true t)
-    has.behind_colon
-    ∙ append_assoc scheme (colon ∷ []) (slashed_behind (class_of_kind (scheme_type (lowercase scheme))) true rest)
+    ++ slashed_after (class_of_kind (scheme_type (lowercase scheme))) b (after_scheme text)) has.starts
+    ∙ ap (λ t. (scheme ++ colon ∷ []) ++ slashed_after (class_of_kind (scheme_type (lowercase scheme))) true t)
+    has.after_colon
+    ∙ append_assoc scheme (colon ∷ []) (slashed_after (class_of_kind (scheme_type (lowercase scheme))) true rest)
 
 pub slashed_bare : (url : Option Url) (text : List ℕ) → starts_with_scheme text ≡ false
-    → slashed url text ≡ slashed_behind (class_of_base url) false text
-unfolding scheme_prefix behind_scheme
+    → slashed url text ≡ slashed_after (class_of_base url) false text
+unfolding scheme_prefix after_scheme
 slashed_bare url text none =
     let own : scheme_of text ≡ None = cond-false _ _ _ none in
-    ap (λ t. t ++ slashed_behind (class_in url (scheme_of text)) (starts_with_scheme text) (behind_scheme text))
+    ap (λ t. t ++ slashed_after (class_in url (scheme_of text)) (starts_with_scheme text) (after_scheme text))
     (cond-false _ _ _ none)
-    ∙ ap (λ s. slashed_behind (class_in url s) (starts_with_scheme text) (behind_scheme text)) own
-    ∙ ap (λ (b : Bool). slashed_behind (class_of_base url) b (behind_scheme text)) none
-    ∙ ap (slashed_behind (class_of_base url) false) (cond-false _ _ _ none)
+    ∙ ap (λ s. slashed_after (class_in url s) (starts_with_scheme text) (after_scheme text)) own
+    ∙ ap (λ (b : Bool). slashed_after (class_of_base url) b (after_scheme text)) none
+    ∙ ap (slashed_after (class_of_base url) false) (cond-false _ _ _ none)
 
 -- ---- the bytes
 
@@ -203,7 +203,7 @@ slashes_encoded kind (c ∷ rest) = elim (cases_lt c 128) [
 high_no_mark : (c : ℕ) → 128 ≤ c → is_slash_mark c ≡ false
 high_no_mark c high = grind (arith, nat_tests)
 
-marks_encoded : (text : List ℕ) → behind_marks (encode_utf8_all text) ≡ encode_utf8_all (behind_marks text)
+marks_encoded : (text : List ℕ) → after_marks (encode_utf8_all text) ≡ encode_utf8_all (after_marks text)
 marks_encoded [] = refl
 marks_encoded (c ∷ rest) = elim (cases_lt c 128) [
   | inl low ↦ rw (encode_ascii c low) (elim (cases_Bool (is_slash_mark c)) [
@@ -215,7 +215,7 @@ marks_encoded (c ∷ rest) = elim (cases_lt c 128) [
       rw (high_no_mark c high) (starts_beyond (encode_utf8 c) (encode_utf8_all rest) beyond)
 ]
   where
-    starts_beyond : (bytes rest : List ℕ) → IsBeyond bytes → behind_marks (bytes ++ rest) ≡ bytes ++ rest
+    starts_beyond : (bytes rest : List ℕ) → IsBeyond bytes → after_marks (bytes ++ rest) ≡ bytes ++ rest
     starts_beyond bytes rest is = rw is.some (rw (high_no_mark is.first is.beyond.0) refl)
 
 no_two : (c : ℕ) (rest : List ℕ) → is_slash_mark c ≡ false → starts_with_two_marks (c ∷ rest) ≡ false
@@ -260,15 +260,15 @@ new_encoded class.SpecialNotFile text = refl
 new_encoded class.File text = refl
 new_encoded class.Other text = refl
 
-behind_encoded : (kind : Class) (scheme : Bool) (text : List ℕ)
-    → slashed_behind kind scheme (encode_utf8_all text) ≡ encode_utf8_all (slashed_behind kind scheme text)
-unfolding slashed_behind
-behind_encoded kind scheme text = elim (cases_Bool (renews_slashes kind scheme text)) [
+after_encoded : (kind : Class) (scheme : Bool) (text : List ℕ)
+    → slashed_after kind scheme (encode_utf8_all text) ≡ encode_utf8_all (slashed_after kind scheme text)
+unfolding slashed_after
+after_encoded kind scheme text = elim (cases_Bool (renews_slashes kind scheme text)) [
   | inl renews ↦
       cond-true _ _ _ (renews_encoded kind scheme text ∙ renews)
       ∙ ap (λ t. new_slashes kind ++ with_slashes kind t) (marks_encoded text)
-      ∙ ap (λ t. new_slashes kind ++ t) (slashes_encoded kind (behind_marks text))
-      ∙ new_encoded kind (with_slashes kind (behind_marks text))
+      ∙ ap (λ t. new_slashes kind ++ t) (slashes_encoded kind (after_marks text))
+      ∙ new_encoded kind (with_slashes kind (after_marks text))
       ∙ ap encode_utf8_all (sym (cond-true _ _ _ renews))
   | inr stays ↦
       cond-false _ _ _ (renews_encoded kind scheme text ∙ stays) ∙ slashes_encoded kind text
@@ -292,13 +292,13 @@ slashed_encoded url text = elim (cases_Bool (starts_with_scheme text)) [
       ap (λ t. slashed url (encode_utf8_all t)) split.joined
       ∙ ap (slashed url) (written_encoded split.scheme split.rest split.is)
       ∙ slashed_written url split.scheme (encode_utf8_all split.rest) split.is
-      ∙ ap (λ t. split.scheme ++ colon ∷ t) (behind_encoded kind true split.rest)
-      ∙ sym (written_encoded split.scheme (slashed_behind kind true split.rest) split.is)
+      ∙ ap (λ t. split.scheme ++ colon ∷ t) (after_encoded kind true split.rest)
+      ∙ sym (written_encoded split.scheme (slashed_after kind true split.rest) split.is)
       ∙ ap encode_utf8_all (sym (slashed_written url split.scheme split.rest split.is))
       ∙ ap (λ t. encode_utf8_all (slashed url t)) (sym split.joined)
   | inr none ↦
       slashed_bare url (encode_utf8_all text) (starts_encoded text ∙ none)
-      ∙ behind_encoded (class_of_base url) false text ∙ ap encode_utf8_all (sym (slashed_bare url text none))
+      ∙ after_encoded (class_of_base url) false text ∙ ap encode_utf8_all (sym (slashed_bare url text none))
 ]
 
 -- ---- nothing is taken off
@@ -335,7 +335,7 @@ line_slashes kind (c ∷ rest) = elim (cases_Bool (stops Start c)) [
 mark_shown : (c : ℕ) → is_slash_mark c ≡ true → is_shown c ≡ true
 mark_shown c mark = grind (arith, nat_tests)
 
-end_marks : (text : List ℕ) → ends_shown true (behind_marks text) ≡ ends_shown true text
+end_marks : (text : List ℕ) → ends_shown true (after_marks text) ≡ ends_shown true text
 end_marks [] = refl
 end_marks (c ∷ rest) = elim (cases_Bool (is_slash_mark c)) [
   | inl mark ↦
@@ -344,7 +344,7 @@ end_marks (c ∷ rest) = elim (cases_Bool (is_slash_mark c)) [
   | inr other ↦ ap (ends_shown true) (cond-false _ _ _ other)
 ]
 
-line_marks : (text : List ℕ) → list_all is_in_line text ≡ true → list_all is_in_line (behind_marks text) ≡ true
+line_marks : (text : List ℕ) → list_all is_in_line text ≡ true → list_all is_in_line (after_marks text) ≡ true
 line_marks [] all = refl
 line_marks (c ∷ rest) all = elim (cases_Bool (is_slash_mark c)) [
   | inl mark ↦
@@ -354,33 +354,33 @@ line_marks (c ∷ rest) all = elim (cases_Bool (is_slash_mark c)) [
 ]
 
 -- what follows the scheme, where the scheme ends so
-record BehindStays (known : Bool) (text : List ℕ) : Type 0 where
+record AfterStays (known : Bool) (text : List ℕ) : Type 0 where
   start : starts_shown text ≡ true
   end : ends_shown known text ≡ true
   line : list_all is_in_line text ≡ true
 
 new_stays : (kind : Class) (scheme known : Bool) (text : List ℕ) → renews_slashes kind scheme text ≡ true
     → ends_shown true text ≡ true → list_all is_in_line text ≡ true
-    → BehindStays known (new_slashes kind ++ with_slashes kind (behind_marks text))
+    → AfterStays known (new_slashes kind ++ with_slashes kind (after_marks text))
 unfolding renews_slashes
 new_stays class.SpecialNotFile scheme known text renews end line = record {
   start = refl;
-  end = end_slashes true class.SpecialNotFile (behind_marks text) ∙ end_marks text ∙ end;
-  line = line_slashes class.SpecialNotFile (behind_marks text) ∙ line_marks text line;
+  end = end_slashes true class.SpecialNotFile (after_marks text) ∙ end_marks text ∙ end;
+  line = line_slashes class.SpecialNotFile (after_marks text) ∙ line_marks text line;
 }
 new_stays class.File scheme known text renews end line = record {
   start = refl;
-  end = end_slashes true class.File (behind_marks text) ∙ end_marks text ∙ end;
-  line = line_slashes class.File (behind_marks text) ∙ line_marks text line;
+  end = end_slashes true class.File (after_marks text) ∙ end_marks text ∙ end;
+  line = line_slashes class.File (after_marks text) ∙ line_marks text line;
 }
 new_stays class.Other scheme known text renews end line = absurd (false≢true renews)
 
-behind_ends : (kind : Class) (scheme known : Bool) (text : List ℕ) → ends_shown known text ≡ true
+after_ends : (kind : Class) (scheme known : Bool) (text : List ℕ) → ends_shown known text ≡ true
     → list_all is_in_line text ≡ true
-    → (ends_shown known (slashed_behind kind scheme text) ≡ true)
-    × (list_all is_in_line (slashed_behind kind scheme text) ≡ true)
-unfolding slashed_behind
-behind_ends kind scheme known text end line = elim (cases_Bool (renews_slashes kind scheme text)) [
+    → (ends_shown known (slashed_after kind scheme text) ≡ true)
+    × (list_all is_in_line (slashed_after kind scheme text) ≡ true)
+unfolding slashed_after
+after_ends kind scheme known text end line = elim (cases_Bool (renews_slashes kind scheme text)) [
   | inl renews ↦
       let new = new_stays kind scheme known text renews (ends_more known text end) line in
       let is = cond-true _ _ _ renews in
@@ -392,10 +392,10 @@ behind_ends kind scheme known text end line = elim (cases_Bool (renews_slashes k
       )
 ]
 
-behind_starts : (kind : Class) (scheme : Bool) (text : List ℕ) → StaysPrepared text
-    → starts_shown (slashed_behind kind scheme text) ≡ true
-unfolding slashed_behind
-behind_starts kind scheme text stays = elim (cases_Bool (renews_slashes kind scheme text)) [
+after_starts : (kind : Class) (scheme : Bool) (text : List ℕ) → StaysPrepared text
+    → starts_shown (slashed_after kind scheme text) ≡ true
+unfolding slashed_after
+after_starts kind scheme text stays = elim (cases_Bool (renews_slashes kind scheme text)) [
   | inl renews ↦
       ap starts_shown (cond-true _ _ _ renews)
       ∙ (new_stays kind scheme true text renews stays.end stays.line).start
@@ -433,12 +433,12 @@ slashed_stays url text stays = elim (cases_Bool (starts_with_scheme text)) [
       let split = splits_at_scheme text starts in
       let kind = class_of_kind (scheme_type (lowercase split.scheme)) in
       subst StaysPrepared (sym (ap (slashed url) split.joined ∙ slashed_written url split.scheme split.rest split.is))
-      (written_stays split.scheme split.rest (slashed_behind kind true split.rest) split.is
-      (subst StaysPrepared split.joined stays) (λ known end line. behind_ends kind true known split.rest end line))
+      (written_stays split.scheme split.rest (slashed_after kind true split.rest) split.is
+      (subst StaysPrepared split.joined stays) (λ known end line. after_ends kind true known split.rest end line))
   | inr none ↦
-      let ends = behind_ends (class_of_base url) false true text stays.end stays.line in
+      let ends = after_ends (class_of_base url) false true text stays.end stays.line in
       subst StaysPrepared (sym (slashed_bare url text none)) (record {
-        start = behind_starts (class_of_base url) false text stays;
+        start = after_starts (class_of_base url) false text stays;
         end = ends.0;
         line = ends.1;
       })

@@ -4,7 +4,7 @@ use Rattle.std.proofs.Common.{inl, inr, arith}
 use Rattle.std.specs.List.{list_all}
 use Rattle.std.proofs.lemmas.Bool.{and_from, and_parts, cases_Bool, not-true, true≢false}
 use Rattle.std.proofs.lemmas.Bool.Decides.{nat_tests}
-use Rattle.uv_mend.specs.Prepared.{before_controls, behind_controls, is_control_or_space, is_tab_or_newline}
+use Rattle.uv_mend.specs.Prepared.{after_controls, before_controls, is_control_or_space, is_tab_or_newline}
 use Rattle.uv_mend.specs.Prepared.{on_one_line}
 use Rattle.uv_mend.specs.Prepared.{prepared}
 use Rattle.uv_mend.proofs.PreparedLemmas.{before_controls-none, before_controls-one, before_controls-other, from_ends}
@@ -22,7 +22,7 @@ abbrev pub starts_shown : List ℕ → Bool
 starts_shown [] = true
 starts_shown (c ∷ rest) = is_shown c
 
--- and so is the last one, or what stands before the text is where it is empty
+-- and so is the last one, or what is before the text is where it is empty
 abbrev pub ends_shown : Bool → List ℕ → Bool
 ends_shown before [] = before
 ends_shown before (c ∷ rest) = ends_shown (is_shown c) rest
@@ -73,11 +73,11 @@ end_taken text =
 
 -- ---- the start
 
-start_stays : (text : List ℕ) → starts_shown text ≡ true → behind_controls text ≡ text
+start_stays : (text : List ℕ) → starts_shown text ≡ true → after_controls text ≡ text
 start_stays [] starts = refl
 start_stays (c ∷ rest) starts = shown_in c rest (not-true (is_control_or_space c) starts)
 
-start_taken : (text : List ℕ) → starts_shown (behind_controls text) ≡ true
+start_taken : (text : List ℕ) → starts_shown (after_controls text) ≡ true
 start_taken [] = refl
 start_taken (c ∷ rest) = elim (cases_Bool (is_control_or_space c)) [
   | inl control ↦ ap starts_shown (control_out c rest control) ∙ start_taken rest
@@ -152,7 +152,7 @@ whole text stays =
 
 pub prepared_stays : (text : List ℕ) → StaysPrepared (prepared text)
 prepared_stays text =
-    let start = behind_controls text in
+    let start = after_controls text in
     let both = before_controls start in
     record {
       start = start_in_line both (start_kept start (start_taken text));

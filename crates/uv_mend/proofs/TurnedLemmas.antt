@@ -86,12 +86,12 @@ path_turned : (kind : SchemeType) → is_special kind ≡ true → (path bytes :
 path_turned kind special path bytes = segments_turned kind special path [] bytes
 
 -- a slash at the start is left out
-abbrev behind_start : SchemeType → List ℕ → List ℕ → List ℕ
-behind_start kind path bytes =
+abbrev after_start : SchemeType → List ℕ → List ℕ → List ℕ
+after_start kind path bytes =
     if is_slash kind (slice_index bytes 0) then parse_path kind path (drop 1 bytes) else parse_path kind path bytes
 
 pub start_is : (kind : SchemeType) → is_special kind ≡ true → (path bytes : List ℕ)
-    → parse_path_start kind path bytes ≡ behind_start kind path bytes
+    → parse_path_start kind path bytes ≡ after_start kind path bytes
 unfolding parse_path_start
 start_is kind special path bytes = cond-false _ _ _ (never (is_empty bytes) (is_special kind) special)
   where
@@ -100,10 +100,10 @@ start_is kind special path bytes = cond-false _ _ _ (never (is_empty bytes) (is_
     never true false is = absurd (true≢false (sym is))
     never false s is = refl
 
-behind_start_turned : (kind : SchemeType) → is_special kind ≡ true → (path bytes : List ℕ)
-    → behind_start kind path (map turned bytes) ≡ behind_start kind path bytes
-behind_start_turned kind special path [] = refl
-behind_start_turned kind special path (b ∷ rest) = elim (cases_Bool (is_slash kind b)) [
+after_start_turned : (kind : SchemeType) → is_special kind ≡ true → (path bytes : List ℕ)
+    → after_start kind path (map turned bytes) ≡ after_start kind path bytes
+after_start_turned kind special path [] = refl
+after_start_turned kind special path (b ∷ rest) = elim (cases_Bool (is_slash kind b)) [
   | inl is ↦
       cond-true _ _ _ (turned_slash kind special b ∙ is) ∙ path_turned kind special path rest
       ∙ sym (cond-true _ _ _ is)
@@ -115,7 +115,7 @@ behind_start_turned kind special path (b ∷ rest) = elim (cases_Bool (is_slash 
 path_start_turned : (kind : SchemeType) → is_special kind ≡ true → (path bytes : List ℕ)
     → parse_path_start kind path (map turned bytes) ≡ parse_path_start kind path bytes
 path_start_turned kind special path bytes =
-    start_is kind special path (map turned bytes) ∙ behind_start_turned kind special path bytes
+    start_is kind special path (map turned bytes) ∙ after_start_turned kind special path bytes
     ∙ sym (start_is kind special path bytes)
 
 -- ---- prefixes
@@ -149,9 +149,9 @@ first_turned kind special bytes =
     (All-weaker (IsNoSlash kind) (λ b. turned b ≡ b) (turned_other kind special) (take (segment_len kind bytes) bytes)
     (first_segment_whole kind bytes))
 
-behind_turned : (kind : SchemeType) → is_special kind ≡ true → (bytes : List ℕ)
+kind_turned : (kind : SchemeType) → is_special kind ≡ true → (bytes : List ℕ)
     → drop (segment_len kind (map turned bytes)) (map turned bytes) ≡ map turned (drop (segment_len kind bytes) bytes)
-behind_turned kind special bytes =
+kind_turned kind special bytes =
     ap (λ n. drop n (map turned bytes)) (segment_turned kind special bytes)
     ∙ drop-map turned (segment_len kind bytes) bytes
 
@@ -174,7 +174,7 @@ after_turned scheme special bytes =
     (first_turned kind special bytes)
     ∙ ap (λ path. and_then (parse_authority scheme (take (segment_len kind bytes) bytes))
     (λ head. Ok (with_path head path)))
-    (ap (parse_path_start kind []) (behind_turned kind special bytes)
+    (ap (parse_path_start kind []) (kind_turned kind special bytes)
     ∙ path_start_turned kind special [] (drop (segment_len kind bytes) bytes))
 
 relative_turned : (base : Parts) → is_special (kind_of base) ≡ true → (body : List ℕ)
@@ -190,16 +190,16 @@ relative_turned base special body =
     (slashes_turned kind special body)
     ∙ ap (λ parsed. if slashes == 2 then parsed
     else Ok (with_path start (parse_path kind start.path (drop slashes (map turned body)))))
-    (behind kind special ∙ sym (cond_special kind special body))
+    (after kind special ∙ sym (cond_special kind special body))
     ∙ ap (λ path. if slashes == 2 then after_double_slash base.scheme (after_slashes kind body)
     else Ok (with_path start path))
     (ap (parse_path kind start.path) (drop-map turned slashes body)
     ∙ path_turned kind special start.path (drop slashes body))
   where
-    behind : (kind : SchemeType) → is_special kind ≡ true
+    after : (kind : SchemeType) → is_special kind ≡ true
         → after_double_slash base.scheme (after_slashes kind (map turned body))
         ≡ after_double_slash base.scheme (skip_slashes body)
-    behind kind is =
+    after kind is =
         ap (after_double_slash base.scheme) (cond-true _ _ _ is ∙ marks_turned body)
         ∙ after_turned base.scheme special (skip_slashes body)
 
@@ -225,7 +225,7 @@ file_host_turned bytes =
     ∙ ap (λ path. if is_windows_drive_letter (take len bytes)
     then Ok (with_path (file_with_host (Domain [])) (parse_path File [] bytes))
     else and_then (parse_file_host (take len bytes)) (λ host. Ok (with_path (file_with_host host) path)))
-    (ap (parse_path_start File []) (behind_turned File refl bytes)
+    (ap (parse_path_start File []) (kind_turned File refl bytes)
     ∙ path_start_turned File refl [] (drop len bytes))
 
 start_turned : (base : Option Parts) (relative : Bool) (path : List ℕ)

@@ -2,15 +2,15 @@
 use Rattle.std.specs.Prelude.{◌≡◌, ℕ, List, [], ◌∷◌, ◌++◌}
 
 -- the text without its first code point
-abbrev pub behind_one : List ℕ → List ℕ
-behind_one [] = []
-behind_one (c ∷ rest) = rest
+abbrev pub after_one : List ℕ → List ℕ
+after_one [] = []
+after_one (c ∷ rest) = rest
 
 -- the first code point alone, where there is one
 abbrev pub first_alone : List ℕ → List ℕ
 first_alone [] = []
 first_alone (c ∷ rest) = c ∷ []
 
--- the last code point, and what stands before it
+-- the last code point, and what is before it
 abbrev pub IsLastOf : List ℕ → List ℕ → ℕ → Type 0
 IsLastOf text before last = text ≡ before ++ last ∷ []

@@ -5,7 +5,7 @@ use Rattle.std.specs.Char.{encode_utf8}
 use Rattle.percent_encoding.specs.Percent.{percent_encode_byte}
 use Rattle.uv_model.specs.Ascii.{number_sign}
 use Rattle.uv_model.specs.Units.{is_unit_at}
-use Rattle.uv_mend.specs.Prefixes.{authority_prefix, behind_authority, behind_scheme, scheme_prefix}
+use Rattle.uv_mend.specs.Prefixes.{after_authority, after_scheme, authority_prefix, scheme_prefix}
 
 -- the escapes of a code point's UTF-8, as `%25` of `%`
 unfoldable pub escape : ℕ → List ℕ
@@ -23,13 +23,13 @@ as_units in_fragment [] = []
 as_units in_fragment (c ∷ rest) =
     as_unit in_fragment c rest ++ as_units (in_fragment || (c == number_sign)) rest
 
--- the text behind a scheme: its authority stays
-abbrev pub escaped_behind : List ℕ → List ℕ
-escaped_behind text = authority_prefix text ++ as_units false (behind_authority text)
+-- the text after a scheme: its authority stays
+abbrev pub escaped_after : List ℕ → List ℕ
+escaped_after text = authority_prefix text ++ as_units false (after_authority text)
 
 -- the text with each code point of the path, the query and the fragment that is no unit written as escapes
 unfoldable pub escaped : List ℕ → List ℕ
-escaped text = scheme_prefix text ++ escaped_behind (behind_scheme text)
+escaped text = scheme_prefix text ++ escaped_after (after_scheme text)
 
 -- ---- what such a text is
 
@@ -37,7 +37,7 @@ escaped text = scheme_prefix text ++ escaped_behind (behind_scheme text)
 abbrev pub IsEscapingOf : List ℕ → List ℕ → Type 0
 IsEscapingOf [] other = other ≡ []
 IsEscapingOf (c ∷ rest) other =
-    (behind : List ℕ) × ((other ≡ c ∷ behind) ⊎ (other ≡ escape c ++ behind)) × IsEscapingOf rest behind
+    (after : List ℕ) × ((other ≡ c ∷ after) ⊎ (other ≡ escape c ++ after)) × IsEscapingOf rest after
 
 -- ---- a law
 

@@ -9,8 +9,8 @@ use Rattle.uv_model.specs.Ascii.{slash}
 use Rattle.uv_model.specs.Cut.{is_port_mark, is_within}
 use Rattle.uv_model.specs.Records.Url.{Url}
 use Rattle.uv_mend.specs.declared.prefixes.Stop.TheVariants.{Authority}
-use Rattle.uv_mend.specs.CodePoints.{behind_one}
-use Rattle.uv_mend.specs.Prefixes.{behind_scheme, class_against, scheme_prefix, stops}
+use Rattle.uv_mend.specs.CodePoints.{after_one}
+use Rattle.uv_mend.specs.Prefixes.{after_scheme, class_against, scheme_prefix, stops}
 use Rattle.uv_second.specs.Second.{reading}
 
 -- the host of a URL that has one, and no user name and no password
@@ -22,22 +22,22 @@ abbrev pub host_of_reading : Option Parts → Option (List ℕ)
 host_of_reading None = None
 host_of_reading (Some url) = plain_host url
 
--- the code point ends a host: the authority ends there, or a port's `:` stands there, which class File doesn't have
+-- the code point ends a host: the authority ends there, or a port's `:` is there, which class File doesn't have
 unfoldable pub ends_host : Class → Bool → ℕ → Bool
 ends_host File within c = stops Authority c
 ends_host _ within c = stops Authority c || is_port_mark within c
 
 -- the text from the end of the host on, with which it begins
-abbrev pub behind_host : Class → Bool → List ℕ → List ℕ
-behind_host class within [] = []
-behind_host class within (c ∷ rest) =
-    if ends_host class within c then c ∷ rest else behind_host class (is_within within c) rest
+abbrev pub after_host : Class → Bool → List ℕ → List ℕ
+after_host class within [] = []
+after_host class within (c ∷ rest) =
+    if ends_host class within c then c ∷ rest else after_host class (is_within within c) rest
 
 -- the text of this class, which has an authority, with this host in place of its own
 unfoldable pub with_host : Class → List ℕ → List ℕ → List ℕ
 with_host class text host =
     scheme_prefix text ++ (slash ∷ slash ∷ (host
-    ++ behind_host class false (behind_one (behind_one (behind_scheme text)))))
+    ++ after_host class false (after_one (after_one (after_scheme text)))))
 
 -- the text with the host of what the second parser reads
 abbrev pub rehosted : Option Url → List ℕ → Option (List ℕ)

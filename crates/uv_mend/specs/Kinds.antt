@@ -1,4 +1,4 @@
--- How a mended text stands to the refused one.
+-- How a mended text is to the refused one.
 use Rattle.std.specs.Prelude.{◌≡◌, ◌≢◌, ℕ, List, Option, chars}
 use Rattle.uv_model.specs.Records.Url.{Url}
 use Rattle.uv_model.specs.declared.mend_kind.MendKind.{MendKind}

@@ -9,15 +9,15 @@ use Rattle.uv_model.specs.Records.Url.{Url}
 use Rattle.uv_model.specs.Scheme.{starts_with_scheme}
 use Rattle.uv_mend.specs.declared.prefixes.Stop.{Stop}
 use Rattle.uv_mend.specs.declared.prefixes.Stop.TheVariants.{Scheme, Start, Authority}
-use Rattle.uv_mend.specs.CodePoints.{behind_one, first_alone}
+use Rattle.uv_mend.specs.CodePoints.{after_one, first_alone}
 
--- the code point ends what stands before it: a scheme, the start up to the query and the fragment, an authority
+-- the code point ends what is before it: a scheme, the start up to the query and the fragment, an authority
 abbrev pub stops : Stop → ℕ → Bool
 stops Scheme c = c == colon
 stops Start c = (c == question_mark) || (c == number_sign)
 stops Authority c = (c == slash) || ((c == question_mark) || (c == number_sign))
 
--- what stands before the first such code point
+-- what is before the first such code point
 abbrev pub before : Stop → List ℕ → List ℕ
 before stop [] = []
 before stop (c ∷ rest) = if stops stop c then [] else c ∷ before stop rest
@@ -44,16 +44,16 @@ unfoldable pub scheme_prefix : List ℕ → List ℕ
 scheme_prefix text =
     if starts_with_scheme text then before Scheme text ++ first_alone (onward Scheme text) else []
 
--- what stands behind them
-unfoldable pub behind_scheme : List ℕ → List ℕ
-behind_scheme text = if starts_with_scheme text then behind_one (onward Scheme text) else text
+-- what is after them
+unfoldable pub after_scheme : List ℕ → List ℕ
+after_scheme text = if starts_with_scheme text then after_one (onward Scheme text) else text
 
 -- `//` and the authority, where the text begins with them
 unfoldable pub authority_prefix : List ℕ → List ℕ
 authority_prefix text =
-    if starts_with_two_slashes text then slash ∷ slash ∷ before Authority (behind_one (behind_one text)) else []
+    if starts_with_two_slashes text then slash ∷ slash ∷ before Authority (after_one (after_one text)) else []
 
--- what stands behind them
-unfoldable pub behind_authority : List ℕ → List ℕ
-behind_authority text =
-    if starts_with_two_slashes text then onward Authority (behind_one (behind_one text)) else text
+-- what is after them
+unfoldable pub after_authority : List ℕ → List ℕ
+after_authority text =
+    if starts_with_two_slashes text then onward Authority (after_one (after_one text)) else text

@@ -11,13 +11,13 @@ abbrev pub is_tab_or_newline : ℕ → Bool
 is_tab_or_newline c = (c == 0x9) || ((c == 0xA) || (c == 0xD))
 
 -- the text without those at its start
-abbrev pub behind_controls : List ℕ → List ℕ
-behind_controls [] = []
-behind_controls (c ∷ rest) = if is_control_or_space c then behind_controls rest else c ∷ rest
+abbrev pub after_controls : List ℕ → List ℕ
+after_controls [] = []
+after_controls (c ∷ rest) = if is_control_or_space c then after_controls rest else c ∷ rest
 
 -- the text without those at its end
 unfoldable pub before_controls : List ℕ → List ℕ
-before_controls text = reverse (behind_controls (reverse text))
+before_controls text = reverse (after_controls (reverse text))
 
 -- the text without tabs, LF and CR
 abbrev pub on_one_line : List ℕ → List ℕ
@@ -26,4 +26,4 @@ on_one_line (c ∷ rest) = if is_tab_or_newline c then on_one_line rest else c �
 
 -- the parser's input
 abbrev pub prepared : List ℕ → List ℕ
-prepared text = on_one_line (before_controls (behind_controls text))
+prepared text = on_one_line (before_controls (after_controls text))

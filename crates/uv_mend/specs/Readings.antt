@@ -11,7 +11,7 @@ use Rattle.uv_model.specs.declared.scheme.Class.TheVariants as class
 use Rattle.uv_model.specs.Records.Url.{Url}
 use Rattle.uv_model.specs.Scheme.{starts_with_scheme}
 use Rattle.uv_mend.specs.declared.prefixes.Stop.TheVariants.{Scheme}
-use Rattle.uv_mend.specs.Prefixes.{before, behind_scheme, class_of_base}
+use Rattle.uv_mend.specs.Prefixes.{after_scheme, before, class_of_base}
 use Rattle.uv_mend.specs.Prepared.{prepared}
 use Rattle.uv_mend.specs.Slashes.{slashed, starts_with_two_marks}
 
@@ -40,12 +40,12 @@ class_of_own (Some base) = class_of_kind (kind_of base)
 abbrev pub has_scheme_of : Option Parts → List ℕ → Bool
 has_scheme_of base text = starts_with_scheme text && is_some (base_for_scheme base (lowercase (before Scheme text)))
 
--- a text with the special scheme of the base has two slash marks behind it
+-- a text with the special scheme of the base has two slash marks after it
 abbrev pub KeepsItsSlashes : Option Parts → List ℕ → Type 0
-KeepsItsSlashes base text = has_scheme_of base text ≡ true → starts_with_two_marks (behind_scheme text) ≡ true
+KeepsItsSlashes base text = has_scheme_of base text ≡ true → starts_with_two_marks (after_scheme text) ≡ true
 
 -- Against each base of its own and without one, the second parser makes of each text what it makes of the text with its
--- slashes as they are read, unless the text has the base's scheme and fewer than two slash marks behind that. The
+-- slashes as they are read, unless the text has the base's scheme and fewer than two slash marks after that. The
 -- record of the base, by which the slashes are written, has a scheme of the same class.
 abbrev pub SlashedTextsAreReadAlike : Type 0
 SlashedTextsAreReadAlike =

@@ -15,7 +15,7 @@ IsRun text units c rest =
     (in_fragment : Bool) → as_units in_fragment text
     ≡ units ++ (foreign in_fragment c ++ as_units (in_fragment || (c == number_sign)) rest)
 
--- what was written of a text, by its bytes before and behind, and whether a fragment goes on and what is left, where
+-- what was written of a text, by its bytes before and after, and whether a fragment goes on and what is left, where
 -- anything is
 abbrev pub IsWritten : List ℕ → List ℕ → Bool → List ℕ → Option (Bool × Bor (List ℕ)) → Type 0
 IsWritten old new in_fragment text None = new ≡ old ++ encode_utf8_all (as_units in_fragment text)

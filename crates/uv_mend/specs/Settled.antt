@@ -6,7 +6,7 @@ use Rattle.uv_mend.specs.CodePoints.{IsLastOf}
 use Rattle.uv_mend.specs.Prepared.{is_control_or_space, prepared}
 use Rattle.uv_mend.specs.Slashes.{slashed}
 
--- the URL parser takes nothing off the text, and reads its slashes as they stand, against any base
+-- the URL parser takes nothing off the text, and reads its slashes as they are, against any base
 abbrev pub IsSettled : List ℕ → Type 0
 IsSettled text = (base : Option Url) → slashed base (prepared text) ≡ text
 

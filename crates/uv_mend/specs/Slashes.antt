@@ -1,6 +1,6 @@
 -- The slashes of a text of class SpecialNotFile or File, as the URL parser reads them (URL Standard, section 4.4, the
 -- special
--- authority states and the file states): `\` is `/` before the query, and behind a special scheme come any number.
+-- authority states and the file states): `\` is `/` before the query, and after a special scheme come any number.
 use Rattle.std.specs.Prelude.{ℕ, Bool, false, not, ◌&&◌, ◌||◌, ◌==◌, List, [], ◌∷◌, ◌++◌, codes, Option}
 use Rattle.std.specs.Prelude.{if◌then◌else◌}
 use Rattle.uv_model.specs.declared.scheme.Class.{Class}
@@ -9,7 +9,7 @@ use Rattle.uv_model.specs.Ascii.{slash, backslash}
 use Rattle.uv_model.specs.Records.Url.{Url}
 use Rattle.uv_model.specs.Scheme.{starts_with_scheme}
 use Rattle.uv_mend.specs.declared.prefixes.Stop.TheVariants.{Start}
-use Rattle.uv_mend.specs.Prefixes.{behind_scheme, class_against, scheme_prefix, stops}
+use Rattle.uv_mend.specs.Prefixes.{after_scheme, class_against, scheme_prefix, stops}
 
 -- `/` or `\`
 abbrev pub is_slash_mark : ℕ → Bool
@@ -20,10 +20,10 @@ abbrev pub starts_with_two_marks : List ℕ → Bool
 starts_with_two_marks (c ∷ d ∷ rest) = is_slash_mark c && is_slash_mark d
 starts_with_two_marks _ = false
 
--- the text behind those at its start
-abbrev pub behind_marks : List ℕ → List ℕ
-behind_marks [] = []
-behind_marks (c ∷ rest) = if is_slash_mark c then behind_marks rest else c ∷ rest
+-- the text after those at its start
+abbrev pub after_marks : List ℕ → List ℕ
+after_marks [] = []
+after_marks (c ∷ rest) = if is_slash_mark c then after_marks rest else c ∷ rest
 
 -- a code point before the query and the fragment, by the class
 unfoldable pub as_slash : Class → ℕ → ℕ
@@ -37,7 +37,7 @@ with_slashes class (c ∷ rest) = if stops Start c then c ∷ rest else as_slash
 
 -- The slashes at the start of what follows a scheme, or of a text without one, are written anew: in class
 -- SpecialNotFile
--- behind a scheme, and where there are two or more; in class File where there are fewer than two behind a scheme.
+-- after a scheme, and where there are two or more; in class File where there are fewer than two after a scheme.
 unfoldable pub renews_slashes : Class → Bool → List ℕ → Bool
 renews_slashes SpecialNotFile has_scheme text = has_scheme || starts_with_two_marks text
 renews_slashes File has_scheme text = has_scheme && not (starts_with_two_marks text)
@@ -50,12 +50,12 @@ new_slashes File = codes "///"
 new_slashes Other = []
 
 -- what follows a scheme, or a text without one, with its slashes as they are read
-unfoldable pub slashed_behind : Class → Bool → List ℕ → List ℕ
-slashed_behind class has_scheme text =
-    if renews_slashes class has_scheme text then new_slashes class ++ with_slashes class (behind_marks text)
+unfoldable pub slashed_after : Class → Bool → List ℕ → List ℕ
+slashed_after class has_scheme text =
+    if renews_slashes class has_scheme text then new_slashes class ++ with_slashes class (after_marks text)
     else with_slashes class text
 
 -- the text with its slashes as they are read
 abbrev pub slashed : Option Url → List ℕ → List ℕ
 slashed base text =
-    scheme_prefix text ++ slashed_behind (class_against base text) (starts_with_scheme text) (behind_scheme text)
+    scheme_prefix text ++ slashed_after (class_against base text) (starts_with_scheme text) (after_scheme text)

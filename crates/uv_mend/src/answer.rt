@@ -10,7 +10,7 @@ pub enum Mending {
     Mended {
         /// The mended text.
         text: String,
-        /// How it stands to the refused one.
+        /// How it is to the refused one.
         kind: MendKind,
     },
     /// The local edits make no valid URL string of the text, which is refused by this.

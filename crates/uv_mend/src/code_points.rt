@@ -27,7 +27,7 @@ pub(crate) fn text_of(alloc: Global, list: &[char]) -> Result<String, AllocError
     Ok(text)
 }
 
-/// The first code point and those behind it, or `None` where there is none.
+/// The first code point and those after it, or `None` where there is none.
 pub(crate) fn first_of(list: &[char]) -> Option<(char, &[char])>
     ensures { MatchOption result (list.now ≡ []) (λ first. list.now ≡ first.0 ∷ first.1.now) }
 {
@@ -67,9 +67,9 @@ pub(crate) fn push_text(out: &mut Vec<char>, text: &str) -> Result<(), AllocErro
     ensures { OnOk result (out.new.items ≡ out.old.items ++ chars text.now) }
 {
     let mut rest = text;
-    while let Some((c, behind)) = first_code_point(rest) {
+    while let Some((c, after)) = first_code_point(rest) {
         push_one(out, c)?;
-        rest = behind;
+        rest = after;
     }
     Ok(())
 }

@@ -78,10 +78,10 @@ fn dotted(alloc: Global, text: &[char], place: usize) -> Result<Vec<char>, Alloc
     requires { place ≤ length text.now }
     ensures { IfOk result (λ out. out.items ≡ spec.dotted place text.now) }
 {
-    let (before, behind) = text.split_at(place);
+    let (before, after) = text.split_at(place);
     let mut out = Vec::new(alloc);
     push_all(&mut out, before)?;
     push_all(&mut out, &['/', '.'])?;
-    push_all(&mut out, behind)?;
+    push_all(&mut out, after)?;
     Ok(out)
 }

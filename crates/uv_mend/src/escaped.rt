@@ -18,9 +18,9 @@ pub(crate) fn escaped(alloc: Global, text: &[char]) -> Result<Vec<char>, AllocEr
 {
     // Room for some escapes.
     let mut out = Vec::with_capacity(alloc, text.len().saturating_add(30))?;
-    let behind_scheme = push_scheme(&mut out, text)?;
-    let behind_authority = push_authority(&mut out, behind_scheme)?;
-    push_units(&mut out, behind_authority)?;
+    let after_scheme = push_scheme(&mut out, text)?;
+    let after_authority = push_authority(&mut out, after_scheme)?;
+    push_units(&mut out, after_authority)?;
     Ok(out)
 }
 

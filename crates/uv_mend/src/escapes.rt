@@ -16,10 +16,10 @@ pub(crate) fn push_units(out: &mut Vec<char>, text: &[char]) -> Result<(), Alloc
 {
     let mut in_fragment = false;
     let mut rest = text;
-    while let Some((c, behind)) = first_of(rest) {
-        push_unit(out, in_fragment, c, behind)?;
+    while let Some((c, after)) = first_of(rest) {
+        push_unit(out, in_fragment, c, after)?;
         in_fragment = in_fragment || c == '#';
-        rest = behind;
+        rest = after;
     }
     Ok(())
 }
@@ -30,14 +30,14 @@ fn push_unit(
     out: &mut Vec<char>,
     in_fragment: bool,
     c: char,
-    behind: &[char],
+    after: &[char],
 ) -> Result<(), AllocError>
-    ensures { OnOk result (out.new.items ≡ out.old.items ++ as_unit in_fragment c behind.now) }
+    ensures { OnOk result (out.new.items ≡ out.old.items ++ as_unit in_fragment c after.now) }
 {
     if !in_fragment && c == '#' {
         return push_one(out, c);
     }
-    if is_unit_at(c, behind) {
+    if is_unit_at(c, after) {
         return push_one(out, c);
     }
     push_escape(out, c)
@@ -45,11 +45,11 @@ fn push_unit(
 
 // Whether a code point is a URL code point, or the `%` of an escape.
 #[tactic(auto, unfolding(uv_model::specs::Units::is_unit_at))]
-fn is_unit_at(c: char, behind: &[char]) -> bool
-    ensures { result ≡ units.is_unit_at c behind.now }
+fn is_unit_at(c: char, after: &[char]) -> bool
+    ensures { result ≡ units.is_unit_at c after.now }
 {
     if c == '%' {
-        starts_with_two_hex(behind)
+        starts_with_two_hex(after)
     } else {
         is_url_code_point(c)
     }

@@ -4,7 +4,7 @@ ghost use Rattle.uv_model.specs.Cut.{is_port_mark, is_within};
 ghost use Rattle.uv_mend.specs.Hosts as spec;
 
 use crate::code_points::{first_of, push_all, push_one, push_text, text_of};
-use crate::prefixes::{Stop, behind_two, class_against, push_scheme};
+use crate::prefixes::{Stop, after_two, class_against, push_scheme};
 use crate::second::reading;
 use std::alloc::{AllocError, Global};
 use url::Url;
@@ -56,26 +56,26 @@ fn with_host(
     ensures { IfOk result (λ out. out.items ≡ spec.with_host class text.now (chars host.now)) }
 {
     let mut out = Vec::new(alloc);
-    let behind = push_scheme(&mut out, text)?;
+    let after = push_scheme(&mut out, text)?;
     push_one(&mut out, '/')?;
     push_one(&mut out, '/')?;
     push_text(&mut out, host)?;
-    push_all(&mut out, behind_host(class, behind_two(behind)))?;
+    push_all(&mut out, after_host(class, after_two(after)))?;
     Ok(out)
 }
 
-// What stands behind the host with which a text begins.
-fn behind_host(class: Class, text: &[char]) -> &[char]
-    ensures { result.now ≡ spec.behind_host class false text.now }
+// What is after the host with which a text begins.
+fn after_host(class: Class, text: &[char]) -> &[char]
+    ensures { result.now ≡ spec.after_host class false text.now }
 {
     let mut within = false;
     let mut rest = text;
-    while let Some((c, behind)) = first_of(rest) {
+    while let Some((c, after)) = first_of(rest) {
         if ends_host(class, within, c) {
             return rest;
         }
         within = is_within(within, c);
-        rest = behind;
+        rest = after;
     }
     rest
 }

@@ -1,4 +1,4 @@
-//! How a mended text stands to the refused one.
+//! How a mended text is to the refused one.
 ghost use Rattle.std.specs.Prelude.{◌≡◌, ◌↔◌, IfOk, IsTrue, chars, option_copied};
 ghost use Rattle.uv_mend.specs.Escapes.{escaped};
 ghost use Rattle.uv_mend.specs.Kinds.{IsKind};

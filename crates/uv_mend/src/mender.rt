@@ -16,11 +16,11 @@ use uv_model::{Profile, Record, Refusal, Rule};
 /// its author wrote it.
 ///
 /// First the edits by what the URL parser passes over: C0 controls and spaces at both ends, tabs, LF and CR go; in a
-/// text of a special scheme or of `file` each `\` before the query becomes `/`, and the slashes behind the scheme
+/// text of a special scheme or of `file` each `\` before the query becomes `/`, and the slashes after the scheme
 /// become `//`, or `///` before the path of a `file` URL; every other code point of the path, the query and the
-/// fragment that may not stand there, and each `%` without two hex digits, becomes the escapes of its UTF-8. Then,
+/// fragment that may not be there, and each `%` without two hex digits, becomes the escapes of its UTF-8. Then,
 /// where a rule of the host is still violated, the host as the crate `url` writes it, unless there is a user name or a
-/// password; and `/.` before a path that begins with an empty segment, or with a drive letter behind a host.
+/// password; and `/.` before a path that begins with an empty segment, or with a drive letter after a host.
 ///
 /// A mended text was checked: it is valid. The time and the memory that are taken grow linearly with the text. The
 /// error is out of memory, which also stands for a text of which the crate `url` would make one of 4 GiB or more.

@@ -3,9 +3,9 @@ ghost use Rattle.std.specs.Prelude.{◌≡◌, ◌++◌, IfOk, OnOk, option_copi
 ghost use Rattle.uv_model.specs.Cut.{starts_with_two_slashes};
 ghost use Rattle.uv_model.specs.Scheme as scheme;
 ghost use Rattle.uv_model.specs.Scheme.{is_scheme_code_point};
-ghost use Rattle.uv_mend.specs.CodePoints.{behind_one};
+ghost use Rattle.uv_mend.specs.CodePoints.{after_one};
 ghost use Rattle.uv_mend.specs.Prefixes as spec;
-ghost use Rattle.uv_mend.specs.Prefixes.{authority_prefix, before, behind_authority, behind_scheme, class_against};
+ghost use Rattle.uv_mend.specs.Prefixes.{after_authority, after_scheme, authority_prefix, before, class_against};
 ghost use Rattle.uv_mend.specs.Prefixes.{onward, scheme_prefix, stops};
 
 use crate::code_points::{first_of, push_one, push_text, text_of};
@@ -15,7 +15,7 @@ use uv_model::{Class, Record, class_of};
 /// Where a prefix of a text ends.
 #[derive(Clone, Copy, Debug, PartialEq, Eq)]
 pub(crate) enum Stop {
-    /// At the `:` behind a scheme.
+    /// At the `:` after a scheme.
     Scheme,
     /// At the `?` of a query or the `#` of a fragment.
     Start,
@@ -36,7 +36,7 @@ impl Stop {
     }
 }
 
-/// Appends what stands before the first code point that ends the prefix, and gives the rest. The error is out of
+/// Appends what is before the first code point that ends the prefix, and gives the rest. The error is out of
 /// memory.
 pub(crate) fn push_before<'t>(
     out: &mut Vec<char>,
@@ -47,53 +47,53 @@ pub(crate) fn push_before<'t>(
     ensures rest { IfOk result (λ rest. rest.now ≡ onward stop text.now) }
 {
     let mut rest = text;
-    while let Some((c, behind)) = first_of(rest) {
+    while let Some((c, after)) = first_of(rest) {
         if stop.is_at(c) {
             return Ok(rest);
         }
         push_one(out, c)?;
-        rest = behind;
+        rest = after;
     }
     Ok(rest)
 }
 
 /// Appends the scheme and its `:`, where the text begins with them, and gives the rest. The error is out of memory.
-#[tactic(auto, unfolding(crate::specs::Prefixes::scheme_prefix, crate::specs::Prefixes::behind_scheme))]
+#[tactic(auto, unfolding(crate::specs::Prefixes::scheme_prefix, crate::specs::Prefixes::after_scheme))]
 pub(crate) fn push_scheme<'t>(
     out: &mut Vec<char>,
     text: &'t [char],
 ) -> Result<&'t [char], AllocError>
     ensures pushed { OnOk result (out.new.items ≡ out.old.items ++ scheme_prefix text.now) }
-    ensures rest { IfOk result (λ rest. rest.now ≡ behind_scheme text.now) }
+    ensures rest { IfOk result (λ rest. rest.now ≡ after_scheme text.now) }
 {
     if !starts_with_scheme(text) {
         return Ok(text);
     }
     let rest = push_before(out, text, Stop::Scheme)?;
     match first_of(rest) {
-        Some((c, behind)) => {
+        Some((c, after)) => {
             push_one(out, c)?;
-            Ok(behind)
+            Ok(after)
         }
         None => Ok(rest),
     }
 }
 
 /// Appends `//` and the authority, where the text begins with them, and gives the rest. The error is out of memory.
-#[tactic(auto, unfolding(crate::specs::Prefixes::authority_prefix, crate::specs::Prefixes::behind_authority))]
+#[tactic(auto, unfolding(crate::specs::Prefixes::authority_prefix, crate::specs::Prefixes::after_authority))]
 pub(crate) fn push_authority<'t>(
     out: &mut Vec<char>,
     text: &'t [char],
 ) -> Result<&'t [char], AllocError>
     ensures pushed { OnOk result (out.new.items ≡ out.old.items ++ authority_prefix text.now) }
-    ensures rest { IfOk result (λ rest. rest.now ≡ behind_authority text.now) }
+    ensures rest { IfOk result (λ rest. rest.now ≡ after_authority text.now) }
 {
     if !starts_with_two_slashes(text) {
         return Ok(text);
     }
     push_one(out, '/')?;
     push_one(out, '/')?;
-    push_before(out, behind_two(text), Stop::Authority)
+    push_before(out, after_two(text), Stop::Authority)
 }
 
 /// Whether a text begins with `//`.
@@ -109,16 +109,16 @@ pub(crate) fn starts_with_two_slashes(text: &[char]) -> bool
     }
 }
 
-/// What stands behind the first two code points.
-pub(crate) fn behind_two(text: &[char]) -> &[char]
-    ensures { result.now ≡ behind_one (behind_one text.now) }
+/// What is after the first two code points.
+pub(crate) fn after_two(text: &[char]) -> &[char]
+    ensures { result.now ≡ after_one (after_one text.now) }
 {
-    behind_first(behind_first(text))
+    after_first(after_first(text))
 }
 
-// What stands behind the first code point.
-fn behind_first(text: &[char]) -> &[char]
-    ensures { result.now ≡ behind_one text.now }
+// What is after the first code point.
+fn after_first(text: &[char]) -> &[char]
+    ensures { result.now ≡ after_one text.now }
 {
     match first_of(text) {
         Some((_, rest)) => rest,
@@ -141,19 +141,19 @@ fn goes_on_to_colon(text: &[char]) -> bool
     ensures { result ≡ scheme.goes_on_to_colon text.now }
 {
     let mut rest = text;
-    while let Some((c, behind)) = first_of(rest) {
+    while let Some((c, after)) = first_of(rest) {
         if c == ':' {
             return true;
         }
         if !is_scheme_code_point(c) {
             return false;
         }
-        rest = behind;
+        rest = after;
     }
     false
 }
 
-// Whether a code point may stand in a scheme behind its first.
+// Whether a code point may be in a scheme after its first.
 fn is_scheme_code_point(c: char) -> bool
     ensures { result ≡ is_scheme_code_point c }
 {

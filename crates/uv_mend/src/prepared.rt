@@ -9,19 +9,19 @@ use std::alloc::{AllocError, Global};
 pub(crate) fn prepared(alloc: Global, text: &[char]) -> Result<Vec<char>, AllocError>
     ensures { IfOk result (λ out. out.items ≡ spec.prepared text.now) }
 {
-    on_one_line(alloc, before_controls(behind_controls(text)))
+    on_one_line(alloc, before_controls(after_controls(text)))
 }
 
 // The text without C0 controls and spaces at its start.
-fn behind_controls(text: &[char]) -> &[char]
-    ensures { result.now ≡ spec.behind_controls text.now }
+fn after_controls(text: &[char]) -> &[char]
+    ensures { result.now ≡ spec.after_controls text.now }
 {
     let mut rest = text;
-    while let Some((c, behind)) = first_of(rest) {
+    while let Some((c, after)) = first_of(rest) {
         if !is_control_or_space(c) {
             return rest;
         }
-        rest = behind;
+        rest = after;
     }
     rest
 }
@@ -47,11 +47,11 @@ fn on_one_line(alloc: Global, text: &[char]) -> Result<Vec<char>, AllocError>
 {
     let mut out = Vec::with_capacity(alloc, text.len())?;
     let mut rest = text;
-    while let Some((c, behind)) = first_of(rest) {
+    while let Some((c, after)) = first_of(rest) {
         if !is_tab_or_newline(c) {
             push_one(&mut out, c)?;
         }
-        rest = behind;
+        rest = after;
     }
     Ok(out)
 }

@@ -10,7 +10,7 @@ use crate::staying::all_stay;
 use uv_text::{WebLink, web_link};
 
 /// The parts of a text that is seen to be one of which the URL parser takes nothing off and in which it reads each
-/// slash as it stands; none of another one. Of some such texts that isn't seen.
+/// slash as it is; none of another one. Of some such texts that isn't seen.
 pub(crate) fn settled_link(text: &str) -> Option<WebLink<'_>>
     ensures link { IfSome result (IsAsciiLink text.now) }
     ensures settled { IfSome result (λ link. IsSettled (chars text.now)) }

@@ -1,7 +1,7 @@
 //! The slashes of a text, as the URL parser reads them.
 ghost use Rattle.std.specs.Prelude.{◌≡◌, ◌++◌, IfOk, OnOk, option_copied};
 ghost use Rattle.uv_mend.specs.Slashes as spec;
-ghost use Rattle.uv_mend.specs.Slashes.{as_slash, new_slashes, renews_slashes, slashed_behind, with_slashes};
+ghost use Rattle.uv_mend.specs.Slashes.{as_slash, new_slashes, renews_slashes, slashed_after, with_slashes};
 
 use crate::code_points::{first_of, push_all, push_one};
 use crate::prefixes::{Stop, class_against, push_scheme, starts_with_scheme};
@@ -19,24 +19,24 @@ pub(crate) fn slashed(
 {
     let class = class_against(alloc, text, base)?;
     let mut out = Vec::with_capacity(alloc, text.len().saturating_add(2))?;
-    let behind = push_scheme(&mut out, text)?;
-    push_slashed(&mut out, class, starts_with_scheme(text), behind)?;
+    let after = push_scheme(&mut out, text)?;
+    push_slashed(&mut out, class, starts_with_scheme(text), after)?;
     Ok(out)
 }
 
 // Appends what follows a scheme, or a text without one.
-#[tactic(auto, unfolding(crate::specs::Slashes::slashed_behind))]
+#[tactic(auto, unfolding(crate::specs::Slashes::slashed_after))]
 fn push_slashed(
     out: &mut Vec<char>,
     class: Class,
     has_scheme: bool,
     text: &[char],
 ) -> Result<(), AllocError>
-    ensures { OnOk result (out.new.items ≡ out.old.items ++ slashed_behind class has_scheme text.now) }
+    ensures { OnOk result (out.new.items ≡ out.old.items ++ slashed_after class has_scheme text.now) }
 {
     if renews_slashes(class, has_scheme, text) {
         push_all(out, new_slashes(class))?;
-        push_with_slashes(out, class, behind_marks(text))
+        push_with_slashes(out, class, after_marks(text))
     } else {
         push_with_slashes(out, class, text)
     }
@@ -70,12 +70,12 @@ fn push_with_slashes(out: &mut Vec<char>, class: Class, text: &[char]) -> Result
     ensures { OnOk result (out.new.items ≡ out.old.items ++ with_slashes class text.now) }
 {
     let mut rest = text;
-    while let Some((c, behind)) = first_of(rest) {
+    while let Some((c, after)) = first_of(rest) {
         if Stop::Start.is_at(c) {
             return push_all(out, rest);
         }
         push_one(out, as_slash(class, c))?;
-        rest = behind;
+        rest = after;
     }
     Ok(())
 }
@@ -91,16 +91,16 @@ fn as_slash(class: Class, c: char) -> char
     }
 }
 
-// The text behind the slashes and backslashes at its start.
-fn behind_marks(text: &[char]) -> &[char]
-    ensures { result.now ≡ spec.behind_marks text.now }
+// The text after the slashes and backslashes at its start.
+fn after_marks(text: &[char]) -> &[char]
+    ensures { result.now ≡ spec.after_marks text.now }
 {
     let mut rest = text;
-    while let Some((c, behind)) = first_of(rest) {
+    while let Some((c, after)) = first_of(rest) {
         if !is_slash_mark(c) {
             return rest;
         }
-        rest = behind;
+        rest = after;
     }
     rest
 }

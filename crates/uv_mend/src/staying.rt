@@ -17,7 +17,7 @@ pub(crate) fn all_stay(bytes: &[u8]) -> bool
 }
 
 // The same of 32 bytes and more. What fills no load is seen by one that begins before it. Each load is looked at, also
-// behind one that doesn't stay, which costs less than a branch for each.
+// after one that doesn't stay, which costs less than a branch for each.
 fn all_loads_stay(bytes: &[u8]) -> bool
     requires { 32 ≤ length bytes.now }
     ensures { result ≡ list_all spec.stays_ascii bytes.now }
@@ -26,15 +26,15 @@ fn all_loads_stay(bytes: &[u8]) -> bool
     let mut seen = 0;
     let mut at = 0;
     while at < last {
-        seen = behind_bits(seen, going_bits(u8x32::from_slice(&bytes[at..])));
+        seen = after_bits(seen, going_bits(u8x32::from_slice(&bytes[at..])));
         at += 32;
     }
-    behind_bits(seen, going_bits(u8x32::from_slice(&bytes[last..]))) == 0
+    after_bits(seen, going_bits(u8x32::from_slice(&bytes[last..]))) == 0
 }
 
 // What was seen up to a load and with it: 0 where each byte stays.
 #[inline(always)]
-fn behind_bits(seen: u64, bits: u64) -> u64
+fn after_bits(seen: u64, bits: u64) -> u64
     ensures { (result == 0) ≡ ((seen == 0) && (bits == 0)) }
 {
     seen | bits
@@ -48,7 +48,7 @@ fn going_bits(load: u8x32) -> u64
     let controls = load.simd_lt(u8x32::splat(32)).to_bitmask();
     let backslashes = load.simd_eq(u8x32::splat(92)).to_bitmask();
     let beyond = u8x32::splat(127).simd_lt(load).to_bitmask();
-    behind_bits(behind_bits(controls, backslashes), beyond)
+    after_bits(after_bits(controls, backslashes), beyond)
 }
 
 fn stays(byte: u8) -> bool

@@ -19,15 +19,15 @@ pub(crate) fn push_unit_text(out: &mut String, text: &str) -> Result<(), AllocEr
 {
     let mut in_fragment = false;
     let mut rest = text;
-    while let Some((is_in_fragment, behind)) = push_run(out, in_fragment, rest)? {
+    while let Some((is_in_fragment, after)) = push_run(out, in_fragment, rest)? {
         in_fragment = is_in_fragment;
-        rest = behind;
+        rest = after;
     }
     Ok(())
 }
 
-// Appends the units at the start of a text, and the code point behind them with its escapes. Gives whether a fragment
-// goes on behind it, and what is left; none where all was appended.
+// Appends the units at the start of a text, and the code point after them with its escapes. Gives whether a fragment
+// goes on after it, and what is left; none where all was appended.
 fn push_run<'t>(
     out: &mut String,
     in_fragment: bool,
@@ -40,15 +40,15 @@ fn push_run<'t>(
     let (units, rest) = split_units(text, UnitClass::Url);
     let _seen = units.as_bytes();
     out.push_str(units)?;
-    let Some((c, behind)) = first_code_point(rest) else {
+    let Some((c, after)) = first_code_point(rest) else {
         return Ok(None);
     };
     push_foreign(out, in_fragment, c)?;
-    Ok(Some((is_behind_mark(in_fragment, c), behind)))
+    Ok(Some((is_after_mark(in_fragment, c), after)))
 }
 
-// Whether a fragment goes on behind a code point.
-fn is_behind_mark(in_fragment: bool, c: char) -> bool
+// Whether a fragment goes on after a code point.
+fn is_after_mark(in_fragment: bool, c: char) -> bool
     ensures { result ≡ (in_fragment || (c == number_sign)) }
 {
     in_fragment || c == '#'

@@ -10,7 +10,7 @@ use Rattle.std.specs.List.{list_any}
 use Rattle.std.specs.Str.{bytes_eq}
 use Rattle.uv_messages.specs.Explanations.{is_explained}
 use Rattle.uv_messages.specs.Messages.{unknown_name_text}
-use Rattle.uv_messages.specs.Names.{behind_letter, each_once, is_in_order, with_further, with_unknown, unknown_rules}
+use Rattle.uv_messages.specs.Names.{after_letter, each_once, is_in_order, with_further, with_unknown, unknown_rules}
 use Rattle.std.proofs.lemmas.List.{map-append, take_more}
 
 -- the names up to the next one
@@ -26,25 +26,25 @@ names_more names at name within here =
 abbrev others : List ℕ → List (List ℕ) → List (List ℕ)
 others first names = filter (λ other. not (bytes_eq other first)) names
 
--- a name that isn't the first one stands among the others where it stands among all
+-- a name that isn't the first one is among the others where it is among all
 stays_among : (first name : List ℕ) (names : List (List ℕ)) → bytes_eq name first ≡ false
     → list_any (bytes_eq name) (others first names) ≡ list_any (bytes_eq name) names
 stays_among first name names differs =
     any-filter_same (bytes_eq name) (λ other. not (bytes_eq other first)) true
     (λ other same. rw (← (bytes_eq-Decides name other).0 same) (ap not differs)) names
 
--- behind a first name
-further_behind : (first name : List ℕ) (rest : List (List ℕ)) (is_first is_among : Bool)
+-- after a first name
+further_after : (first name : List ℕ) (rest : List (List ℕ)) (is_first is_among : Bool)
     → bytes_eq name first ≡ is_first → list_any (bytes_eq name) rest ≡ is_among
     → first ∷ others first (with_further rest name) ≡ with_further (first ∷ others first rest) name
-further_behind first name rest true true same among = rw (among, same) refl
-further_behind first name rest true false same among =
+further_after first name rest true true same among = rw (among, same) refl
+further_after first name rest true false same among =
     rw (among, same)
     (ap (λ names. first ∷ names)
     (filter-append (λ other. not (bytes_eq other first)) rest (name ∷ []) ∙ rw same (append-nil (others first rest))))
-further_behind first name rest false true same among =
+further_after first name rest false true same among =
     rw (among, same, stays_among first name rest same, among) refl
-further_behind first name rest false false same among =
+further_after first name rest false false same among =
     rw (among, same, stays_among first name rest same, among)
     (ap (λ names. first ∷ names)
     (filter-append (λ other. not (bytes_eq other first)) rest (name ∷ []) ∙ rw same refl))
@@ -54,7 +54,7 @@ each_once-further : (names : List (List ℕ)) (name : List ℕ)
 each_once-further [] name = refl
 each_once-further (first ∷ rest) name =
     ap (λ more. first ∷ others first more) (each_once-further rest name)
-    ∙ further_behind first name (each_once rest) _ _ refl refl
+    ∙ further_after first name (each_once rest) _ _ refl refl
 
 -- by whether it is explained
 further_where : (names : List (List ℕ)) (name : List ℕ) (known : Bool) → is_explained name ≡ known
@@ -90,7 +90,7 @@ either_rest is_next false false true shorter among = shorter refl
 either_rest true false false false shorter among = among
 either_rest false false false false shorter among = among
 
--- letters that stand in their order stand so without the first one
+-- letters that are in their order are so without the first one
 without_first : (b : ℕ) (rest others : List ℕ) → is_in_order (b ∷ rest) others ≡ true
     → is_in_order rest others ≡ true
 without_first b [] others among = refl
@@ -105,7 +105,7 @@ same_as_either true other so = refl
 same_as_either false true so = so refl
 same_as_either false false so = refl
 
--- behind a letter that is the first one, or another one
+-- after a letter that is the first one, or another one
 in_order_where : (b : ℕ) (rest others : List ℕ) (is_first : Bool)
     → is_in_order (if is_first then rest else b ∷ rest) others
     ≡ (is_first && is_in_order rest others) || is_in_order (b ∷ rest) others
@@ -113,13 +113,13 @@ in_order_where b rest others true =
     same_as_either (is_in_order rest others) (is_in_order (b ∷ rest) others) (without_first b rest others)
 in_order_where b rest others false = refl
 
--- what is left of letters behind a letter stands among the rest of the others where all do among all
-pub in_order_behind : (letters : List ℕ) (letter : ℕ) (others : List ℕ)
-    → is_in_order (behind_letter letters letter) others ≡ is_in_order letters (letter ∷ others)
-in_order_behind [] letter others = refl
-in_order_behind (b ∷ rest) letter others = in_order_where b rest others (b == letter)
+-- what is left of letters after a letter is among the rest of the others where all do among all
+pub in_order_after : (letters : List ℕ) (letter : ℕ) (others : List ℕ)
+    → is_in_order (after_letter letters letter) others ≡ is_in_order letters (letter ∷ others)
+in_order_after [] letter others = refl
+in_order_after (b ∷ rest) letter others = in_order_where b rest others (b == letter)
 
--- only no letters stand among none
+-- only no letters are among none
 pub in_order_at_end : (letters : List ℕ) → is_in_order letters [] ≡ (length letters == 0)
 in_order_at_end [] = refl
 in_order_at_end (b ∷ rest) = sym (ne_eqb (length (b ∷ rest)) 0 (λ same. omega (arith, same)))

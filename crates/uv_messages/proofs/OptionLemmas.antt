@@ -3,7 +3,7 @@ use Rattle.std.proofs.Common.{◌≡◌, ℕ, ◌||◌, List, [], ◌∷◌, ◌
 use Rattle.std.specs.Borrow.{Bor}
 use Rattle.std.specs.List.{list_any}
 use Rattle.std.specs.Str.{bytes_eq}
-use Rattle.uv_messages.specs.Options.{behind_first}
+use Rattle.uv_messages.specs.Options.{after_first}
 
 -- a command is one of these texts
 pub any_text : (command : List ℕ) (others : List (Bor (List ℕ)))
@@ -11,10 +11,10 @@ pub any_text : (command : List ℕ) (others : List (Bor (List ℕ)))
 any_text command [] = refl
 any_text command (other ∷ rest) = ap (λ r. bytes_eq command other.now || r) (any_text command rest)
 
--- a comma stands before each name but the last, and ` and ` before that
-pub behind_first_of : (others : List (Bor (List ℕ))) (last : Bor (List ℕ))
-    → behind_first (map (λ n. n.now) (others ++ last ∷ []))
+-- a comma is before each name but the last, and ` and ` before that
+pub after_first_of : (others : List (Bor (List ℕ))) (last : Bor (List ℕ))
+    → after_first (map (λ n. n.now) (others ++ last ∷ []))
     ≡ flat_map (λ name. codes ", " ++ name) (map (λ n. n.now) others) ++ (codes " and " ++ last.now)
-behind_first_of [] last = refl
-behind_first_of (name ∷ []) last = search (rules, append_assoc)
-behind_first_of (name ∷ next ∷ rest) last = rw (behind_first_of (next ∷ rest) last) (search (rules, append_assoc))
+after_first_of [] last = refl
+after_first_of (name ∷ []) last = search (rules, append_assoc)
+after_first_of (name ∷ next ∷ rest) last = rw (after_first_of (next ∷ rest) last) (search (rules, append_assoc))

@@ -19,34 +19,34 @@ abbrev pub is_utf16 : List ℕ → Bool
 is_utf16 (a ∷ b ∷ rest) = ((a == 0xFF) && (b == 0xFE)) || ((a == 0xFE) && (b == 0xFF))
 is_utf16 _ = false
 
--- what stands behind blanks
-abbrev pub behind_blanks : List ℕ → List ℕ
-behind_blanks bytes = drop (prefix_len is_ascii_whitespace bytes) bytes
+-- what is after blanks
+abbrev pub after_blanks : List ℕ → List ℕ
+after_blanks bytes = drop (prefix_len is_ascii_whitespace bytes) bytes
 
--- what stands behind the bracket of a list or of an object, if one begins here
+-- what is after the bracket of a list or of an object, if one begins here
 abbrev pub opened_here : List ℕ → Option (List ℕ)
 opened_here [] = None
 opened_here (b ∷ inner) = if (b == 0x5B) || (b == 0x7B) then Some inner else None
 
--- the same behind blanks
+-- the same after blanks
 abbrev pub opened : List ℕ → Option (List ℕ)
-opened bytes = opened_here (behind_blanks bytes)
+opened bytes = opened_here (after_blanks bytes)
 
--- a quote stands here
+-- a quote is here
 abbrev pub is_quote_here : List ℕ → Bool
 is_quote_here [] = false
 is_quote_here (b ∷ rest) = b == 0x22
 
--- a string of JSON begins behind blanks
+-- a string of JSON begins after blanks
 abbrev pub begins_with_quote : List ℕ → Bool
-begins_with_quote bytes = is_quote_here (behind_blanks bytes)
+begins_with_quote bytes = is_quote_here (after_blanks bytes)
 
 -- it begins in what was opened
 abbrev pub is_string_in : Option (List ℕ) → Bool
 is_string_in None = false
 is_string_in (Some inner) = begins_with_quote inner
 
--- a string stands first in a list or an object of JSON
+-- a string is first in a list or an object of JSON
 abbrev pub is_string_opened : List ℕ → Bool
 is_string_opened bytes = is_string_in (opened bytes)
 
@@ -55,21 +55,21 @@ abbrev pub is_json_in : Option (List ℕ) → Bool
 is_json_in None = false
 is_json_in (Some inner) = begins_with_quote inner || is_string_opened inner
 
--- a string stands first in a list or an object of JSON, or in one that stands first in such a one
+-- a string is first in a list or an object of JSON, or in one that is first in such a one
 abbrev pub is_json : List ℕ → Bool
 is_json bytes = is_json_in (opened bytes)
 
--- the byte may stand in a line of names: a letter, a digit, a quote, `-`, `_`, a space, and what separates
+-- the byte may be in a line of names: a letter, a digit, a quote, `-`, `_`, a space, and what separates
 abbrev pub is_header_byte : ℕ → Bool
 is_header_byte b =
     is_ascii_alphanumeric b || ((b == 0x22) || ((b == 0x2D) || ((b == 0x5F) || ((b == 0x20) || ((b == 0x2C)
     || ((b == 0x09) || (b == 0x0D)))))))
 
--- it may stand there behind another one: no space behind a comma, as it stands in a sentence
+-- it may be there after another one: no space after a comma, as it is in a sentence
 abbrev pub may_follow : ℕ → ℕ → Bool
 may_follow before b = is_header_byte b && not ((before == 0x2C) && (b == 0x20))
 
--- each byte of the line may stand there, behind the one before it
+-- each byte of the line may be there, after the one before it
 abbrev pub is_header : ℕ → List ℕ → Bool
 is_header before [] = true
 is_header before (b ∷ rest) = may_follow before b && is_header b rest
@@ -85,7 +85,7 @@ separated_by line =
 abbrev pub is_line_feed : ℕ → Bool
 is_line_feed b = b == 10
 
--- what the bytes look like behind those of gzip, of UTF-16 and of JSON, by what ends their lines
+-- what the bytes look like after those of gzip, of UTF-16 and of JSON, by what ends their lines
 abbrev pub lines_look : List ℕ → LineEnds → Option Content
 lines_look first line_ends.Returns = Some content.Returns
 lines_look first other = separated_by (before_first is_line_feed first)
@@ -99,7 +99,7 @@ content_of first ends =
 
 -- ---- what is said of it
 
--- what is said of it behind a name
+-- what is said of it after a name
 abbrev pub claim : Content → List ℕ
 claim content.Gzip = codes " is compressed by gzip: "
 claim content.Utf16 = codes " is UTF-16: "

@@ -40,7 +40,7 @@ example_lines rule =
 unfoldable pub explanation_text : Rule → List ℕ
 explanation_text rule = rule_lines rule ++ example_lines rule
 
--- the lines of a violation with a line that isn't judged: its name, what is wrong, and what a line is asked
+-- the lines of a violation with a line that isn't checked: its name, what is wrong, and what a line is asked
 abbrev pub violation_lines : LineViolation → List ℕ
 violation_lines violation =
     line (codes "rule ") (violation_name violation) ++ (line (codes "means ") (violation_sentence violation)
@@ -91,7 +91,7 @@ abbrev pub between : Told → List ℕ
 between Explanation = codes "\n"
 between Page = []
 
--- texts one behind the other, with that between two
+-- texts one after the other, with that between two
 abbrev pub separated : Told → List (List ℕ) → List ℕ
 separated told texts = join_by (λ text. text) (between told) texts
 

@@ -39,11 +39,11 @@ abbrev pub starts_with_slashes : List ℕ → Bool
 starts_with_slashes (first ∷ second ∷ rest) = (first == slash) && (second == slash)
 starts_with_slashes _ = false
 
--- the name looks like a link: it has a `:`, and behind the first one `//`
+-- the name looks like a link: it has a `:`, and after the first one `//`
 abbrev pub names_link : List ℕ → Bool
 names_link name = starts_with_slashes (after_first (λ b. b == colon) name)
 
--- the hint behind a file with this name that a lint couldn't read for this reason: of a folder, and where there is no
+-- the hint after a file with this name that a lint couldn't read for this reason: of a folder, and where there is no
 -- such file of a name that looks like a link
 abbrev pub file_hint : List ℕ → Unread → List ℕ
 file_hint name unread.Folder =
@@ -105,7 +105,7 @@ near_hint command option InvalidSubcommand = command_hint command
 near_hint command option kind = option_hint command option
 
 -- the hint where words of this command, with this last one, are refused for this reason: of no command, in whose place
--- a text or a file may stand; of `links` with a word too many, whose last one may be a file; of `check` and `mend`,
+-- a text or a file may be; of `links` with a word too many, whose last one may be a file; of `check` and `mend`,
 -- whose last ones may be pieces of one text; and of `lint` without a file
 abbrev pub words_hint : Option (List ℕ) → Option (List ℕ) → ErrorKind → List ℕ
 words_hint command last InvalidSubcommand =

@@ -1,4 +1,4 @@
--- What is reported on standard error before the last line: lines behind the program's name.
+-- What is reported on standard error before the last line: lines after the program's name.
 use Rattle.std.specs.Prelude.{ℕ, ◌==◌, ◌&&◌, Bool, List, [], ◌++◌, codes, drop, flat_map, length, nat_eq, not, Option}
 use Rattle.std.specs.Prelude.{Some, None, if◌then◌else◌}
 use Rattle.std.specs.List.{starts_with}
@@ -16,7 +16,7 @@ message_line text = codes "urlcheck: " ++ (shown_text text ++ codes "\n")
 abbrev pub without_error : List ℕ → List ℕ
 without_error text = if starts_with nat_eq text (codes "error: ") then drop 7 text else text
 
--- the line is told: it isn't empty, and no tip where others stand in its place
+-- the line is told: it isn't empty, and no tip where others are in its place
 abbrev pub is_told : Bool → List ℕ → Bool
 is_told has_hint text = not (length text == 0) && not (has_hint && starts_with nat_eq text (codes "  tip: "))
 
@@ -28,7 +28,7 @@ told_line has_hint text = if is_told has_hint text then message_line text else [
 abbrev pub clap_line : Bool → List ℕ → List ℕ
 clap_line has_hint text = told_line has_hint (without_error text)
 
--- what is told of a message of `clap`, where others stand in place of its tips, or don't
+-- what is told of a message of `clap`, where others are in place of its tips, or don't
 abbrev pub clap_text : Bool → List ℕ → List ℕ
 clap_text has_hint text = flat_map (clap_line has_hint) (lines text)
 
@@ -45,7 +45,7 @@ named_text name near = codes " is named '" ++ (shown_text name ++ (codes "'" ++ 
 abbrev pub unknown_text : List ℕ → List ℕ → Option (List ℕ) → List ℕ
 unknown_text noun name near = codes "urlcheck: no " ++ (noun ++ named_text name near)
 
--- names, each behind a space
+-- names, each after a space
 abbrev pub spaced_text : List (List ℕ) → List ℕ
 spaced_text names = flat_map (λ name. codes " " ++ name) names
 

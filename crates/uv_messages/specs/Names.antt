@@ -16,7 +16,7 @@ use Rattle.uv_words.specs.Commands.{urlcheck}
 use Rattle.uv_words.specs.Arguments.{without_hyphen}
 use Rattle.uv_messages.specs.Explanations.{is_explained}
 
--- names without those that stand there before
+-- names without those that are there before
 abbrev pub each_once : List (List ℕ) → List (List ℕ)
 each_once [] = []
 each_once (name ∷ rest) = name ∷ filter (λ other. not (bytes_eq other name)) (each_once rest)
@@ -95,18 +95,18 @@ longer_names word names = filter (λ name. is_longer name (str_to_ascii_lowercas
 
 -- ---- abbreviations
 
--- letters stand among others in their order: each of the others is the next letter, or is left out
+-- letters are among others in their order: each of the others is the next letter, or is left out
 abbrev pub is_in_order : List ℕ → List ℕ → Bool
 is_in_order [] others = true
 is_in_order (b ∷ rest) [] = false
 is_in_order (b ∷ rest) (c ∷ others) = ((b == c) && is_in_order rest others) || is_in_order (b ∷ rest) others
 
--- what is left of letters behind this one, where it is the first of them
-abbrev pub behind_letter : List ℕ → ℕ → List ℕ
-behind_letter [] letter = []
-behind_letter (b ∷ rest) letter = if b == letter then rest else b ∷ rest
+-- what is left of letters after this one, where it is the first of them
+abbrev pub after_letter : List ℕ → ℕ → List ℕ
+after_letter [] letter = []
+after_letter (b ∷ rest) letter = if b == letter then rest else b ∷ rest
 
--- the first letters are the same, and the further ones of the word stand in the name in their order
+-- the first letters are the same, and the further ones of the word are in the name in their order
 abbrev pub begins_alike : List ℕ → List ℕ → Bool
 begins_alike (b ∷ rest) (c ∷ others) = (b == c) && is_in_order rest others
 begins_alike _ _ = false

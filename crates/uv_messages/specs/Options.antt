@@ -38,7 +38,7 @@ option_names command =
 
 -- ---- an option that a command doesn't take
 
--- the name of the option that a word gives: what stands before the first `=`, or all
+-- the name of the option that a word gives: what is before the first `=`, or all
 abbrev pub option_name : Text → Text
 option_name word = before_first (λ b. b == 0x3D) word
 
@@ -52,7 +52,7 @@ looks_like_option (b ∷ c ∷ rest) = b == 0x2D
 abbrev pub is_unknown : Text → Text → Bool
 is_unknown command name = looks_like_option name && not (list_any (bytes_eq command) (takers name))
 
--- the first option among the words that the command doesn't take; behind `--` there is none
+-- the first option among the words that the command doesn't take; after `--` there is none
 abbrev pub unknown_among : Text → List Text → Option Text
 unknown_among command [] = None
 unknown_among command (word ∷ rest) =
@@ -68,22 +68,22 @@ unknown_option words kind = None
 
 -- ---- what is said of it
 
--- names behind the first one: ` and ` stands before the last, and a comma before each other
-abbrev pub behind_first : List Text → Text
-behind_first [] = []
-behind_first (last ∷ []) = codes " and " ++ last
-behind_first (name ∷ next ∷ rest) = codes ", " ++ (name ++ behind_first (next ∷ rest))
+-- names after the first one: ` and ` is before the last, and a comma before each other
+abbrev pub after_first : List Text → Text
+after_first [] = []
+after_first (last ∷ []) = codes " and " ++ last
+after_first (name ∷ next ∷ rest) = codes ", " ++ (name ++ after_first (next ∷ rest))
 
 -- names in a sentence
 abbrev pub listed : List Text → Text
 listed [] = []
-listed (first ∷ rest) = first ++ behind_first rest
+listed (first ∷ rest) = first ++ after_first rest
 
--- behind that, where the option stands in the command's place
+-- after that, where the option is in the command's place
 abbrev pub place_note : Text → Text
 place_note command = if looks_like_option command then codes ", and is written after the command" else []
 
--- the line of the commands that take the option with this name, and of its place where that isn't behind a command
+-- the line of the commands that take the option with this name, and of its place where that isn't after a command
 abbrev pub option_text : Text → Text → List ℕ
 option_text command name =
     codes "urlcheck: " ++ (name ++ (codes " is an option of " ++ (listed (takers name)

@@ -1,7 +1,7 @@
 //! Contents of a list that aren't lines of links: what they look like, by what is seen of them.
 ghost use Rattle.std.specs.Prelude.{◌≡◌, ◌==◌, IfOk, option_copied, string_bytes};
 ghost use Rattle.std.specs.List.{before_first};
-ghost use Rattle.uv_messages.specs.Contents.{behind_blanks, begins_with_quote, content_of, is_gzip, is_header};
+ghost use Rattle.uv_messages.specs.Contents.{after_blanks, begins_with_quote, content_of, is_gzip, is_header};
 ghost use Rattle.uv_messages.specs.Contents.{is_header_byte, is_line_feed, is_string_opened, is_json, is_utf16};
 ghost use Rattle.uv_messages.specs.Contents.{may_follow, opened, separated_by, claim, content_hint, rewriter};
 
@@ -37,7 +37,7 @@ pub enum LineEnds {
 }
 
 impl Content {
-    // What is said of it behind a name.
+    // What is said of it after a name.
     fn claim(self) -> &'static str
         ensures { result.now ≡ claim self }
     {
@@ -122,7 +122,7 @@ fn is_utf16(first: &[u8]) -> bool
     matches!(first, [0xff, 0xfe, ..] | [0xfe, 0xff, ..])
 }
 
-// Whether a string stands first in a list or an object of JSON, or in one that stands first in such a one.
+// Whether a string is first in a list or an object of JSON, or in one that is first in such a one.
 fn is_json(first: &[u8]) -> bool
     ensures { result ≡ is_json first.now }
 {
@@ -132,7 +132,7 @@ fn is_json(first: &[u8]) -> bool
     }
 }
 
-// Whether a string stands first in a list or an object of JSON.
+// Whether a string is first in a list or an object of JSON.
 fn is_string_opened(bytes: &[u8]) -> bool
     ensures { result ≡ is_string_opened bytes.now }
 {
@@ -142,11 +142,11 @@ fn is_string_opened(bytes: &[u8]) -> bool
     }
 }
 
-// What stands behind the bracket of a list or an object of JSON, if one begins here.
+// What is after the bracket of a list or an object of JSON, if one begins here.
 fn opened(bytes: &[u8]) -> Option<&[u8]>
     ensures { option_copied result ≡ opened bytes.now }
 {
-    match behind_blanks(bytes) {
+    match after_blanks(bytes) {
         [b'[', inner @ ..] => Some(inner),
         [b'{', inner @ ..] => Some(inner),
         _ => None,
@@ -157,12 +157,12 @@ fn opened(bytes: &[u8]) -> Option<&[u8]>
 fn begins_with_quote(bytes: &[u8]) -> bool
     ensures { result ≡ begins_with_quote bytes.now }
 {
-    matches!(behind_blanks(bytes), [b'"', ..])
+    matches!(after_blanks(bytes), [b'"', ..])
 }
 
-// What stands behind blanks.
-fn behind_blanks(bytes: &[u8]) -> &[u8]
-    ensures { result.now ≡ behind_blanks bytes.now }
+// What is after blanks.
+fn after_blanks(bytes: &[u8]) -> &[u8]
+    ensures { result.now ≡ after_blanks bytes.now }
 {
     bytes.trim_ascii_start()
 }
@@ -214,14 +214,14 @@ fn is_header(line: &[u8]) -> bool
     true
 }
 
-// Whether a byte may stand behind another one in such a line: no space behind a comma, as it stands in a sentence.
+// Whether a byte may be after another one in such a line: no space after a comma, as it is in a sentence.
 fn may_follow(before: u8, byte: u8) -> bool
     ensures { result ≡ may_follow before byte }
 {
     is_header_byte(byte) && !(before == b',' && byte == b' ')
 }
 
-// Whether a byte may stand in such a line: a letter, a digit, a quote, `-`, `_`, a space, and what separates.
+// Whether a byte may be in such a line: a letter, a digit, a quote, `-`, `_`, a space, and what separates.
 fn is_header_byte(byte: u8) -> bool
     ensures { result ≡ is_header_byte byte }
 {

@@ -13,7 +13,7 @@ use uv_model::{Refusal, Rule};
 use uv_report::{LineViolation, explain};
 use uv_words::Told;
 
-/// What is written where the rules with these names, or each rule, are to be told of: what they ask, where they stand
+/// What is written where the rules with these names, or each rule, are to be told of: what they ask, where they are
 /// and an example of each, or the addresses of their pages. It is `None` where one of the names is that of no rule, nor
 /// of another violation.
 pub fn explained(alloc: Global, names: &[String], told: Told) -> Result<Option<String>, AllocError>
@@ -57,7 +57,7 @@ fn told_of(alloc: Global, names: &[String], told: Told) -> Result<Option<Vec<Str
     Ok(Some(texts))
 }
 
-// Texts one behind the other, with an empty line between two explanations.
+// Texts one after the other, with an empty line between two explanations.
 fn separated(alloc: Global, texts: &[String], told: Told) -> Result<String, AllocError>
     ensures { IfOk result (λ text. string_bytes text ≡ separated told (map string_bytes texts.now)) }
 {
@@ -95,7 +95,7 @@ fn name_text(alloc: Global, name: &str) -> Result<Option<String>, AllocError>
     }
 }
 
-// What is written of the violation with a name, where there is one with a line that isn't judged.
+// What is written of the violation with a name, where there is one with a line that isn't checked.
 fn violation_text(alloc: Global, name: &str) -> Result<Option<String>, AllocError>
     ensures { IfOk result (λ text. option_map string_bytes text ≡ explained_violation name.now) }
 {
@@ -148,7 +148,7 @@ fn explanation(alloc: Global, rule: Rule) -> Result<String, AllocError>
     Ok(text)
 }
 
-// Pushes what a rule is called, what it asks, and where it stands.
+// Pushes what a rule is called, what it asks, and where it is.
 fn push_rule(text: &mut String, rule: Rule) -> Result<(), AllocError>
     ensures { OnOk result (string_bytes text.new ≡ string_bytes text.old ++ rule_lines rule) }
 {

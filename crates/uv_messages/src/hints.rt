@@ -85,7 +85,7 @@ fn text_line(alloc: Global, text: &str, instead: &str) -> Result<String, AllocEr
     Ok(line)
 }
 
-/// The hint behind a file with this name that a lint couldn't read for this reason, or nothing: of a folder, and where
+/// The hint after a file with this name that a lint couldn't read for this reason, or nothing: of a folder, and where
 /// there is no such file of a name that looks like a link.
 pub fn file_hint(name: &str, why: Unread) -> &'static str
     ensures { result.now ≡ file_hint name.now why }
@@ -97,11 +97,11 @@ pub fn file_hint(name: &str, why: Unread) -> &'static str
     }
 }
 
-// Whether a name looks like a link: it has a `:`, and behind the first one `//`.
+// Whether a name looks like a link: it has a `:`, and after the first one `//`.
 fn names_link(name: &str) -> bool
     ensures { result ≡ names_link name.now }
 {
-    starts_with_slashes(behind_colon(name).as_bytes())
+    starts_with_slashes(after_colon(name).as_bytes())
 }
 
 // Whether a text begins with `//`.
@@ -111,12 +111,12 @@ fn starts_with_slashes(text: &[u8]) -> bool
     matches!(text, [b'/', b'/', ..])
 }
 
-// What stands behind the first `:`.
-fn behind_colon(name: &str) -> &str
+// What is after the first `:`.
+fn after_colon(name: &str) -> &str
     ensures { result.now ≡ after_first (λ b. b == colon) name.now }
 {
     match name.split_once(':') {
-        Some((_, behind)) => behind,
+        Some((_, after)) => after,
         None => "",
     }
 }

@@ -6,7 +6,7 @@ ghost use Rattle.uv_messages.specs.Messages.{clap_line, clap_text, is_told, mess
 use std::alloc::{AllocError, Global};
 use uv_report::push_shown;
 
-// Pushes a line behind the program's name, as a terminal may show it.
+// Pushes a line after the program's name, as a terminal may show it.
 fn push_message(text: &mut String, line: &str) -> Result<(), AllocError>
     ensures { OnOk result (string_bytes text.new ≡ string_bytes text.old ++ message_line line.now) }
 {
@@ -15,7 +15,7 @@ fn push_message(text: &mut String, line: &str) -> Result<(), AllocError>
     text.push_str("\n")
 }
 
-/// A line behind the program's name.
+/// A line after the program's name.
 pub fn message_line(alloc: Global, line: &str) -> Result<String, AllocError>
     ensures { IfOk result (λ text. string_bytes text ≡ message_line line.now) }
 {
@@ -24,8 +24,8 @@ pub fn message_line(alloc: Global, line: &str) -> Result<String, AllocError>
     Ok(text)
 }
 
-/// The lines of a message of `clap`, each behind the program's name, without those that are empty, and without its tips
-/// where others stand in their place.
+/// The lines of a message of `clap`, each after the program's name, without those that are empty, and without its tips
+/// where others are in their place.
 pub fn message_lines(alloc: Global, message: &str, has_hint: bool) -> Result<String, AllocError>
     ensures { IfOk result (λ text. string_bytes text ≡ clap_text has_hint message.now) }
 {
@@ -63,7 +63,7 @@ fn push_told(text: &mut String, line: &str, has_hint: bool) -> Result<(), AllocE
     }
 }
 
-// Whether a line is told: it isn't empty, and no tip where others stand in its place.
+// Whether a line is told: it isn't empty, and no tip where others are in its place.
 fn is_told(line: &[u8], has_hint: bool) -> bool
     ensures { result ≡ is_told has_hint line.now }
 {

@@ -2,7 +2,7 @@
 ghost use Rattle.std.specs.Prelude.{◌≡◌, IfOk, filter, map, option_copied};
 ghost use Rattle.std.specs.Str.{str_to_ascii_lowercase};
 ghost use Rattle.uv_messages.specs.Names.{abbreviates, begins_alike, is_in_order, is_longer, longer_names, meant};
-ghost use Rattle.uv_messages.specs.Names.{nearest, behind_letter, command_names, format_names, kind_names, only};
+ghost use Rattle.uv_messages.specs.Names.{nearest, after_letter, command_names, format_names, kind_names, only};
 ghost use Rattle.uv_messages.specs.Names.{profile_names, rule_names, stem};
 
 use std::alloc::{AllocError, Global};
@@ -182,7 +182,7 @@ fn abbreviated<'n>(alloc: Global, word: &str, names: &[&'n str]) -> Result<Vec<&
     Ok(found)
 }
 
-// Whether a word abbreviates a name: it begins as the name does, and its further letters stand in the name in their
+// Whether a word abbreviates a name: it begins as the name does, and its further letters are in the name in their
 // order. Hyphens that an option begins with don't count.
 fn abbreviates(word: &str, name: &str) -> bool
     ensures { result ≡ abbreviates word.now name.now }
@@ -197,7 +197,7 @@ fn stem(word: &str) -> &str
     without_hyphen(without_hyphen(word))
 }
 
-// Whether the first letters are the same, and the further ones of the word stand in the name in their order.
+// Whether the first letters are the same, and the further ones of the word are in the name in their order.
 fn begins_alike(word: &[u8], name: &[u8]) -> bool
     ensures { result ≡ begins_alike word.now name.now }
 {
@@ -209,20 +209,20 @@ fn begins_alike(word: &[u8], name: &[u8]) -> bool
     }
 }
 
-// Whether letters stand among others in their order.
+// Whether letters are among others in their order.
 fn is_in_order(letters: &[u8], others: &[u8]) -> bool
     ensures { result ≡ is_in_order letters.now others.now }
 {
     let mut rest = letters;
     for other in others {
-        rest = behind_letter(rest, *other);
+        rest = after_letter(rest, *other);
     }
     rest.is_empty()
 }
 
-// What is left of letters behind this one, where it is the first of them; else all of them.
-fn behind_letter(letters: &[u8], letter: u8) -> &[u8]
-    ensures { result.now ≡ behind_letter letters.now letter }
+// What is left of letters after this one, where it is the first of them; else all of them.
+fn after_letter(letters: &[u8], letter: u8) -> &[u8]
+    ensures { result.now ≡ after_letter letters.now letter }
 {
     match letters {
         [first, rest @ ..] if *first == letter => rest,

@@ -2,7 +2,7 @@
 ghost use Rattle.std.specs.List.{list_any};
 ghost use Rattle.std.specs.Prelude.{◌≡◌, ◌++◌, ◌==◌, IfOk, OnOk, codes, flat_map, map, option_copied, string_bytes};
 ghost use Rattle.std.specs.Str.{bytes_eq};
-ghost use Rattle.uv_messages.specs.Options.{behind_first, is_unknown, listed, looks_like_option, near_option_text};
+ghost use Rattle.uv_messages.specs.Options.{after_first, is_unknown, listed, looks_like_option, near_option_text};
 ghost use Rattle.uv_messages.specs.Options.{option_hint, option_name, option_names, option_text, place_note, takers};
 ghost use Rattle.uv_messages.specs.Options.{unknown_among, unknown_option, unknown_option_text};
 
@@ -27,7 +27,7 @@ pub fn unknown_option<'w>(words: &[&'w str], kind: ErrorKind) -> Option<&'w str>
     }
 }
 
-// The same among the words behind the command, of which those behind `--` are no options.
+// The same among the words after the command, of which those after `--` are no options.
 fn unknown_among<'w>(command: &str, words: &[&'w str]) -> Option<&'w str>
     ensures { option_copied result ≡ unknown_among command.now (map (λ w. w.now) words.now) }
 {
@@ -43,7 +43,7 @@ fn unknown_among<'w>(command: &str, words: &[&'w str]) -> Option<&'w str>
     None
 }
 
-// What stands before the value of a word `--NAME=VALUE`, or the whole word.
+// What is before the value of a word `--NAME=VALUE`, or the whole word.
 fn option_name<'w>(word: &'w str) -> &'w str
     ensures { result.now ≡ option_name word.entry.now }
 {
@@ -170,7 +170,7 @@ fn near_option_line(
     Ok(line)
 }
 
-// The line of the commands that take the option with this name, and of its place where that isn't behind a command.
+// The line of the commands that take the option with this name, and of its place where that isn't after a command.
 fn option_line(alloc: Global, command: &str, name: &str) -> Result<String, AllocError>
     ensures { IfOk result (λ line. string_bytes line ≡ option_text command.now name.now) }
 {
@@ -183,7 +183,7 @@ fn option_line(alloc: Global, command: &str, name: &str) -> Result<String, Alloc
     Ok(line)
 }
 
-// What is said of an option that stands in the command's place, else nothing.
+// What is said of an option that is in the command's place, else nothing.
 fn place_note(command: &str) -> &'static str
     ensures { result.now ≡ place_note command.now }
 {
@@ -202,25 +202,25 @@ fn listed(alloc: Global, names: &[&str]) -> Result<String, AllocError>
         return Ok(String::new(alloc));
     };
     let mut text = String::from_str(alloc, first)?;
-    push_behind_first(&mut text, rest)?;
+    push_after_first(&mut text, rest)?;
     Ok(text)
 }
 
-// Pushes names behind the first one: ` and ` before the last, and a comma before each other.
-fn push_behind_first(text: &mut String, names: &[&str]) -> Result<(), AllocError>
+// Pushes names after the first one: ` and ` before the last, and a comma before each other.
+fn push_after_first(text: &mut String, names: &[&str]) -> Result<(), AllocError>
     ensures { OnOk result (string_bytes text.new
-        ≡ string_bytes text.old ++ behind_first (map (λ n. n.now) names.now)) }
+        ≡ string_bytes text.old ++ after_first (map (λ n. n.now) names.now)) }
 {
     let Some((last, others)) = names.split_last() else {
         return Ok(());
     };
-    push_behind_commas(text, others)?;
+    push_after_commas(text, others)?;
     text.push_str(" and ")?;
     text.push_str(last)
 }
 
-// Pushes names, each behind a comma.
-fn push_behind_commas(text: &mut String, names: &[&str]) -> Result<(), AllocError>
+// Pushes names, each after a comma.
+fn push_after_commas(text: &mut String, names: &[&str]) -> Result<(), AllocError>
     ensures { OnOk result (string_bytes text.new
         ≡ string_bytes text.old ++ flat_map (λ name. codes ", " ++ name) (map (λ n. n.now) names.now)) }
 {

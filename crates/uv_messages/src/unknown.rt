@@ -246,7 +246,7 @@ pub(crate) fn push_names(
     Ok(())
 }
 
-// Pushes names, each behind a space.
+// Pushes names, each after a space.
 fn push_spaced(text: &mut String, names: &[&str]) -> Result<(), AllocError>
     ensures { OnOk result (string_bytes text.new ≡ string_bytes text.old
         ++ spaced_text (map (λ n. n.now) names.now)) }

@@ -1,18 +1,18 @@
 -- The cut of a text into the texts of its parts, valid or not, after the order of URL Standard, section 4.3.
 use Rattle.std.specs.Prelude.{◌≡◌, ◌≢◌, ℕ, ◌+◌, Bool, true, false, not, ◌&&◌, ◌||◌, ◌==◌, List, [], ◌∷◌, ◌++◌, length}
 use Rattle.std.specs.Prelude.{drop, Option, Some, None, IsSome, is_some, if◌then◌else◌}
-use Rattle.std.specs.List.{before_first, after_first}
+use Rattle.std.specs.List.{after_first, before_first}
 use Rattle.uv_model.specs.declared.scheme.Class.{Class}
 use Rattle.uv_model.specs.declared.scheme.Class.TheVariants.{File}
 use Rattle.uv_model.specs.Ascii.{slash, colon, question_mark, number_sign, left_bracket, right_bracket}
 use Rattle.uv_model.specs.Path.{is_without, starts_with_slash}
 use Rattle.uv_model.specs.Scheme.{is_scheme, scheme_class}
 use Rattle.uv_model.specs.Records.Url.{Url}
-use Rattle.uv_model.specs.Parts.{Parts, written_scheme, written_authority, written_behind}
+use Rattle.uv_model.specs.Parts.{Parts, written_scheme, written_authority, written_after}
 use Rattle.uv_model.specs.Setting.{scheme_or}
 use Rattle.uv_model.specs.Scheme.{starts_with_scheme}
 
--- the texts of the parts, none of them judged: a host text is there where there is an authority
+-- the texts of the parts, none of them checked: a host text is there where there is an authority
 pub record Cut : Type 0 where
   pub scheme : Option (List ℕ)
   pub host_text : Option (List ℕ)
@@ -21,7 +21,7 @@ pub record Cut : Type 0 where
   pub query : Option (List ℕ)
   pub fragment : Option (List ℕ)
 
--- the texts of judged parts
+-- the texts of checked parts
 abbrev pub texts_of : Parts → Cut
 texts_of parts = record {
   scheme = parts.scheme;
@@ -32,11 +32,11 @@ texts_of parts = record {
   fragment = parts.fragment;
 }
 
--- a query or a fragment stands behind the path
+-- a query or a fragment is after the path
 abbrev pub is_followed : Cut → Bool
 is_followed cut = is_some cut.query || is_some cut.fragment
 
--- nothing of the text stands behind the host
+-- nothing of the text is after the host
 abbrev pub ends_at_host : Cut → Bool
 ends_at_host cut = (length cut.path_text == 0) && not (is_some cut.port_text || is_followed cut)
 
@@ -46,21 +46,21 @@ class_in base scheme = scheme_class (scheme_or base scheme)
 
 -- ---- the cut written out
 
--- what stands behind the scheme and before the query
+-- what is after the scheme and before the query
 abbrev pub written_middle : Cut → List ℕ
 written_middle cut = written_authority cut.host_text cut.port_text ++ cut.path_text
 
--- what stands before the query
+-- what is before the query
 abbrev pub written_start : Cut → List ℕ
 written_start cut = written_scheme cut.scheme ++ written_middle cut
 
--- what stands before the fragment
+-- what is before the fragment
 abbrev pub written_prefix : Cut → List ℕ
-written_prefix cut = written_start cut ++ written_behind question_mark cut.query
+written_prefix cut = written_start cut ++ written_after question_mark cut.query
 
 -- the whole text
 abbrev pub written_cut : Cut → List ℕ
-written_cut cut = written_prefix cut ++ written_behind number_sign cut.fragment
+written_cut cut = written_prefix cut ++ written_after number_sign cut.fragment
 
 -- ---- the places of the parts, each a number of code points before the part
 
@@ -68,11 +68,11 @@ written_cut cut = written_prefix cut ++ written_behind number_sign cut.fragment
 abbrev pub scheme_end : Cut → ℕ
 scheme_end cut = length (written_scheme cut.scheme)
 
--- of the host text, which is behind `//`
+-- of the host text, which is after `//`
 abbrev pub host_place : Cut → ℕ
 host_place cut = scheme_end cut + 2
 
--- of the port text, which is behind a host text and `:`
+-- of the port text, which is after a host text and `:`
 abbrev pub port_place : List ℕ → Cut → ℕ
 port_place host_text cut = host_place cut + (length host_text + 1)
 
@@ -80,17 +80,17 @@ port_place host_text cut = host_place cut + (length host_text + 1)
 abbrev pub path_place : Cut → ℕ
 path_place cut = scheme_end cut + length (written_authority cut.host_text cut.port_text)
 
--- of the query, which is behind the path text and `?`
+-- of the query, which is after the path text and `?`
 abbrev pub query_place : Cut → ℕ
 query_place cut = length (written_start cut) + 1
 
--- of the fragment, which is behind `#`
+-- of the fragment, which is after `#`
 abbrev pub fragment_place : Cut → ℕ
 fragment_place cut = length (written_prefix cut) + 1
 
 -- ---- brackets in an authority
 
--- within brackets behind the code point, where `within` says the same of the place before it
+-- within brackets after the code point, where `within` says the same of the place before it
 abbrev pub is_within : Bool → ℕ → Bool
 is_within within c = if c == left_bracket then true else (if c == right_bracket then false else within)
 
@@ -129,7 +129,7 @@ IsHostCut _ host_text port_text = EndsAtPort host_text port_text
 abbrev pub IsAuthorityCut : Class → Option (List ℕ) → Option (List ℕ) → List ℕ → Type 0
 IsAuthorityCut class None port_text path_text = (port_text ≡ None) × (starts_with_two_slashes path_text ≡ false)
 IsAuthorityCut class (Some host_text) port_text path_text =
-    (is_without slash (host_text ++ written_behind colon port_text) ≡ true)
+    (is_without slash (host_text ++ written_after colon port_text) ≡ true)
     × (path_text ≢ [] → starts_with_slash path_text ≡ true)
     × IsHostCut class host_text port_text
 
@@ -143,35 +143,35 @@ pub record IsCut (base : Option Url) (text : List ℕ) (cut : Cut) : Type 0 wher
 
 -- ---- the cut, computed
 
--- what stands before the first such mark, or the whole text
+-- what is before the first such mark, or the whole text
 abbrev pub text_before : ℕ → List ℕ → List ℕ
 text_before mark text = before_first (λ c. c == mark) text
 
 -- what follows the first such mark, where there is one
-abbrev pub text_behind : ℕ → List ℕ → Option (List ℕ)
-text_behind mark text = if is_without mark text then None else Some (after_first (λ c. c == mark) text)
+abbrev pub text_after : ℕ → List ℕ → Option (List ℕ)
+text_after mark text = if is_without mark text then None else Some (after_first (λ c. c == mark) text)
 
 -- the scheme of a text that has one
 abbrev pub scheme_cut : List ℕ → Option (List ℕ)
 scheme_cut start = if starts_with_scheme start then Some (text_before colon start) else None
 
 -- what follows the scheme and `:`, or the whole text
-abbrev pub behind_scheme : List ℕ → List ℕ
-behind_scheme start = if starts_with_scheme start then after_first (λ c. c == colon) start else start
+abbrev pub after_scheme : List ℕ → List ℕ
+after_scheme start = if starts_with_scheme start then after_first (λ c. c == colon) start else start
 
 -- the code point is the `:` of a port
 abbrev pub is_port_mark : Bool → ℕ → Bool
 is_port_mark within c = (c == colon) && not within
 
--- what stands before the `:` of a port
+-- what is before the `:` of a port
 abbrev pub host_before : Bool → List ℕ → List ℕ
 host_before within [] = []
 host_before within (c ∷ rest) = if is_port_mark within c then [] else c ∷ host_before (is_within within c) rest
 
 -- what follows the `:` of a port, where there is one
-abbrev pub port_behind : Bool → List ℕ → Option (List ℕ)
-port_behind within [] = None
-port_behind within (c ∷ rest) = if is_port_mark within c then Some rest else port_behind (is_within within c) rest
+abbrev pub port_after : Bool → List ℕ → Option (List ℕ)
+port_after within [] = None
+port_after within (c ∷ rest) = if is_port_mark within c then Some rest else port_after (is_within within c) rest
 
 -- what follows `//` up to the next `/`
 abbrev pub authority_in : List ℕ → List ℕ
@@ -185,9 +185,9 @@ host_cut _ authority = host_before false authority
 -- the port of an authority by the class
 abbrev pub port_cut : Class → List ℕ → Option (List ℕ)
 port_cut File authority = None
-port_cut _ authority = port_behind false authority
+port_cut _ authority = port_after false authority
 
--- the host text of what stands between the scheme and the query, where that has an authority
+-- the host text of what is between the scheme and the query, where that has an authority
 abbrev pub host_text_cut : Class → List ℕ → Option (List ℕ)
 host_text_cut class middle =
     if starts_with_two_slashes middle then Some (host_cut class (authority_in middle)) else None
@@ -196,16 +196,16 @@ host_text_cut class middle =
 abbrev pub port_text_cut : Class → List ℕ → Option (List ℕ)
 port_text_cut class middle = if starts_with_two_slashes middle then port_cut class (authority_in middle) else None
 
--- the path text there, behind the authority
+-- the path text there, after the authority
 abbrev pub path_text_cut : List ℕ → List ℕ
 path_text_cut middle =
     if starts_with_two_slashes middle then drop (length (authority_in middle)) (drop 2 middle) else middle
 
--- the cut of what stands before the query, beside a query and a fragment
+-- the cut of what is before the query, beside a query and a fragment
 abbrev pub start_cut : Option Url → List ℕ → Option (List ℕ) → Option (List ℕ) → Cut
 start_cut base start query fragment =
     let class = class_in base (scheme_cut start) in
-    let middle = behind_scheme start in
+    let middle = after_scheme start in
     record {
       scheme = scheme_cut start;
       host_text = host_text_cut class middle;
@@ -219,4 +219,4 @@ start_cut base start query fragment =
 unfoldable pub cut_of : Option Url → List ℕ → Cut
 cut_of base text =
     let prefix = text_before number_sign text in
-    start_cut base (text_before question_mark prefix) (text_behind question_mark prefix) (text_behind number_sign text)
+    start_cut base (text_before question_mark prefix) (text_after question_mark prefix) (text_after number_sign text)

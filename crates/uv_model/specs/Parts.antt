@@ -48,17 +48,17 @@ written_scheme None = []
 written_scheme (Some scheme) = scheme ++ (colon ∷ [])
 
 -- a mark before a text that may be absent
-abbrev pub written_behind : ℕ → Option (List ℕ) → List ℕ
-written_behind mark None = []
-written_behind mark (Some text) = mark ∷ text
+abbrev pub written_after : ℕ → Option (List ℕ) → List ℕ
+written_after mark None = []
+written_after mark (Some text) = mark ∷ text
 
 -- `//`, the host text, and `:` with a port text
 abbrev pub written_authority : Option (List ℕ) → Option (List ℕ) → List ℕ
 written_authority None port = []
-written_authority (Some host) port = slash ∷ slash ∷ (host ++ written_behind colon port)
+written_authority (Some host) port = slash ∷ slash ∷ (host ++ written_after colon port)
 
 -- the whole text
 unfoldable pub written : Parts → List ℕ
 written parts =
     written_scheme parts.scheme ++ (written_authority parts.host_text parts.port_text ++ (parts.path_text
-    ++ (written_behind question_mark parts.query ++ written_behind number_sign parts.fragment)))
+    ++ (written_after question_mark parts.query ++ written_after number_sign parts.fragment)))

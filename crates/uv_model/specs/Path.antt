@@ -76,16 +76,16 @@ segments_of [] = []
 segments_of (c ∷ rest) = if c == slash then pieces rest else pieces (c ∷ rest)
 
 -- the segments of a path that begins with `/`, or of no code point
-abbrev pub segments_behind : List ℕ → List (List ℕ)
-segments_behind [] = []
-segments_behind (c ∷ rest) = pieces rest
+abbrev pub segments_after : List ℕ → List (List ℕ)
+segments_after [] = []
+segments_after (c ∷ rest) = pieces rest
 
 -- the segments that a text between slashes still holds, where there is one
 abbrev pub left_segments : Option (List ℕ) → List (List ℕ)
 left_segments None = []
 left_segments (Some text) = pieces text
 
--- the code point doesn't stand in the text
+-- the code point isn't in the text
 abbrev pub is_without : ℕ → List ℕ → Bool
 is_without mark text = list_all (λ c. if c == mark then false else true) text
 
@@ -120,15 +120,15 @@ pub record IsPathRelative (segments : List (List ℕ)) (text : List ℕ) : Type 
 
 -- a path-absolute string of these segments: `/` and a path-relative string
 pub record IsPathAbsolute (segments : List (List ℕ)) (text : List ℕ) : Type 0 where
-  pub behind : List ℕ
-  pub slashed : text ≡ slash ∷ behind
-  pub relative : IsPathRelative segments behind
+  pub after : List ℕ
+  pub slashed : text ≡ slash ∷ after
+  pub relative : IsPathRelative segments after
 
 -- `/` and any segments, of which the first may be empty too
 pub record IsPathSlashed (segments : List (List ℕ)) (text : List ℕ) : Type 0 where
-  pub behind : List ℕ
-  pub slashed : text ≡ slash ∷ behind
-  pub joins : JoinsTo segments behind
+  pub after : List ℕ
+  pub slashed : text ≡ slash ∷ after
+  pub joins : JoinsTo segments after
 
 -- from code point to code point a space or no fault of units
 abbrev pub is_spaced : List ℕ → Bool
@@ -148,7 +148,7 @@ ends_with_space (c ∷ []) = c == space
 ends_with_space (c ∷ next ∷ rest) = ends_with_space (next ∷ rest)
 
 -- An opaque path on which the parser is silent (section 4.4, opaque path state): URL units and spaces, of which none
--- stands at the end, where it would be removed, unless a query or a fragment follows.
+-- is at the end, where it would be removed, unless a query or a fragment follows.
 pub record IsTakenSpacedPath (followed : Bool) (text : List ℕ) : Type 0 where
   pub spaced : IsSpacedPath text
   pub end : followed ≡ false → ends_with_space text ≡ false

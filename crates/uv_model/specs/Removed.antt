@@ -13,12 +13,12 @@ are_controls [] = true
 are_controls (c ∷ rest) = nat_le c 0x20 && are_controls rest
 
 -- the least place of a tab or a newline, or of a C0 control or a space that such alone follow
-abbrev pub removed_behind : ℕ → List ℕ → Option ℕ
-removed_behind p [] = None
-removed_behind p (c ∷ rest) =
-    if is_tab_or_newline c || (nat_le c 0x20 && are_controls rest) then Some p else removed_behind (p + 1) rest
+abbrev pub removed_after : ℕ → List ℕ → Option ℕ
+removed_after p [] = None
+removed_after p (c ∷ rest) =
+    if is_tab_or_newline c || (nat_le c 0x20 && are_controls rest) then Some p else removed_after (p + 1) rest
 
 -- the least place from which the standard removes something, and none exactly where it removes nothing
 unfoldable pub first_removed : List ℕ → Option ℕ
 first_removed [] = None
-first_removed (c ∷ rest) = if is_tab_or_newline c || nat_le c 0x20 then Some 0 else removed_behind 1 rest
+first_removed (c ∷ rest) = if is_tab_or_newline c || nat_le c 0x20 then Some 0 else removed_after 1 rest

@@ -16,7 +16,7 @@ lowercase text = map to_ascii_lowercase text
 abbrev pub is_lowercase_ascii : List ℕ → Bool
 is_lowercase_ascii text = list_all (λ c. is_ascii c && not (is_ascii_uppercase c)) text
 
--- a code point of a scheme behind its first
+-- a code point of a scheme after its first
 abbrev pub is_scheme_code_point : ℕ → Bool
 is_scheme_code_point c = is_ascii_alphanumeric c || ((c == plus_sign) || ((c == hyphen) || (c == full_stop)))
 

@@ -86,14 +86,14 @@ MayBePortText (Some text) = IsPortText text
 
 -- ---- what follows `//`
 
--- a path behind an authority: a path-absolute string, and by the wider profiles `/` and any segments
-abbrev pub IsPathBehind : Profile → List (List ℕ) → List ℕ → Type 0
-IsPathBehind Standard segments text = IsPathAbsolute segments text
-IsPathBehind _ segments text = IsPathSlashed segments text
+-- a path after an authority: a path-absolute string, and by the wider profiles `/` and any segments
+abbrev pub IsPathAfter : Profile → List (List ℕ) → List ℕ → Type 0
+IsPathAfter Standard segments text = IsPathAbsolute segments text
+IsPathAfter _ segments text = IsPathSlashed segments text
 
 -- no code point and no segment, or such a path
-abbrev pub MayBePathBehind : Profile → List (List ℕ) → List ℕ → Type 0
-MayBePathBehind profile segments text = ((text ≡ []) × (segments ≡ [])) ⊎ IsPathBehind profile segments text
+abbrev pub MayBePathAfter : Profile → List (List ℕ) → List ℕ → Type 0
+MayBePathAfter profile segments text = ((text ≡ []) × (segments ≡ [])) ⊎ IsPathAfter profile segments text
 
 -- a special URL has a host and may have a port and a path
 pub record IsSpecialAuthority (setting : Setting) (host_text : List ℕ) (parts : Parts) : Type 0 where
@@ -103,26 +103,26 @@ pub record IsSpecialAuthority (setting : Setting) (host_text : List ℕ) (parts 
   pub valued : parts.host ≡ Some value
   pub port_text : MayBePortText parts.port_text
   pub port : parts.port ≡ port_given setting.default_port parts.port_text
-  pub path : MayBePathBehind setting.profile parts.segments parts.path_text
+  pub path : MayBePathAfter setting.profile parts.segments parts.path_text
 
 -- the path doesn't begin with `/`, a drive letter and `/`, where the profile asks for that
 abbrev pub IsWithoutDrive : Profile → List ℕ → Type 0
 IsWithoutDrive Parser text = Unit {0}
 IsWithoutDrive _ text = starts_with_drive_segment text ≡ false
 
--- a file URL's host, behind which there may be a path
+-- a file URL's host, after which there may be a path
 pub record HasFileHost (profile : Profile) (host_text : List ℕ) (parts : Parts) : Type 0 where
   pub unstopped : is_stopped profile File (ends_at_host (texts_of parts)) host_text ≡ false
   pub value : Host
   pub host : IsFileHostText profile host_text value
   pub valued : parts.host ≡ Some value
-  pub path : MayBePathBehind profile parts.segments parts.path_text
+  pub path : MayBePathAfter profile parts.segments parts.path_text
   pub no_drive : IsWithoutDrive profile parts.path_text
 
 -- a path without a host before it; by the parser's profile there may be none
 abbrev pub IsPathAlone : Profile → List (List ℕ) → List ℕ → Type 0
-IsPathAlone Parser segments text = MayBePathBehind Parser segments text
-IsPathAlone profile segments text = IsPathBehind profile segments text
+IsPathAlone Parser segments text = MayBePathAfter Parser segments text
+IsPathAlone profile segments text = IsPathAfter profile segments text
 
 -- a file URL has a host and may have a path, or it has a path alone
 abbrev pub IsFileAuthority : Setting → List ℕ → Parts → Type 0
@@ -138,7 +138,7 @@ IsOtherAuthority setting host_text parts =
     ((IsOpaqueHostText host_text parts.host × MayBePortText parts.port_text)
     ⊎ ((host_text ≡ []) × (parts.host ≡ Some Empty) × (parts.port_text ≡ None)))
     × (parts.port ≡ port_given setting.default_port parts.port_text)
-    × MayBePathBehind setting.profile parts.segments parts.path_text
+    × MayBePathAfter setting.profile parts.segments parts.path_text
 
 -- what follows `//`, by the class
 abbrev pub FitsAuthority : Class → Setting → List ℕ → Parts → Type 0

@@ -68,7 +68,7 @@ fn push_ascii(text: &mut AddressText, bytes: &[u8])
     text.push_str(unsafe { from_utf8_unchecked(bytes) });
 }
 
-/// Appends a port behind a `:`, where there is one. An error means that memory ran out: `out` then still begins with
+/// Appends a port after a `:`, where there is one. An error means that memory ran out: `out` then still begins with
 /// what it held.
 pub fn push_port(out: &mut String, port: Option<u16>) -> Result<(), AllocError>
     ensures ok { OnOk result (string_bytes out.new ≡ string_bytes out.old ++ serial_port port) }

@@ -25,7 +25,7 @@ pub fn is_ascii_text(text: &[u8]) -> bool
     text.iter().all(|byte| byte.is_ascii())
 }
 
-/// Whether the byte doesn't stand in the text.
+/// Whether the byte isn't in the text.
 pub fn is_without(mark: u8, text: &[u8]) -> bool
     ensures { result ≡ is_without mark text.now }
 {

@@ -58,7 +58,7 @@ fn without_root(text: &[u8]) -> &[u8]
     }
 }
 
-/// What stands behind the last full stop, where one full stop at the end isn't counted.
+/// What is after the last full stop, where one full stop at the end isn't counted.
 fn last_label(text: &[u8]) -> &[u8]
     ensures { result.now ≡ spec.last_label text.now }
 {

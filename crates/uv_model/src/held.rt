@@ -1,4 +1,4 @@
-//! Where the texts of a record stand.
+//! Where the texts of a record are.
 ghost use Rattle.std.specs.Prelude.{◌≡◌, ◌++◌, IfOk, if◌then◌else◌, is_ok, string_bytes, take};
 ghost use Rattle.std.specs.String.Boundary.{IsSplitPoint};
 ghost use Rattle.uv_model.specs.Records.Held.{held_text};
@@ -6,7 +6,7 @@ ghost use Rattle.uv_model.specs.Records.Held.{held_text};
 use arrayvec::ArrayString;
 use std::alloc::{AllocError, Global};
 
-/// Where a text stands: so many bytes may be held without an allocation.
+/// Where a text is: so many bytes may be held without an allocation.
 #[derive(Debug, Drop)]
 pub(crate) enum Held<const SHORT: usize> {
     /// In the value itself.
@@ -65,7 +65,7 @@ impl<const SHORT: usize> Held<SHORT> {
     }
 }
 
-// Two texts, one behind the other. An error means that memory ran out.
+// Two texts, one after the other. An error means that memory ran out.
 fn joined(alloc: Global, first: &str, second: &str) -> Result<String, AllocError>
     ensures { IfOk result (λ whole. string_bytes whole ≡ first.now ++ second.now) }
 {

@@ -27,7 +27,7 @@ mod url_paths;
 mod well_formedness;
 
 pub use address_text::{hex_digit, longest_zero_run, push_ipv4, push_ipv6, push_port};
-pub use code_points::{behind_code_points, first_code_point, starts_with_two_hex};
+pub use code_points::{after_code_points, first_code_point, starts_with_two_hex};
 pub use domain::{ends_in_number, is_domain_mark, is_forbidden_domain};
 pub use extent::Extent;
 pub use host::Host;

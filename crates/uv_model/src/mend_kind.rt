@@ -1,8 +1,8 @@
-//! How a mended text stands to the refused one.
+//! How a mended text is to the refused one.
 ghost use Rattle.std.specs.Prelude.{◌≡◌};
 ghost use Rattle.uv_model.specs.MendKindName.{kind_name, named_kind};
 
-/// How a mended text stands to the refused one.
+/// How a mended text is to the refused one.
 #[derive(Clone, Copy, Debug, PartialEq, Eq)]
 pub enum MendKind {
     /// A second parser, the crate `url`, reads both as the same URL, against the base.

@@ -2,14 +2,14 @@
 ghost use Rattle.std.specs.Prelude.{◌≡◌, ◌∷◌, ◌++◌, [], IfOk, OnOk, length, option_copied, string_bytes, take, true};
 ghost use Rattle.std.specs.Str.{IsAscii};
 ghost use Rattle.uv_model.specs.Ascii.{slash};
-ghost use Rattle.uv_model.specs.Path.{is_without, left_segments, pieces, segments_behind, segments_of, without_last};
+ghost use Rattle.uv_model.specs.Path.{is_without, left_segments, pieces, segments_after, segments_of, without_last};
 ghost use Rattle.uv_model.specs.Records.PathText.{IsPathText, IsTextOf, MayBeAsciiText};
 
 use crate::held::Held;
 use std::alloc::{AllocError, Global};
 use std::marker::Model;
 
-/// The text of a path of segments, which are ASCII, each behind a `/` (URL Standard, section 4.5). A short one that is
+/// The text of a path of segments, which are ASCII, each after a `/` (URL Standard, section 4.5). A short one that is
 /// copied takes no memory. Contracts see the segments.
 #[derive(Debug, Drop)]
 pub struct PathText {
@@ -19,13 +19,13 @@ pub struct PathText {
 
 impl Model for PathText {
     ghost use Rattle.std.specs.Prelude.{ℕ, List};
-    ghost use Rattle.uv_model.specs.Path.{segments_behind};
+    ghost use Rattle.uv_model.specs.Path.{segments_after};
     ghost use Rattle.uv_model.specs.Records.Held.{held_text};
     ghost use Rattle.uv_model.specs.Records.PathText.{IsPathText};
 
     ghost Value = { List (List ℕ) };
 
-    ghost view = { λ p. segments_behind (held_text p.held) };
+    ghost view = { λ p. segments_after (held_text p.held) };
 
     ghost invariant = { λ p. IsPathText (held_text p.held) };
 }
@@ -80,7 +80,7 @@ impl PathText {
         PathText::of(alloc, path.as_str())
     }
 
-    /// The text: each segment behind a `/`.
+    /// The text: each segment after a `/`.
     #[inline]
     pub fn as_str(&self) -> &str
         ensures { IsTextOf self.now result.now }
@@ -121,7 +121,7 @@ impl PathText {
         }
     }
 
-    // A `/` and a text behind it. A path in an allocation, as most that grow are, is asked once where it stands.
+    // A `/` and a text after it. A path in an allocation, as most that grow are, is asked once where it is.
     fn push_pieces(&mut self, text: &str) -> Result<(), AllocError>
         requires { IsAscii text.now }
         ensures { OnOk result (self.new ≡ self.old ++ pieces text.now) }
@@ -142,8 +142,8 @@ impl PathText {
         self.held.truncate(kept);
     }
 
-    // The text between whose slashes the segments stand, where there are any.
-    pub(crate) fn behind_slash(&self) -> Option<&str>
+    // The text between whose slashes the segments are, where there are any.
+    pub(crate) fn after_slash(&self) -> Option<&str>
         ensures segments { left_segments (option_copied result) ≡ self.now }
         ensures ascii { MayBeAsciiText (option_copied result) }
     {
@@ -154,7 +154,7 @@ impl PathText {
 /// The text of a path without its last segment, and without the `/` before that.
 pub fn without_last_segment<'p>(path: &'p str) -> &'p str
     requires { IsPathText path.now }
-    ensures text { IsTextOf (without_last (segments_behind path.now)) result.now }
+    ensures text { IsTextOf (without_last (segments_after path.now)) result.now }
     ensures prefix { result.now ≡ take (length result.now) path.now }
 {
     match path.rfind('/') {

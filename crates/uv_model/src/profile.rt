@@ -1,21 +1,21 @@
-//! The profiles: which texts are judged valid.
+//! The profiles: which texts are checked valid.
 ghost use Rattle.std.specs.Prelude.{◌≡◌};
 ghost use Rattle.uv_model.specs.ProfileName.{named_profile, profile_name, profiles_in_order};
 
-/// The conditions by which a text is judged. Each takes what the one before it takes, with the same parts, and more.
-/// They differ in the hosts of special and file URLs, in the path behind an authority, in file URLs and in opaque paths
+/// The conditions by which a text is checked. Each takes what the one before it takes, with the same parts, and more.
+/// They differ in the hosts of special and file URLs, in the path after an authority, in file URLs and in opaque paths
 /// (URL Standard, sections 3.4, 3.5, 4.3 and 4.4).
 #[derive(Clone, Copy, Debug, PartialEq, Eq)]
 pub enum Profile {
     /// The URL Standard's valid URL strings: a domain passes ToASCII and ToUnicode at the strict settings too, and a
-    /// path behind an authority has an empty first segment only where it has no other.
+    /// path after an authority has an empty first segment only where it has no other.
     Standard,
-    /// The standard profile's texts and more: a domain is judged by the URL parser's settings alone and may hold `_`,
-    /// and a path behind an authority is `/` and any segments.
+    /// The standard profile's texts and more: a domain is checked by the URL parser's settings alone and may hold `_`,
+    /// and a path after an authority is `/` and any segments.
     Wide,
     /// Exactly the texts that the URL parser takes without a validation error: a host is what the host parser makes a
     /// domain or an address of, without an error; the authority of a file URL may be empty, and its path may begin with
-    /// a drive letter behind a host; an opaque path may hold spaces, but none at the text's end.
+    /// a drive letter after a host; an opaque path may hold spaces, but none at the text's end.
     Parser,
 }
 

@@ -85,7 +85,7 @@ impl Record {
         Record::make_with(CowStr::Owned(scheme), host, port, path, query, fragment)
     }
 
-    /// The same of texts, where the scheme may be a name that stands in the program.
+    /// The same of texts, where the scheme may be a name that is in the program.
     #[inline(always)]
     pub fn make_with(
         scheme: CowStr<'static>,
@@ -203,7 +203,7 @@ impl Record {
     }
 }
 
-// A name that stands in the program is not copied.
+// A name that is in the program is not copied.
 fn scheme_copy(alloc: Global, scheme: &CowStr<'static>) -> Result<CowStr<'static>, AllocError>
     ensures { IfOk result (λ copy. cow_str_bytes copy ≡ cow_str_bytes scheme.now) }
 {

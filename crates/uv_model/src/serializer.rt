@@ -6,7 +6,7 @@ ghost use Rattle.uv_model.specs.Records.Serialize.{serial, serial_authority, ser
 ghost use Rattle.uv_model.specs.Records.Serialize.{serial_segments};
 ghost use Rattle.uv_model.specs.declared.path.UrlPath.TheVariants.{Segments};
 ghost use Rattle.uv_model.specs.Ascii.{colon, question_mark, number_sign};
-ghost use Rattle.uv_model.specs.Parts.{written_behind};
+ghost use Rattle.uv_model.specs.Parts.{written_after};
 
 use crate::address_text::{push_ipv4, push_ipv6, push_port};
 use crate::host::Host;
@@ -88,7 +88,7 @@ fn part_room(text: Option<&str>) -> usize {
     }
 }
 
-// The scheme with its `:`, and what stands between it and the path.
+// The scheme with its `:`, and what is between it and the path.
 fn push_before_path(out: &mut String, url: &Record) -> Result<(), AllocError>
     ensures ok { OnOk result (string_bytes out.new ≡ string_bytes out.old ++ (url.now.scheme
         ++ (colon ∷ serial_authority url.now.host url.now.port url.now.path))) }
@@ -101,16 +101,16 @@ fn push_before_path(out: &mut String, url: &Record) -> Result<(), AllocError>
 // The path, the query and the fragment.
 fn push_from_path(out: &mut String, url: &Record) -> Result<(), AllocError>
     ensures ok { OnOk result (string_bytes out.new ≡ string_bytes out.old ++ (serial_path url.now.path
-        ++ (written_behind question_mark url.now.query
-        ++ written_behind number_sign url.now.fragment))) }
+        ++ (written_after question_mark url.now.query
+        ++ written_after number_sign url.now.fragment))) }
     ensures err { OnErr result (StartsWith (string_bytes out.new) (string_bytes out.old)) }
 {
     push_path(out, url.path())?;
-    push_behind(out, '?', url.query())?;
-    push_behind(out, '#', url.fragment())
+    push_after(out, '?', url.query())?;
+    push_after(out, '#', url.fragment())
 }
 
-// The scheme's `:`, and what stands between it and the path.
+// The scheme's `:`, and what is between it and the path.
 fn push_authority(
     out: &mut String,
     host: Option<&Host>,
@@ -154,7 +154,7 @@ fn dot_before(segments: ListedTexts<'_>) -> &'static str
     }
 }
 
-// A host, and the port behind it.
+// A host, and the port after it.
 fn push_host_and_port(out: &mut String, host: &Host, port: Option<u16>) -> Result<(), AllocError>
     ensures ok { OnOk result (string_bytes out.new
         ≡ string_bytes out.old ++ (serial_host host.now ++ serial_port port)) }
@@ -188,7 +188,7 @@ fn push_path(out: &mut String, path: &UrlPath) -> Result<(), AllocError>
     }
 }
 
-// The segments of a path, each behind a `/`.
+// The segments of a path, each after a `/`.
 fn push_list(out: &mut String, list: &TextList) -> Result<(), AllocError>
     ensures ok { OnOk result (string_bytes out.new ≡ string_bytes out.old ++ serial_segments list.now) }
     ensures err { OnErr result (StartsWith (string_bytes out.new) (string_bytes out.old)) }
@@ -204,16 +204,16 @@ fn push_segments(out: &mut String, segments: &[Text]) -> Result<(), AllocError>
     ensures err { OnErr result (StartsWith (string_bytes out.new) (string_bytes out.old)) }
 {
     for segment in segments {
-        push_behind(out, '/', Some(segment.as_str()))?;
+        push_after(out, '/', Some(segment.as_str()))?;
     }
     Ok(())
 }
 
-// An ASCII mark and the text behind it, where there is one.
-fn push_behind(out: &mut String, mark: char, text: Option<&str>) -> Result<(), AllocError>
+// An ASCII mark and the text after it, where there is one.
+fn push_after(out: &mut String, mark: char, text: Option<&str>) -> Result<(), AllocError>
     requires { mark < 128 }
     ensures ok { OnOk result (string_bytes out.new ≡ string_bytes out.old
-        ++ written_behind mark (option_copied text.entry)) }
+        ++ written_after mark (option_copied text.entry)) }
     ensures err { OnErr result (StartsWith (string_bytes out.new) (string_bytes out.old)) }
 {
     let Some(text) = text else {

@@ -64,13 +64,13 @@ impl TextList {
                 texts: items.as_slice(),
             },
             Listed::Path(path) => ListedTexts {
-                path: path.behind_slash(),
+                path: path.after_slash(),
                 texts: &[],
             },
         }
     }
 
-    /// The text of a path with these segments, each behind a `/`, where the list was made of one. None says nothing.
+    /// The text of a path with these segments, each after a `/`, where the list was made of one. None says nothing.
     pub fn as_path(&self) -> Option<&str>
         ensures { IfSome result (λ path. IsTextOf self.now path.now) }
     {
@@ -151,7 +151,7 @@ impl<'l> ListedTexts<'l> {
     }
 }
 
-// What stands before the first `/`, and what follows it where there is one.
+// What is before the first `/`, and what follows it where there is one.
 fn split_first<'p>(path: &'p str) -> (&'p str, Option<&'p str>)
     requires { IsAscii path.now }
     ensures pieces { pieces path.now ≡ result.0.now ∷ left_segments (option_copied result.1) }

@@ -1,4 +1,4 @@
-//! Whether a host may stand in a record, by the class of the scheme (URL Standard, section 4.1).
+//! Whether a host may be in a record, by the class of the scheme (URL Standard, section 4.1).
 ghost use Rattle.std.specs.List.{list_all};
 ghost use Rattle.std.specs.Prelude.{◌≡◌, ◌↔◌, IsTrue, not, option_copied};
 ghost use Rattle.uv_model.specs.Hosts.Address.{IsAddress};

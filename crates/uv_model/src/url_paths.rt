@@ -1,4 +1,4 @@
-//! Whether a path may stand in a record, by the class of the scheme and the host (URL Standard, section 4.1).
+//! Whether a path may be in a record, by the class of the scheme and the host (URL Standard, section 4.1).
 ghost use Rattle.std.specs.Prelude.{◌≡◌, ◌↔◌, IsTrue, chars, option_copied, true};
 ghost use Rattle.uv_model.specs.Path.{IsSegment, ends_with_space, starts_with_slash};
 ghost use Rattle.uv_model.specs.Records.WellFormed.{AreUrlSegments, IsUrlOpaquePath, IsUrlPath, IsUrlSegment};
@@ -104,7 +104,7 @@ fn starts_with_slash(text: &[u8]) -> bool
     }
 }
 
-// Whether these may be the segments of a path: where there are none, only behind a host of class Other.
+// Whether these may be the segments of a path: where there are none, only after a host of class Other.
 fn are_segments_of(class: Class, host: Option<&Host>, segments: ListedTexts<'_>) -> bool
     ensures { IsTrue result ↔ AreSegmentsOf class (option_copied host.entry) segments.entry }
 {

@@ -118,7 +118,7 @@ fn is_url_port(scheme: &str, host: Option<&Host>, port: Option<u16>) -> bool
     }
 }
 
-// A port may stand behind a host that isn't empty, in a URL whose scheme isn't `file`.
+// A port may be after a host that isn't empty, in a URL whose scheme isn't `file`.
 fn takes_port(class: Class, host: Option<&Host>) -> bool
     ensures { result ≡ takes_port class (option_copied host.entry) }
 {

@@ -47,7 +47,7 @@ host_of_form form =
 unfoldable pub parse_domain : List ℕ → Option Host
 parse_domain text = option_and_then host_of_form (option_and_then parser_form (percent_decoded text))
 
--- behind `[`: the text ends with `]`, and the IPv6 parser reads what is between
+-- after `[`: the text ends with `]`, and the IPv6 parser reads what is between
 abbrev pub parse_bracketed : List ℕ → Option Host
 parse_bracketed inner =
     if slice_index inner (length inner - 1) == right_bracket

@@ -9,20 +9,20 @@ use Rattle.uv_parser.specs.Ipv6Parser.{read_digits}
 
 -- ---- the parser
 
--- the numbers behind the first, of which so many may come, each behind a full stop
-unfoldable pub read_behind : ℕ → List ℕ → Option (List ℕ)
-read_behind left [] = Some []
-read_behind zero (c ∷ text) = None
-read_behind (suc left) (c ∷ text) =
+-- the numbers after the first, of which so many may come, each after a full stop
+unfoldable pub read_after : ℕ → List ℕ → Option (List ℕ)
+read_after left [] = Some []
+read_after zero (c ∷ text) = None
+read_after (suc left) (c ∷ text) =
     let further =
-    option_and_then (λ (n, rest). option_map (λ numbers. n ∷ numbers) (read_behind left rest))
+    option_and_then (λ (n, rest). option_map (λ numbers. n ∷ numbers) (read_after left rest))
     (read_digits None text) in
     if c == full_stop then further else None
 
 -- the numbers of the text, or none where the parser stops
 unfoldable pub read_numbers : List ℕ → Option (List ℕ)
 read_numbers text =
-    option_and_then (λ (n, rest). option_map (λ numbers. n ∷ numbers) (read_behind 3 rest)) (read_digits None text)
+    option_and_then (λ (n, rest). option_map (λ numbers. n ∷ numbers) (read_after 3 rest)) (read_digits None text)
 
 -- the value of the text, or none where the parser stops
 unfoldable pub parse_ipv4 : List ℕ → Option ℕ

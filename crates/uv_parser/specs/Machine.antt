@@ -61,7 +61,7 @@ pub data Turn : Type 0 where
   from_place : ℕ → State → Variables → Turn
   stop : Turn
 
--- what stands at the pointer: a delimiter, of which one is the end of the text, or another code point
+-- what is at the pointer: a delimiter, of which one is the end of the text, or another code point
 pub data AtPointer : Type 0 where
   end : AtPointer
   slash_mark : AtPointer
@@ -69,7 +69,7 @@ pub data AtPointer : Type 0 where
   fragment_mark : AtPointer
   another : ℕ → AtPointer
 
--- what stands at the pointer, by the rest of the text
+-- what is at the pointer, by the rest of the text
 abbrev pub at_pointer : List ℕ → AtPointer
 at_pointer [] = end
 at_pointer (c ∷ rest) =
@@ -77,7 +77,7 @@ at_pointer (c ∷ rest) =
     else (if c == question_mark then query_mark
     else (if c == number_sign then fragment_mark else another c))
 
--- the rest behind its first code point
+-- the rest after its first code point
 abbrev pub after_first : List ℕ → List ℕ
 after_first [] = []
 after_first (c ∷ rest) = rest
@@ -92,7 +92,7 @@ abbrev pub begins_two_slashes : List ℕ → Bool
 begins_two_slashes [] = false
 begins_two_slashes (c ∷ rest) = (c == slash) && begins slash rest
 
--- what may stand behind a drive letter: the end, `/`, `\`, `?` or `#`
+-- what may be after a drive letter: the end, `/`, `\`, `?` or `#`
 abbrev pub is_drive_end : List ℕ → Bool
 is_drive_end [] = true
 is_drive_end (c ∷ rest) = (c == slash) || ((c == backslash) || ((c == question_mark) || (c == number_sign)))
@@ -196,7 +196,7 @@ abbrev pub to_fragment : Variables → Turn
 to_fragment v = onward FragmentState (with_fragment (Some []) v)
 
 -- the code point goes on to the same state, unless it is a fault of units: neither a URL code point nor `%`, or `%`
--- without two hex digits behind it
+-- without two hex digits after it
 abbrev pub unless_fault : ℕ → List ℕ → Turn → Turn
 unless_fault c rest turn = if is_unit_at c rest then turn else stop
 
@@ -218,7 +218,7 @@ abbrev pub has_same_scheme : Option Url → List ℕ → Bool
 has_same_scheme None scheme = false
 has_same_scheme (Some base) scheme = bytes_eq base.scheme scheme
 
--- Behind the scheme's `:`. `file` needs `//`; a special scheme goes by whether the base has the same one; any other
+-- After the scheme's `:`. `file` needs `//`; a special scheme goes by whether the base has the same one; any other
 -- goes by a `/`.
 abbrev pub after_scheme : Option Url → Class → ℕ → Variables → List ℕ → Turn
 after_scheme base File p v rest = if begins_two_slashes rest then onward FileState v else stop

@@ -17,7 +17,7 @@ pub data Outcome : Type 0 where
   Stopped : ℕ → Outcome
   Going : Machine → Outcome
 
--- where the machine is behind a row at a place
+-- where the machine is after a row at a place
 abbrev pub settle : ℕ → List ℕ → Turn → Outcome
 settle p rest stop = Stopped p
 settle p rest (again s v) = Going (record { state = s; pointer = p; variables = v })

@@ -13,7 +13,7 @@ pub fn valid_texts_run_silently()
 
 /// Every valid text of the parser's profile is valid by the standard profile with the same parts, or it has a
 /// difference with a name: a foreign host, which an address of fewer than four numbers is too, an empty first segment
-/// behind an authority, a drive letter behind a host, an empty authority of a file URL with no path, or a space in an
+/// after an authority, a drive letter after a host, an empty authority of a file URL with no path, or a space in an
 /// opaque path; and with a difference it has no valid parts by the standard profile (URL Standard, sections 4.3 and
 /// 4.4).
 pub fn silent_texts_are_valid_or_differ()

@@ -11,7 +11,7 @@ use Rattle.std.proofs.lemmas.List.Sums.{sum_by-append}
 use Rattle.uv_report.specs.declared.places.column.Columns.{Columns}
 use Rattle.uv_report.specs.declared.places.column.Columns.TheVariants.{CodePoints, Bytes, Utf16, Screen}
 use Rattle.uv_report.specs.declared.places.column_counter.Mark.{Mark}
-use Rattle.uv_report.specs.Places.Column.{column_behind, point_width, screen_width, text_screen_width, utf16_units}
+use Rattle.uv_report.specs.Places.Column.{column_after, point_width, screen_width, text_screen_width, utf16_units}
 use Rattle.uv_report.specs.Places.Column.{width}
 use Rattle.uv_report.specs.Places.ColumnCounter.{IsMark, Tells}
 
@@ -29,7 +29,7 @@ screen_more column (d ∷ text) c =
     ap (λ n. one + n) (screen_more (column + one) text c)
     ∙ (sym (add_assoc one rest _) ∙ ap (λ at. one + rest + screen_width at c) (add_assoc column one rest))
 
--- a code point takes so many columns behind a text
+-- a code point takes so many columns after a text
 pub width_more : (columns : Columns) (column : ℕ) (text : List ℕ) (c : ℕ)
     → width columns column (text ++ c ∷ [])
     ≡ width columns column text + point_width columns (column + width columns column text) c
@@ -48,7 +48,7 @@ width_more Screen column text c = screen_more column text c
 abbrev most : ℕ
 most = 2 ^ 64 - 1
 
--- so many more columns behind one
+-- so many more columns after one
 told_more : (told : ℕ) (next : ℕ → ℕ) → min (min told most + next (min told most)) most
     ≡ min (told + next told) most
 told_more told next = elim (cases_lt told (2 ^ 64)) [
@@ -73,28 +73,28 @@ take_end place further text within is =
     ∙ (ap (λ left. take place text ++ take (further - place) left) (sym is)
     ∙ (ap (λ none. take place text ++ none) (take-nil (further - place)) ∙ append-nil (take place text))))
 
--- the mark behind a code point
+-- the mark after a code point
 pub next_is_mark : (columns : Columns) (start : ℕ) (text rest : List ℕ) (c : ℕ) (mark next : Mark)
     → IsMark columns start text mark → chars mark.rest.now ≡ c ∷ rest
-    → next.place ≡ mark.place + 1 → next.column ≡ column_behind columns mark.column c → chars next.rest.now ≡ rest
+    → next.place ≡ mark.place + 1 → next.column ≡ column_after columns mark.column c → chars next.rest.now ≡ rest
     → IsMark columns start text next
-next_is_mark columns start text rest c mark next is first place column behind =
+next_is_mark columns start text rest c mark next is first place column after =
     let before = take mark.place (chars text) in
     let told = start + width columns start before in
     let here : c ∷ rest ≡ drop mark.place (chars text) = sym first ∙ is.rest in
     record {
       column =
-          column ∙ (ap (λ at. column_behind columns at c) is.column
+          column ∙ (ap (λ at. column_after columns at c) is.column
           ∙ (told_more told (λ at. point_width columns at c)
           ∙ (ap (λ n. min n most) (add_assoc start _ _ ∙ ap (λ n. start + n) (sym (width_more columns start before c)))
           ∙ ap (λ t. min (start + width columns start t) most)
           (sym (take_next mark.place (chars text) rest c here) ∙ ap (λ n. take n (chars text)) (sym place)))));
       rest =
-          behind ∙ (ap (drop 1) here ∙ (drop-drop 1 mark.place (chars text)
+          after ∙ (ap (drop 1) here ∙ (drop-drop 1 mark.place (chars text)
           ∙ ap (λ n. drop n (chars text)) (sym place)));
     }
 
--- the mark of the text's end is that of each place behind it
+-- the mark of the text's end is that of each place after it
 pub end_tells : (columns : Columns) (start : ℕ) (text : List ℕ) (place : ℕ) (mark : Mark)
     → IsMark columns start text mark → chars mark.rest.now ≡ [] → mark.place ≤ place
     → Tells columns start text place mark
@@ -105,12 +105,12 @@ end_tells columns start text place mark is none within = record {
       (sym (take_end mark.place place (chars text) within (sym none ∙ is.rest)));
 }
 
--- the mark behind so many code points, where code points are counted
+-- the mark after so many code points, where code points are counted
 pub further_is_mark : (start count : ℕ) (text : List ℕ) (mark next : Mark) → IsMark CodePoints start text mark
     → length (take count (chars mark.rest.now)) ≡ count → chars next.rest.now ≡ drop count (chars mark.rest.now)
     → next.place ≡ mark.place + count → next.column ≡ min (mark.column + count) most
     → IsMark CodePoints start text next
-further_is_mark start count text mark next is long behind place column =
+further_is_mark start count text mark next is long after place column =
     let points = chars text in
     let before = length (take mark.place points) in
     let split : take (mark.place + count) points ≡ take mark.place points ++ take count (chars mark.rest.now) =
@@ -125,6 +125,6 @@ further_is_mark start count text mark next is long behind place column =
           ∙ (ap (λ n. min n most) (add_assoc start before count)
           ∙ ap (λ n. min (start + n) most) (sym taken ∙ ap (λ n. length (take n points)) (sym place)))));
       rest =
-          behind ∙ (ap (drop count) is.rest ∙ (drop-drop count mark.place points
+          after ∙ (ap (drop count) is.rest ∙ (drop-drop count mark.place points
           ∙ ap (λ n. drop n points) (sym place)));
     }

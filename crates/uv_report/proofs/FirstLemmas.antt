@@ -1,4 +1,4 @@
--- What stands before and behind the first element that passes, by where that is.
+-- What is before and after the first element that passes, by where that is.
 use Rattle.std.proofs.Common.{◌≡◌, ◌≤◌, ◌+◌, ◌==◌, ℕ, Bool, true, false, List, [], length, take, nat_lt, Option, Some}
 use Rattle.std.proofs.Common.{None, ap, arith, refl, if◌then◌else◌, sym, take_all, ◌∷◌, ◌⊎◌, drop, find, inl, inr}
 use Rattle.std.proofs.Common.{suc, zero}
@@ -29,17 +29,17 @@ same_first p (suc n) (c ∷ text) within = elim (cases_Bool (p c)) [
   | inr other ↦
       let further : (suc n ≤ 1 + position_or_len p text) ⊎ (suc (length text) ≤ 1 + position_or_len p text) =
       rw other at within in
-      rw other (same_first p n text (behind further))
+      rw other (same_first p n text (after further))
 ]
   where
     nowhere : (suc n ≤ 0) ⊎ (suc (length text) ≤ 0) → ⊥
     nowhere (inl few) = omega (arith, few)
     nowhere (inr few) = omega (arith, few)
 
-    behind : (suc n ≤ 1 + position_or_len p text) ⊎ (suc (length text) ≤ 1 + position_or_len p text)
+    after : (suc n ≤ 1 + position_or_len p text) ⊎ (suc (length text) ≤ 1 + position_or_len p text)
         → (n ≤ position_or_len p text) ⊎ (length text ≤ position_or_len p text)
-    behind (inl few) = inl (omega (arith, few))
-    behind (inr few) = inr (omega (arith, few))
+    after (inl few) = inl (omega (arith, few))
+    after (inr few) = inr (omega (arith, few))
 
 -- before the place that a search gives
 pub before_found : (p : ℕ → Bool) (text : List ℕ) (place : ℕ)
@@ -59,10 +59,10 @@ before_none p text is =
     let long : length text ≤ n = grind (arith, past) in
     sym (take_all n text long)
 
--- nothing stands behind the first `c` of a text that has none
-pub behind_none : (c : ℕ) (text : List ℕ) → position_or_len (λ b. b == c) text ≡ length text
+-- nothing is after the first `c` of a text that has none
+pub after_none : (c : ℕ) (text : List ℕ) → position_or_len (λ b. b == c) text ≡ length text
     → [] ≡ after_first (λ b. b == c) text
-behind_none c text none =
+after_none c text none =
     let n = position_or_len (λ b. b == c) text in
     let long : length text ≤ n + 1 = omega (arith, none) in
     sym (drop_all (n + 1) text long)

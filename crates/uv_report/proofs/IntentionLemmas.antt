@@ -27,23 +27,23 @@ piece_stands piece (b ∷ rest) is =
     elim (or_cases (starts_with nat_eq (b ∷ rest) piece) (has_piece piece rest) is) [
       | inl here ↦ ([], drop (length piece) (b ∷ rest), begins_with (b ∷ rest) piece here)
       | inr later ↦
-          let (before, behind, split) = piece_stands piece rest later in
-          (b ∷ before, behind, ap (λ t. b ∷ t) split)
+          let (before, after, split) = piece_stands piece rest later in
+          (b ∷ before, after, ap (λ t. b ∷ t) split)
     ]
 
--- where it stands behind a text
-piece_behind : (piece before behind : List ℕ) → has_piece piece (before ++ (piece ++ behind)) ≡ true
-piece_behind piece [] behind = starts_has (piece ++ behind) (begins_so (piece ++ behind) piece behind refl)
+-- where it is after a text
+piece_after : (piece before after : List ℕ) → has_piece piece (before ++ (piece ++ after)) ≡ true
+piece_after piece [] after = starts_has (piece ++ after) (begins_so (piece ++ after) piece after refl)
   where
     starts_has : (text : List ℕ) → starts_with nat_eq text piece ≡ true → has_piece piece text ≡ true
     starts_has [] is = is
     starts_has (b ∷ rest) is = or_left (starts_with nat_eq (b ∷ rest) piece) (has_piece piece rest) is
-piece_behind piece (b ∷ before) behind =
-    or_right (starts_with nat_eq (b ∷ (before ++ (piece ++ behind))) piece)
-    (has_piece piece (before ++ (piece ++ behind))) (piece_behind piece before behind)
+piece_after piece (b ∷ before) after =
+    or_right (starts_with nat_eq (b ∷ (before ++ (piece ++ after))) piece)
+    (has_piece piece (before ++ (piece ++ after))) (piece_after piece before after)
 
 piece_found : (piece text : List ℕ) → HasSubslice text piece → has_piece piece text ≡ true
-piece_found piece text (before, behind, split) = ap (has_piece piece) split ∙ piece_behind piece before behind
+piece_found piece text (before, after, split) = ap (has_piece piece) split ∙ piece_after piece before after
 
 -- what the library's search answers
 pub found_is : (piece text : List ℕ) (found : Bool) → ((found ≡ true) ↔ HasSubslice text piece)

@@ -1,4 +1,4 @@
--- The object of a diagnostic, piece by piece, and texts that stand in JSON as they are.
+-- The object of a diagnostic, piece by piece, and texts that are in JSON as they are.
 use Rattle.std.proofs.Common.{◌≡◌, ◌∙◌, ℕ, List, [], ◌∷◌, ◌++◌, true, false, ap, append_assoc, arith, codes, decimal}
 use Rattle.std.proofs.Common.{drop, refl, sym}
 use Rattle.std.proofs.Common.{◌==◌, nat_lt}
@@ -22,7 +22,7 @@ use Rattle.uv_report.specs.Places.Window.{carried, is_cut}
 
 -- ---- plain texts
 
--- a plain byte stands as it is
+-- a plain byte is as it is
 plain_step : (byte : ℕ) (text : List ℕ) → is_plain byte ≡ true
     → drop 1 (quoted (byte ∷ text)) ≡ byte ∷ drop 1 (quoted text)
 unfolding serde_json_on_literals
@@ -50,7 +50,7 @@ plain_quoted text plain = sym (ap (λ rest. 34 ∷ rest) (plain_rest text plain)
 
 -- ---- the object
 
--- the member of how a mended text stands to the refused one, behind its comma, where there is a mended text
+-- the member of how a mended text is to the refused one, after its comma, where there is a mended text
 abbrev kind_member : Option Mended → List ℕ
 kind_member None = []
 kind_member (Some mended) = codes ",\"kind\":" ++ quoted (kind_name mended.kind)

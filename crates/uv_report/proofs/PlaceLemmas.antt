@@ -1,4 +1,4 @@
--- The code point at a place of a line, and what stands from there on.
+-- The code point at a place of a line, and what is from there on.
 use Rattle.std.proofs.Common.{◌≡◌, ◌∙◌, ℕ, zero, suc, List, [], ◌∷◌, ◌++◌, refl, sym, ap, inl, inr, length, nat_lt}
 use Rattle.std.proofs.Common.{drop, drop_at, take, take_at, slice_get, lt-ltb, le-ltb, ◌≤◌, subst, arith}
 use Rattle.std.specs.Str.{IsAscii, IsUtf8, chars}
@@ -48,9 +48,9 @@ ascii_points line place long ascii =
     ap (λ t. length (take place t)) (chars_of_ascii line place ascii)
     ∙ ap length (take_at (take place line) (chars (drop place line)) place long) ∙ long
 
--- behind ASCII bytes stand the code points behind as many code points
-pub chars_behind_ascii : (line : List ℕ) (place : ℕ) → length (take place line) ≡ place → IsAscii (take place line)
+-- after ASCII bytes are the code points after as many code points
+pub chars_after_ascii : (line : List ℕ) (place : ℕ) → length (take place line) ≡ place → IsAscii (take place line)
     → chars (drop place line) ≡ drop place (chars line)
-chars_behind_ascii line place long ascii =
+chars_after_ascii line place long ascii =
     sym (ap (drop place) (chars_of_ascii line place ascii)
     ∙ drop_at (take place line) (chars (drop place line)) place long)

@@ -64,9 +64,9 @@ all_joined p (suc n) zero (x ∷ xs) within =
     absorbed true b c is = is
     absorbed false b c is = refl
 all_joined p (suc n) (suc m) (x ∷ xs) within =
-    behind (p x) (list_all p (take n xs)) (list_all p (drop m xs)) (list_all p xs)
+    after (p x) (list_all p (take n xs)) (list_all p (drop m xs)) (list_all p xs)
     (all_joined p n m xs (omega (arith, within)))
   where
-    behind : (a b c d : Bool) → (b && c) ≡ d → ((a && b) && c) ≡ (a && d)
-    behind true b c d is = is
-    behind false b c d is = refl
+    after : (a b c d : Bool) → (b && c) ≡ d → ((a && b) && c) ≡ (a && d)
+    after true b c d is = is
+    after false b c d is = refl

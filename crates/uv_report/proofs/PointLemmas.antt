@@ -33,7 +33,7 @@ by_name c None (Some point) is = cc
 by_name c (Some name) None is = cc
 by_name c (Some name) (Some point) is = cc
 
--- what stands in the table at a code point is its text
+-- what is in the table at a code point is its text
 pub named_point : (c : ℕ) (point : Option (Bor (List ℕ)))
     → option_map (λ p. p.now) point ≡ slice_get (texts_from 0 ascii_names) c
     → MatchOption point (slice_get ascii_names c ≡ None) (λ p. p.now ≡ point_text c)

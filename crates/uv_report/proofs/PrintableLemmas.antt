@@ -33,7 +33,7 @@ stays : (c : ℕ) → is_printable c ≡ true → escape Shown c ≡ c ∷ []
 stays c is =
     ap (λ hidden. if hidden then replacement else encode_utf8 c) (seen c is) ∙ encode_ascii c (small c is)
 
--- a space stands below it
+-- a space is below it
 space_below : (c : ℕ) → is_printable c ≡ true → below c ≡ 32 ∷ []
 space_below c is =
     let no_tab : (c == 9) ≡ false = grind (arith, nat_tests) in
@@ -67,7 +67,7 @@ spaces_below (b ∷ rest) are =
     let parts = and_parts (is_printable b) (list_all is_printable rest) are in
     λ i. space_below b parts.0 i ++ spaces_below rest parts.1 i
 
--- as many spaces stand below its front
+-- as many spaces are below its front
 pub front_padding : (line : List ℕ) (place : ℕ) → length (take place line) ≡ place
     → list_all is_printable (take place line) ≡ true → padding (take place (chars line)) ≡ replicate place 32
 front_padding line place long are =

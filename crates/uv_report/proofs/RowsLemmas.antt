@@ -50,7 +50,7 @@ column_rows = record {
   screen = refl;
   before_stop = refl;
   on_stop = refl;
-  behind_stop = refl;
+  after_stop = refl;
   first = refl;
   second = refl;
 }

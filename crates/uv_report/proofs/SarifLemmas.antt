@@ -24,39 +24,39 @@ use Rattle.uv_report.proofs.UriLemmas.{uri_path_plain}
 -- ---- the values, before what follows them
 
 -- a text, a last piece and what follows them
-behind_one : (text last rest : List ℕ) → (text ++ last) ++ rest ≡ text ++ (last ++ rest)
-behind_one text last rest = append_assoc text last rest
+after_one : (text last rest : List ℕ) → (text ++ last) ++ rest ≡ text ++ (last ++ rest)
+after_one text last rest = append_assoc text last rest
 
 -- a text, a piece, another text, a last piece and what follows them
-behind_two : (text between other last rest : List ℕ)
+after_two : (text between other last rest : List ℕ)
     → (text ++ (between ++ (other ++ last))) ++ rest ≡ text ++ (between ++ (other ++ (last ++ rest)))
-behind_two text between other last rest =
+after_two text between other last rest =
     append_assoc text (between ++ (other ++ last)) rest
     ∙ ap (λ t. text ++ t)
     (append_assoc between (other ++ last) rest ∙ ap (λ t. between ++ t) (append_assoc other last rest))
 
 -- seven pieces, and what follows them
-behind_seven : (a b c d e f g rest : List ℕ)
+after_seven : (a b c d e f g rest : List ℕ)
     → (a ++ (b ++ (c ++ (d ++ (e ++ (f ++ g)))))) ++ rest ≡ a ++ (b ++ (c ++ (d ++ (e ++ (f ++ (g ++ rest))))))
-behind_seven a b c d e f g rest = simp append_assoc
+after_seven a b c d e f g rest = simp append_assoc
 
 -- a value alone in an array
 array_text : (value : Data) (rest : List ℕ) → compact_text (single value) ++ rest
     ≡ codes "[" ++ (compact_text value ++ (codes "]" ++ rest))
 unfolding serde_json_on_literals
-array_text value rest = ap (λ t. codes "[" ++ t) (behind_one (compact_text value) (codes "]") rest)
+array_text value rest = ap (λ t. codes "[" ++ t) (after_one (compact_text value) (codes "]") rest)
 
 -- an object with a text
 message_text : (text rest : List ℕ) → compact_text (message text) ++ rest
     ≡ codes "{\"text\":" ++ (quoted text ++ (codes "}" ++ rest))
 unfolding serde_json_on_literals
-message_text text rest = ap (λ t. codes "{\"text\":" ++ t) (behind_one (quoted text) (codes "}") rest)
+message_text text rest = ap (λ t. codes "{\"text\":" ++ t) (after_one (quoted text) (codes "}") rest)
 
 -- a file
 artifact_text : (file rest : List ℕ) → compact_text (artifact_value file) ++ rest
     ≡ codes "{\"uri\":" ++ (quoted (uri_path file) ++ (codes "}" ++ rest))
 unfolding serde_json_on_literals
-artifact_text file rest = ap (λ t. codes "{\"uri\":" ++ t) (behind_one (quoted (uri_path file)) (codes "}") rest)
+artifact_text file rest = ap (λ t. codes "{\"uri\":" ++ t) (after_one (quoted (uri_path file)) (codes "}") rest)
 
 -- ---- where a diagnostic is
 
@@ -66,10 +66,10 @@ region_text : (d : Diagnostic) (rest : List ℕ) → compact_text (region_value 
 unfolding serde_json_on_literals
 region_text d rest =
     ap (λ t. codes "{\"endColumn\":" ++ t)
-    (behind_two (decimal d.end) (codes ",\"startColumn\":") (decimal d.column)
+    (after_two (decimal d.end) (codes ",\"startColumn\":") (decimal d.column)
     (codes ",\"startLine\":" ++ (decimal d.line ++ codes "}")) rest
     ∙ ap (λ t. decimal d.end ++ (codes ",\"startColumn\":" ++ (decimal d.column ++ (codes ",\"startLine\":" ++ t))))
-    (behind_one (decimal d.line) (codes "}") rest))
+    (after_one (decimal d.line) (codes "}") rest))
 
 physical_text : (d : Diagnostic) (rest : List ℕ) → compact_text (physical_value d) ++ rest
     ≡ codes "{\"artifactLocation\":{\"uri\":" ++ (quoted (uri_path d.file.now)
@@ -81,7 +81,7 @@ physical_text d rest =
     let region = compact_text (region_value d) in
     let more : List ℕ = codes ",\"region\":" ++ (region ++ (codes "}" ++ rest)) in
     ap (λ t. codes "{\"artifactLocation\":" ++ t)
-    (behind_two artifact (codes ",\"region\":") region (codes "}") rest ∙ artifact_text d.file.now more
+    (after_two artifact (codes ",\"region\":") region (codes "}") rest ∙ artifact_text d.file.now more
     ∙ ap (λ t. codes "{\"uri\":" ++ (quoted (uri_path d.file.now) ++ (codes "},\"region\":" ++ t)))
     (region_text d (codes "}" ++ rest)))
 
@@ -93,7 +93,7 @@ unfolding serde_json_on_literals
 location_text d rest =
     array_text (location_value d) rest
     ∙ ap (λ t. codes "[{\"physicalLocation\":" ++ t)
-    (behind_one (compact_text (physical_value d)) (codes "}")
+    (after_one (compact_text (physical_value d)) (codes "}")
     (codes "]" ++ rest) ∙ physical_text d (codes "}]" ++ rest))
 
 -- the fingerprint
@@ -103,7 +103,7 @@ fingerprints_text : (d : Diagnostic) (rest : List ℕ)
 unfolding serde_json_on_literals
 fingerprints_text d rest =
     ap (λ t. codes "{\"urlcheckText/v1\":" ++ t)
-    (behind_one (quoted (text_fingerprint d.violation d.text.now)) (codes "}") rest)
+    (after_one (quoted (text_fingerprint d.violation d.text.now)) (codes "}") rest)
 
 -- the link
 link_text : (d : Diagnostic) (rest : List ℕ) → compact_text (link_value d) ++ rest
@@ -112,7 +112,7 @@ link_text : (d : Diagnostic) (rest : List ℕ) → compact_text (link_value d) +
 unfolding serde_json_on_literals
 link_text d rest =
     ap (λ t. codes "{\"cut\":" ++ t)
-    (behind_two (compact_text (boolean (is_cut d.text.now))) (codes ",\"text\":")
+    (after_two (compact_text (boolean (is_cut d.text.now))) (codes ",\"text\":")
     (quoted (carried d.text.now (violation_place d.violation))) (codes "}") rest)
 
 -- ---- a fix
@@ -123,10 +123,10 @@ deleted_text : (line : ℕ) (m : Mended) (rest : List ℕ) → compact_text (del
 unfolding serde_json_on_literals
 deleted_text line m rest =
     ap (λ t. codes "{\"endColumn\":" ++ t)
-    (behind_two (decimal m.end) (codes ",\"startColumn\":") (decimal m.start)
+    (after_two (decimal m.end) (codes ",\"startColumn\":") (decimal m.start)
     (codes ",\"startLine\":" ++ (decimal line ++ codes "}")) rest
     ∙ ap (λ t. decimal m.end ++ (codes ",\"startColumn\":" ++ (decimal m.start ++ (codes ",\"startLine\":" ++ t))))
-    (behind_one (decimal line) (codes "}") rest))
+    (after_one (decimal line) (codes "}") rest))
 
 replacement_text : (line : ℕ) (m : Mended) (rest : List ℕ)
     → compact_text (single (replacement_value line m)) ++ rest
@@ -140,7 +140,7 @@ replacement_text line m rest =
     let end : List ℕ = codes "}]" ++ rest in
     array_text (replacement_value line m) rest
     ∙ ap (λ t. codes "[{\"deletedRegion\":" ++ t)
-    (behind_two deleted (codes ",\"insertedContent\":") inserted (codes "}") (codes "]" ++ rest)
+    (after_two deleted (codes ",\"insertedContent\":") inserted (codes "}") (codes "]" ++ rest)
     ∙ deleted_text line m (codes ",\"insertedContent\":" ++ (inserted ++ end))
     ∙ ap (λ t. codes "{\"endColumn\":" ++ (decimal m.end ++ (codes ",\"startColumn\":" ++ (decimal m.start
     ++ (codes ",\"startLine\":" ++ (decimal line ++ (codes "},\"insertedContent\":" ++ t)))))))
@@ -158,7 +158,7 @@ change_text d m rest =
     let end : List ℕ = codes "}]" ++ rest in
     array_text (change_value d m) rest
     ∙ ap (λ t. codes "[{\"artifactLocation\":" ++ t)
-    (behind_two artifact (codes ",\"replacements\":") replaced (codes "}") (codes "]" ++ rest)
+    (after_two artifact (codes ",\"replacements\":") replaced (codes "}") (codes "]" ++ rest)
     ∙ artifact_text d.file.now (codes ",\"replacements\":" ++ (replaced ++ end))
     ∙ ap (λ t. codes "{\"uri\":" ++ (quoted (uri_path d.file.now) ++ (codes "},\"replacements\":" ++ t)))
     (replacement_text d.line m end))
@@ -177,7 +177,7 @@ fix_alone d m ending is =
     let whole : result_begin d (Some m) ≡ codes "{\"fixes\":[{\"artifactChanges\":"
     ++ (changes ++ (codes ",\"description\":" ++ (described ++ codes "}],"))) =
     ap (λ t. codes "{\"fixes\":[{\"artifactChanges\":" ++ t)
-    (behind_two changes (codes ",\"description\":") described (codes "}") (codes "],")) in
+    (after_two changes (codes ",\"description\":") described (codes "}") (codes "],")) in
     rw is (sym (whole ∙ ap (λ t. codes "{\"fixes\":[{\"artifactChanges\":" ++ t)
     (change_text d m (codes ",\"description\":" ++ (described ++ codes "}],")))))
 
@@ -187,7 +187,7 @@ uri_open file rest =
     ap (λ t. 34 ∷ t) (sym (append_assoc (uri_path file) (34 ∷ []) rest))
     ∙ ap (λ t. t ++ rest) (plain_quoted (uri_path file) (uri_path_plain file))
 
--- a fix up to the path of the file's name, behind what stands before it
+-- a fix up to the path of the file's name, after what is before it
 pub fix_pieces : (d : Diagnostic) (m : Mended) (before ending : List ℕ)
     → ending ≡ (codes "}}]}],\"description\":" ++ (compact_text (message (fix_sentence m.kind)) ++ codes "}],"))
     ++ location_begin
@@ -209,12 +209,12 @@ fix_pieces d m before ending is =
     ∙ ap (λ t. before ++ t)
     (ap (λ t. begin ++ t) (uri_open d.file.now (end_column ++ (column ++ (line ++ (inserted ++ ending)))))
     ∙ ap (λ e. begin ++ (uri ++ (end_column ++ (column ++ (line ++ (inserted ++ e)))))) is
-    ∙ sym (behind_seven begin uri end_column column line inserted end location_begin)
+    ∙ sym (after_seven begin uri end_column column line inserted end location_begin)
     ∙ ap (λ t. t ++ location_begin) (fix_alone d m end refl))
 
 -- ---- the result
 
--- what stands behind a fix
+-- what is after a fix
 abbrev rest_of : Diagnostic → List ℕ
 rest_of d =
     codes "\"level\":\"error\",\"locations\":" ++ (compact_text (single (location_value d))
@@ -233,7 +233,7 @@ whole_result d (Some mended) =
     (append_assoc (compact_text (fix_value d mended)) (codes "],") (rest_of d)
     ∙ sym (append_assoc (compact_text (fix_value d mended)) (codes "]") (codes "," ++ rest_of d)))
 
--- what stands behind a fix, piece by piece
+-- what is after a fix, piece by piece
 abbrev rest_pieces : Diagnostic → List ℕ
 rest_pieces d =
     codes "\"level\":\"error\",\"locations\":[{\"physicalLocation\":{\"artifactLocation\":{\"uri\":"
@@ -275,7 +275,7 @@ rest_is d =
     (sym (append_assoc cut (codes ",\"text\":" ++ link) (codes "}" ++ rule)
     ∙ ap (λ t. cut ++ t) (append_assoc (codes ",\"text\":") link (codes "}" ++ rule)))))
 
--- a link behind whether it is cut
+-- a link after whether it is cut
 cut_grouped : (begin cut name link : List ℕ)
     → ((begin ++ cut) ++ name) ++ link ≡ begin ++ (cut ++ (name ++ link))
 cut_grouped begin cut name link = simp append_assoc

@@ -1,4 +1,4 @@
--- The text of a diagnostic is that of its text, wherever this stands.
+-- The text of a diagnostic is that of its text, wherever this is.
 use Rattle.std.proofs.Common.{◌≡◌, ◌∙◌, ℕ, Bool, true, false, if◌then◌else◌, List, Option, Some, None, ap, refl, sym}
 use Rattle.std.specs.Borrow.{Bor}
 use Rattle.uv_model.specs.declared.profile.Profile.{Profile}
@@ -21,7 +21,7 @@ use Rattle.uv_report.specs.Formats.Rdjson.{object_text, rdjson_line, rdjson_text
 use Rattle.uv_report.specs.Report.{diagnostic_text}
 use Rattle.uv_report.specs.Formats.Sarif.{sarif_text, sarif_with}
 
--- a diagnostic, with its text behind this reference
+-- a diagnostic, with its text after this reference
 abbrev pub diagnostic_of : Bor (List ℕ) → Bor (List ℕ) → ℕ → ℕ → ℕ → Profile → LineViolation → Option Mended
     → Diagnostic
 diagnostic_of file text line column end profile violation mended = record {
@@ -35,7 +35,7 @@ diagnostic_of file text line column end profile violation mended = record {
   mended = mended;
 }
 
--- behind another one
+-- after another one
 abbrev lent : List ℕ → Bor (List ℕ)
 lent text = record { ref_ptr = (0, 0); now = text }
 
@@ -81,7 +81,7 @@ text_lent Rdjson is_first file text line column end profile violation None = ref
 text_lent Rdjson is_first file text line column end profile violation (Some mended) =
     rdjson_lent (is_offered text.now mended.text.now) is_first file text line column end profile violation mended
 
--- the text of a diagnostic on the same text behind another reference
+-- the text of a diagnostic on the same text after another reference
 pub same_text : (format : Format) (is_first : Bool) (file seen text : Bor (List ℕ)) (line column end : ℕ)
     (profile : Profile) (violation : LineViolation) (mended : Option Mended) → seen.now ≡ text.now
     → diagnostic_text format is_first (diagnostic_of file seen line column end profile violation mended)

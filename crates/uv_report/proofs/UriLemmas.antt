@@ -13,7 +13,7 @@ use Rattle.percent_encoding.specs.AsciiSet.{contains, should_percent_encode}
 use Rattle.percent_encoding.specs.Percent.{percent_encode_byte, encode_byte, percent_encode}
 use Rattle.uv_report.specs.declared.escaping.uri.TheConstants.{ESCAPED}
 use Rattle.uv_report.specs.Escaping.Quoted.{is_plain}
-use Rattle.uv_report.specs.Escaping.Uri.{behind_slash, behind_slashes, path_of, stays, uri_byte, uri_part, uri_path}
+use Rattle.uv_report.specs.Escaping.Uri.{after_slash, after_slashes, path_of, stays, uri_byte, uri_part, uri_path}
 
 -- below 128 the set holds just the bytes that don't stay
 escaped-ascii : (b : ℕ) → b < 128 → contains ESCAPED b ≡ not (stays b)
@@ -55,12 +55,12 @@ part_stays (b ∷ name) all =
     rw here (ap (λ t. b ∷ t) rest)
 
 -- what follows a `/`, by what the library's search says
-pub behind_slash-is : (name : List ℕ) (result : Option (Bor (List ℕ)))
+pub after_slash-is : (name : List ℕ) (result : Option (Bor (List ℕ)))
     → MatchOption result ((rest : List ℕ) → name ≢ 0x2F ∷ rest) (λ r. name ≡ 0x2F ∷ r.now)
-    → option_map (λ r. r.now) result ≡ behind_slash name
-behind_slash-is name (Some r) is = rw is refl
-behind_slash-is [] None is = refl
-behind_slash-is (b ∷ name) None is =
+    → option_map (λ r. r.now) result ≡ after_slash name
+after_slash-is name (Some r) is = rw is refl
+after_slash-is [] None is = refl
+after_slash-is (b ∷ name) None is =
     elim (cases_eq b 0x2F) [
       | inl same ↦ absurd (is name (ap (λ c. c ∷ name) same))
       | inr other ↦ rw (ne_eqb b 0x2F other) refl
@@ -104,7 +104,7 @@ part_plain (b ∷ name) =
 -- the path of a name
 pub uri_path_plain : (name : List ℕ) → list_all is_plain (uri_path name) ≡ true
 unfolding uri_path
-uri_path_plain name = path_plain (behind_slashes name)
+uri_path_plain name = path_plain (after_slashes name)
   where
     path_plain : (rest : Option (List ℕ)) → list_all is_plain (path_of name rest) ≡ true
     path_plain None = part_plain name

@@ -35,14 +35,14 @@ violation_help TooLong =
 violation_help (NotLocated fault) =
     codes "A located line is FILE:LINE:COLUMN:LINK. FILE isn't empty; LINE and COLUMN are from 1 to 4294967295."
 
--- where that stands: the section of the rule, or what a valid URL string is
+-- where that is: the section of the rule, or what a valid URL string is
 abbrev pub violation_uri : LineViolation → List ℕ
 violation_uri (Refused refusal) = rule_uri refusal.rule
 violation_uri (NotUtf8 place) = codes "https://url.spec.whatwg.org/#valid-url-string"
 violation_uri TooLong = codes "https://url.spec.whatwg.org/#valid-url-string"
 violation_uri (NotLocated fault) = codes "https://url.spec.whatwg.org/#valid-url-string"
 
--- where its rule stands among all of them, from 0: behind the three that are no refusal, by the rule's number
+-- where its rule is among all of them, from 0: after the three that are no refusal, by the rule's number
 abbrev pub violation_index : LineViolation → ℕ
 violation_index (Refused refusal) = rule_number refusal.rule + 2
 violation_index (NotUtf8 place) = 0
@@ -56,7 +56,7 @@ violation_place (NotUtf8 place) = place
 violation_place TooLong = 0
 violation_place (NotLocated fault) = 0
 
--- The place at which what is wrong ends: that behind the code point that violates a rule. Of a line that isn't judged
+-- The place at which what is wrong ends: that after the code point that violates a rule. Of a line that isn't checked
 -- no code point is wrong, and it ends where it begins. The greatest number of 64 bits stands for each place beyond it.
 abbrev pub violation_end : LineViolation → ℕ
 violation_end (Refused refusal) = min (refusal.place + 1) (2 ^ 64 - 1)

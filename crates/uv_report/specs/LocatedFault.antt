@@ -1,4 +1,4 @@
--- Why a line doesn't say where its link stands, as `FILE:LINE:COLUMN:LINK` does, and what is said of that.
+-- Why a line doesn't say where its link is, as `FILE:LINE:COLUMN:LINK` does, and what is said of that.
 use Rattle.std.specs.Prelude.{ℕ, List, codes}
 use Rattle.uv_report.specs.declared.located_fault.LocatedFault.{LocatedFault}
 use Rattle.uv_report.specs.declared.located_fault.LocatedFault.TheVariants.{NoFile, NoLine, LineRange, NoColumn}

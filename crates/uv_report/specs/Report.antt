@@ -26,7 +26,7 @@ begin_text Gitlab columns = gitlab_begin
 begin_text Rdjson columns = rdjson_begin
 begin_text _ columns = []
 
--- what stands before the diagnostics of a file
+-- what is before the diagnostics of a file
 abbrev pub file_begin_text : Format → List ℕ → List ℕ
 file_begin_text Checkstyle file = file_begin file
 file_begin_text Junit file = suite_begin file
@@ -44,7 +44,7 @@ diagnostic_text Junit is_first diagnostic = junit_text diagnostic
 diagnostic_text Gitlab is_first diagnostic = gitlab_text is_first diagnostic
 diagnostic_text Rdjson is_first diagnostic = rdjson_text is_first diagnostic
 
--- what stands behind the diagnostics of a file
+-- what is after the diagnostics of a file
 abbrev pub file_end_text : Format → List ℕ
 file_end_text Checkstyle = file_end
 file_end_text Junit = suite_end

@@ -39,8 +39,8 @@ pub record PointRows : Type 0 where
 abbrev pub mixed : List ℕ
 mixed = 0x65 ∷ 0x301 ∷ 0x65E5 ∷ 0x1F600 ∷ 9 ∷ []
 
--- what these take in each unit but on a screen, and tabs on a screen: behind two letters, before a stop, on one and
--- behind one
+-- what these take in each unit but on a screen, and tabs on a screen: after two letters, before a stop, on one and
+-- after one
 pub record ColumnRows : Type 0 where
   pub points : width CodePoints 1 mixed ≡ 5
   pub bytes : width Bytes 1 mixed ≡ 11
@@ -48,11 +48,11 @@ pub record ColumnRows : Type 0 where
   pub screen : width Screen 1 (codes "ab\tc") ≡ 9
   pub before_stop : width Screen 8 (9 ∷ []) ≡ 1
   pub on_stop : width Screen 9 (9 ∷ []) ≡ 8
-  pub behind_stop : width Screen 10 (9 ∷ 9 ∷ []) ≡ 15
+  pub after_stop : width Screen 10 (9 ∷ 9 ∷ []) ≡ 15
   pub first : column_at Bytes 40 (codes "ab") 0 ≡ 40
   pub second : column_at Screen 40 (codes "a\tb") 2 ≡ 49
 
--- messages: of a code point, and of a line that doesn't say where its link stands
+-- messages: of a code point, and of a line that doesn't say where its link is
 pub record MessageRows : Type 0 where
   pub point : message Standard (codes "urn:a b") (Refused (record { place = 5; rule = CodePoint }))
       ≡ codes "U+0020 SPACE is not allowed in a URL"
@@ -151,7 +151,7 @@ pub record IntentionRows : Type 0 where
   pub dotted : is_offered (codes "https://h/.//a b") (codes "https://h/.//a%20b") ≡ true
   pub space : is_offered (codes "https://h/a b") (codes "https://h/a%20b") ≡ true
 
--- the message on a host that begins behind `http://`
+-- the message on a host that begins after `http://`
 abbrev pub of_host : Profile → List ℕ → List ℕ
 of_host profile line = message profile line (Refused (record { place = 7; rule = HostDomain }))
 

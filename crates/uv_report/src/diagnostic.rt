@@ -13,9 +13,9 @@ pub struct Diagnostic<'a> {
     pub line: u64,
     /// The column of the place at which the text is wrong, in its line, from 1: `ColumnCounter::column` tells it.
     pub column: u64,
-    /// The column at which what is wrong ends, behind its last code point: that of the place `LineViolation::end`.
+    /// The column at which what is wrong ends, after its last code point: that of the place `LineViolation::end`.
     pub end: u64,
-    /// By which profile the text is judged.
+    /// By which profile the text is checked.
     pub profile: Profile,
     /// What is wrong with the text.
     pub violation: LineViolation,

@@ -58,7 +58,7 @@ impl Format {
         }
     }
 
-    /// Whether a diagnostic says that as an edit of its file: then the columns between which the replaced text stands
+    /// Whether a diagnostic says that as an edit of its file: then the columns between which the replaced text is
     /// are written with it.
     pub fn writes_edits(self) -> bool
         ensures { result ≡ spec.writes_edits self }

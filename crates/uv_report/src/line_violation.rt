@@ -7,16 +7,16 @@ use crate::located_fault::LocatedFault;
 use crate::rules::explanation::{explain, section_uri};
 use uv_model::Refusal;
 
-/// What is wrong with a line of a file: as a text it is refused, or it is no text that is judged.
+/// What is wrong with a line of a file: as a text it is refused, or it is no text that is checked.
 #[derive(Clone, Copy, PartialEq, Eq)]
 pub enum LineViolation {
     /// The line violates a rule of valid URL strings at a place.
     Refused(Refusal),
-    /// The line isn't UTF-8. So many code points stand before the first byte that isn't.
+    /// The line isn't UTF-8. So many code points are before the first byte that isn't.
     NotUtf8(usize),
     /// The line has more than 65,536 bytes.
     TooLong,
-    /// The line doesn't say where its link stands, as `FILE:LINE:COLUMN:LINK` does, for this reason.
+    /// The line doesn't say where its link is, as `FILE:LINE:COLUMN:LINK` does, for this reason.
     NotLocated(LocatedFault),
 }
 
@@ -75,7 +75,7 @@ impl LineViolation {
         }
     }
 
-    /// Where that stands in the URL Standard: the section of the rule, or what a valid URL string is.
+    /// Where that is in the URL Standard: the section of the rule, or what a valid URL string is.
     pub(crate) fn uri(self) -> &'static str
         ensures { result.now ≡ violation_uri self }
     {
@@ -87,7 +87,7 @@ impl LineViolation {
         }
     }
 
-    /// Where its rule stands among all that can be wrong, from 0: the three that are no refusal come first.
+    /// Where its rule is among all that can be wrong, from 0: the three that are no refusal come first.
     pub(crate) fn index(self) -> u64
         ensures { result ≡ violation_index self }
     {
@@ -100,7 +100,7 @@ impl LineViolation {
     }
 
     /// The place at which it is wrong: a number of code points from the line's start, from 0. It is 0 for a line that
-    /// is too long, and for one that doesn't say where its link stands.
+    /// is too long, and for one that doesn't say where its link is.
     pub fn place(self) -> usize
         ensures { result ≡ violation_place self }
     {
@@ -111,8 +111,8 @@ impl LineViolation {
         }
     }
 
-    /// The place at which what is wrong ends: that behind the code point that violates a rule. Where the line isn't
-    /// judged no code point is wrong, and it is `place`.
+    /// The place at which what is wrong ends: that after the code point that violates a rule. Where the line isn't
+    /// checked no code point is wrong, and it is `place`.
     pub fn end(self) -> usize
         ensures { result ≡ violation_end self }
     {

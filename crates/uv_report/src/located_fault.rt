@@ -1,9 +1,9 @@
-//! Why a line doesn't say where its link stands.
+//! Why a line doesn't say where its link is.
 ghost use Rattle.std.specs.Prelude.{◌≡◌};
 ghost use Rattle.uv_report.specs.LocatedFault.{located_sentence};
 
-/// Why a line doesn't say where its link stands, as `FILE:LINE:COLUMN:LINK` does. Where no two numbers stand between
-/// three colons, LINE is the first number that stands between two, or between one and the line's end.
+/// Why a line doesn't say where its link is, as `FILE:LINE:COLUMN:LINK` does. Where no two numbers are between
+/// three colons, LINE is the first number that is between two, or between one and the line's end.
 #[derive(Clone, Copy, PartialEq, Eq)]
 pub enum LocatedFault {
     /// FILE is empty, and LINE and COLUMN are there.

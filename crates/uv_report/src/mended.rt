@@ -7,10 +7,10 @@ use uv_model::MendKind;
 pub struct Mended<'a> {
     /// A valid text.
     pub text: &'a str,
-    /// How it stands to the text that it replaces.
+    /// How it is to the text that it replaces.
     pub kind: MendKind,
     /// The column of the replaced text's first code point in its line, from 1.
     pub start: u64,
-    /// The column behind its last code point.
+    /// The column after its last code point.
     pub end: u64,
 }

@@ -56,7 +56,7 @@ fn begin_of(alloc: Global, format: Format, columns: Columns) -> Result<String, A
     Ok(begin)
 }
 
-/// Pushes what stands before the diagnostics of a file: a start tag in the formats of Checkstyle and JUnit, with a test
+/// Pushes what is before the diagnostics of a file: a start tag in the formats of Checkstyle and JUnit, with a test
 /// that passes in the latter, and nothing in another.
 /// Where an allocation fails, the text stays as it was.
 pub fn push_file_begin(
@@ -72,7 +72,7 @@ pub fn push_file_begin(
     text.push_str(begin.as_str())
 }
 
-// What stands before the diagnostics of a file.
+// What is before the diagnostics of a file.
 fn file_begin_of(alloc: Global, format: Format, file: &str) -> Result<String, AllocError>
     ensures { IfOk result (λ begin. string_bytes begin ≡ file_begin_text format file.now) }
 {
@@ -91,7 +91,7 @@ fn file_begin_of(alloc: Global, format: Format, file: &str) -> Result<String, Al
     Ok(begin)
 }
 
-/// Pushes a diagnostic. In SARIF and in the formats of GitLab and reviewdog a comma stands before each but the first
+/// Pushes a diagnostic. In SARIF and in the formats of GitLab and reviewdog a comma is before each but the first
 /// one of the report. Where an allocation fails, the text stays as it was.
 pub fn push_diagnostic(
     alloc: Global,
@@ -128,7 +128,7 @@ pub fn push_seen_diagnostic(
     text.push_str(reported.as_str())
 }
 
-/// Puts a diagnostic in the place of what stands in a text, whose memory is kept for it. Where an allocation fails, the
+/// Puts a diagnostic in the place of what is in a text, whose memory is kept for it. Where an allocation fails, the
 /// text is empty.
 pub fn put_diagnostic(
     alloc: Global,
@@ -219,7 +219,7 @@ fn push_piecewise(
     }
 }
 
-/// Pushes what stands behind the diagnostics of a file: an end tag in the formats of Checkstyle and JUnit, and nothing
+/// Pushes what is after the diagnostics of a file: an end tag in the formats of Checkstyle and JUnit, and nothing
 /// in another. Where an allocation fails, the text stays as it was.
 pub fn push_file_end(text: &mut String, format: Format) -> Result<(), AllocError>
     ensures ok { OnOk result (string_bytes text.new ≡ string_bytes text.old ++ file_end_text format) }

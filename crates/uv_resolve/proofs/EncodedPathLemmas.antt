@@ -11,7 +11,7 @@ use Rattle.std.proofs.lemmas.Bool.{and_from, and_parts, cases_Bool}
 use Rattle.uv_model.specs.Ascii.{slash}
 use Rattle.uv_model.specs.Encoding.{encoded}
 use Rattle.uv_model.specs.Parts.{Form}
-use Rattle.uv_model.specs.Path.{is_without, pieces, segments_behind, segments_of, walk}
+use Rattle.uv_model.specs.Path.{is_without, pieces, segments_after, segments_of, walk}
 use Rattle.uv_model.specs.Records.Serialize.{serial_segments}
 use Rattle.uv_model.proofs.Paths.PathTexts.{pieces-append, pieces-one, pieces-serial}
 use Rattle.uv_model.proofs.Records.WellFormedLemmas.{no_slash-encoded}
@@ -21,9 +21,9 @@ use Rattle.uv_resolve.specs.Walk.{IsKeptPath, IsSegmented}
 use Rattle.uv_resolve.proofs.KeptPathLemmas.{encoded_each, kept-segments, serial_segments-encoded, walk-encoded}
 use Rattle.uv_resolve.proofs.PathTextLemmas.{second, unslashed_pieces}
 
--- segments without `/` stand behind each `/` of what they are written as
+-- segments without `/` are after each `/` of what they are written as
 segments-serial : (segments : List (List ℕ)) → list_all (is_without slash) segments ≡ true
-    → segments_behind (serial_segments segments) ≡ segments
+    → segments_after (serial_segments segments) ≡ segments
 segments-serial [] none = refl
 segments-serial (segment ∷ []) none =
     let one = (and_parts (is_without slash segment) true none).0 in
@@ -31,7 +31,7 @@ segments-serial (segment ∷ []) none =
 segments-serial (segment ∷ next ∷ rest) none =
     let each = and_parts (is_without slash segment) (list_all (is_without slash) (next ∷ rest)) none in
     pieces-append segment (next ++ serial_segments rest)
-    ∙ ap (λ s. s ++ segments_behind (serial_segments (next ∷ rest))) (pieces-one segment each.0)
+    ∙ ap (λ s. s ++ segments_after (serial_segments (next ∷ rest))) (pieces-one segment each.0)
     ∙ ap (λ s. segment ∷ s) (segments-serial (next ∷ rest) each.1)
 
 -- no `/` comes from encoding segments
@@ -47,7 +47,7 @@ pieces-encoded : (text : List ℕ) → encoded_each (pieces text) ≡ pieces (en
 unfolding encoded
 pieces-encoded text =
     sym (segments-serial (encoded_each (pieces text)) (unslashed-encoded (pieces text) (unslashed_pieces text)))
-    ∙ ap segments_behind (serial_segments-encoded (pieces text) ∙ ap (encoded false) (pieces-serial text))
+    ∙ ap segments_after (serial_segments-encoded (pieces text) ∙ ap (encoded false) (pieces-serial text))
 
 -- ASCII is its own encoding
 encoded-ascii : (text : List ℕ) → IsAscii text → encoded false text ≡ text

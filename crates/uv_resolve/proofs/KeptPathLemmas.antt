@@ -49,7 +49,7 @@ walk-encoded class path (segment ∷ next ∷ rest) no_dots =
     ∙ walk-encoded class (path ++ (encoded false segment ∷ [])) (next ∷ rest) each.1
     ∙ append_assoc path (encoded false segment ∷ []) (encoded_each (next ∷ rest))
 
--- the path behind an authority
+-- the path after an authority
 pub authority_path-encoded : (class : Class) (segments : List (List ℕ)) → segments ≢ []
     → list_all is_kept_segment segments ≡ true → authority_path class segments ≡ encoded_each segments
 authority_path-encoded class [] some no_dots = absurd (some refl)
@@ -111,13 +111,13 @@ no_dots-weaker : (text : List ℕ) → has_no_dots true text ≡ true → has_no
 no_dots-weaker [] h = refl
 no_dots-weaker (c ∷ rest) h = (and_parts (not (is_dot_mark c)) (has_no_dots (c == slash) rest) h).1
 
--- and so is what stands behind a prefix
-no_dots-behind : (begins : Bool) (prefix rest : List ℕ) → has_no_dots begins (prefix ++ rest) ≡ true
+-- and so is what is after a prefix
+no_dots-after : (begins : Bool) (prefix rest : List ℕ) → has_no_dots begins (prefix ++ rest) ≡ true
     → has_no_dots false rest ≡ true
-no_dots-behind false [] rest h = h
-no_dots-behind true [] rest h = no_dots-weaker rest h
-no_dots-behind begins (c ∷ prefix) rest h =
-    no_dots-behind (c == slash) prefix rest
+no_dots-after false [] rest h = h
+no_dots-after true [] rest h = no_dots-weaker rest h
+no_dots-after begins (c ∷ prefix) rest h =
+    no_dots-after (c == slash) prefix rest
     (and_parts (not (begins && is_dot_mark c)) (has_no_dots (c == slash) (prefix ++ rest)) h).1
 
 -- a segment in such a text is kept
@@ -134,7 +134,7 @@ pub kept-segments : (segments : List (List ℕ)) → has_no_dots false (serial_s
 kept-segments [] h = refl
 kept-segments (segment ∷ rest) h =
     and_from _ _ (kept-first segment (serial_segments rest) h)
-    (kept-segments rest (no_dots-behind true segment (serial_segments rest) h))
+    (kept-segments rest (no_dots-after true segment (serial_segments rest) h))
 
 -- ---- the bytes of a text
 
@@ -164,7 +164,7 @@ no_dots-encoded begins (c ∷ rest) h =
       | inr beyond ↦
           and_from _ _ (no_mark begins (is_dot_mark c) (beyond_mark c beyond))
           (subst (λ b. has_no_dots b rest ≡ true) (sym (beyond_slash c beyond))
-          (later false (no_dots-behind begins (encode c) (encodes rest) h)))
+          (later false (no_dots-after begins (encode c) (encodes rest) h)))
     ]
 
 pub no_dots-chars : (begins : Bool) (bytes : List ℕ) → IsUtf8 bytes → has_no_dots begins bytes ≡ true

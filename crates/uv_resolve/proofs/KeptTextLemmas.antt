@@ -22,7 +22,7 @@ use Rattle.uv_resolve.specs.Kept.{has_no_dots, is_dot_mark, is_never_encoded}
 
 -- ---- texts that no part encodes
 
--- a code point that no part encodes stands in each encoded text
+-- a code point that no part encodes is in each encoded text
 kept : (quote : Bool) (c : ℕ) → is_never_encoded c ≡ true → is_kept quote c ≡ true
 kept false c h = and_from _ _ (and_parts (is_ascii c) (not (c == apostrophe)) h).0 refl
 kept true c h = h
@@ -71,10 +71,10 @@ both xs ys h =
     and_parts (list_all is_never_encoded xs) (list_all is_never_encoded ys)
     (sym (list_all-append is_never_encoded xs ys) ∙ h)
 
--- what stands behind the first of them
-pub behind : (c : ℕ) (rest : List ℕ) → list_all is_never_encoded (c ∷ rest) ≡ true
+-- what is after the first of them
+pub after : (c : ℕ) (rest : List ℕ) → list_all is_never_encoded (c ∷ rest) ≡ true
     → list_all is_never_encoded rest ≡ true
-behind c rest h = (and_parts (is_never_encoded c) (list_all is_never_encoded rest) h).1
+after c rest h = (and_parts (is_never_encoded c) (list_all is_never_encoded rest) h).1
 
 -- ---- what the code sees
 
@@ -121,7 +121,7 @@ grouped : (here taken left rest : Bool) → (taken && left) ≡ rest → ((here 
 grouped false taken left rest is = refl
 grouped true taken left rest is = is
 
--- none begins in a path where none does in its first so many bytes nor behind so many, by which these overlap
+-- none begins in a path where none does in its first so many bytes nor after so many, by which these overlap
 pub windows-joined : (begins : Bool) (n k : ℕ) (path : List ℕ) → k < n
     → (has_no_dots begins (take n path) && has_no_dots false (drop k path)) ≡ has_no_dots begins path
 windows-joined begins zero k path over = absurd (omega (arith, over))

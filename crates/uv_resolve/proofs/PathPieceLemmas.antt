@@ -12,7 +12,7 @@ use Rattle.uv_model.specs.Ascii.{slash}
 use Rattle.uv_model.specs.Encoding.{encoded}
 use Rattle.uv_model.specs.Parts.{Form, SchemeAuthority, SchemePath, SchemeOpaque, Authority, PathAbsolute}
 use Rattle.uv_model.specs.Parts.{PathRelative, NoPath, Parts}
-use Rattle.uv_model.specs.Path.{is_double_dot, is_single_dot, pieces, segments_behind, segments_of, walk, walk_one}
+use Rattle.uv_model.specs.Path.{is_double_dot, is_single_dot, pieces, segments_after, segments_of, walk, walk_one}
 use Rattle.uv_model.specs.Path.{without_last}
 use Rattle.uv_model.specs.Records.Denote.{authority_path, base_path, denoted_path, listed_segments}
 use Rattle.uv_model.specs.Records.PathText.{IsPathText}
@@ -25,7 +25,7 @@ use Rattle.uv_grammar.specs.Built.{segments_in}
 use Rattle.uv_resolve.specs.declared.path_pieces.PathPiece.{PathPiece}
 use Rattle.uv_resolve.specs.Kept.{has_no_dots, is_kept_segment}
 use Rattle.uv_resolve.specs.Pieces.{GoesOn, IsAuthorityPiece, IsPathPiece, IsRelativePiece, IsSlashedPiece}
-use Rattle.uv_resolve.specs.Pieces.{behind_dot, dot_segment, slash_where, written_path}
+use Rattle.uv_resolve.specs.Pieces.{after_dot, dot_segment, slash_where, written_path}
 use Rattle.uv_resolve.specs.Walk.{IsSegmented}
 use Rattle.uv_resolve.proofs.KeptPathLemmas.{authority_path-encoded, authority_path-none, encoded_each, kept-segments}
 use Rattle.uv_resolve.proofs.KeptPathLemmas.{serial_segments-encoded, walk-encoded}
@@ -39,7 +39,7 @@ serial_segments-append (segment ∷ rest) ys =
     ap (λ t. slash ∷ (segment ++ t)) (serial_segments-append rest ys)
     ∙ ap (λ t. slash ∷ t) (sym (append_assoc segment (serial_segments rest) (serial_segments ys)))
 
--- kept segments are written encoded behind the start
+-- kept segments are written encoded after the start
 kept-written : (class : Class) (start segments : List (List ℕ)) (text : List ℕ) → serial_segments segments ≡ text
     → list_all is_kept_segment segments ≡ true
     → serial_segments (walk class start segments) ≡ serial_segments start ++ encoded false text
@@ -76,14 +76,14 @@ keeps-no_dots form segments text rest no_dots is slashed =
 
 -- the segments of such a path
 slashed-pieces : (parts : Parts) (piece : PathPiece) → IsSegmented parts.form → (is : IsSlashedPiece parts piece)
-    → parts.segments ≡ pieces is.behind
+    → parts.segments ≡ pieces is.after
 slashed-pieces parts piece segmented is = is.segments ∙ segmented parts.path_text ∙ ap segments_of is.slashed
 
--- each behind `/`, they are the path
+-- each after `/`, they are the path
 slashed-serial : (parts : Parts) (piece : PathPiece) → IsSegmented parts.form → IsSlashedPiece parts piece
     → serial_segments parts.segments ≡ parts.path_text
 slashed-serial parts piece segmented is =
-    ap serial_segments (slashed-pieces parts piece segmented is) ∙ pieces-serial is.behind ∙ sym is.slashed
+    ap serial_segments (slashed-pieces parts piece segmented is) ∙ pieces-serial is.after ∙ sym is.slashed
 
 -- and the path is written encoded
 slashed-piece : (parts : Parts) (piece : PathPiece) → IsSlashedPiece parts piece
@@ -92,12 +92,12 @@ slashed-piece parts piece is =
     ap (λ s. s ++ (slash_where piece.slash ++ encoded false (chars piece.rest.now))) is.start
     ∙ ap (λ b. slash_where b ++ encoded false (chars piece.rest.now)) is.marked ∙ ap (encoded false) is.rest
 
--- behind an authority, where it may be empty
+-- after an authority, where it may be empty
 authority-written : (parts : Parts) (piece : PathPiece) (class : Class) → IsSegmented parts.form → class ≢ Other
     → IsAuthorityPiece parts piece → written_path piece ≡ serial_segments (authority_path class parts.segments)
 unfolding encoded
 authority-written parts piece class segmented special (inl is) =
-    let some = some_pieces is.behind parts.segments (sym (slashed-pieces parts piece segmented is)) in
+    let some = some_pieces is.after parts.segments (sym (slashed-pieces parts piece segmented is)) in
     slashed-piece parts piece is ∙ ap (encoded false) (sym (slashed-serial parts piece segmented is))
     ∙ sym (ap serial_segments (authority_path-encoded class parts.segments some is.kept)
     ∙ serial_segments-encoded parts.segments)
@@ -132,7 +132,7 @@ walk-step kept segment text = go (pieces text) refl
 
 -- a dot segment keeps the segments, or takes the last off
 dot-step : (double : Bool) (kept : List (List ℕ)) (text : List ℕ)
-    → walk SpecialNotFile kept (pieces (dot_segment double ++ text)) ≡ walk SpecialNotFile (behind_dot double kept)
+    → walk SpecialNotFile kept (pieces (dot_segment double ++ text)) ≡ walk SpecialNotFile (after_dot double kept)
     (pieces text)
 unfolding is_double_dot is_single_dot
 dot-step false kept text = walk-step kept (codes ".") text
@@ -149,17 +149,17 @@ dot-chars double rest =
     chars-append (dot_segment double) rest (IsUtf8-from_ascii (dot_segment double) ascii)
     ∙ ap (λ t. t ++ chars rest) (chars-IsAscii (dot_segment double) ascii)
 
--- a walk goes on behind one more dot segment
+-- a walk goes on after one more dot segment
 pub goes_on-more : (segments kept : List (List ℕ)) (path left rest : List ℕ) (double : Bool)
     → GoesOn segments path kept (chars left) → left ≡ dot_segment double ++ rest
-    → GoesOn segments path (behind_dot double kept) (chars rest)
+    → GoesOn segments path (after_dot double kept) (chars rest)
 goes_on-more segments kept path left rest double before is =
     before ∙ ap (λ t. walk SpecialNotFile kept (pieces t)) (ap chars is ∙ dot-chars double rest)
     ∙ dot-step double kept (chars rest)
 
--- what is left is written encoded behind what stays of the base's path
+-- what is left is written encoded after what stays of the base's path
 pub relative-written : (segments : List (List ℕ)) (text start rest : List ℕ) → pieces text ≡ segments_of text
-    → IsPathText start → GoesOn (without_last segments) text (segments_behind start) rest
+    → IsPathText start → GoesOn (without_last segments) text (segments_after start) rest
     → has_no_dots true rest ≡ true
     → start ++ (slash ∷ encoded false rest)
     ≡ serial_segments (walk SpecialNotFile (without_last segments) (segments_of text))
@@ -168,7 +168,7 @@ relative-written segments text start rest is path goes_on no_dots =
     ap (λ t. t ++ (slash ∷ encoded false rest)) (sym (path_text-written start path))
     ∙ sym (ap (λ s. serial_segments (walk SpecialNotFile (without_last segments) s)) (sym is)
     ∙ ap serial_segments goes_on
-    ∙ kept-written SpecialNotFile (segments_behind start) (pieces rest) (slash ∷ rest) (pieces-serial rest)
+    ∙ kept-written SpecialNotFile (segments_after start) (pieces rest) (slash ∷ rest) (pieces-serial rest)
     (kept-segments (pieces rest) (ap (has_no_dots false) (pieces-serial rest) ∙ no_dots)))
 
 -- ---- all of the base's path

@@ -11,7 +11,7 @@ use Rattle.uv_model.specs.declared.scheme.Class.TheVariants.{File, Other, Specia
 use Rattle.uv_model.specs.Ascii.{slash}
 use Rattle.uv_model.specs.Parts.{Form, SchemeAuthority, SchemePath, SchemeOpaque, Authority, PathAbsolute}
 use Rattle.uv_model.specs.Parts.{PathRelative, NoPath}
-use Rattle.uv_model.specs.Path.{is_lone_drive, is_normalized_drive_letter, is_without, pieces, segments_behind}
+use Rattle.uv_model.specs.Path.{is_lone_drive, is_normalized_drive_letter, is_without, pieces, segments_after}
 use Rattle.uv_model.specs.Path.{segments_of, walk}
 use Rattle.uv_model.specs.Records.Denote.{authority_path}
 use Rattle.uv_model.specs.Records.PathText.{IsPathText}
@@ -49,7 +49,7 @@ filled (c ∷ rest) some = elim (cases_Bool (c == slash)) [
       (λ none. absurd (cons_some s.first s.others (sym s.is ∙ none)))
 ]
 
--- of a walk that gives them, they are those of the path behind an authority
+-- of a walk that gives them, they are those of the path after an authority
 pub kept_authority : (class : Class) (segments : List (List ℕ)) (written : List ℕ) → (length written == 0) ≡ false
     → walk class [] segments ≡ segments_of written → authority_path class segments ≡ segments_of written
 unfolding walk
@@ -118,9 +118,9 @@ unslashed_drive (c ∷ []) drive = absurd cc
 unslashed_drive (c ∷ mark ∷ []) drive = grind (drive, arith, nat_tests)
 unslashed_drive (c ∷ mark ∷ d ∷ rest) drive = absurd cc
 
--- the only segment is one where the text behind its `/` is
+-- the only segment is one where the text after its `/` is
 pub lone_drive : (c : ℕ) (rest : List ℕ)
-    → is_normalized_drive_letter rest ≡ is_lone_drive (segments_behind (c ∷ rest))
+    → is_normalized_drive_letter rest ≡ is_lone_drive (segments_after (c ∷ rest))
 lone_drive c rest = go (pieces rest) refl
   where
     go : (segments : List (List ℕ)) → pieces rest ≡ segments
@@ -138,17 +138,17 @@ lone_drive c rest = go (pieces rest) refl
         more same = cc
 
 -- so of a text that isn't empty
-pub lone_drive_behind : (text : List ℕ) → (length text == 0) ≡ false
-    → is_normalized_drive_letter (take (length text - 1) (drop 1 text)) ≡ is_lone_drive (segments_behind text)
-lone_drive_behind [] some = absurd cc
-lone_drive_behind (c ∷ rest) some =
+pub lone_drive_after : (text : List ℕ) → (length text == 0) ≡ false
+    → is_normalized_drive_letter (take (length text - 1) (drop 1 text)) ≡ is_lone_drive (segments_after text)
+lone_drive_after [] some = absurd cc
+lone_drive_after (c ∷ rest) some =
     let whole : take (length (c ∷ rest) - 1) rest ≡ rest = take_all (length (c ∷ rest) - 1) rest (omega arith) in
     ap is_normalized_drive_letter whole ∙ lone_drive c rest
 
 -- ---- texts of bases
 
--- a path's text has the segments behind its `/`
-pub path_text_segments : (text : List ℕ) → IsPathText text → segments_of text ≡ segments_behind text
+-- a path's text has the segments after its `/`
+pub path_text_segments : (text : List ℕ) → IsPathText text → segments_of text ≡ segments_after text
 path_text_segments [] is = refl
 path_text_segments (c ∷ rest) is =
     let first : (c == slash) ≡ true = is.start (λ none. absurd cc) in

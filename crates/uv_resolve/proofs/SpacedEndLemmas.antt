@@ -21,7 +21,7 @@ space_escaped [] = refl
 space_escaped (c ∷ []) = refl
 space_escaped (c ∷ next ∷ rest) = ap (λ ys. c ∷ ys) (space_escaped (next ∷ rest))
 
--- and what stands before it is encoded
+-- and what is before it is encoded
 space_encoded : (xs : List ℕ) → encoded false (end_escaped true (xs ++ (space ∷ []))) ≡ encoded false xs ++ codes "%20"
 unfolding encoded
 space_encoded xs = ap (encoded false) (space_escaped xs) ∙ encoded-append false xs (codes "%20")

@@ -5,19 +5,19 @@ use Rattle.uv_model.specs.declared.scheme.Class.{Class}
 use Rattle.uv_model.specs.Path.{is_single_dot, is_double_dot, walk_one, walk}
 use Rattle.uv_resolve.specs.Walk.{is_dots}
 
--- the empty segment behind a dot segment
-abbrev pub behind_dots : Bool → List (List ℕ) → List (List ℕ)
-behind_dots true path = path ++ ([] ∷ [])
-behind_dots false path = path
+-- the empty segment after a dot segment
+abbrev pub after_dots : Bool → List (List ℕ) → List (List ℕ)
+after_dots true path = path ++ ([] ∷ [])
+after_dots false path = path
 
 -- a walk that goes on over the segments that are left, where the one before them was a dot segment or none
 abbrev pub continued : Class → List (List ℕ) → Bool → List (List ℕ) → List (List ℕ)
-continued class path dots [] = behind_dots dots path
+continued class path dots [] = after_dots dots path
 continued class path dots (segment ∷ rest) = continued class (walk_one class false path segment) (is_dots segment) rest
 
 -- the last segment of a walk
 last_one : (class : Class) (path : List (List ℕ)) (segment : List ℕ)
-    → walk_one class true path segment ≡ behind_dots (is_dots segment) (walk_one class false path segment)
+    → walk_one class true path segment ≡ after_dots (is_dots segment) (walk_one class false path segment)
 last_one class path segment =
     elim (cases_Bool (is_double_dot segment)) [
       | inl double ↦ rw double refl

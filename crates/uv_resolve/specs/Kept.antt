@@ -19,7 +19,7 @@ is_kept_segment segment = not (is_dots segment)
 abbrev pub is_dot_mark : ℕ → Bool
 is_dot_mark c = (c == full_stop) || (c == percent_sign)
 
--- no `.` and no `%` stands behind a `/`, nor at the start where that begins a segment
+-- no `.` and no `%` is after a `/`, nor at the start where that begins a segment
 abbrev pub has_no_dots : Bool → List ℕ → Bool
 has_no_dots begins [] = true
 has_no_dots begins (c ∷ rest) = not (begins && is_dot_mark c) && has_no_dots (c == slash) rest

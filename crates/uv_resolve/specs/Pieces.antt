@@ -8,7 +8,7 @@ use Rattle.uv_model.specs.declared.scheme.Class.{Class}
 use Rattle.uv_model.specs.declared.scheme.Class.TheVariants.{Other, SpecialNotFile}
 use Rattle.uv_model.specs.Ascii.{number_sign, question_mark, slash}
 use Rattle.uv_model.specs.Encoding.{encoded}
-use Rattle.uv_model.specs.Parts.{SchemeAuthority, Parts, written_behind}
+use Rattle.uv_model.specs.Parts.{SchemeAuthority, Parts, written_after}
 use Rattle.uv_model.specs.Path.{pieces, segments_of, walk, without_last}
 use Rattle.uv_model.specs.Records.Denote.{denoted_host, denoted_path, denoted_port, denoted_query}
 use Rattle.uv_model.specs.Records.Denote.{denoted_scheme}
@@ -53,12 +53,12 @@ written_query (Kept text) = text.now
 abbrev pub joined : UrlPieces → List ℕ
 joined url =
     url.scheme.now ++ (codes "://" ++ (written_host url.host ++ (serial_port url.port ++ (written_path url.path
-    ++ (written_behind question_mark (option_map written_query url.query)
-    ++ written_behind number_sign (option_map (encoded false) (chars_of_option url.fragment)))))))
+    ++ (written_after question_mark (option_map written_query url.query)
+    ++ written_after number_sign (option_map (encoded false) (chars_of_option url.fragment)))))))
 
 -- ---- the pieces of the URL that parts denote
 
--- the path that is denoted in a special URL, which behind an authority is all of the text's
+-- the path that is denoted in a special URL, which after an authority is all of the text's
 pub record IsPathPiece (base : Option Url) (class : Class) (parts : Parts) (piece : PathPiece) : Type 0 where
   pub special : class ≢ Other
   pub denoted : written_path piece ≡ serial_path (denoted_path base class parts.form parts)
@@ -98,8 +98,8 @@ pub record IsSlashedPiece (parts : Parts) (piece : PathPiece) : Type 0 where
   pub start : piece.start.now ≡ []
   pub marked : piece.slash ≡ false
   pub rest : chars piece.rest.now ≡ parts.path_text
-  pub behind : List ℕ
-  pub slashed : parts.path_text ≡ slash ∷ behind
+  pub after : List ℕ
+  pub slashed : parts.path_text ≡ slash ∷ after
   pub segments : parts.segments ≡ segments_in parts.form parts.path_text
   pub kept : list_all is_kept_segment parts.segments ≡ true
 
@@ -111,7 +111,7 @@ pub record IsRootPiece (parts : Parts) (piece : PathPiece) : Type 0 where
   pub none : parts.path_text ≡ []
   pub segments : parts.segments ≡ segments_in parts.form parts.path_text
 
--- the path behind an authority
+-- the path after an authority
 abbrev pub IsAuthorityPiece : Parts → PathPiece → Type 0
 IsAuthorityPiece parts piece = IsSlashedPiece parts piece ⊎ IsRootPiece parts piece
 
@@ -120,17 +120,17 @@ abbrev pub IsRelativePiece : List (List ℕ) → List ℕ → PathPiece → Type
 IsRelativePiece segments text piece =
     written_path piece ≡ serial_segments (walk SpecialNotFile (without_last segments) (segments_of text))
 
--- a dot segment with the `/` behind it: a single or a double one
+-- a dot segment with the `/` after it: a single or a double one
 abbrev pub dot_segment : Bool → List ℕ
 dot_segment false = codes "./"
 dot_segment true = codes "../"
 
--- the segments behind it: a double one takes the last off
-abbrev pub behind_dot : Bool → List (List ℕ) → List (List ℕ)
-behind_dot false segments = segments
-behind_dot true segments = without_last segments
+-- the segments after it: a double one takes the last off
+abbrev pub after_dot : Bool → List (List ℕ) → List (List ℕ)
+after_dot false segments = segments
+after_dot true segments = without_last segments
 
--- what is left of a path behind a front of it, and the segments from which the walk over the path goes on there
+-- what is left of a path after a front of it, and the segments from which the walk over the path goes on there
 abbrev pub GoesOn : List (List ℕ) → List ℕ → List (List ℕ) → List ℕ → Type 0
 GoesOn segments path kept left =
     walk SpecialNotFile segments (pieces path) ≡ walk SpecialNotFile kept (pieces left)

@@ -24,7 +24,7 @@ IsSerialized profile base bytes (Ok written) = DenotesText profile base bytes (s
 IsSerialized profile base bytes (Err (Refused refusal)) = IsRefused profile base (chars bytes) refusal
 IsSerialized profile base bytes (Err (Memory error)) = Unit {0}
 
--- a text that is valid with no parts and is judged without memory is answered by a refusal, whatever memory there is
+-- a text that is valid with no parts and is checked without memory is answered by a refusal, whatever memory there is
 abbrev pub RefusesSerializedWithoutMemory : Profile → Option Url → List ℕ → Result (String Global) ResolveFault → Type 0
 RefusesSerializedWithoutMemory profile base text result =
     TakesNoMemoryAgainst profile base text → ((parts : Parts) → ¬ (Valid profile base text parts))

@@ -29,7 +29,7 @@ pub(crate) fn encoded_text(alloc: Global, text: &str, quote: bool) -> Result<Tex
     Ok(Text::of(encode(alloc, text, quote)?))
 }
 
-/// The same, written behind what stands in a string.
+/// The same, written after what is in a string.
 pub(crate) fn push_encoded_part(out: &mut String, text: &str, quote: bool) -> Result<(), AllocError>
     ensures { OnOk result (string_bytes out.new ≡ string_bytes out.old ++ encoded quote (chars text.now)) }
 {

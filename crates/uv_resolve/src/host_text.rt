@@ -3,7 +3,7 @@ ghost use Rattle.std.specs.Prelude.{◌≡◌, ◌++◌, IfSome, IsTrue, Some, c
 ghost use Rattle.uv_model.specs.Records.Serialize.{serial_ipv4};
 ghost use Rattle.uv_resolve.specs.Pieces.{IsWrittenAs, written_host};
 
-use crate::ipv6_text::{behind, is_ipv6};
+use crate::ipv6_text::{after, is_ipv6};
 use crate::pieces::HostPiece;
 use itoa::Buffer;
 
@@ -22,24 +22,24 @@ pub(crate) fn is_serialized(text: &str, host: &HostPiece<'_>) -> bool
 fn is_ipv4(text: &[u8], value: u32) -> bool
     ensures { IsTrue result → text.now ≡ serial_ipv4 value }
 {
-    match behind_ipv4(text, value) {
+    match after_ipv4(text, value) {
         Some(rest) => rest.is_empty(),
         None => false,
     }
 }
 
-// What stands behind the four numbers of an IPv4 address.
-fn behind_ipv4<'t>(text: &'t [u8], value: u32) -> Option<&'t [u8]>
+// What is after the four numbers of an IPv4 address.
+fn after_ipv4<'t>(text: &'t [u8], value: u32) -> Option<&'t [u8]>
     ensures { IfSome result (λ rest. text.now ≡ serial_ipv4 value ++ rest.now) }
 {
-    let rest = behind(b'.', behind_number(text, value / 16_777_216 % 256)?)?;
-    let rest = behind(b'.', behind_number(rest, value / 65_536 % 256)?)?;
-    let rest = behind(b'.', behind_number(rest, value / 256 % 256)?)?;
-    behind_number(rest, value % 256)
+    let rest = after(b'.', after_number(text, value / 16_777_216 % 256)?)?;
+    let rest = after(b'.', after_number(rest, value / 65_536 % 256)?)?;
+    let rest = after(b'.', after_number(rest, value / 256 % 256)?)?;
+    after_number(rest, value % 256)
 }
 
-// What stands behind a number in decimal.
-fn behind_number<'t>(text: &'t [u8], number: u32) -> Option<&'t [u8]>
+// What is after a number in decimal.
+fn after_number<'t>(text: &'t [u8], number: u32) -> Option<&'t [u8]>
     ensures { IfSome result (λ rest. text.now ≡ decimal number ++ rest.now) }
 {
     let mut digits = Buffer::new();

@@ -11,73 +11,73 @@ use uv_model::{hex_digit, longest_zero_run};
 pub(crate) fn is_ipv6(text: &[u8], pieces: &[u16; 8]) -> bool
     ensures { IsTrue result → text.now ≡ serial_ipv6 pieces.now }
 {
-    match behind_ipv6(text, pieces) {
+    match after_ipv6(text, pieces) {
         Some(rest) => rest.is_empty(),
         None => false,
     }
 }
 
-// What stands behind the pieces of an IPv6 address in brackets.
-fn behind_ipv6<'t>(text: &'t [u8], pieces: &[u16; 8]) -> Option<&'t [u8]>
+// What is after the pieces of an IPv6 address in brackets.
+fn after_ipv6<'t>(text: &'t [u8], pieces: &[u16; 8]) -> Option<&'t [u8]>
     ensures { IfSome result (λ rest. text.now ≡ serial_ipv6 pieces.now ++ rest.now) }
 {
-    let rest = behind_pieces(behind(b'[', text)?, pieces)?;
-    behind(b']', rest)
+    let rest = after_pieces(after(b'[', text)?, pieces)?;
+    after(b']', rest)
 }
 
-// What stands behind the pieces of an IPv6 address, where `::` stands for the first longest run of two zero pieces or
+// What is after the pieces of an IPv6 address, where `::` stands for the first longest run of two zero pieces or
 // more.
 #[tactic(auto, unfolding(std::specs::Net::Text::hex_groups_text))]
-fn behind_pieces<'t>(text: &'t [u8], pieces: &[u16]) -> Option<&'t [u8]>
+fn after_pieces<'t>(text: &'t [u8], pieces: &[u16]) -> Option<&'t [u8]>
     ensures { IfSome result (λ rest. text.now ≡ address.hex_groups_text pieces.now ++ rest.now) }
 {
     let (start, count) = longest_zero_run(pieces);
     if count < 2 {
-        return behind_groups(text, pieces);
+        return after_groups(text, pieces);
     }
-    let rest = behind_groups(text, &pieces[..start])?;
-    let rest = behind(b':', behind(b':', rest)?)?;
-    behind_groups(rest, &pieces[start + count..])
+    let rest = after_groups(text, &pieces[..start])?;
+    let rest = after(b':', after(b':', rest)?)?;
+    after_groups(rest, &pieces[start + count..])
 }
 
-// What stands behind groups with `:` between each two.
-fn behind_groups<'t>(text: &'t [u8], pieces: &[u16]) -> Option<&'t [u8]>
+// What is after groups with `:` between each two.
+fn after_groups<'t>(text: &'t [u8], pieces: &[u16]) -> Option<&'t [u8]>
     ensures { IfSome result (λ rest. text.now ≡ address.groups_text pieces.now ++ rest.now) }
 {
     match pieces {
-        [first, others @ ..] => behind_later_groups(behind_group(text, *first)?, others),
+        [first, others @ ..] => after_later_groups(after_group(text, *first)?, others),
         [] => Some(text),
     }
 }
 
-// What stands behind groups with `:` before each.
-fn behind_later_groups<'t>(text: &'t [u8], pieces: &[u16]) -> Option<&'t [u8]>
+// What is after groups with `:` before each.
+fn after_later_groups<'t>(text: &'t [u8], pieces: &[u16]) -> Option<&'t [u8]>
     ensures { IfSome result (λ rest. text.now ≡ later_groups pieces.now ++ rest.now) }
 {
     let mut rest = text;
     for piece in pieces {
-        rest = behind_group(behind(b':', rest)?, *piece)?;
+        rest = after_group(after(b':', rest)?, *piece)?;
     }
     Some(rest)
 }
 
-// What stands behind a piece in lower-case hex, without leading zeros.
+// What is after a piece in lower-case hex, without leading zeros.
 #[tactic(auto, using(uv_model::proofs::Addresses::AddressTextLemmas::shown_digits))]
 #[inline(always)]
-fn behind_group<'t>(text: &'t [u8], piece: u16) -> Option<&'t [u8]>
+fn after_group<'t>(text: &'t [u8], piece: u16) -> Option<&'t [u8]>
     ensures { IfSome result (λ rest. text.now ≡ address.hex piece ++ rest.now) }
 {
     match piece {
-        0x1000.. => behind_four(text, piece),
-        0x100.. => behind_three(text, piece),
-        0x10.. => behind_two(text, piece),
-        _ => behind(hex_digit(piece), text),
+        0x1000.. => after_four(text, piece),
+        0x100.. => after_three(text, piece),
+        0x10.. => after_two(text, piece),
+        _ => after(hex_digit(piece), text),
     }
 }
 
-// What stands behind the four hex digits of a piece.
+// What is after the four hex digits of a piece.
 #[inline(always)]
-fn behind_four<'t>(text: &'t [u8], piece: u16) -> Option<&'t [u8]>
+fn after_four<'t>(text: &'t [u8], piece: u16) -> Option<&'t [u8]>
     ensures { IfSome result (λ rest. text.now ≡ digit_char (piece / 0x1000 % 16) ∷ digit_char (piece / 0x100 % 16)
         ∷ digit_char (piece / 0x10 % 16) ∷ digit_char (piece % 16) ∷ rest.now) }
 {
@@ -91,9 +91,9 @@ fn behind_four<'t>(text: &'t [u8], piece: u16) -> Option<&'t [u8]>
     }
 }
 
-// What stands behind the last three hex digits of a piece.
+// What is after the last three hex digits of a piece.
 #[inline(always)]
-fn behind_three<'t>(text: &'t [u8], piece: u16) -> Option<&'t [u8]>
+fn after_three<'t>(text: &'t [u8], piece: u16) -> Option<&'t [u8]>
     ensures { IfSome result (λ rest. text.now ≡ digit_char (piece / 0x100 % 16)
         ∷ digit_char (piece / 0x10 % 16) ∷ digit_char (piece % 16) ∷ rest.now) }
 {
@@ -106,9 +106,9 @@ fn behind_three<'t>(text: &'t [u8], piece: u16) -> Option<&'t [u8]>
     }
 }
 
-// What stands behind the last two hex digits of a piece.
+// What is after the last two hex digits of a piece.
 #[inline(always)]
-fn behind_two<'t>(text: &'t [u8], piece: u16) -> Option<&'t [u8]>
+fn after_two<'t>(text: &'t [u8], piece: u16) -> Option<&'t [u8]>
     ensures { IfSome result (λ rest. text.now
         ≡ digit_char (piece / 0x10 % 16) ∷ digit_char (piece % 16) ∷ rest.now) }
 {
@@ -119,9 +119,9 @@ fn behind_two<'t>(text: &'t [u8], piece: u16) -> Option<&'t [u8]>
     }
 }
 
-/// What stands behind a byte.
+/// What is after a byte.
 #[inline(always)]
-pub(crate) fn behind<'t>(byte: u8, text: &'t [u8]) -> Option<&'t [u8]>
+pub(crate) fn after<'t>(byte: u8, text: &'t [u8]) -> Option<&'t [u8]>
     ensures { IfSome result (λ rest. text.now ≡ byte ∷ rest.now) }
 {
     match text {

@@ -47,7 +47,7 @@ fn is_kept(segment: &str) -> bool
     !(is_double_dot(segment) || is_single_dot(segment))
 }
 
-/// Whether no `.` and no `%` stands behind a `/`, nor at the start where a segment begins there.
+/// Whether no `.` and no `%` is after a `/`, nor at the start where a segment begins there.
 #[inline(always)]
 pub(crate) fn is_without_dots(at_start: bool, path: &[u8]) -> bool
     ensures { result ≡ has_no_dots at_start path.now }

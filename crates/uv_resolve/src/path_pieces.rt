@@ -1,6 +1,6 @@
 //! The path of a URL's text as pieces: what stays of the base's path, and the rest of the text's.
 ghost use Rattle.std.specs.Prelude.{◌≡◌, ◌≢◌, ◌<◌, ◌++◌, IfSome, IsTrue, chars, length, option_copied, true};
-ghost use Rattle.uv_model.specs.Path.{pieces, segments_behind, segments_of};
+ghost use Rattle.uv_model.specs.Path.{pieces, segments_after, segments_of};
 ghost use Rattle.uv_model.specs.Records.Denote.{base_path, listed_segments};
 ghost use Rattle.uv_model.specs.Records.PathText.{IsPathText, IsTextOf};
 ghost use Rattle.uv_model.specs.Records.Serialize.{serial_path};
@@ -44,7 +44,7 @@ pub(crate) fn path_piece<'p>(
     }
 }
 
-// A path behind an authority, which is `/` where the text has none.
+// A path after an authority, which is `/` where the text has none.
 fn authority_piece<'p>(class: Class, parts: &'p Parts<'_>) -> Option<PathPiece<'p>>
     ensures { IfSome result (λ piece. (class ≢ Class.Other) × IsAuthorityPiece parts.now piece) }
 {
@@ -117,7 +117,7 @@ fn slashed_piece<'p>(parts: &'p Parts<'_>) -> Option<PathPiece<'p>>
 // The text of the base's path, where it has segments.
 fn path_text_of<'b>(base: Option<&'b Record>) -> Option<&'b str>
     ensures segments { IfSome result (λ text.
-        base_path (option_copied base.entry) ≡ UrlPath.Segments (segments_behind text.now)) }
+        base_path (option_copied base.entry) ≡ UrlPath.Segments (segments_after text.now)) }
     ensures text { IfSome result (λ text. IsPathText text.now) }
 {
     match base?.path() {
@@ -126,7 +126,7 @@ fn path_text_of<'b>(base: Option<&'b Record>) -> Option<&'b str>
     }
 }
 
-// Any other path, behind what its dot segments at the start leave of the base's.
+// Any other path, after what its dot segments at the start leave of the base's.
 fn relative_piece<'p>(parts: &'p Parts<'_>, base: Option<&'p Record>) -> Option<PathPiece<'p>>
     ensures { IfSome result (IsRelativePiece (listed_segments (base_path (option_copied base.entry)))
         parts.now.path_text) }
@@ -136,7 +136,7 @@ fn relative_piece<'p>(parts: &'p Parts<'_>, base: Option<&'p Record>) -> Option<
     if !is_relative(path) {
         return None;
     }
-    let (start, rest) = behind_dots(without_last_segment(base_path), path);
+    let (start, rest) = after_dots(without_last_segment(base_path), path);
     if is_dotless(rest) {
         Some(PathPiece {
             start,
@@ -165,24 +165,24 @@ fn is_relative(path: &str) -> bool
     }
 }
 
-// What the dot segments at the start of a path leave of the base's path, and what is left of the path behind them.
-fn behind_dots<'b, 'p>(start: &'b str, path: &'p str) -> (&'b str, &'p str)
+// What the dot segments at the start of a path leave of the base's path, and what is left of the path after them.
+fn after_dots<'b, 'p>(start: &'b str, path: &'p str) -> (&'b str, &'p str)
     requires { IsPathText start.now }
-    ensures goes_on { GoesOn (segments_behind start.now) (chars path.now) (segments_behind result.0.now)
+    ensures goes_on { GoesOn (segments_after start.now) (chars path.now) (segments_after result.0.now)
         (chars result.1.now) }
     ensures path { IsPathText result.0.now }
 {
     let mut kept = start;
     let mut left = path;
-    while let Some((double, rest)) = behind_dot_segment(left) {
-        kept = behind_dot(double, kept);
+    while let Some((double, rest)) = after_dot_segment(left) {
+        kept = after_dot(double, kept);
         left = rest;
     }
     (kept, left)
 }
 
 // Whether the dot segment at the start is a double one, and what follows its `/`.
-fn behind_dot_segment<'p>(path: &'p str) -> Option<(bool, &'p str)>
+fn after_dot_segment<'p>(path: &'p str) -> Option<(bool, &'p str)>
     ensures begins { IfSome result (λ found. path.now ≡ dot_segment found.0 ++ found.1.now) }
     ensures shorter { IfSome result (λ found. length found.1.now < length path.now) }
 {
@@ -196,9 +196,9 @@ fn behind_dot_segment<'p>(path: &'p str) -> Option<(bool, &'p str)>
 }
 
 // A double dot takes the last segment off.
-fn behind_dot<'b>(double: bool, path: &'b str) -> &'b str
+fn after_dot<'b>(double: bool, path: &'b str) -> &'b str
     requires { IsPathText path.now }
-    ensures { IsTextOf (spec.behind_dot double (segments_behind path.now)) result.now }
+    ensures { IsTextOf (spec.after_dot double (segments_after path.now)) result.now }
 {
     if double {
         without_last_segment(path)

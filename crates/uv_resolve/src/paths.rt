@@ -42,7 +42,7 @@ pub(crate) fn path_of(
     }
 }
 
-// The path behind an authority.
+// The path after an authority.
 fn authority_path(alloc: Global, class: Class, parts: &Parts<'_>) -> Result<UrlPath, AllocError>
     ensures { IfOk result (λ path.
         path ≡ UrlPath.Segments (spec.authority_path class parts.now.segments)) }
@@ -67,7 +67,7 @@ fn kept(alloc: Global, text: &str) -> Result<UrlPath, AllocError>
     Ok(UrlPath::Segments(TextList::of_path(path)))
 }
 
-// The path of a URL whose text has none behind its authority.
+// The path of a URL whose text has none after its authority.
 fn root(alloc: Global, class: Class) -> Result<UrlPath, AllocError>
     ensures { IfOk result (λ path. path ≡ UrlPath.Segments (spec.authority_path class [])) }
 {

@@ -5,7 +5,7 @@ ghost use Rattle.std.specs.Str.{chars};
 ghost use Rattle.std.specs.Prelude.{false, string_bytes};
 ghost use Rattle.uv_model.specs.Ascii.{number_sign, question_mark};
 ghost use Rattle.uv_model.specs.Encoding.{encoded};
-ghost use Rattle.uv_model.specs.Parts.{written_behind};
+ghost use Rattle.uv_model.specs.Parts.{written_after};
 ghost use Rattle.uv_model.specs.Records.Denote as spec;
 ghost use Rattle.uv_model.specs.Records.Serialize.{serial_host};
 ghost use Rattle.uv_grammar.specs.PartsHost.{referred};
@@ -307,7 +307,7 @@ fn push_slash(out: &mut String, slash: bool) -> Result<(), AllocError>
 // `?` and the query, where there is one.
 fn push_query(out: &mut String, query: &Option<QueryPiece<'_>>) -> Result<(), AllocError>
     ensures { OnOk result (string_bytes out.new ≡ string_bytes out.old
-        ++ written_behind question_mark (option_map written_query query.now)) }
+        ++ written_after question_mark (option_map written_query query.now)) }
 {
     match query {
         Some(QueryPiece::Encoded(text, quote)) => {
@@ -325,7 +325,7 @@ fn push_query(out: &mut String, query: &Option<QueryPiece<'_>>) -> Result<(), Al
 // `#` and the fragment, where there is one.
 fn push_fragment(out: &mut String, fragment: Option<&str>) -> Result<(), AllocError>
     ensures { OnOk result (string_bytes out.new ≡ string_bytes out.old
-        ++ written_behind number_sign (option_map (encoded false) (chars_of_option fragment.entry))) }
+        ++ written_after number_sign (option_map (encoded false) (chars_of_option fragment.entry))) }
 {
     let Some(text) = fragment else {
         return Ok(());

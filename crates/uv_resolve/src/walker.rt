@@ -73,7 +73,7 @@ pub(crate) fn shorten(class: Class, path: &mut PathText)
 }
 
 fn is_lone_drive(path: &str) -> bool
-    ensures { result ≡ spec.is_lone_drive (spec.segments_behind path.now) }
+    ensures { result ≡ spec.is_lone_drive (spec.segments_after path.now) }
 {
     let bytes = path.as_bytes();
     if bytes.is_empty() {

@@ -16,7 +16,7 @@ use Rattle.url.proofs.SetLemmas.{kept_from_escape}
 use Rattle.uv_second.specs.declared.written.Part.{Part}
 use Rattle.uv_second.specs.declared.written.Part.TheVariants.{Path, Query, Fragment}
 use Rattle.uv_second.specs.Links.{IsCompared, escape_set, is_common, is_escaped, is_mark, is_plain}
-use Rattle.uv_second.specs.Links.{is_plain_at, is_plain_behind, may_follow, part_behind}
+use Rattle.uv_second.specs.Links.{is_plain_after, is_plain_at, may_follow, part_after}
 use Rattle.uv_second.specs.Links.{written, written_byte}
 
 -- a first byte and what follows it
@@ -33,11 +33,11 @@ compared_start text other = record {
   differing = λ different. absurd (true≢false different);
 }
 
--- one byte that stands in both
+-- one byte that is in both
 pub compared_byte : (text other : List ℕ) (part : Part) (same : Bool) (b : ℕ) (rest other_rest : List ℕ)
     → is_plain_at b rest ≡ true → is_plain_at b other_rest ≡ true
     → IsCompared text other part same (b ∷ rest) (b ∷ other_rest)
-    → IsCompared text other (part_behind part b) same rest other_rest
+    → IsCompared text other (part_after part b) same rest other_rest
 compared_byte text other part same b rest other_rest plain other_plain so_far = record {
   plain = λ more. so_far.plain (and_from _ _ plain more);
   other_plain = λ more. so_far.other_plain (and_from _ _ other_plain more);
@@ -46,14 +46,14 @@ compared_byte text other part same b rest other_rest plain other_plain so_far = 
       let front = written_so_far.0 in
       let byte = written_byte part b in (
         front ++ byte,
-        written_so_far.1 ∙ sym (append_assoc front byte (written (part_behind part b) rest)),
-        written_so_far.2 ∙ sym (append_assoc front byte (written (part_behind part b) other_rest)),
+        written_so_far.1 ∙ sym (append_assoc front byte (written (part_after part b) rest)),
+        written_so_far.2 ∙ sym (append_assoc front byte (written (part_after part b) other_rest)),
       );
   differing = so_far.differing;
 }
 
 -- a byte that is no mark goes on with the part
-same_part : (part : Part) (b : ℕ) → is_mark part b ≡ false → part_behind part b ≡ part
+same_part : (part : Part) (b : ℕ) → is_mark part b ≡ false → part_after part b ≡ part
 same_part Path b none = grind (arith, nat_tests)
 same_part Query b none = grind (arith, nat_tests)
 same_part Fragment b none = refl
@@ -73,7 +73,7 @@ common_no_mark Path b common = grind (arith, nat_tests)
 common_no_mark Query b common = grind (arith, nat_tests)
 common_no_mark Fragment b common = refl
 
--- so many bytes that are common and stand in both
+-- so many bytes that are common and are in both
 pub compared_run : (text other : List ℕ) (part : Part) (same : Bool) (count : ℕ) (rest other_rest : List ℕ)
     → count ≤ length rest → count ≤ length other_rest
     → ((k : ℕ) → k < count → get_or rest k 0 ≡ get_or other_rest k 0)
@@ -97,9 +97,9 @@ compared_run text other part same (suc count) (b ∷ rest) (c ∷ other_rest) wi
 
 -- ---- the same bytes to the ends
 
--- a byte that may follow another one stands before plain bytes
-pub plain_follows : (before b : ℕ) (rest : List ℕ) → may_follow before b ≡ true → is_plain_behind b rest ≡ true
-    → is_plain_behind before (b ∷ rest) ≡ true
+-- a byte that may follow another one is before plain bytes
+pub plain_follows : (before b : ℕ) (rest : List ℕ) → may_follow before b ≡ true → is_plain_after b rest ≡ true
+    → is_plain_after before (b ∷ rest) ≡ true
 unfolding is_plain_at
 plain_follows before b rest may plain =
     let shown = and_parts (nat_le 32 b) _ may in
@@ -156,7 +156,7 @@ escape_kept Path = kept_from_escape (escape_set Path) refl
 escape_kept Query = kept_from_escape (escape_set Query) refl
 escape_kept Fragment = kept_from_escape (escape_set Fragment) refl
 
--- so they are written as they stand
+-- so they are written as they are
 escape_written : (part : Part) (bytes rest : List ℕ) → All IsEscapeByte bytes
     → written part (bytes ++ rest) ≡ bytes ++ written part rest
 escape_written part [] rest escape = refl
@@ -176,9 +176,9 @@ escaped_written part b rest escaped =
     let no_mark = not-true (is_mark part b) parts.0 in
     rw (no_mark, parts.1, same_part part b no_mark) refl
 
--- a byte that is written as it stands
+-- a byte that is written as it is
 kept_written : (part : Part) (b : ℕ) (rest : List ℕ) → is_escaped part b ≡ false
-    → written part (b ∷ rest) ≡ b ∷ written (part_behind part b) rest
+    → written part (b ∷ rest) ≡ b ∷ written (part_after part b) rest
 unfolding is_escaped
 kept_written part b rest kept =
     elim (cases_Bool (is_mark part b)) [
@@ -189,20 +189,20 @@ kept_written part b rest kept =
     ]
 
 -- one byte in place of which the other text has its escape
-pub compared_escape : (text other : List ℕ) (part : Part) (same : Bool) (b : ℕ) (rest other_rest behind : List ℕ)
-    → b ≢ 37 → is_plain_at b rest ≡ true → other_rest ≡ percent_encode_byte b ++ behind
+pub compared_escape : (text other : List ℕ) (part : Part) (same : Bool) (b : ℕ) (rest other_rest after : List ℕ)
+    → b ≢ 37 → is_plain_at b rest ≡ true → other_rest ≡ percent_encode_byte b ++ after
     → IsCompared text other part same (b ∷ rest) other_rest
-    → IsCompared text other part (same && is_escaped part b) rest behind
+    → IsCompared text other part (same && is_escaped part b) rest after
 unfolding percent_encode_byte
-compared_escape text other part same b rest other_rest behind no_percent plain is so_far =
+compared_escape text other part same b rest other_rest after no_percent plain is so_far =
     let escape = percent_encode_byte b in
     let escapes = All-percent_encode_byte b in
-    let other_written : written part other_rest ≡ escape ++ written part behind =
-    ap (written part) is ∙ escape_written part escape behind escapes in
+    let other_written : written part other_rest ≡ escape ++ written part after =
+    ap (written part) is ∙ escape_written part escape after escapes in
     record {
       plain = λ more. so_far.plain (and_from _ _ plain more);
       other_plain = λ more.
-          so_far.other_plain (subst (λ t. is_plain t ≡ true) (sym is) (escape_plain escape behind escapes more));
+          so_far.other_plain (subst (λ t. is_plain t ≡ true) (sym is) (escape_plain escape after escapes more));
       alike = λ both.
           let parts = and_parts same (is_escaped part b) both in
           let before = so_far.alike parts.0 in
@@ -210,7 +210,7 @@ compared_escape text other part same b rest other_rest behind no_percent plain i
             front ++ escape,
             before.1 ∙ ap (λ t. front ++ t) (escaped_written part b rest parts.1)
                 ∙ sym (append_assoc front escape (written part rest)),
-            before.2 ∙ ap (λ t. front ++ t) other_written ∙ sym (append_assoc front escape (written part behind)),
+            before.2 ∙ ap (λ t. front ++ t) other_written ∙ sym (append_assoc front escape (written part after)),
           );
       differing = λ none. elim (cases_Bool same) [
         | inr different ↦ so_far.differing different
@@ -218,9 +218,9 @@ compared_escape text other part same b rest other_rest behind no_percent plain i
             let kept : is_escaped part b ≡ false = rw alike at none in
             let before = so_far.alike alike in
             let front = before.0 in
-            let behind_front = append_cancel_left front (written part (b ∷ rest)) (written part other_rest)
+            let after_front = append_cancel_left front (written part (b ∷ rest)) (written part other_rest)
             (sym before.1 ∙ equal ∙ before.2) in
-            no_percent (ap (λ t. get_or t 0 0) (sym (kept_written part b rest kept) ∙ behind_front ∙ other_written))
+            no_percent (ap (λ t. get_or t 0 0) (sym (kept_written part b rest kept) ∙ after_front ∙ other_written))
       ];
     }
 

@@ -48,7 +48,7 @@ use Rattle.uv_second.proofs.WrittenLemmas.{fragment_text, query_text, written_pa
 
 -- ---- bytes of the front
 
--- what holds of each byte that may stand in a domain holds of a name
+-- what holds of each byte that may be in a domain holds of a name
 name_all : (test : ℕ → Bool) → outside_pass FORBIDDEN_DOMAIN test ≡ true → (name : List ℕ) → IsName name
     → All (Passes test) name
 name_all test allowed name named = All_kept test FORBIDDEN_DOMAIN allowed name named.0.allowed
@@ -63,7 +63,7 @@ front_all test first second scheme name (inr is) all =
     subst (λ s. All (Passes test) (link_front s name)) (sym is)
     (All-append (Passes test) (codes "http://") name (All_from_list_all test (codes "http://") second) all)
 
--- no such mark stands in the front
+-- no such mark is in the front
 front_differs : (mark : ℕ) → let test = λ (b : ℕ). not (b == mark) in
     list_all test (codes "https://") ≡ true → list_all test (codes "http://") ≡ true
     → outside_pass FORBIDDEN_DOMAIN test ≡ true
@@ -109,7 +109,7 @@ first_byte : (scheme name rest : List ℕ) → IsWebScheme scheme → get_or (li
 first_byte scheme name rest (inl is) same = omega (arith, rw is at same)
 first_byte scheme name rest (inr is) same = omega (arith, rw is at same)
 
--- a link is the parser's input as it stands
+-- a link is the parser's input as it is
 untouched : (scheme name rest : List ℕ) → IsWebScheme scheme → IsName name → is_plain (slash ∷ rest) ≡ true
     → get_or (slash ∷ rest) (length (slash ∷ rest) - 1) 0 ≢ space
     → strip_tabs_and_new_lines (trim_c0_control_and_space (link_front scheme name ++ slash ∷ rest))
@@ -133,16 +133,16 @@ untouched scheme name rest web named plain ends =
 
 -- ---- the parts
 
--- a separator behind a front without it
-split_behind : (mark : ℕ) (front xs : List ℕ) → All (IsNot mark) front
+-- a separator after a front without it
+split_after : (mark : ℕ) (front xs : List ℕ) → All (IsNot mark) front
     → split_once mark (front ++ xs) ≡ (front ++ (split_once mark xs).0, (split_once mark xs).1)
 unfolding split_once
-split_behind mark [] xs none = refl
-split_behind mark (x ∷ front) xs none =
+split_after mark [] xs none = refl
+split_after mark (x ∷ front) xs none =
     cond-false _ _ _ (ne_eqb x mark (All-head (IsNot mark) x front none))
-    ∙ ap (λ r. (x ∷ r.0, r.1)) (split_behind mark front xs (All-tail (IsNot mark) x front none))
+    ∙ ap (λ r. (x ∷ r.0, r.1)) (split_after mark front xs (All-tail (IsNot mark) x front none))
 
--- what stands before a separator is a front
+-- what is before a separator is a front
 pub split_front : (mark : ℕ) (xs : List ℕ) → (rest : List ℕ) × (xs ≡ (split_once mark xs).0 ++ rest)
 unfolding split_once
 split_front mark [] = ([], refl)
@@ -263,20 +263,20 @@ read_body : (scheme name path body : List ℕ) (query fragment : Option (List �
 unfolding parse_parts parse_body
 read_body scheme name path body query fragment web named plain =
     let kind = web_kind scheme web in
-    let behind = slash ∷ slash ∷ (name ++ slash ∷ path) in
+    let after = slash ∷ slash ∷ (name ++ slash ∷ path) in
     let url = with_path (link_head scheme name) (percent_encode PATH (slash ∷ path)) in
-    let read : parse_body scheme None behind ≡ Ok url =
+    let read : parse_body scheme None after ≡ Ok url =
     cond-false _ _ _ (ap is_file kind) ∙ cond-true _ _ _ (ap is_special kind)
     ∙ ap (after_double_slash scheme) (two_slashes name (slash ∷ path) named)
     ∙ after_name scheme name path kind named plain in
-    ap (λ s. parse_parts s None behind query fragment) (web_lower scheme web)
+    ap (λ s. parse_parts s None after query fragment) (web_lower scheme web)
     ∙ ap (λ r. and_then r (λ u. Ok (with_tail (before_tail u query fragment) query fragment))) read
     ∙ ap (λ (u : Parts). Ok (with_tail u query fragment)) (before_special url query fragment (ap is_special kind))
 
 -- two slashes are read against a base of the scheme as without one
 same_body : (base : Parts) (scheme name rest : List ℕ) → IsWebScheme scheme → base.scheme ≡ scheme
-    → let behind = slash ∷ slash ∷ (name ++ rest) in
-    parse_body scheme (Some base) behind ≡ parse_body scheme None behind
+    → let after = slash ∷ slash ∷ (name ++ rest) in
+    parse_body scheme (Some base) after ≡ parse_body scheme None after
 unfolding parse_body parse_relative leading_slashes
 same_body base scheme name rest web same =
     let kind = web_kind scheme web in
@@ -290,19 +290,19 @@ not_empty rest = grind (arith, nat_tests)
 
 -- so they leave a base no say
 no_base : (base : Option Parts) (scheme name rest : List ℕ) (query fragment : Option (List ℕ)) → IsWebScheme scheme
-    → let behind = slash ∷ slash ∷ (name ++ rest) in
-    parse_parts scheme (base_for_scheme base scheme) behind query fragment ≡ parse_parts scheme None behind query
+    → let after = slash ∷ slash ∷ (name ++ rest) in
+    parse_parts scheme (base_for_scheme base scheme) after query fragment ≡ parse_parts scheme None after query
     fragment
 unfolding parse_parts
 no_base None scheme name rest query fragment web = refl
 no_base (Some base) scheme name rest query fragment web =
-    let behind = slash ∷ slash ∷ (name ++ rest) in
+    let after = slash ∷ slash ∷ (name ++ rest) in
     elim (cases_Bool (is_special (kind_of base) && bytes_eq base.scheme scheme)) [
-      | inr other ↦ ap (λ b. parse_parts scheme b behind query fragment) (cond-false _ _ _ other)
+      | inr other ↦ ap (λ b. parse_parts scheme b after query fragment) (cond-false _ _ _ other)
       | inl both ↦
           let same = (bytes_eq-Decides base.scheme scheme).0
           (and_parts (is_special (kind_of base)) (bytes_eq base.scheme scheme) both).1 in
-          ap (λ b. parse_parts scheme b behind query fragment) (cond-true _ _ _ both)
+          ap (λ b. parse_parts scheme b after query fragment) (cond-true _ _ _ both)
           ∙ cond-false _ _ _ (not_empty (name ++ rest))
           ∙ ap (λ r. and_then r (λ u. Ok (with_tail (before_tail u query fragment) query fragment)))
           (same_body base scheme name rest web same)
@@ -337,34 +337,34 @@ read_link base scheme name rest text web named joined plain ends =
     let no_hash = front_differs number_sign refl refl refl scheme name web named in
     let no_question = front_differs question_mark refl refl refl scheme name web named in
     let clean = untouched scheme name rest web named plain ends in
-    let hash_is = ap (split_once number_sign) clean ∙ split_behind number_sign front (slash ∷ rest) no_hash in
+    let hash_is = ap (split_once number_sign) clean ∙ split_after number_sign front (slash ∷ rest) no_hash in
     let question_is = ap (λ r. split_once question_mark r.0) hash_is
-    ∙ split_behind question_mark front (slash ∷ hash.0) no_question in
+    ∙ split_after question_mark front (slash ∷ hash.0) no_question in
     let scheme_is = ap (λ r. split_scheme r.0) question_is ∙ web_split scheme name (slash ∷ question.0) web in
-    let behind = slash ∷ slash ∷ (name ++ slash ∷ question.0) in
+    let after = slash ∷ slash ∷ (name ++ slash ∷ question.0) in
     let read : parse_url base (front ++ slash ∷ rest) ≡ Ok (link_url scheme name question.0 question.1 hash.1) =
     (λ i. parse_by_scheme (scheme_is i) base (question_is i).0 (question_is i).1 (hash_is i).1)
-    ∙ ap (λ s. parse_parts s (base_for_scheme base s) behind question.1 hash.1) (web_lower scheme web)
+    ∙ ap (λ s. parse_parts s (base_for_scheme base s) after question.1 hash.1) (web_lower scheme web)
     ∙ no_base base scheme name (slash ∷ question.0) question.1 hash.1 web
-    ∙ ap (λ s. parse_parts s None behind question.1 hash.1) (sym (web_lower scheme web))
+    ∙ ap (λ s. parse_parts s None after question.1 hash.1) (sym (web_lower scheme web))
     ∙ read_body scheme name question.0 (front ++ slash ∷ question.0) question.1 hash.1 web named path in
     ap (λ t. option_map second_serial (parsed (parse_url base t))) joined
     ∙ ap (λ r. option_map second_serial (parsed r)) read
     ∙ ap Some (link_text scheme name question.0 question.1 hash.1 (web_kind scheme web)
     ∙ ap (λ t. front ++ t) (sym (written_path (slash ∷ rest))))
 
--- the same of what stands behind the name
-pub read_bounded : (base : Option Parts) (scheme name text behind : List ℕ) → IsWebScheme scheme → IsName name
-    → text ≡ link_front scheme name ++ behind → IsBounded behind → is_plain behind ≡ true
-    → text_against base text ≡ Some (link_front scheme name ++ written Path behind)
-read_bounded base scheme name text behind web named joined bounded plain =
+-- the same of what is after the name
+pub read_bounded : (base : Option Parts) (scheme name text after : List ℕ) → IsWebScheme scheme → IsName name
+    → text ≡ link_front scheme name ++ after → IsBounded after → is_plain after ≡ true
+    → text_against base text ≡ Some (link_front scheme name ++ written Path after)
+read_bounded base scheme name text after web named joined bounded plain =
     let front = link_front scheme name in
     let is = bounded.begins in
     read_link base scheme name bounded.rest text web named (joined ∙ ap (λ t. front ++ t) is)
     (subst (λ t. is_plain t ≡ true) is plain) (subst (λ t. get_or t (length t - 1) 0 ≢ space) is bounded.ends)
     ∙ ap (λ t. Some (front ++ written Path t)) (sym is)
 
--- two links with one front are read as one URL exactly where the same is written of what stands behind it
+-- two links with one front are read as one URL exactly where the same is written of what is after it
 same_links : (front first second text other : List ℕ)
     → text_against None text ≡ Some (front ++ first)
     → text_against None other ≡ Some (front ++ second)
@@ -383,7 +383,7 @@ same_links front first second text other reads other_reads = (
 
 -- ---- links by their parts
 
--- what stands before the path, and what follows it
+-- what is before the path, and what follows it
 pub link_joined : (text : List ℕ) (link : WebLink) (is : IsLink text link) (rest : List ℕ)
     → link.start.now ++ (link.authority.now ++ rest) ≡ link_front is.scheme link.authority.now ++ rest
 link_joined text link is rest =

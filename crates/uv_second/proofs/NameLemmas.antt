@@ -1,4 +1,4 @@
--- A plain name is a domain, which the second parser writes as it stands.
+-- A plain name is a domain, which the second parser writes as it is.
 use Rattle.std.proofs.Common.{◌≡◌, ◌∙◌, ℕ, suc, ◌+◌, ◌<◌, Bool, true, false, not, ◌&&◌, ◌||◌, ◌==◌, List}
 use Rattle.std.proofs.Common.{[], ◌∷◌, length}
 use Rattle.std.proofs.Common.{get_or, Option, Some, None, All, ap, arith, inl, inr, refl, subst, sym, take, take_all}

@@ -1,4 +1,4 @@
--- A plain reference is written as it stands behind a part of its base's text.
+-- A plain reference is written as it is after a part of its base's text.
 use Rattle.std.proofs.Common.{◌≡◌, ◌≢◌, ◌∙◌, ℕ, ◌-◌, ◌<◌, ◌≤◌, true, false, ltb, ◌==◌, List, [], ◌∷◌, ◌++◌}
 use Rattle.std.proofs.Common.{All, Bool, Ok, None, Some, Option, ap, append-nil, append_assoc, arith, get_or, inl, inr}
 use Rattle.std.proofs.Common.{◌+◌, drop, length, length-append, refl, subst, sym, take, take_at}
@@ -29,7 +29,7 @@ use Rattle.url.proofs.PiecesLemmas.{concat-split}
 use Rattle.url.proofs.ValidLemmas.{base_from_authority, option_unchanged, special_has_authority}
 use Rattle.uv_second.specs.declared.written.Part.TheVariants.{Path}
 use Rattle.uv_second.specs.Links.{is_kept, is_plain, is_plain_at}
-use Rattle.uv_second.specs.References.{BeginsPath, GoesOn, IsFront, IsWebBase, behind_dot, dot_segment}
+use Rattle.uv_second.specs.References.{BeginsPath, GoesOn, IsFront, IsWebBase, after_dot, dot_segment}
 use Rattle.uv_second.specs.References.{reference_fragment, reference_path, reference_query}
 use Rattle.uv_second.specs.Standing.{StandsUncoloned, StandsWhole, is_no_colon}
 use Rattle.uv_second.specs.Second.{parsed, second_serial, text_against}
@@ -57,7 +57,7 @@ tail_text base path None (Some fragment) kind = simp (append-nil)
 tail_text base path (Some query) None kind = rw kind (simp (append-nil))
 tail_text base path (Some query) (Some fragment) kind = rw kind (simp (append-nil))
 
--- a path, a query and a fragment behind the head of a base are written behind its front
+-- a path, a query and a fragment after the head of a base are written after its front
 resolved_text : (base : Parts) (path : List ℕ) (query fragment : Option (List ℕ)) → kind_of base ≡ SpecialNotFile
     → has_authority base ≡ true
     → serialize (with_tail (with_path (head_only base) path) query fragment)
@@ -76,7 +76,7 @@ resolved_text base path query fragment kind authority =
 at_each : (P : ℕ → Type 0) (bytes : List ℕ) (k : ℕ) → P 0 → All P bytes → P (get_or bytes k 0)
 at_each P bytes k zero all = elim (cases_lt k (length bytes)) [
   | inl inside ↦ all k 0 inside
-  | inr behind ↦ subst P (sym (get_or-eq_default bytes 0 {n = k} behind)) zero
+  | inr after ↦ subst P (sym (get_or-eq_default bytes 0 {n = k} after)) zero
 ]
 
 -- nothing is taken off kept bytes
@@ -110,14 +110,14 @@ no_scheme text front back joined uncoloned =
 no_mark : (b : ℕ) → b ≢ slash → b ≢ backslash → is_slash SpecialNotFile b ≡ false
 no_mark b no_slash no_backslash = rw (ne_eqb b slash no_slash, ne_eqb b backslash no_backslash) refl
 
--- a path beside the base's is read behind the base's without its last segment
+-- a path beside the base's is read after the base's without its last segment
 beside_path : (base : Parts) (b : ℕ) (more : List ℕ) → kind_of base ≡ SpecialNotFile → b ≢ slash → b ≢ backslash
     → parse_relative base (b ∷ more) ≡ Ok (with_path (head_only base)
     (parse_path SpecialNotFile (without_last_segment base.path) (b ∷ more)))
 unfolding parse_relative shorten_path leading_slashes
 beside_path base b more kind no_slash no_backslash = rw (kind, no_mark b no_slash no_backslash) refl
 
--- a path from the root is read behind nothing
+-- a path from the root is read after nothing
 rooted_path : (base : Parts) (rest : List ℕ) → kind_of base ≡ SpecialNotFile → get_or rest 0 0 ≢ slash
     → get_or rest 0 0 ≢ backslash
     → parse_relative base (slash ∷ rest) ≡ Ok (with_path (head_only base) (parse_path SpecialNotFile [] rest))
@@ -167,16 +167,16 @@ resolved base text path is kept no_scheme nonempty relative =
     ap (λ r. option_map second_serial (parsed r)) read
     ∙ ap Some (resolved_text base path query fragment kind authority)
 
--- behind a path a text is written as it stands
+-- after a path a text is written as it is
 stands_text : (path text : List ℕ) → StandsWhole text → dot_len text ≡ 0
     → parse_path SpecialNotFile path (reference_path text) ++ reference_tail text ≡ path ++ slash ∷ text
 stands_text path text stands undotted =
     let front = path_front text in
     let plain = plain_front (reference_path text) front.0 (subst (λ t. is_plain t ≡ true) front.1 stands.plain) in
     let none = dot_front (reference_path text) front.0 (subst (λ t. dot_len t ≡ 0) front.1 undotted) in
-    let behind = reference_tail text in
-    ap (λ t. t ++ behind) (plain_segments path [] (reference_path text) none plain)
-    ∙ append_assoc path (slash ∷ percent_encode PATH (reference_path text)) behind
+    let after = reference_tail text in
+    ap (λ t. t ++ after) (plain_segments path [] (reference_path text) none plain)
+    ∙ append_assoc path (slash ∷ percent_encode PATH (reference_path text)) after
     ∙ ap (λ t. path ++ slash ∷ t) (sym (written_path text) ∙ written_kept Path text stands.kept)
 
 -- the first byte of a path
@@ -230,7 +230,7 @@ rooted_text base (b ∷ rest) is stands slashed single =
     let whole = subst (λ c. StandsWhole (c ∷ rest)) slashed stands in
     let plain = and_parts (is_plain_at slash rest) (is_plain rest) whole.plain in
     let kept = (and_parts (is_kept slash) (list_all is_kept rest) whole.kept).1 in
-    let behind : StandsWhole rest = record { kept = kept; plain = plain.1 } in
+    let after : StandsWhole rest = record { kept = kept; plain = plain.1 } in
     let front = path_front rest in
     let no_slash = first_of_front (λ c. c ≢ slash) (reference_path rest) front.0 (λ same. omega (arith, same))
     (subst (λ t. get_or t 0 0 ≢ slash) front.1 single) in
@@ -241,7 +241,7 @@ rooted_text base (b ∷ rest) is stands slashed single =
     refl (omega arith)
     (rooted_path base (reference_path rest) (web_kind base.scheme is.web) no_slash no_backslash)
     ∙ ap (λ t. Some (text_before base BeforePath ++ t))
-    (stands_text [] rest behind ((plain_at slash rest plain.0).no_dot refl)))
+    (stands_text [] rest after ((plain_at slash rest plain.0).no_dot refl)))
 
 -- ---- a query or a fragment alone
 
@@ -262,15 +262,15 @@ pathless base text is kept empty =
     ∙ cond-false _ _ _ (and_left _ _ (base_from_authority base authority)) in
     ap (λ r. option_map second_serial (parsed r)) read
 
--- a query and a fragment are written as they stand
+-- a query and a fragment are written as they are
 tail_stands : (text : List ℕ) → list_all is_kept text ≡ true → reference_path text ≡ []
     → reference_tail text ≡ text
 unfolding percent_encode
 tail_stands text kept empty =
-    let behind = reference_tail text in
-    ap (λ t. percent_encode PATH t ++ behind) (sym empty) ∙ sym (written_path text) ∙ written_kept Path text kept
+    let after = reference_tail text in
+    ap (λ t. percent_encode PATH t ++ after) (sym empty) ∙ sym (written_path text) ∙ written_kept Path text kept
 
--- a query stands behind the base's path
+-- a query is after the base's path
 query_written : (base : Parts) (query : List ℕ) (fragment : Option (List ℕ)) → kind_of base ≡ SpecialNotFile
     → serialize (with_tail base (Some query) fragment)
     ≡ text_before base AfterPath ++ (query_text (Some query) ++ fragment_text fragment)
@@ -293,7 +293,7 @@ query_reference_text base (b ∷ rest) is stands marked =
     (web_kind base.scheme is.web))
     ∙ ap (λ t. Some (text_before base AfterPath ++ t)) (tail_stands text kept refl))
 
--- a fragment stands behind the base's query
+-- a fragment is after the base's query
 fragment_written : (base : Parts) (fragment : List ℕ) → IsValid base
     → serialize (with_tail base base.query (Some fragment))
     ≡ text_before base AfterQuery ++ fragment_text (Some fragment)
@@ -346,7 +346,7 @@ front_of_front bytes front first outer inner = (
 
 -- one dot segment more
 pub goes_on-more : (path text kept left rest : List ℕ) (double : Bool) → GoesOn path text kept left
-    → left ≡ dot_segment double ++ rest → GoesOn path text (behind_dot double kept) rest
+    → left ≡ dot_segment double ++ rest → GoesOn path text (after_dot double kept) rest
 unfolding split_once parse_segments push_segment dot_count shorten_path
 goes_on-more path text kept left rest false so_far begins = record {
   bytes = λ test dotted slashed all. so_far.bytes test dotted slashed (rw (begins, dotted, slashed) all);

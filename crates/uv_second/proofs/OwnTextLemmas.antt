@@ -1,4 +1,4 @@
--- A link of which each byte is kept is written as it stands.
+-- A link of which each byte is kept is written as it is.
 use Rattle.std.proofs.Common.{◌≡◌, ◌∙◌, ◌&&◌, ◌<◌, ℕ, Bool, true, not, List, [], ◌∷◌, ◌++◌, Option, Some, ap}
 use Rattle.std.proofs.Common.{arith, inl, inr, refl, sym}
 use Rattle.std.specs.List.{list_all}
@@ -9,7 +9,7 @@ use Rattle.url.proofs.SetLemmas.{kept_from_passes, passing_outside}
 use Rattle.uv_text.specs.declared.web_links.WebLink.{WebLink}
 use Rattle.uv_second.specs.declared.written.Part.{Part}
 use Rattle.uv_second.specs.declared.written.Part.TheVariants.{Path, Query, Fragment}
-use Rattle.uv_second.specs.Links.{IsBounded, IsLink, escape_set, is_kept, is_mark, is_plain, link_front, part_behind}
+use Rattle.uv_second.specs.Links.{IsBounded, IsLink, escape_set, is_kept, is_mark, is_plain, link_front, part_after}
 use Rattle.uv_second.specs.Links.{written, written_byte}
 use Rattle.uv_second.specs.Second.{text_against}
 use Rattle.uv_second.proofs.LinkLemmas.{link_joined, read_bounded}
@@ -24,7 +24,7 @@ none_escaped Path = refl
 none_escaped Query = refl
 none_escaped Fragment = refl
 
--- a kept byte is written as it stands
+-- a kept byte is written as it is
 kept_byte : (part : Part) (b : ℕ) → is_kept b ≡ true → written_byte part b ≡ b ∷ []
 kept_byte part b kept = elim (cases_Bool (is_mark part b)) [
   | inl mark ↦ cond-true _ _ _ mark
@@ -40,8 +40,8 @@ pub written_kept : (part : Part) (bytes : List ℕ) → list_all is_kept bytes �
 written_kept part [] all = refl
 written_kept part (b ∷ rest) all =
     let parts = and_parts (is_kept b) (list_all is_kept rest) all in
-    ap (λ t. t ++ written (part_behind part b) rest) (kept_byte part b parts.0)
-    ∙ ap (λ t. b ∷ t) (written_kept (part_behind part b) rest parts.1)
+    ap (λ t. t ++ written (part_after part b) rest) (kept_byte part b parts.0)
+    ∙ ap (λ t. b ∷ t) (written_kept (part_after part b) rest parts.1)
 
 -- and so is a link, against any base
 pub own_link : (text : List ℕ) (link : WebLink) (base : Option Parts) → IsLink text link → IsBounded link.rest.now

@@ -1,4 +1,4 @@
--- A path without dot segments is read as it stands, with its escapes.
+-- A path without dot segments is read as it is, with its escapes.
 use Rattle.std.proofs.Common.{◌≡◌, ◌≢◌, ◌∙◌, ℕ, true, false, ◌==◌, not, List, [], ◌∷◌, ◌++◌, ap, append-nil}
 use Rattle.std.proofs.Common.{Bool, append_assoc, arith, inl, inr, nat_le, refl, subst, sym, ⊎_elim}
 use Rattle.std.proofs.lemmas.Bool.{and_from, and_parts, and_right, cases_Bool, cases_eq, cond-false, ne_eqb}

@@ -1,4 +1,4 @@
--- Bits of bytes that stand as they are, and what they say of the text.
+-- Bits of bytes that are as they are, and what they say of the text.
 use Rattle.std.proofs.Common.{◌≡◌, ◌∙◌, ℕ, suc, ◌+◌, ◌-◌, ◌/◌, ◌^◌, ◌<◌, ◌≤◌, Bool, true, false, not, ◌==◌}
 use Rattle.std.proofs.Common.{All, List, [], ◌∷◌, ap, arith, bit_and, cond, drop, drop_at, get_or, get_or-take}
 use Rattle.std.proofs.Common.{inl, inr}
@@ -65,7 +65,7 @@ none_follows p q xs none k inside first = elim (cases_Bool (q (get_or xs (k + 1)
   | inr other ↦ other
   | inl second ↦
       let shorter : k < length (drop 1 xs) = omega (arith, length-drop 1 xs) in
-      let behind : mask_l (map q xs) / 2 ^ 1 ≡ mask_l (map q (drop 1 xs)) =
+      let after : mask_l (map q xs) / 2 ^ 1 ≡ mask_l (map q (drop 1 xs)) =
       sym (mask-drop 1 (map q xs)) ∙ ap mask_l (drop-map q 1 xs) in
       let left : bit_at (mask_l (map p xs)) k ≡ 1 =
       mask_bit p xs k (omega arith) ∙ ap (λ (b : Bool). cond {A = ℕ} b 1 0) first in
@@ -75,7 +75,7 @@ none_follows p q xs none k inside first = elim (cases_Bool (q (get_or xs (k + 1)
       ∙ ap (λ (b : Bool). cond {A = ℕ} b 1 0) (ap q (get_or-drop 1 xs k 0 ∙ ap (λ n. get_or xs n 0) place) ∙ second) in
       let both : bit_at (bit_and (mask_l (map p xs)) (mask_l (map q xs) / 2 ^ 1)) k ≡ 1 =
       bit_at_and (mask_l (map p xs)) (mask_l (map q xs) / 2 ^ 1) k
-      ∙ (λ i. min (left i) ((ap (λ n. bit_at n k) behind ∙ right) i)) in
+      ∙ (λ i. min (left i) ((ap (λ n. bit_at n k) after ∙ right) i)) in
       let no : bit_at 0 k ≡ 1 = subst (λ n. bit_at n k ≡ 1) none both in
       absurd (omega (arith, no, bit_at-zero k))
 ]
@@ -110,7 +110,7 @@ window rows text place end ahead none inside few last =
       each = λ k from before.
           subst (λ b. is_in_rows rows b ≡ true) (moved k from (omega arith)) (whole (k - place) 0 (omega arith));
       pairs = λ k from before same. elim (cases_lt (k + 1) (length text)) [
-        | inr behind ↦ ap may_be_dot (get_or-eq_default text 0 {n = k + 1} behind)
+        | inr after ↦ ap may_be_dot (get_or-eq_default text 0 {n = k + 1} after)
         | inl here ↦
             let within : k + 1 < place + 32 = elim (cases_lt (k + 1) (place + 32)) [
               | inl is ↦ is
@@ -160,21 +160,21 @@ between_none rows text place = record {
   pairs = λ k from before. absurd (omega arith);
 }
 
--- one run behind another
+-- one run after another
 pub between_more : (rows text : List ℕ) (start middle end : ℕ) → StandsBetween rows text start middle
     → StandsBetween rows text middle end → StandsBetween rows text start end
 between_more rows text start middle end first second = record {
   each = λ k from before. elim (cases_lt k middle) [
     | inl is ↦ first.each k from is
-    | inr behind ↦ second.each k behind before
+    | inr after ↦ second.each k after before
   ];
   pairs = λ k from before same. elim (cases_lt k middle) [
     | inl is ↦ first.pairs k from is same
-    | inr behind ↦ second.pairs k behind before same
+    | inr after ↦ second.pairs k after before same
   ];
 }
 
--- ---- what stands whole
+-- ---- what is whole
 
 -- no dot begins the bytes, nor its escape, where neither of their first bytes does
 undotted : (bytes : List ℕ) → may_be_dot (get_or bytes 0 0) ≡ false → dot_len bytes ≡ 0
@@ -182,7 +182,7 @@ undotted bytes none =
     let parts = or_parts (get_or bytes 0 0 == dot) (get_or bytes 0 0 == percent_sign) none in
     rw (parts.0, parts.1) refl
 
--- bytes whose bytes stand, with no dot behind a slash, stand whole
+-- bytes whose bytes are, with no dot after a slash, are whole
 stands_list : (bytes : List ℕ) → ((k : ℕ) → k < length bytes → is_standing (get_or bytes k 0) ≡ true)
     → ((k : ℕ) → k < length bytes → get_or bytes k 0 ≡ slash → may_be_dot (get_or bytes (k + 1) 0) ≡ false)
     → (list_all is_kept bytes ≡ true) × (is_plain bytes ≡ true)
@@ -242,23 +242,23 @@ uncoloned_end text start stands =
 
 -- ---- the end of a text
 
--- it is what stands behind as many bytes less
+-- it is what is after as many bytes less
 end_is : (text end : List ℕ) (start : ℕ) → EndsWith text end → start ≡ length text - length end → drop start text ≡ end
 end_is text end start ends is =
     let front = ends.0 in
     let long : start ≡ length front = omega (arith, is, ap length ends.1, length-append front end) in
     ap (λ n. drop n text) long ∙ ap (drop (length front)) ends.1 ∙ drop_at front end _ refl
 
--- so it stands whole where the bytes from there on stand
+-- so it is whole where the bytes from there on are
 pub end_whole : (text end : List ℕ) (start : ℕ) → EndsWith text end → start ≡ length text - length end
     → StandsBetween STANDING_ROWS text start (length text) → StandsWhole end
 end_whole text end start ends is stands =
     subst StandsWhole (end_is text end start ends is) (standing_end text start stands)
 
--- bytes that stand whole behind a slash have no dot there
-behind_slash : (rest : List ℕ) → StandsWhole (slash ∷ rest) → list_all is_no_colon (slash ∷ rest) ≡ true
+-- bytes that are whole after a slash have no dot there
+after_slash : (rest : List ℕ) → StandsWhole (slash ∷ rest) → list_all is_no_colon (slash ∷ rest) ≡ true
     → StandsUncoloned rest
-behind_slash rest stands uncoloned =
+after_slash rest stands uncoloned =
     let plain = and_parts (is_plain_at slash rest) (is_plain rest) stands.plain in
     let kept = and_parts (is_kept slash) (list_all is_kept rest) stands.kept in
     record {
@@ -267,11 +267,11 @@ behind_slash rest stands uncoloned =
       uncoloned = (and_parts (is_no_colon slash) (list_all is_no_colon rest) uncoloned).1;
     }
 
--- the same of an end behind a slash, without a colon
+-- the same of an end after a slash, without a colon
 pub end_uncoloned : (text rest : List ℕ) (start : ℕ) → EndsWith text (slash ∷ rest)
     → start ≡ length text - length rest - 1 → StandsBetween UNCOLONED_ROWS text start (length text)
     → StandsUncoloned rest
 end_uncoloned text rest start ends is stands =
     let at = end_is text (slash ∷ rest) start ends (omega (arith, is)) in
     let seen = uncoloned_end text start stands in
-    behind_slash rest (subst StandsWhole at seen.0) (subst (λ t. list_all is_no_colon t ≡ true) at seen.1)
+    after_slash rest (subst StandsWhole at seen.0) (subst (λ t. list_all is_no_colon t ≡ true) at seen.1)

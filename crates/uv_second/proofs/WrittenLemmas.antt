@@ -1,4 +1,4 @@
--- What the second parser writes of what stands behind a name is its path, its query and its fragment with escapes.
+-- What the second parser writes of what is after a name is its path, its query and its fragment with escapes.
 use Rattle.std.proofs.Common.{◌≡◌, ◌≢◌, ◌∙◌, ℕ, List, [], ◌∷◌, ◌++◌, Option, Some, None, append_assoc, ap, refl, sym}
 use Rattle.std.proofs.Common.{⊎_elim}
 use Rattle.std.proofs.lemmas.Bool.{cases_eq, ne_eqb}
@@ -47,7 +47,7 @@ written_query (b ∷ rest) =
 abbrev path_parts : List ℕ × Option (List ℕ) → Option (List ℕ) → List ℕ
 path_parts question fragment = percent_encode PATH question.0 ++ (query_text question.1 ++ fragment_text fragment)
 
--- the same by what stands before the first `#`
+-- the same by what is before the first `#`
 abbrev parts_by_hash : List ℕ × Option (List ℕ) → List ℕ
 parts_by_hash hash = path_parts (split_once question_mark hash.0) hash.1
 

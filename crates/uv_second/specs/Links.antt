@@ -1,4 +1,4 @@
--- Texts that the second parser reads part by part as they stand: `https://` or `http://`, a plain name, and a path that
+-- Texts that the second parser reads part by part as they are: `https://` or `http://`, a plain name, and a path that
 -- begins with `/` and has no dot segment. What it writes of such a text.
 use Rattle.std.specs.Prelude.{◌≡◌, ◌≢◌, ◌⊎◌, ◌<◌, ℕ, Bool, true, false, not, ◌&&◌, ◌||◌, ◌==◌, nat_le}
 use Rattle.std.specs.Prelude.{nat_lt, List, [], ◌∷◌}
@@ -21,11 +21,11 @@ use Rattle.uv_second.specs.declared.written.Part.TheVariants.{Path, Query, Fragm
 abbrev pub IsWebScheme : List ℕ → Type 0
 IsWebScheme scheme = (scheme ≡ codes "https") ⊎ (scheme ≡ codes "http")
 
--- the byte may stand in a plain name: a small letter, a digit, `-`, `.` or `_`
+-- the byte may be in a plain name: a small letter, a digit, `-`, `.` or `_`
 abbrev pub is_name_byte : ℕ → Bool
 is_name_byte b = is_ascii_lowercase b || (is_ascii_digit b || ((b == hyphen) || ((b == dot) || (b == 0x5F))))
 
--- the domain of a link, which is written as it stands
+-- the domain of a link, which is written as it is
 abbrev pub IsName : List ℕ → Type 0
 IsName name = IsDomain name × (0 < length name)
 
@@ -35,7 +35,7 @@ pub record IsBounded (bytes : List ℕ) : Type 0 where
   pub begins : bytes ≡ slash ∷ rest
   pub ends : slice_index bytes (length bytes - 1) ≢ space
 
--- what stands before the path
+-- what is before the path
 abbrev pub link_front : List ℕ → List ℕ → List ℕ
 link_front scheme name = scheme ++ (codes "://" ++ name)
 
@@ -54,26 +54,26 @@ abbrev pub is_plain : List ℕ → Bool
 is_plain [] = true
 is_plain (b ∷ rest) = is_plain_at b rest && is_plain rest
 
--- the byte is no control and no backslash, and behind a slash no dot and no start of an escape
+-- the byte is no control and no backslash, and after a slash no dot and no start of an escape
 abbrev pub may_follow : ℕ → ℕ → Bool
 may_follow before b =
     nat_le 32 b && (not (b == backslash)
     && (not (before == slash) || (not (b == dot) && not (b == percent_sign))))
 
--- bytes are plain behind another one
-abbrev pub is_plain_behind : ℕ → List ℕ → Bool
-is_plain_behind before rest = (not (before == slash) || (dot_len rest == 0)) && is_plain rest
+-- bytes are plain after another one
+abbrev pub is_plain_after : ℕ → List ℕ → Bool
+is_plain_after before rest = (not (before == slash) || (dot_len rest == 0)) && is_plain rest
 
--- the last of bytes behind another one, which it is where there are none
-abbrev pub last_behind : ℕ → List ℕ → ℕ
-last_behind before [] = before
-last_behind before (b ∷ rest) = last_behind b rest
+-- the last of bytes after another one, which it is where there are none
+abbrev pub last_after : ℕ → List ℕ → ℕ
+last_after before [] = before
+last_after before (b ∷ rest) = last_after b rest
 
--- behind another byte the bytes go on plain before any others that are plain behind their last one
+-- after another byte the bytes go on plain before any others that are plain after their last one
 abbrev pub GoesOnPlain : ℕ → List ℕ → Type 0
 GoesOnPlain before bytes =
-    (rest : List ℕ) → is_plain_behind (last_behind before bytes) rest ≡ true
-    → is_plain_behind before (bytes ++ rest) ≡ true
+    (rest : List ℕ) → is_plain_after (last_after before bytes) rest ≡ true
+    → is_plain_after before (bytes ++ rest) ≡ true
 
 -- the parts of a text whose authority is a name
 pub record IsLink (text : List ℕ) (link : WebLink) : Type 0 where
@@ -83,7 +83,7 @@ pub record IsLink (text : List ℕ) (link : WebLink) : Type 0 where
   pub named : IsName link.authority.now
   pub joined : text ≡ link.start.now ++ (link.authority.now ++ link.rest.now)
 
--- ---- what the second parser writes of what stands behind the name
+-- ---- what the second parser writes of what is after the name
 
 -- the bytes that it escapes in a part
 abbrev pub escape_set : Part → AsciiSet
@@ -97,17 +97,17 @@ is_mark Path b = (b == number_sign) || (b == question_mark)
 is_mark Query b = b == number_sign
 is_mark Fragment b = false
 
--- the part behind the byte
-abbrev pub part_behind : Part → ℕ → Part
-part_behind Path b = if b == number_sign then Fragment else (if b == question_mark then Query else Path)
-part_behind Query b = if b == number_sign then Fragment else Query
-part_behind Fragment b = Fragment
+-- the part after the byte
+abbrev pub part_after : Part → ℕ → Part
+part_after Path b = if b == number_sign then Fragment else (if b == question_mark then Query else Path)
+part_after Query b = if b == number_sign then Fragment else Query
+part_after Fragment b = Fragment
 
 -- the byte is written as its escape
 unfoldable pub is_escaped : Part → ℕ → Bool
 is_escaped part b = not (is_mark part b) && should_percent_encode (escape_set part) b
 
--- the byte is written as it stands, in whichever part
+-- the byte is written as it is, in whichever part
 abbrev pub is_kept : ℕ → Bool
 is_kept b =
     nat_lt space b && (nat_lt b 0x7F
@@ -118,10 +118,10 @@ is_kept b =
 abbrev pub written_byte : Part → ℕ → List ℕ
 written_byte part b = if is_mark part b then b ∷ [] else encode_byte (escape_set part) b
 
--- what is written of bytes of which the first stands in the part
+-- what is written of bytes of which the first is in the part
 abbrev pub written : Part → List ℕ → List ℕ
 written part [] = []
-written part (b ∷ rest) = written_byte part b ++ written (part_behind part b) rest
+written part (b ∷ rest) = written_byte part b ++ written (part_after part b) rest
 
 -- ---- two texts, byte by byte
 

@@ -1,4 +1,4 @@
--- References that the second parser writes as they stand behind a part of their base's text.
+-- References that the second parser writes as they are after a part of their base's text.
 use Rattle.std.specs.Prelude.{◌≡◌, ◌≢◌, ℕ, Bool, true, false, List, ◌++◌, Option, codes}
 use Rattle.std.specs.List.{list_all}
 use Rattle.url.specs.declared.scheme.SchemeType.TheVariants.{SpecialNotFile}
@@ -32,21 +32,21 @@ pub record BeginsPath (b : ℕ) : Type 0 where
   pub no_question_mark : b ≢ question_mark
   pub no_number_sign : b ≢ number_sign
 
--- a dot segment and the slash behind it: a single or a double one
+-- a dot segment and the slash after it: a single or a double one
 abbrev pub dot_segment : Bool → List ℕ
 dot_segment false = codes "./"
 dot_segment true = codes "../"
 
 -- what it leaves of a path: a double one takes the last segment off
-abbrev pub behind_dot : Bool → List ℕ → List ℕ
-behind_dot false path = path
-behind_dot true path = without_last_segment path
+abbrev pub after_dot : Bool → List ℕ → List ℕ
+after_dot false path = path
+after_dot true path = without_last_segment path
 
 -- bytes begin with these
 abbrev pub IsFront : List ℕ → List ℕ → Type 0
 IsFront bytes front = (back : List ℕ) × (bytes ≡ front ++ back)
 
--- behind a path the parser reads of a text what it reads of the rest behind another path
+-- after a path the parser reads of a text what it reads of the rest after another path
 pub record GoesOn (path text kept rest : List ℕ) : Type 0 where
   pub bytes : (test : ℕ → Bool) → test dot ≡ true → test slash ≡ true → list_all test rest ≡ true
       → list_all test text ≡ true

@@ -1,4 +1,4 @@
--- Texts that are written as they stand.
+-- Texts that are written as they are.
 use Rattle.std.specs.Prelude.{◌≡◌, ℕ, ◌+◌, ◌<◌, ◌≤◌, Bool, true, false, not, ◌&&◌, ◌||◌, ◌==◌, List, ◌++◌, length}
 use Rattle.std.specs.Prelude.{slice_index}
 use Rattle.std.specs.List.{list_all}
@@ -7,7 +7,7 @@ use Rattle.url.specs.Path.{dot_len}
 use Rattle.uv_text.specs.Rows.{is_in_rows}
 use Rattle.uv_second.specs.Links.{is_kept, is_plain}
 
--- no byte is escaped, and behind a slash no dot segment stands
+-- no byte is escaped, and after a slash no dot segment is
 pub record StandsWhole (text : List ℕ) : Type 0 where
   pub kept : list_all is_kept text ≡ true
   pub plain : is_plain text ≡ true
@@ -16,7 +16,7 @@ pub record StandsWhole (text : List ℕ) : Type 0 where
 abbrev pub is_no_colon : ℕ → Bool
 is_no_colon b = not (b == colon)
 
--- so it is behind a slash, and without a colon
+-- so it is after a slash, and without a colon
 pub record StandsUncoloned (text : List ℕ) : Type 0 where
   pub whole : StandsWhole text
   pub undotted : dot_len text ≡ 0
@@ -28,7 +28,7 @@ EndsWith text end = (front : List ℕ) × (text ≡ front ++ end)
 
 -- ---- by rows
 
--- the byte is written as it stands in each part, and is no backslash
+-- the byte is written as it is in each part, and is no backslash
 abbrev pub is_standing : ℕ → Bool
 is_standing b = is_kept b && not (b == backslash)
 
@@ -40,7 +40,7 @@ is_standing_uncoloned b = is_standing b && is_no_colon b
 abbrev pub may_be_dot : ℕ → Bool
 may_be_dot b = (b == dot) || (b == percent_sign)
 
--- from a place on and before another one each byte is in the rows, and behind a slash stands no such byte
+-- from a place on and before another one each byte is in the rows, and after a slash is no such byte
 pub record StandsBetween (rows text : List ℕ) (start end : ℕ) : Type 0 where
   pub each : (k : ℕ) → start ≤ k → k < end → is_in_rows rows (slice_index text k) ≡ true
   pub pairs : (k : ℕ) → start ≤ k → k < end → slice_index text k ≡ slash

@@ -31,7 +31,7 @@ fn is_name(bytes: &[u8]) -> bool
 }
 
 /// What follows this in a text that begins with it.
-pub(crate) fn behind_text<'t>(text: &'t str, front: &str) -> Option<&'t str>
+pub(crate) fn after_text<'t>(text: &'t str, front: &str) -> Option<&'t str>
     ensures { IfSome result (λ rest. text.now ≡ front.now ++ rest.now) }
 {
     let rest = text.strip_prefix(front)?;
@@ -39,7 +39,7 @@ pub(crate) fn behind_text<'t>(text: &'t str, front: &str) -> Option<&'t str>
 }
 
 /// What follows these bytes in a text that begins with them.
-pub(crate) fn behind<'t>(text: &'t [u8], front: &[u8]) -> Option<&'t [u8]>
+pub(crate) fn after<'t>(text: &'t [u8], front: &[u8]) -> Option<&'t [u8]>
     ensures { IfSome result (λ rest. text.now ≡ front.now ++ rest.now) }
 {
     match text.strip_prefix(front) {
@@ -48,7 +48,7 @@ pub(crate) fn behind<'t>(text: &'t [u8], front: &[u8]) -> Option<&'t [u8]>
     }
 }
 
-// What stands behind the last dot of a name, or the name where it has none.
+// What is after the last dot of a name, or the name where it has none.
 fn last_label(name: &[u8]) -> &[u8]
     ensures { result.now ≡ (input.rsplit_once dot name.now).1 }
 {

@@ -4,7 +4,7 @@ ghost use Rattle.uv_second.specs.Second.{IsOwnBase, ReadsSame, SameAgainst};
 
 use crate::answer::{read_as, second_url};
 use crate::fault::RoomFault;
-use crate::links::{behind_text, is_bounded, plain_link};
+use crate::links::{after_text, is_bounded, plain_link};
 use crate::written::writes_same;
 use std::alloc::Global;
 use url::Url;
@@ -50,8 +50,8 @@ fn seen_same(text: &str, other: &str) -> Option<bool>
     ensures { IfSome result (λ same. IsTrue same ↔ ReadsSame None text.now other.now) }
 {
     let link = plain_link(text)?;
-    let named = behind_text(other, link.start)?;
-    let other_rest = behind_text(named, link.authority)?;
+    let named = after_text(other, link.start)?;
+    let other_rest = after_text(named, link.authority)?;
     let rest = link.rest.as_bytes();
     let other_bytes = other_rest.as_bytes();
     if is_bounded(rest) && is_bounded(other_bytes) {

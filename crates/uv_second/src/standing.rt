@@ -1,11 +1,11 @@
-//! Texts whose end is seen to be written as it stands, 32 bytes a turn.
+//! Texts whose end is seen to be written as it is, 32 bytes a turn.
 ghost use Rattle.std.specs.Prelude.{◌∷◌, ◌≤◌, IsTrue, length};
 ghost use Rattle.url.specs.Ascii.{slash};
 ghost use Rattle.uv_second.specs.Standing.{EndsWith, StandsAt, StandsBetween, StandsUncoloned, StandsWhole};
 
 use uv_text::{Tail, byte_rows};
 
-// The bytes that are written as they stand in each part, without the backslash, by the low half of a byte: a bit for
+// The bytes that are written as they are in each part, without the backslash, by the low half of a byte: a bit for
 // each high half.
 const STANDING_ROWS: [u8; 16] = byte_rows!(
     b'0'..=b'9' | b'A'..=b'Z' | b'a'..=b'z' | b'!' | b'#'..=b'&' | b'('..=b'/' | b':' | b';' | b'=' | b'?' | b'@' | b'['
@@ -24,7 +24,7 @@ const SLASH_ROWS: [u8; 16] = byte_rows!(b'/');
 // The full stop, and the percent sign, with which its escape begins.
 const DOT_ROWS: [u8; 16] = byte_rows!(b'.' | b'%');
 
-/// Whether the end of a text is seen to be written as it stands.
+/// Whether the end of a text is seen to be written as it is.
 pub(crate) fn ends_whole(text: &str, end: &[u8]) -> bool
     requires { EndsWith text.now end.now }
     ensures { IsTrue result → StandsWhole end.now }
@@ -33,7 +33,7 @@ pub(crate) fn ends_whole(text: &str, end: &[u8]) -> bool
     stands_from(text, start, &STANDING_ROWS)
 }
 
-/// Whether the end of a text behind a slash is seen to be so, and without a colon.
+/// Whether the end of a text after a slash is seen to be so, and without a colon.
 pub(crate) fn ends_uncoloned(text: &str, end: &[u8]) -> bool
     requires { EndsWith text.now (slash ∷ end.now) }
     ensures { IsTrue result → StandsUncoloned end.now }
@@ -42,7 +42,7 @@ pub(crate) fn ends_uncoloned(text: &str, end: &[u8]) -> bool
     stands_from(text, start, &UNCOLONED_ROWS)
 }
 
-// Whether from a place on each byte of a text is in the rows, and behind a slash stands no dot, nor a percent sign. The
+// Whether from a place on each byte of a text is in the rows, and after a slash is no dot, nor a percent sign. The
 // last of 32 bytes is looked at again with the next ones.
 fn stands_from(text: &str, start: usize, rows: &[u8; 16]) -> bool
     requires { start ≤ length text.now }

@@ -7,7 +7,7 @@ ghost use Rattle.uv_second.specs.Links as spec;
 ghost use Rattle.uv_second.specs.Links.{IsCompared, is_plain, written};
 ghost use Rattle.uv_second.specs.declared.written.Part.TheVariants as the_part;
 
-use crate::links::behind;
+use crate::links::after;
 use percent_encoding::{AsciiSet, CONTROLS, ascii_set, percent_encode_byte};
 
 // The sets of the crate `url`, which keeps them to itself.
@@ -25,7 +25,7 @@ const SPECIAL_QUERY: AsciiSet = ascii_set!(
         .add(b'\'')
 );
 
-/// A part of a link behind its name.
+/// A part of a link after its name.
 #[derive(Clone, Copy, Debug, PartialEq, Eq)]
 pub(crate) enum Part {
     Path,
@@ -33,7 +33,7 @@ pub(crate) enum Part {
     Fragment,
 }
 
-/// Two texts so far: the part in which both stand, whether what is written of both is the same, and what is left.
+/// Two texts so far: the part in which both are, whether what is written of both is the same, and what is left.
 #[derive(Clone, Copy)]
 pub(crate) struct Compared<'t> {
     pub part: Part,
@@ -50,14 +50,14 @@ pub(crate) fn writes_same(text: &[u8], other: &[u8]) -> Option<bool>
     ensures same { IfSome result (λ same.
         IsTrue same ↔ (written the_part.Path text.now ≡ written the_part.Path other.now)) }
 {
-    let mut state = behind_common(Compared {
+    let mut state = after_common(Compared {
         part: Part::Path,
         same: true,
         rest: text,
         other,
     });
     while !state.rest.is_empty() {
-        state = behind_common(step(state)?);
+        state = after_common(step(state)?);
     }
     if state.other.is_empty() {
         Some(state.same)
@@ -66,8 +66,8 @@ pub(crate) fn writes_same(text: &[u8], other: &[u8]) -> Option<bool>
     }
 }
 
-// What is left behind the common bytes at the start of both.
-fn behind_common(state: Compared<'_>) -> Compared<'_>
+// What is left after the common bytes at the start of both.
+fn after_common(state: Compared<'_>) -> Compared<'_>
     ensures further { (text other : List ℕ)
         → IsCompared text other state.entry.part state.entry.same state.entry.rest.now state.entry.other.now
         → IsCompared text other result.part result.same result.rest.now result.other.now }
@@ -100,7 +100,7 @@ fn common_length(text: &[u8], other: &[u8]) -> usize
     end
 }
 
-// Whether a byte is plain wherever it stands, and ends no part: most are.
+// Whether a byte is plain wherever it is, and ends no part: most are.
 fn is_common(byte: u8) -> bool
     ensures { result ≡ spec.is_common byte }
 {
@@ -121,14 +121,14 @@ fn step(state: Compared<'_>) -> Option<Compared<'_>>
         return None;
     };
     if first != second {
-        let behind = escape_step(state)?;
-        return Some(behind_same(behind));
+        let after = escape_step(state)?;
+        return Some(after_same(after));
     }
     if !is_plain_at(*first, rest) || !is_plain_at(*first, other) {
         return None;
     }
     Some(Compared {
-        part: part_behind(state.part, *first),
+        part: part_after(state.part, *first),
         same: state.same,
         rest,
         other,
@@ -145,7 +145,7 @@ fn escape_step(state: Compared<'_>) -> Option<Compared<'_>>
     let [byte, rest @ ..] = state.rest else {
         return None;
     };
-    let other = behind_escape(*byte, state.other)?;
+    let other = after_escape(*byte, state.other)?;
     if *byte == b'%' || !is_plain_at(*byte, rest) {
         return None;
     }
@@ -158,7 +158,7 @@ fn escape_step(state: Compared<'_>) -> Option<Compared<'_>>
 }
 
 // What is left where both go on with the same bytes to their ends: nothing, if these are seen to be plain.
-fn behind_same(state: Compared<'_>) -> Compared<'_>
+fn after_same(state: Compared<'_>) -> Compared<'_>
     ensures further { (text other : List ℕ)
         → IsCompared text other state.entry.part state.entry.same state.entry.rest.now state.entry.other.now
         → IsCompared text other result.part result.same result.rest.now result.other.now }
@@ -176,7 +176,7 @@ fn behind_same(state: Compared<'_>) -> Compared<'_>
     }
 }
 
-/// Whether bytes are seen to be plain. Of some that are that isn't seen. What is left behind 32 bytes at a time is
+/// Whether bytes are seen to be plain. Of some that are that isn't seen. What is left after 32 bytes at a time is
 /// looked at byte by byte, which costs less than a walk that is made for many.
 pub(crate) fn stays_plain(bytes: &[u8]) -> bool
     ensures { IsTrue result → is_plain bytes.now ≡ true }
@@ -186,9 +186,9 @@ pub(crate) fn stays_plain(bytes: &[u8]) -> bool
     follow && follow_by_bytes(last, back)
 }
 
-// Whether bytes are plain behind another one, if each is seen to be.
+// Whether bytes are plain after another one, if each is seen to be.
 fn follow_by_bytes(before: u8, bytes: &[u8]) -> bool
-    ensures { IsTrue result → spec.is_plain_behind before bytes.now ≡ true }
+    ensures { IsTrue result → spec.is_plain_after before bytes.now ≡ true }
 {
     let mut before = before;
     for &byte in bytes {
@@ -210,20 +210,20 @@ fn may_follow_at_once(before: u8, byte: u8) -> bool
 // Whether bytes go on with plain ones wherever these may follow the last of them, and that last one.
 fn follow_by_lanes(bytes: &[u8]) -> (bool, u8)
     ensures follow { IsTrue result.0 → spec.GoesOnPlain 0 bytes.now }
-    ensures last { result.1 ≡ spec.last_behind 0 bytes.now }
+    ensures last { result.1 ≡ spec.last_after 0 bytes.now }
 {
-    // Each byte is looked at, also behind one that isn't plain: so many are looked at at once.
+    // Each byte is looked at, also after one that isn't plain: so many are looked at at once.
     let mut seen = 0;
     let mut before = 0;
     for &byte in bytes {
-        seen = behind_pair(seen, before, byte);
+        seen = after_pair(seen, before, byte);
         before = byte;
     }
     (seen == 0, before)
 }
 
-// What was seen up to a byte and with it, behind the one before: 0 where each may follow.
-fn behind_pair(seen: u8, before: u8, byte: u8) -> u8
+// What was seen up to a byte and with it, after the one before: 0 where each may follow.
+fn after_pair(seen: u8, before: u8, byte: u8) -> u8
     ensures { (result == 0) ≡ ((seen == 0) && spec.may_follow before byte) }
 {
     seen | pair_bit(before, byte)
@@ -236,18 +236,18 @@ fn pair_bit(before: u8, byte: u8) -> u8
     if may_follow(before, byte) { 0 } else { 1 }
 }
 
-// Whether a byte is no control and no backslash, and behind a slash no dot and no start of an escape.
+// Whether a byte is no control and no backslash, and after a slash no dot and no start of an escape.
 fn may_follow(before: u8, byte: u8) -> bool
     ensures { result ≡ spec.may_follow before byte }
 {
     byte >= b' ' && byte != b'\\' && (before != b'/' || (byte != b'.' && byte != b'%'))
 }
 
-// What stands behind the escape of a byte with which a text begins.
-fn behind_escape(byte: u8, text: &[u8]) -> Option<&[u8]>
+// What is after the escape of a byte with which a text begins.
+fn after_escape(byte: u8, text: &[u8]) -> Option<&[u8]>
     ensures { IfSome result (λ rest. text.now ≡ percent.percent_encode_byte byte ++ rest.now) }
 {
-    behind(text, percent_encode_byte(byte).as_bytes())
+    after(text, percent_encode_byte(byte).as_bytes())
 }
 
 // Whether a byte is no control and no backslash, and where it is a slash no dot follows it, nor the escape of one.
@@ -265,9 +265,9 @@ fn begins_with_dot(bytes: &[u8]) -> bool
     matches!(bytes, [b'.', ..] | [b'%', b'2', b'e' | b'E', ..])
 }
 
-// The part behind a byte.
-fn part_behind(part: Part, byte: u8) -> Part
-    ensures { result ≡ spec.part_behind part byte }
+// The part after a byte.
+fn part_after(part: Part, byte: u8) -> Part
+    ensures { result ≡ spec.part_after part byte }
 {
     match part {
         Part::Path if byte == b'#' => Part::Fragment,

@@ -7,7 +7,7 @@ use Rattle.std.proofs.lemmas.Bool.{cases_Bool, cases_eq, cases_lt, false≢true}
 use Rattle.std.proofs.lemmas.Bool.Decides.{nat_tests}
 use Rattle.uv_model.specs.declared.rule.Rule.{Rule}
 use Rattle.uv_model.specs.declared.rule.Refusal.{Refusal}
-use Rattle.uv_model.specs.Violations.Violation.{Behind}
+use Rattle.uv_model.specs.Violations.Violation.{After}
 use Rattle.uv_model.specs.Violations.Refusal.{IsLeast}
 use Rattle.uv_model.specs.Violations.Rule.{rule_number}
 use Rattle.uv_model.specs.Violations.UnitViolation.{UnitViolation, unit_rule}
@@ -22,9 +22,9 @@ use Rattle.uv_text.specs.Faults.{fault_from}
 use Rattle.uv_text.specs.Splits.{begins_unit, unit_length}
 use Rattle.std.proofs.Math.Bool.{or-false}
 
--- the faults of a text whose first code point stands at the place
+-- the faults of a text whose first code point is at the place
 abbrev From : ℕ → List ℕ → ℕ → Rule → Type 0
-From start text place rule = Behind start (UnitViolation text) place rule
+From start text place rule = After start (UnitViolation text) place rule
 
 -- the first code point is the least fault where it is one
 least_here : (start c : ℕ) (rest : List ℕ) → is_unit_at c rest ≡ false
@@ -43,7 +43,7 @@ least_here start c rest fault =
         let violation = subst (λ n. UnitViolation (c ∷ rest) n rule) here h.holds in
         rw (UnitViolation-said c rest rule violation).1 (omega arith)
 
--- a fault behind a first code point that is none
+-- a fault after a first code point that is none
 to_whole : (start c : ℕ) (rest : List ℕ) (place : ℕ) (rule : Rule) → From (suc start) rest place rule
     → From start (c ∷ rest) place rule
 to_whole start c rest place rule h =
@@ -96,7 +96,7 @@ none_in_units text (Some refusal) is = (
   λ units. absurd (no_violation-units text units refusal.place refusal.rule is.stands),
 )
 
--- ---- the cut behind the units
+-- ---- the cut after the units
 
 -- the first code point of a rest, as the fault at the place
 abbrev pub fault_at : ℕ → List ℕ → Option Refusal
@@ -134,18 +134,18 @@ begins_url held holds c rest =
               rw (le-ltb c 128 large, beyond) refl
         ]
 
--- the first fault is the code point behind the units, at the place that counts them
-pub fault_behind : (held : ℕ → Bool) → HoldsUrlBytes held → (place : ℕ) (text : List ℕ)
+-- the first fault is the code point after the units, at the place that counts them
+pub fault_after : (held : ℕ → Bool) → HoldsUrlBytes held → (place : ℕ) (text : List ℕ)
     → fault_from place text ≡ fault_at (place + unit_length held text) (drop (unit_length held text) text)
-fault_behind held holds place [] = refl
-fault_behind held holds place (c ∷ rest) =
+fault_after held holds place [] = refl
+fault_after held holds place (c ∷ rest) =
     elim (cases_Bool (is_unit_at c rest)) [
       | inl unit ↦
           let begins = begins_url held holds c rest ∙ unit in
           let next : suc place + unit_length held rest ≡ place + suc (unit_length held rest) = omega arith in
-          let more = fault_behind held holds (suc place) rest in
-          let behind = drop (unit_length held rest) rest in
-          rw (unit, begins) (more ∙ ap (λ p. fault_at p behind) next)
+          let more = fault_after held holds (suc place) rest in
+          let after = drop (unit_length held rest) rest in
+          rw (unit, begins) (more ∙ ap (λ p. fault_at p after) next)
       | inr fault ↦
           let stops = begins_url held holds c rest ∙ fault in
           rw (fault, stops) (ap (λ p. Some (record { place = p; rule = unit_rule c })) (omega arith))

@@ -42,7 +42,7 @@ low_ok v fits =
     (omega (arith, length-zip2 bit_and v (replicate 32 15) fits.0))
     (Each1-zip2 bit_and (λ j. j < 16) v (replicate 32 15) (Each2-splat (λ a b. bit_and a b < 16) v 32 15 small))
 
--- a table of sixteen that stands twice, read at places below 16
+-- a table of sixteen that is twice, read at places below 16
 pub looked_up : (table lanes : List ℕ) (g : ℕ → ℕ) (v js : List ℕ) → StandsTwice table lanes → IsBlock v → js ≡ map g v
     → ((x : ℕ) → x < 256 → g x < 16) → swz_l w8 16 lanes 0 js ≡ map (λ x. slice_index table (g x)) v
 looked_up table lanes g v js stands fits e small =
@@ -59,7 +59,7 @@ looked_up table lanes g v js stands fits e small =
     ∙ stands.each place (omega arith) ∙ ap (λ k. slice_index table k) (row ∙ is)
     ∙ sym (get_or-map (λ x. slice_index table (g x)) v i 0 0 within))
 
--- the lanes of which a value stands to 0 as a test asks
+-- the lanes of which a value is to 0 as a test asks
 pub tested_is : (t : ℕ → ℕ → Bool) (f : ℕ → ℕ) (v values : List ℕ) → length v ≡ 32 → values ≡ map f v
     → mask_l (map (top 7) (zip2 (λ a b. cond (t a b) 255 0) values (replicate 32 0))) % 2 ^ 64
     ≡ mask_l (map (λ b. t (f b) 0) v)
@@ -71,7 +71,7 @@ tested_is t f v values long value =
 -- ---- the longest prefix, a piece at a time
 
 module _ (p : ℕ → Bool) where
-  -- a whole piece passes, and the prefix goes on behind it
+  -- a whole piece passes, and the prefix goes on after it
   pub prefix_past : (n : ℕ) (xs : List ℕ) → n ≤ length xs → prefix_len p (take n xs) ≡ n
       → prefix_len p xs ≡ n + prefix_len p (drop n xs)
   prefix_past zero xs room all = omega arith
@@ -99,7 +99,7 @@ module _ (p : ℕ → Bool) where
         | inr fails ↦ rw fails refl
       ]
 
-  -- what is behind the prefix adds nothing
+  -- what is after the prefix adds nothing
   pub prefix_before : (xs ys : List ℕ) → prefix_len p ys ≡ 0 → prefix_len p (xs ++ ys) ≡ prefix_len p xs
   prefix_before [] ys none = none
   prefix_before (x ∷ xs) ys none = ap (λ k. cond (p x) (1 + k) 0) (prefix_before xs ys none)

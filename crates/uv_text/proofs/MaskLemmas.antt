@@ -33,7 +33,7 @@ half : (m : Bool) (x : ℕ) → (cond m 1 0 + 2 * x) / 2 ≡ x
 half true x = omega arith
 half false x = omega arith
 
--- the bits behind the first so many, which a shift brings to the prefix
+-- the bits after the first so many, which a shift brings to the prefix
 pub mask-drop : (k : ℕ) (ms : List Bool) → mask_l (drop k ms) ≡ mask_l ms / 2 ^ k
 mask-drop zero ms = omega arith
 mask-drop (suc k) [] = sym (zero-div (2 ^ suc k))
@@ -42,10 +42,10 @@ mask-drop (suc k) (m ∷ ms) =
     mask-drop k ms ∙ ap (λ n. n / 2 ^ k) (sym (half m (mask_l ms)))
     ∙ (div-div-eq-div-mul (cond m 1 0 + 2 * mask_l ms) 2 (2 ^ k) ∙ ap (λ n. (cond m 1 0 + 2 * mask_l ms) / n) two)
 
--- what 32 bytes have behind their first so many, where no more than these 32 are left or none is passed over
-pub taken-behind : (start k : ℕ) (xs : List ℕ) → (k ≢ 0 → length xs ≤ start + 32)
+-- what 32 bytes have after their first so many, where no more than these 32 are left or none is passed over
+pub taken-after : (start k : ℕ) (xs : List ℕ) → (k ≢ 0 → length xs ≤ start + 32)
     → drop k (take 32 (drop start xs)) ≡ take 32 (drop (start + k) xs)
-taken-behind start k xs last = elim (cases_eq k 0) [
+taken-after start k xs last = elim (cases_eq k 0) [
   | inl none ↦ rw none (ap (λ n. take 32 (drop n xs)) (sym (add-zero start)))
   | inr some ↦
       let all = last some in
@@ -55,12 +55,12 @@ taken-behind start k xs last = elim (cases_eq k 0) [
       ∙ (drop-drop k start xs ∙ sym (take_all 32 (drop (start + k) xs) (omega arith)))
 ]
 
--- the bits of 32 bytes, shifted, are those of the bytes behind
-pub mask-behind : (p : ℕ → Bool) (start k : ℕ) (xs : List ℕ) → (k ≢ 0 → length xs ≤ start + 32)
+-- the bits of 32 bytes, shifted, are those of the bytes after
+pub mask-after : (p : ℕ → Bool) (start k : ℕ) (xs : List ℕ) → (k ≢ 0 → length xs ≤ start + 32)
     → mask_l (map p (take 32 (drop start xs))) / 2 ^ k ≡ mask_l (map p (take 32 (drop (start + k) xs)))
-mask-behind p start k xs last =
+mask-after p start k xs last =
     sym (mask-drop k (map p (take 32 (drop start xs))))
-    ∙ ap mask_l (drop-map p k (take 32 (drop start xs)) ∙ ap (map p) (taken-behind start k xs last))
+    ∙ ap mask_l (drop-map p k (take 32 (drop start xs)) ∙ ap (map p) (taken-after start k xs last))
 
 -- ---- the first bit that isn't set
 
@@ -72,7 +72,7 @@ bit-set p xs i set =
     let passes : get_or (map p xs) i false ≡ true = is_true (get_or (map p xs) i false) bit in
     elim (cases_lt i (length xs)) [
       | inl here ↦ (here, sym (get_or-map p xs i 0 false here) ∙ passes)
-      | inr behind ↦
+      | inr after ↦
           let long = length-map xs p in
           absurd (false≢true (sym (get_or-eq_default (map p xs) false (omega arith)) ∙ passes))
     ]

@@ -14,10 +14,10 @@ no_row rows = rw (and_zero_r (row_at rows 128)) refl
 -- no rows have a number beyond the bytes
 pub beyond : (rows : List ℕ) (b : ℕ) → 256 ≤ b → is_in_rows rows b ≡ false
 beyond rows b large =
-    let behind : 16 ≤ b / 16 = omega arith in
+    let after : 16 ≤ b / 16 = omega arith in
     let none : high_bit b ≡ 0
     = get_or-eq_default (1 ∷ 2 ∷ 4 ∷ 8 ∷ 16 ∷ 32 ∷ 64 ∷ 128 ∷ 0 ∷ 0 ∷ 0 ∷ 0 ∷ 0 ∷ 0 ∷ 0 ∷ 0 ∷ []) 0 {n = b / 16}
-    behind in
+    after in
     rw (none, and_zero_r (row_at rows b)) refl
 
 -- a number in rows that hold a class is of the class

@@ -1,4 +1,4 @@
--- Prefixes of URL units: parts of them by runs of bytes and by code points beyond ASCII, and the cut behind the whole.
+-- Prefixes of URL units: parts of them by runs of bytes and by code points beyond ASCII, and the cut after the whole.
 use Rattle.std.proofs.Common.{◌≡◌, ◌≢◌, ℕ, Bool, get_or, zero, suc, ◌+◌, ◌-◌, ◌<◌, ◌≤◌, ◌==◌, ◌&&◌, ◌||◌, true, false}
 use Rattle.std.proofs.Common.{List, []}
 use Rattle.std.proofs.Common.{◌∷◌, ◌++◌, length, take, drop, refl, sym, ap, ◌∙◌, subst, inl, inr, arith, lit<, ne_eqb}
@@ -32,9 +32,9 @@ module _ (held : ℕ → Bool) where
   passes_nothing text = record { passed = 0; inside = omega arith; is_rest = refl; further = omega arith }
 
   -- a part and then another
-  pub passes_on : (text behind rest : List ℕ) → PassesUnits held text behind → PassesUnits held behind rest
+  pub passes_on : (text after rest : List ℕ) → PassesUnits held text after → PassesUnits held after rest
       → PassesUnits held text rest
-  passes_on text behind rest a b =
+  passes_on text after rest a b =
       let left = ap length a.is_rest ∙ length-drop a.passed text in
       record {
         passed = a.passed + b.passed;
@@ -59,7 +59,7 @@ module _ (held : ℕ → Bool) where
   unit_length-stop [] class mark = refl
   unit_length-stop (c ∷ rest) class mark = rw (class, mark) refl
 
-  -- a part behind which no more comes is the whole prefix
+  -- a part after which no more comes is the whole prefix
   pub passes_all : (text rest : List ℕ) → PassesUnits held text rest → starts_in held rest ≡ false
       → starts_with_mark rest ≡ false → rest ≡ drop (unit_length held text) text
   passes_all text rest part class mark =
@@ -67,13 +67,13 @@ module _ (held : ℕ → Bool) where
       let whole : part.passed ≡ unit_length held text = omega (arith, part.further, none) in
       part.is_rest ∙ ap (λ n. drop n text) whole
 
-  -- behind a part stands what follows the prefix of what stands behind it
-  pub passes_prefix : (text behind rest : List ℕ) → PassesUnits held text behind
-      → rest ≡ drop (unit_length held behind) behind → rest ≡ drop (unit_length held text) text
-  passes_prefix text behind rest part is =
+  -- after a part is what follows the prefix of what is after it
+  pub passes_prefix : (text after rest : List ℕ) → PassesUnits held text after
+      → rest ≡ drop (unit_length held after) after → rest ≡ drop (unit_length held text) text
+  passes_prefix text after rest part is =
       is
-      ∙ ap (drop (unit_length held behind)) part.is_rest
-      ∙ drop-drop (unit_length held behind) part.passed text
+      ∙ ap (drop (unit_length held after)) part.is_rest
+      ∙ drop-drop (unit_length held after) part.passed text
       ∙ ap (λ n. drop n text) (sym part.further)
 
   -- the prefix is a part of the text
@@ -200,7 +200,7 @@ module _ (held : ℕ → Bool) (ascii : (byte : ℕ) → held byte ≡ true → 
         | inr other ↦ rw other (omega arith)
       ]
 
-  -- behind the longest run of them comes none
+  -- after the longest run of them comes none
   prefix_len-stops : (bytes : List ℕ) → starts_in held (drop (prefix_len held bytes) bytes) ≡ false
   prefix_len-stops [] = refl
   prefix_len-stops (b ∷ bytes) =
@@ -211,7 +211,7 @@ module _ (held : ℕ → Bool) (ascii : (byte : ℕ) → held byte ≡ true → 
         | inr other ↦ rw other other
       ]
 
-  -- and so it is behind the longest run of bytes that begin units
+  -- and so it is after the longest run of bytes that begin units
   ascii_unit_length-stops : (bytes : List ℕ) → starts_in held (drop (ascii_unit_length held bytes) bytes) ≡ false
   ascii_unit_length-stops [] = refl
   ascii_unit_length-stops (b ∷ bytes) =
@@ -278,7 +278,7 @@ no_other_mark bytes u percent beyond =
 pub prefix_slice : (bytes : List ℕ) (n : ℕ) → slice_range bytes 0 n ≡ take n bytes
 prefix_slice bytes n = ap (λ k. take k bytes) (omega arith)
 
--- the slices behind and before the cut
+-- the slices after and before the cut
 pub record IsByteSplit (bytes rest : List ℕ) (n : ℕ) : Type 0 where
   pub inside : length rest ≤ length bytes
   pub boundary : IsCharBoundary bytes (length bytes - length rest)
@@ -313,7 +313,7 @@ split_bytes bytes rest n u v is =
       };
     }
 
--- what stands before them is the prefix
+-- what is before them is the prefix
 pub prefix_before : (bytes prefix rest : List ℕ) (n : ℕ) → IsUtf8 bytes → IsUtf8 rest → prefix ++ rest ≡ bytes
     → chars rest ≡ drop n (chars bytes) → chars prefix ≡ take n (chars bytes)
 prefix_before bytes prefix rest n u v joined is =

@@ -1,4 +1,4 @@
--- The first of bytes that fails a test, by bits of those that fail and one behind the last of them.
+-- The first of bytes that fails a test, by bits of those that fail and one after the last of them.
 use Rattle.std.proofs.Common.{◌≡◌, ℕ, zero, suc, ◌+◌, ◌-◌, ◌*◌, ◌/◌, ◌^◌, ◌<◌, ◌≤◌, Bool, true, false, List, [], ◌∷◌}
 use Rattle.std.proofs.Common.{◌++◌, length, map, drop, cond, not, bit_or, w64, refl, sym, ap, ◌∙◌, arith}
 use Rattle.std.specs.Int.{trailing_zeros}
@@ -10,7 +10,7 @@ use Rattle.std.proofs.lemmas.Nat.{pow_pos}
 use Rattle.std.proofs.lemmas.Simd.{trailing_mask_l}
 use Rattle.uv_text.proofs.MaskLemmas.{mask-drop, mask-small}
 
--- the bits with one behind the last
+-- the bits with one after the last
 abbrev ended : List Bool → List Bool
 ended ms = ms ++ true ∷ []
 
@@ -22,7 +22,7 @@ ended-adds (m ∷ ms) =
     let rest = ended-adds ms in
     omega arith
 
--- it stays behind what is dropped
+-- it stays after what is dropped
 ended-drop : (k : ℕ) (ms : List Bool) → k ≤ length ms → drop k (ended ms) ≡ ended (drop k ms)
 ended-drop zero ms within = refl
 ended-drop (suc k) [] within = absurd (omega arith)
@@ -51,7 +51,7 @@ stop-length p (x ∷ xs) = passed (p x) (stop-length p xs)
     passed true even = ap (λ n. 1 + n) even
     passed false even = refl
 
--- the lowest bit of those of 32 bytes that fail and of the end, behind the first so many, is the longest prefix there
+-- the lowest bit of those of 32 bytes that fail and of the end, after the first so many, is the longest prefix there
 pub first-stop : (p : ℕ → Bool) (k : ℕ) (xs : List ℕ) → length xs ≡ 32 → k ≤ 32
     → trailing_zeros w64 (bit_or (mask_l (map (λ x. not (p x)) xs)) (2 ^ 32) / 2 ^ k) ≡ prefix_len p (drop k xs)
 first-stop p k xs long within =
@@ -62,12 +62,12 @@ first-stop p k xs long within =
     let joined : bit_or (mask_l ms) (2 ^ 32) ≡ 2 ^ 32 + mask_l ms = or_numeral (mask_l ms) (2 ^ 32 - 1) refl small in
     let end : mask_l (ended ms) ≡ mask_l ms + 2 ^ 32 = rw all at (ended-adds ms) in
     let whole : bit_or (mask_l ms) (2 ^ 32) ≡ mask_l (ended ms) = omega arith in
-    let behind : mask_l (ended ms) / 2 ^ k ≡ mask_l (ended (map fails (drop k xs))) =
+    let after : mask_l (ended ms) / 2 ^ k ≡ mask_l (ended (map fails (drop k xs))) =
     sym (mask-drop k (ended ms)) ∙ ap mask_l (ended-drop k ms (omega arith) ∙ ap ended (drop-map fails k xs)) in
     let few : length (map fails (drop k xs)) < 64 =
     omega (arith, length-map (drop k xs) fails, length-drop k xs) in
     ap (λ n. trailing_zeros w64 (n / 2 ^ k)) whole
-    ∙ ap (trailing_zeros w64) behind
+    ∙ ap (trailing_zeros w64) after
     ∙ lowest (map fails (drop k xs)) few
     ∙ stop-length p (drop k xs)
 

@@ -31,7 +31,7 @@ module _ (held : ℕ → Bool) where
         | inr stops ↦ rw stops (omega arith)
       ]
 
-  -- behind a part of it the others of its bytes follow
+  -- after a part of it the others of its bytes follow
   pub ascii_unit_length-past : (n : ℕ) (bytes : List ℕ) → n ≤ ascii_unit_length held bytes
       → ascii_unit_length held bytes ≡ n + ascii_unit_length held (drop n bytes)
   ascii_unit_length-past zero bytes part = omega arith
@@ -122,9 +122,9 @@ bit_is : (p : ℕ → Bool) (xs : List ℕ) (i : ℕ) → bit_at (mask_l (map p 
 bit_is p xs i = bit_mask_l (map p xs) i ∙ ap (λ m. cond m 1 0) (head_at p xs i)
 
 -- the bit of a byte further on, by a shift
-bit_behind : (p : ℕ → Bool) (k : ℕ) (xs : List ℕ) (i : ℕ)
+bit_after : (p : ℕ → Bool) (k : ℕ) (xs : List ℕ) (i : ℕ)
     → bit_at (mask_l (map p xs) / 2 ^ k) i ≡ cond (starts_in p (drop k (drop i xs))) 1 0
-bit_behind p k xs i =
+bit_after p k xs i =
     ap (λ n. bit_at n i) (sym (mask-drop k (map p xs)) ∙ ap mask_l (drop-map p k xs))
     ∙ bit_is p (drop k xs) i
     ∙ ap (λ s. cond (starts_in p s) 1 0)
@@ -201,8 +201,8 @@ module _ (held : ℕ → Bool) where
         ∙ rw (
           bit_is held xs i,
           bit_is (λ b. b == percent_sign) xs i,
-          bit_behind is_ascii_hexdigit 1 xs i,
-          bit_behind is_ascii_hexdigit 2 xs i,
+          bit_after is_ascii_hexdigit 1 xs i,
+          bit_after is_ascii_hexdigit 2 xs i,
         ) refl
         ∙ joined (starts_in held s) (starts_in (λ b. b == percent_sign) s) (starts_in is_ascii_hexdigit (drop 1 s))
         (starts_in is_ascii_hexdigit (drop 2 s))

@@ -1,4 +1,4 @@
--- Classes of ASCII bytes that stand in URL units.
+-- Classes of ASCII bytes that are in URL units.
 use Rattle.std.specs.Prelude.{◌≡◌, ℕ, Bool, true, not, ◌&&◌, ◌==◌}
 use Rattle.std.specs.Char.{is_ascii, is_ascii_hexdigit}
 use Rattle.uv_model.specs.Hosts.OpaqueHost.{is_forbidden_host}
@@ -19,6 +19,6 @@ abbrev pub HoldsOpaqueHostBytes : (ℕ → Bool) → Type 0
 HoldsOpaqueHostBytes held =
     (byte : ℕ) → held byte ≡ (is_ascii byte && (is_url_code_point byte && not (is_forbidden_host byte)))
 
--- the class has the hex digits, so that those behind a `%` of a percent-encoded byte are in it
+-- the class has the hex digits, so that those after a `%` of a percent-encoded byte are in it
 abbrev pub HasHexDigits : (ℕ → Bool) → Type 0
 HasHexDigits held = (byte : ℕ) → is_ascii_hexdigit byte ≡ true → held byte ≡ true

@@ -4,7 +4,7 @@ use Rattle.uv_model.specs.declared.rule.Refusal.{Refusal}
 use Rattle.uv_model.specs.Violations.UnitViolation.{unit_rule}
 use Rattle.uv_model.specs.Units.{is_unit_at}
 
--- the first fault of a text whose first code point stands at the place
+-- the first fault of a text whose first code point is at the place
 abbrev pub fault_from : ℕ → List ℕ → Option Refusal
 fault_from place [] = None
 fault_from place (c ∷ rest) =

@@ -22,7 +22,7 @@ is_in_rows rows b = not (row_bit rows b == 0)
 abbrev pub HoldClass : List ℕ → (ℕ → Bool) → Type 0
 HoldClass rows held = (b : ℕ) → b < 256 → is_in_rows rows b ≡ held b
 
--- a load of a table of sixteen, which stands in it twice
+-- a load of a table of sixteen, which is in it twice
 pub record StandsTwice (table lanes : List ℕ) : Type 0 where
   pub long : length lanes ≡ 32
   pub each : (k : ℕ) → k < 32 → slice_index lanes k ≡ slice_index table (k % 16)

@@ -41,19 +41,19 @@ abbrev pub ascii_unit_length : (ℕ → Bool) → List ℕ → ℕ
 ascii_unit_length held [] = 0
 ascii_unit_length held (b ∷ rest) = if begins_ascii_unit held b rest then suc (ascii_unit_length held rest) else 0
 
--- the text is cut behind the longest prefix of units
+-- the text is cut after the longest prefix of units
 pub record IsUnitSplit (held : ℕ → Bool) (text prefix rest : List ℕ) : Type 0 where
   pub is_prefix : prefix ≡ take (unit_length held text) text
   pub is_rest : rest ≡ drop (unit_length held text) text
 
--- the rest stands behind a part of that prefix
+-- the rest is after a part of that prefix
 pub record PassesUnits (held : ℕ → Bool) (text rest : List ℕ) : Type 0 where
   pub passed : ℕ
   pub inside : passed ≤ length text
   pub is_rest : rest ≡ drop passed text
   pub further : unit_length held text ≡ passed + unit_length held rest
 
--- whatever the class, the rest stands behind units that need none
+-- whatever the class, the rest is after units that need none
 abbrev pub PassesMarks : List ℕ → List ℕ → Type 0
 PassesMarks text rest = (held : ℕ → Bool) → PassesUnits held text rest
 

@@ -1,4 +1,4 @@
--- What stands behind a place of a text.
+-- What is after a place of a text.
 use Rattle.std.specs.Prelude.{◌≡◌, ℕ, ◌-◌, ◌≤◌, List, length, drop}
 
 -- the text ends with the rest

@@ -23,7 +23,7 @@ pub fn encode(alloc: Global, text: &str, quote: bool) -> Result<String, AllocErr
     Ok(out)
 }
 
-/// The same, written behind what stands in a string. An error is out of memory, and leaves the string as it was.
+/// The same, written after what is in a string. An error is out of memory, and leaves the string as it was.
 pub fn push_encoded(out: &mut String, text: &str, quote: bool) -> Result<(), AllocError>
     ensures text { OnOk result (string_bytes out.new ≡ string_bytes out.old ++ encoded quote (chars text.now)) }
     ensures kept { OnErr result (string_bytes out.new ≡ string_bytes out.old) }

@@ -73,7 +73,7 @@ fn stop_bits(v: u8x32, rows: &[u8; 16]) -> u64
     row_bit_of(rows, v).simd_eq(u8x32::splat(0)).to_bitmask()
 }
 
-/// Up to 32 bytes of a text from a place on, loaded at once. Contracts see them, with what fills a load up behind the
+/// Up to 32 bytes of a text from a place on, loaded at once. Contracts see them, with what fills a load up after the
 /// last of them, which is in no rows.
 #[derive(Drop)]
 pub struct Load {
@@ -123,7 +123,7 @@ impl Load {
         }
     }
 
-    /// At each of the bytes a bit, the first the lowest, which is set where the byte is in the rows. Behind the last
+    /// At each of the bytes a bit, the first the lowest, which is set where the byte is in the rows. After the last
     /// byte of the text there is none.
     #[inline(always)]
     pub fn row_bits(&self, rows: &[u8; 16]) -> u64
@@ -132,7 +132,7 @@ impl Load {
         lane_bits(self.lanes, rows) >> self.before
     }
 
-    // How many of the bytes are in the rows before one that isn't. Where all are, a bit behind the lanes is the end.
+    // How many of the bytes are in the rows before one that isn't. Where all are, a bit after the lanes is the end.
     #[inline(always)]
     fn row_prefix(&self, rows: &[u8; 16]) -> usize
         ensures { result ≡ prefix_len (is_in_rows rows.now) self.now }
@@ -151,7 +151,7 @@ fn row_prefix(bytes: &[u8], place: usize, rows: &[u8; 16]) -> usize
     Load::of(bytes, place).row_prefix(rows)
 }
 
-/// The place behind the longest run of bytes in the rows that begins at a place.
+/// The place after the longest run of bytes in the rows that begins at a place.
 #[inline(always)]
 pub fn row_end(bytes: &[u8], place: usize, rows: &[u8; 16]) -> usize
     requires { place ≤ length bytes.now }
@@ -189,7 +189,7 @@ fn is_whole(bytes: &[u8], place: usize, rows: &[u8; 16]) -> bool
     lane_bits(u8x32::from_slice(&bytes[place..]), rows).trailing_ones() == 32
 }
 
-// How many of the 32 bytes from a place on are in the rows, or `%` with two hex digits behind it among the 32, before
+// How many of the 32 bytes from a place on are in the rows, or `%` with two hex digits after it among the 32, before
 // one that is neither.
 #[inline(always)]
 fn unit_prefix(bytes: &[u8], place: usize, rows: &[u8; 16]) -> usize
@@ -204,7 +204,7 @@ fn unit_prefix(bytes: &[u8], place: usize, rows: &[u8; 16]) -> usize
     units.trailing_ones() as usize
 }
 
-/// The place behind the longest run of bytes in the rows and of percent-encoded bytes that begins at a place. What a
+/// The place after the longest run of bytes in the rows and of percent-encoded bytes that begins at a place. What a
 /// `%` begins as the last but one or the last of 32 bytes isn't seen before the next turn.
 pub(crate) fn unit_end(bytes: &[u8], place: usize, rows: &[u8; 16]) -> usize
     requires { place ≤ length bytes.now }

@@ -1,4 +1,4 @@
-//! A text cut behind its longest prefix of URL units, by lanes where it is ASCII.
+//! A text cut after its longest prefix of URL units, by lanes where it is ASCII.
 ghost use Rattle.std.specs.Prelude.{◌≡◌, ◌<◌, ◌==◌, ◌++◌, IfSome, MatchOption, drop, false, length, true};
 ghost use Rattle.std.specs.Str.{IsUtf8, chars};
 ghost use Rattle.uv_model.specs.Ascii.{percent_sign};
@@ -28,7 +28,7 @@ pub fn split_tail<'t>(text: &Tail<'t>, class: UnitClass) -> (&'t str, Tail<'t>)
     if !may_begin_mark(rest.as_str().as_bytes()) {
         return (run, rest);
     }
-    let rest = behind_rest(rest, class);
+    let rest = after_rest(rest, class);
     let whole = text.as_str();
     (&whole[..whole.len() - rest.as_str().len()], rest)
 }
@@ -45,19 +45,19 @@ fn may_begin_mark(bytes: &[u8]) -> bool
 }
 
 // What follows the prefix of a text that begins with no byte of the class.
-fn behind_rest<'t>(text: Tail<'t>, class: UnitClass) -> Tail<'t>
+fn after_rest<'t>(text: Tail<'t>, class: UnitClass) -> Tail<'t>
     requires { starts_in (class_has class) (chars text) ≡ false }
     ensures { chars result ≡ drop (unit_length (class_has class) (chars text.entry)) (chars text.entry) }
 {
     let mut rest = text;
-    while let Some(behind) = behind_more(&rest, class) {
-        rest = behind;
+    while let Some(after) = after_more(&rest, class) {
+        rest = after;
     }
     rest
 }
 
-// What stands behind more of the prefix, where the text begins with an escape or a URL code point beyond ASCII.
-fn behind_more<'t>(text: &Tail<'t>, class: UnitClass) -> Option<Tail<'t>>
+// What is after more of the prefix, where the text begins with an escape or a URL code point beyond ASCII.
+fn after_more<'t>(text: &Tail<'t>, class: UnitClass) -> Option<Tail<'t>>
     requires { starts_in (class_has class) (chars text.now) ≡ false }
     ensures passes { MatchOption result (starts_with_mark (chars text.now) ≡ false)
         (λ rest. PassesUnits (class_has class) (chars text.now) (chars rest)) }
@@ -65,10 +65,10 @@ fn behind_more<'t>(text: &Tail<'t>, class: UnitClass) -> Option<Tail<'t>>
     ensures shorter { IfSome result (λ rest. length (chars rest) < length (chars text.now)) }
 {
     if starts_with_percent(text.as_str().as_bytes()) {
-        return behind_escapes(text, class);
+        return after_escapes(text, class);
     }
-    match behind_beyond_ascii(text.as_str()) {
-        Some(behind) => Some(behind_run(&text.ending(behind), class)),
+    match after_beyond_ascii(text.as_str()) {
+        Some(after) => Some(after_run(&text.ending(after), class)),
         None => None,
     }
 }
@@ -83,9 +83,9 @@ fn starts_with_percent(bytes: &[u8]) -> bool
     }
 }
 
-// What stands behind a run of percent-encoded bytes and bytes of the class, where a text that begins with `%` begins
+// What is after a run of percent-encoded bytes and bytes of the class, where a text that begins with `%` begins
 // with one.
-fn behind_escapes<'t>(text: &Tail<'t>, class: UnitClass) -> Option<Tail<'t>>
+fn after_escapes<'t>(text: &Tail<'t>, class: UnitClass) -> Option<Tail<'t>>
     requires { starts_in (λ b. b == percent_sign) text.now ≡ true }
     ensures passes { MatchOption result (starts_with_mark (chars text.now) ≡ false)
         (λ rest. PassesUnits (class_has class) (chars text.now) (chars rest)) }
@@ -100,9 +100,9 @@ fn behind_escapes<'t>(text: &Tail<'t>, class: UnitClass) -> Option<Tail<'t>>
     Some(rest)
 }
 
-// What stands behind a run of bytes of the class.
+// What is after a run of bytes of the class.
 #[inline(always)]
-fn behind_run<'t>(text: &Tail<'t>, class: UnitClass) -> Tail<'t>
+fn after_run<'t>(text: &Tail<'t>, class: UnitClass) -> Tail<'t>
     ensures passes { PassesUnits (class_has class) (chars text.now) (chars result) }
     ensures stops { starts_in (class_has class) (chars result) ≡ false }
 {
@@ -110,7 +110,7 @@ fn behind_run<'t>(text: &Tail<'t>, class: UnitClass) -> Tail<'t>
     rest
 }
 
-// A run of bytes of the class, and what stands behind it.
+// A run of bytes of the class, and what is after it.
 #[inline(always)]
 fn split_run<'t>(text: &Tail<'t>, class: UnitClass) -> (&'t str, Tail<'t>)
     ensures joined { result.0.now ++ result.1 ≡ text.now }
@@ -121,22 +121,22 @@ fn split_run<'t>(text: &Tail<'t>, class: UnitClass) -> (&'t str, Tail<'t>)
     text.split_at(text.class_run(class))
 }
 
-// What stands behind a run of URL code points beyond ASCII, where the text begins with one: they come in runs, so each
-// is passed without a look at the 32 bytes behind it.
-fn behind_beyond_ascii(text: &str) -> Option<&str>
+// What is after a run of URL code points beyond ASCII, where the text begins with one: they come in runs, so each
+// is passed without a look at the 32 bytes after it.
+fn after_beyond_ascii(text: &str) -> Option<&str>
     ensures passes { MatchOption result (starts_beyond_ascii (chars text.now) ≡ false)
         (λ rest. PassesMarks (chars text.now) (chars rest.now)) }
     ensures shorter { IfSome result (λ rest. length (chars rest.now) < length (chars text.now)) }
 {
-    let mut rest = behind_one_beyond_ascii(text)?;
-    while let Some(behind) = behind_one_beyond_ascii(rest) {
-        rest = behind;
+    let mut rest = after_one_beyond_ascii(text)?;
+    while let Some(after) = after_one_beyond_ascii(rest) {
+        rest = after;
     }
     Some(rest)
 }
 
-// What stands behind one of them.
-fn behind_one_beyond_ascii(text: &str) -> Option<&str>
+// What is after one of them.
+fn after_one_beyond_ascii(text: &str) -> Option<&str>
     ensures passes { MatchOption result (starts_beyond_ascii (chars text.now) ≡ false)
         (λ rest. PassesMarks (chars text.now) (chars rest.now)) }
     ensures shorter { IfSome result (λ rest. length (chars rest.now) < length (chars text.now)) }

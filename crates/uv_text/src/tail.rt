@@ -1,4 +1,4 @@
-//! What stands behind a place of a text.
+//! What is after a place of a text.
 ghost use Rattle.std.specs.Prelude.{◌≡◌, ◌+◌, ◌^◌, ◌<◌, ◌≤◌, drop, length, take};
 ghost use Rattle.std.specs.List.{prefix_len};
 ghost use Rattle.std.specs.Str.{IsCharBoundary, IsUtf8};
@@ -10,7 +10,7 @@ use crate::lanes::Load;
 use crate::units::UnitClass;
 use std::marker::Model;
 
-/// What stands behind a place of a text, with that text, so that a load of its last bytes may begin before the place.
+/// What is after a place of a text, with that text, so that a load of its last bytes may begin before the place.
 /// Contracts see its bytes.
 #[derive(Drop)]
 pub struct Tail<'t> {

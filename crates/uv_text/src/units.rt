@@ -1,4 +1,4 @@
-//! Classes of URL units: which ASCII code points stand in them, beside escapes and URL code points beyond ASCII.
+//! Classes of URL units: which ASCII code points are in them, beside escapes and URL code points beyond ASCII.
 ghost use Rattle.std.specs.Prelude.{◌≡◌, ◌+◌, ◌≤◌, drop, length};
 ghost use Rattle.std.specs.List.{prefix_len};
 ghost use Rattle.uv_text.specs.Rows.{HoldClass};
@@ -46,7 +46,7 @@ impl UnitClass {
         }
     }
 
-    /// The place behind the longest run of bytes of the class that begins at a place. These are ASCII.
+    /// The place after the longest run of bytes of the class that begins at a place. These are ASCII.
     #[inline(always)]
     pub fn run_end(self, bytes: &[u8], place: usize) -> usize
         requires { place ≤ length bytes.now }
@@ -55,7 +55,7 @@ impl UnitClass {
         row_end(bytes, place, self.rows())
     }
 
-    // The place behind the longest run of bytes of the class and of percent-encoded bytes that begins at a place.
+    // The place after the longest run of bytes of the class and of percent-encoded bytes that begins at a place.
     pub(crate) fn unit_end(self, bytes: &[u8], place: usize) -> usize
         requires { place ≤ length bytes.now }
         ensures { result ≡ place + ascii_unit_length (class_has self) (drop place bytes.now) }

@@ -1,7 +1,7 @@
-//! Texts that begin with `https://` or `http://`, as most links do, cut behind these and behind the authority.
+//! Texts that begin with `https://` or `http://`, as most links do, cut after these and after the authority.
 ghost use Rattle.std.specs.Prelude.{◌≡◌, ◌≢◌, ◌++◌, ◌≤◌, ℕ, List, MatchOption, drop, length};
 ghost use Rattle.uv_text.specs.WebLinks.{IsNoWebLink, IsWebLink, IsWebStart};
-ghost use Rattle.uv_text.specs.WebLinks.{authority_of, behind_authority, ends_authority};
+ghost use Rattle.uv_text.specs.WebLinks.{after_authority, authority_of, ends_authority};
 
 use crate::units::UnitClass;
 
@@ -34,14 +34,14 @@ fn cut_start(text: &str) -> Option<(&str, &str)>
     ensures { MatchOption result (IsNoWebLink text.now)
         (λ cut. IsWebStart cut.0.now × (text.now ≡ cut.0.now ++ cut.1.now)) }
 {
-    match cut_behind(text, "https://") {
+    match cut_after(text, "https://") {
         Some(cut) => Some(cut),
-        None => cut_behind(text, "http://"),
+        None => cut_after(text, "http://"),
     }
 }
 
-// A text that begins with this one, cut behind it.
-fn cut_behind<'t>(text: &'t str, start: &'t str) -> Option<(&'t str, &'t str)>
+// A text that begins with this one, cut after it.
+fn cut_after<'t>(text: &'t str, start: &'t str) -> Option<(&'t str, &'t str)>
     ensures { MatchOption result ((rest : List ℕ) → text.now ≢ start.now ++ rest)
         (λ cut. (cut.0.now ≡ start.now) × (text.now ≡ cut.0.now ++ cut.1.now)) }
 {
@@ -52,22 +52,22 @@ fn cut_behind<'t>(text: &'t str, start: &'t str) -> Option<(&'t str, &'t str)>
 // The authority with which a text begins, and what follows it.
 fn cut_authority(text: &str) -> (&str, &str)
     ensures authority { result.0.now ≡ authority_of text.now }
-    ensures rest { result.1.now ≡ behind_authority text.now }
+    ensures rest { result.1.now ≡ after_authority text.now }
 {
-    let end = text.len() - behind_authority(text.as_bytes()).len();
+    let end = text.len() - after_authority(text.as_bytes()).len();
     (&text[..end], &text[end..])
 }
 
 // What follows the authority with which bytes begin.
-fn behind_authority(bytes: &[u8]) -> &[u8]
-    ensures { result.now ≡ behind_authority bytes.now }
+fn after_authority(bytes: &[u8]) -> &[u8]
+    ensures { result.now ≡ after_authority bytes.now }
 {
     let (_, mut rest) = bytes.split_at(length_by_lanes(bytes));
-    while let [first, behind @ ..] = rest {
+    while let [first, after @ ..] = rest {
         if ends_authority(*first) {
             return rest;
         }
-        rest = behind;
+        rest = after;
     }
     rest
 }
@@ -75,7 +75,7 @@ fn behind_authority(bytes: &[u8]) -> &[u8]
 // How many bytes of the authority lanes find: all of most.
 fn length_by_lanes(bytes: &[u8]) -> usize
     ensures within { result ≤ length bytes.now }
-    ensures behind { behind_authority (drop result bytes.now) ≡ behind_authority bytes.now }
+    ensures after { after_authority (drop result bytes.now) ≡ after_authority bytes.now }
 {
     UnitClass::OpaqueHost.run_end(bytes, 0)
 }

@@ -52,7 +52,7 @@ numbered_rule Percent = refl
 abbrev refusal_at : ℕ → Rule → Refusal
 refusal_at place rule = record { place = place; rule = rule }
 
--- of two least violations neither stands before the other
+-- of two least violations neither is before the other
 least_is_one : (violation : ℕ → Rule → Type 0) (refusal other : Refusal) → IsLeastRefusal violation refusal
     → IsLeastRefusal violation other → refusal ≡ other
 least_is_one violation refusal other one two =

@@ -1,4 +1,4 @@
--- The place behind one more byte.
+-- The place after one more byte.
 use Rattle.std.proofs.Common.{◌≡◌, ◌∙◌, ℕ, ◌+◌, ◌-◌, ◌≤◌, true, false, List, [], ◌∷◌, ◌++◌, ap, refl, sym, arith}
 use Rattle.std.proofs.Common.{◌≢◌, cond, drop, length, ne_eqb, not, reverse}
 use Rattle.std.specs.Fmt.{is_char_start}
@@ -6,11 +6,11 @@ use Rattle.std.specs.List.{prefix_len}
 use Rattle.std.proofs.lemmas.List.{drop-append-le, drop_all, length-append, length-reverse, reverse-append}
 use Rattle.std.proofs.lemmas.List.Sums.{prefix_len-le-length, sum_by_push}
 use Rattle.uv_vectors.specs.declared.json_fault.FilePlace.{FilePlace}
-use Rattle.uv_vectors.specs.JsonFault.{code_points, is_line_feed, last_line, line_feeds, place_behind}
+use Rattle.uv_vectors.specs.JsonFault.{code_points, is_line_feed, last_line, line_feeds, place_after}
 
 -- ---- the last line
 
--- how many bytes stand behind the last line feed
+-- how many bytes are after the last line feed
 abbrev tail_length : List ℕ → ℕ
 tail_length bytes = prefix_len (λ byte. not (is_line_feed byte)) (reverse bytes)
 
@@ -24,7 +24,7 @@ tail_length-le bytes =
     let two = length-reverse bytes in
     omega (arith, one, two)
 
--- behind a line feed the last line is empty
+-- after a line feed the last line is empty
 last_line-feed : (bytes : List ℕ) (byte : ℕ) → is_line_feed byte ≡ true → last_line (bytes ++ byte ∷ []) ≡ []
 last_line-feed bytes byte feed =
     let none : tail_length (bytes ++ byte ∷ []) ≡ 0 = tail_length-push bytes byte ∙ rw feed refl in
@@ -59,9 +59,9 @@ at line column = record { line = line; column = column }
 same : (line other column another : ℕ) → line ≡ other → column ≡ another → at line column ≡ at other another
 same line other column another lines columns = rw (lines, columns) refl
 
--- behind a line feed
+-- after a line feed
 pub place-feed : (place : FilePlace) (bytes : List ℕ) (byte : ℕ) → byte ≡ 10
-    → place ≡ place_behind bytes → at (place.line + 1) 1 ≡ place_behind (bytes ++ byte ∷ [])
+    → place ≡ place_after bytes → at (place.line + 1) 1 ≡ place_after (bytes ++ byte ∷ [])
 place-feed place bytes byte feeds_line is =
     let feed : is_line_feed byte ≡ true = rw feeds_line refl in
     let feeds : line_feeds (bytes ++ byte ∷ []) ≡ line_feeds bytes + 1 = line_feeds-push bytes byte ∙ rw feed refl in
@@ -70,10 +70,10 @@ place-feed place bytes byte feeds_line is =
     same (place.line + 1) (1 + line_feeds (bytes ++ byte ∷ [])) 1 (1 + code_points (last_line (bytes ++ byte ∷ [])))
     (omega (arith, feeds, line)) (ap (λ n. 1 + n) (sym points))
 
--- behind another byte
+-- after another byte
 pub place-more : (place : FilePlace) (bytes : List ℕ) (byte : ℕ) → byte ≢ 10
-    → place ≡ place_behind bytes
-    → at place.line (place.column + cond (is_char_start byte) 1 0) ≡ place_behind (bytes ++ byte ∷ [])
+    → place ≡ place_after bytes
+    → at place.line (place.column + cond (is_char_start byte) 1 0) ≡ place_after (bytes ++ byte ∷ [])
 place-more place bytes byte another is =
     let other : is_line_feed byte ≡ false = ne_eqb byte 10 another in
     let feeds : line_feeds (bytes ++ byte ∷ []) ≡ line_feeds bytes + 0 = line_feeds-push bytes byte ∙ rw other refl in

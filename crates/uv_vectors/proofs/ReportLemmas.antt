@@ -10,7 +10,7 @@ use Rattle.serde_json.specs.View.{items_view, view}
 use Rattle.serde_json.specs.declared.value.Value.{Value}
 use Rattle.uv_vectors.specs.declared.ends.CasesEnd.{CasesEnd}
 use Rattle.uv_vectors.specs.Case.{list_of}
-use Rattle.uv_vectors.specs.Passes.{Judges}
+use Rattle.uv_vectors.specs.Passes.{Checks}
 use Rattle.uv_vectors.proofs.CaseLemmas.{list_of-items_of}
 use Rattle.uv_vectors.specs.Report.{HasFailures, IsReportOn, case_line, case_lines, end_by, failed, fails, passed}
 use Rattle.uv_vectors.specs.Report.{vector_counts}
@@ -38,24 +38,24 @@ case_lines-push number (first ∷ rest) answer =
 
 -- the failures with those of one value more
 pub failures_push : (values : List Data) (value : Data) (answer : Bool) (count : ℕ) (lines : List ℕ)
-    → HasFailures values count lines → Judges value answer
+    → HasFailures values count lines → Checks value answer
     → HasFailures (values ++ value ∷ []) (count + fails answer) (lines ++ case_line (1 + length values) answer)
-failures_push values value answer count lines before judged = record {
+failures_push values value answer count lines before checked = record {
   answers = before.answers ++ answer ∷ [];
-  judged = all_zip_push Judges values before.answers value answer before.judged judged;
+  checked = all_zip_push Checks values before.answers value answer before.checked checked;
   counted = ap (λ n. n + fails answer) before.counted ∙ sym (sum_by_push fails before.answers answer);
   listed =
       ap₂ (λ l n. l ++ case_line (1 + n) answer) before.listed
-      (sym (AllZip-long Judges values before.answers before.judged))
+      (sym (AllZip-long Checks values before.answers before.checked))
       ∙ sym (case_lines-push 1 before.answers answer);
 }
 
 -- the failures of the values up to the next place
 pub failures_more : (values : List Value) (at : ℕ) (value : Value) (answer : Bool) (count : ℕ) (lines new : List ℕ)
     → at < length values → value ≡ get_or values at value → HasFailures (map view (take at values)) count lines
-    → Judges (view value) answer → new ≡ lines ++ case_line (at + 1) answer
+    → Checks (view value) answer → new ≡ lines ++ case_line (at + 1) answer
     → HasFailures (map view (take (at + 1) values)) (count + fails answer) new
-failures_more values at value answer count lines new within here before judged is =
+failures_more values at value answer count lines new within here before checked is =
     let more : take (at + 1) values ≡ take at values ++ value ∷ [] =
     take_more values at value within ∙ ap (λ v. take at values ++ v ∷ []) (sym here) in
     let seen : map view (take (at + 1) values) ≡ map view (take at values) ++ view value ∷ [] =
@@ -66,7 +66,7 @@ failures_more values at value answer count lines new within here before judged i
     omega (arith, mapped, taken, within)) in
     let text : new ≡ lines ++ case_line (1 + length (map view (take at values))) answer =
     is ∙ ap (λ n. lines ++ case_line n answer) (sym size) in
-    rw (seen, text) (failures_push (map view (take at values)) (view value) answer count lines before judged)
+    rw (seen, text) (failures_push (map view (take at values)) (view value) answer count lines before checked)
 
 -- the failures of all values
 pub failures_all : (values : List Value) (at count : ℕ) (lines : List ℕ) → length values ≤ at
@@ -101,13 +101,13 @@ pub report_of : (values : List Data) (end : CasesEnd) (size count : ℕ) (lines 
     → IsReportOn values end text
 report_of values end size count lines text failures sized whole ends =
     let all : size ≡ length failures.answers =
-    sized ∙ sym (AllZip-long Judges values failures.answers failures.judged) in
+    sized ∙ sym (AllZip-long Checks values failures.answers failures.checked) in
     let both = passed_and_failed failures.answers in
     let same = failures.counted in
     let pass : size - count ≡ passed failures.answers = omega (arith, all, both, same) in
     record {
       answers = failures.answers;
-      judged = failures.judged;
+      checked = failures.checked;
       ends = ends ∙ ap end_by failures.counted;
       whole = rw (← failures.listed, ← pass, ← all, ← failures.counted) whole;
     }

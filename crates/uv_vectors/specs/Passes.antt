@@ -29,5 +29,5 @@ abbrev pub ValuePasses : Data → Type 0
 ValuePasses value = (vector : Vector) × (vector_of value ≡ Some vector) × Passes vector
 
 -- the answer says whether the value is a case that passes
-abbrev pub Judges : Data → Bool → Type 0
-Judges value passed = Decides passed (ValuePasses value)
+abbrev pub Checks : Data → Bool → Type 0
+Checks value passed = Decides passed (ValuePasses value)

@@ -5,7 +5,7 @@ use Rattle.std.specs.List.{AllZip}
 use Rattle.serde_json.specs.Data.{Data}
 use Rattle.uv_vectors.specs.declared.ends.CasesEnd.{CasesEnd}
 use Rattle.uv_vectors.specs.declared.ends.CasesEnd.TheVariants.{AllPass, SomeFail}
-use Rattle.uv_vectors.specs.Passes.{Judges}
+use Rattle.uv_vectors.specs.Passes.{Checks}
 
 -- how many of the cases pass
 abbrev pub passed : List Bool → ℕ
@@ -49,20 +49,20 @@ abbrev pub end_by : ℕ → CasesEnd
 end_by zero = AllPass
 end_by (suc count) = SomeFail
 
--- how a run ends whose cases were judged so
-abbrev pub judged_end : List Bool → CasesEnd
-judged_end answers = end_by (failed answers)
+-- how a run ends whose cases were checked so
+abbrev pub checked_end : List Bool → CasesEnd
+checked_end answers = end_by (failed answers)
 
 -- these are the lines of the values that fail, and how many
 pub record HasFailures (values : List Data) (count : ℕ) (lines : List ℕ) : Type 0 where
   pub answers : List Bool
-  pub judged : AllZip Judges values answers
+  pub checked : AllZip Checks values answers
   pub counted : count ≡ failed answers
   pub listed : lines ≡ case_lines 1 answers
 
--- all values are judged, this is the report on them, and a run that writes it ends so
+-- all values are checked, this is the report on them, and a run that writes it ends so
 pub record IsReportOn (values : List Data) (end : CasesEnd) (text : List ℕ) : Type 0 where
   pub answers : List Bool
-  pub judged : AllZip Judges values answers
-  pub ends : end ≡ judged_end answers
+  pub checked : AllZip Checks values answers
+  pub ends : end ≡ checked_end answers
   pub whole : text ≡ vector_text answers

@@ -48,23 +48,23 @@ pub record IsReport (values : List Data) (end : CasesEnd) (text : List ℕ) : Ty
   pub cases : position is_malformed values ≡ None
   pub report : IsReportOn values end text
 
--- a run that judges no case of the value ends so
-abbrev pub EndsValueUnjudged : Data → CasesEnd → Type 0
-EndsValueUnjudged value ends.NotArray = as_array value ≡ None
-EndsValueUnjudged value (ends.Malformed number fault) = HasArray value (IsFirstMalformed number fault)
-EndsValueUnjudged value _ = ⊥
+-- a run that checks no case of the value ends so
+abbrev pub EndsValueUnchecked : Data → CasesEnd → Type 0
+EndsValueUnchecked value ends.NotArray = as_array value ≡ None
+EndsValueUnchecked value (ends.Malformed number fault) = HasArray value (IsFirstMalformed number fault)
+EndsValueUnchecked value _ = ⊥
 
--- A run that judges no case of the bytes ends so: there are too many; else they are no JSON, for this reason; else no
+-- A run that checks no case of the bytes ends so: there are too many; else they are no JSON, for this reason; else no
 -- array; else a value of it is no case.
-abbrev pub EndsUnjudged : List ℕ → CasesEnd → Type 0
-EndsUnjudged bytes ends.TooLarge = most_bytes < length bytes
-EndsUnjudged bytes (ends.NotJson fault) =
+abbrev pub EndsUnchecked : List ℕ → CasesEnd → Type 0
+EndsUnchecked bytes ends.TooLarge = most_bytes < length bytes
+EndsUnchecked bytes (ends.NotJson fault) =
     (length bytes ≤ most_bytes) × ((value : Data) → IsJson bytes value → ⊥) × IsFaultOf bytes fault
-EndsUnjudged bytes end = HasValue bytes (λ value. EndsValueUnjudged value end)
+EndsUnchecked bytes end = HasValue bytes (λ value. EndsValueUnchecked value end)
 
 -- a run over the value ends so
 abbrev pub EndsValue : Data → Ending → Type 0
-EndsValue value (ending.Unjudged end) = EndsValueUnjudged value end
+EndsValue value (ending.Unchecked end) = EndsValueUnchecked value end
 EndsValue value (ending.Report end text) = HasArray value (λ values. IsReport values end (string_bytes text))
 
 -- this is the report on the bytes, and it ends so
@@ -73,26 +73,26 @@ IsFileReport bytes end text = HasValue bytes (λ value. HasArray value (λ value
 
 -- a run over the bytes ends so
 abbrev pub EndsBytes : List ℕ → Ending → Type 0
-EndsBytes bytes (ending.Unjudged end) = EndsUnjudged bytes end
+EndsBytes bytes (ending.Unchecked end) = EndsUnchecked bytes end
 EndsBytes bytes (ending.Report end text) = IsFileReport bytes end (string_bytes text)
 
 -- ---- what is written
 
--- cases were judged
-abbrev pub is_judged : CasesEnd → Bool
-is_judged ends.AllPass = true
-is_judged ends.SomeFail = true
-is_judged _ = false
+-- cases were checked
+abbrev pub is_checked : CasesEnd → Bool
+is_checked ends.AllPass = true
+is_checked ends.SomeFail = true
+is_checked _ = false
 
 -- the report on the bytes was written, and ends so
 abbrev pub WritesReport : List ℕ → CasesEnd → Option (List ℕ) → Option (List ℕ) → Type 0
 WritesReport bytes end old new = (text : List ℕ) × IsFileReport bytes end text × Appends old new text
 
--- the run ends so before a case is judged; or the report was written, and ends so
+-- the run ends so before a case is checked; or the report was written, and ends so
 abbrev pub WritesVectors : List ℕ → CasesEnd → Option (List ℕ) → Option (List ℕ) → Type 0
 WritesVectors bytes ends.AllPass old new = WritesReport bytes ends.AllPass old new
 WritesVectors bytes ends.SomeFail old new = WritesReport bytes ends.SomeFail old new
-WritesVectors bytes end old new = EndsUnjudged bytes end
+WritesVectors bytes end old new = EndsUnchecked bytes end
 
 -- a prefix of the report was written
 abbrev pub WritesVectorsPrefix : List ℕ → Option (List ℕ) → Option (List ℕ) → Type 0

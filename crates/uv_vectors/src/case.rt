@@ -9,7 +9,7 @@ ghost use Rattle.uv_grammar.specs.Verdict.{IsRefused};
 ghost use Rattle.uv_resolve.specs.Resolve.{DenotesText};
 ghost use Rattle.uv_vectors.specs.Case.{Expectation, Vector, base_of, expected_of, has_known_keys, is_known};
 ghost use Rattle.uv_vectors.specs.Case.{profile_of, refusal_of, unknown_key, vector_of};
-ghost use Rattle.uv_vectors.specs.Passes.{IsAsExpected, Judges, Passes};
+ghost use Rattle.uv_vectors.specs.Passes.{Checks, IsAsExpected, Passes};
 ghost use Rattle.uv_vectors.specs.Views.{expected_view, value_view};
 
 use serde_json::{Map, Value};
@@ -99,7 +99,7 @@ impl<'v> VectorCase<'v> {
 
 /// Whether a value is a case that passes. The error is out of memory.
 pub(crate) fn passes(alloc: Global, value: &Value) -> Result<bool, AllocError>
-    ensures { IfOk result (Judges (view value.now)) }
+    ensures { IfOk result (Checks (view value.now)) }
 {
     match VectorCase::of(value) {
         Some(case) => case.passes(alloc),

@@ -1,7 +1,7 @@
 //! Why bytes are no JSON text, and where.
 ghost use Rattle.std.specs.Prelude.{◌≡◌, ◌+◌, ◌≤◌, ◌++◌, ◌∷◌, [], ℕ, Decides, IsUtf8, List, length};
 ghost use Rattle.std.specs.Fmt.{is_char_start};
-ghost use Rattle.uv_vectors.specs.JsonFault.{IsFaultOf, IsOffsetOf, byte_place_behind, place_behind};
+ghost use Rattle.uv_vectors.specs.JsonFault.{IsFaultOf, IsOffsetOf, byte_place_after, place_after};
 ghost use Rattle.uv_vectors.specs.Run.{most_bytes};
 
 use serde_json::Error;
@@ -15,7 +15,7 @@ pub struct FilePlace {
     pub column: usize,
 }
 
-// Where a byte stands: its line, and its column in the line, both from 1. A column counts bytes.
+// Where a byte is: its line, and its column in the line, both from 1. A column counts bytes.
 #[derive(Clone, Copy, PartialEq, Eq)]
 struct BytePlace {
     line: usize,
@@ -25,11 +25,11 @@ struct BytePlace {
 /// Why bytes are no JSON text, and where.
 #[derive(Clone, Copy, Debug, PartialEq, Eq)]
 pub enum JsonFault {
-    /// What stands here is no UTF-8.
+    /// What is here is no UTF-8.
     NotUtf8(FilePlace),
     /// They end here, and their JSON doesn't.
     CutShort(FilePlace),
-    /// What stands here can't be read as JSON.
+    /// What is here can't be read as JSON.
     Unreadable(FilePlace),
 }
 
@@ -41,7 +41,7 @@ impl JsonFault {
     {
         match str::from_utf8(bytes) {
             Ok(_) => text_fault(bytes, error),
-            Err(fault) => JsonFault::NotUtf8(place_behind(&bytes[..fault.valid_up_to()])),
+            Err(fault) => JsonFault::NotUtf8(place_after(&bytes[..fault.valid_up_to()])),
         }
     }
 }
@@ -58,13 +58,13 @@ fn text_fault(bytes: &[u8], error: &Error) -> JsonFault
     };
     let at = offset_of(bytes, place);
     if error.is_eof() || at >= bytes.len() {
-        JsonFault::CutShort(place_behind(bytes))
+        JsonFault::CutShort(place_after(bytes))
     } else {
-        JsonFault::Unreadable(place_behind(&bytes[..at]))
+        JsonFault::Unreadable(place_after(&bytes[..at]))
     }
 }
 
-// How many bytes stand before the one at a place; all of them, where none of them stands there. What a reader names by
+// How many bytes are before the one at a place; all of them, where none of them is there. What a reader names by
 // its line and its column is pinned by no contract.
 fn offset_of(bytes: &[u8], place: BytePlace) -> usize
     requires { length bytes.now ≤ most_bytes }
@@ -75,7 +75,7 @@ fn offset_of(bytes: &[u8], place: BytePlace) -> usize
         if is_same(here, place) {
             return at;
         }
-        here = byte_place_after(here, *byte);
+        here = next_byte_place(here, *byte);
     }
     bytes.len()
 }
@@ -86,12 +86,12 @@ fn is_same(here: BytePlace, place: BytePlace) -> bool
     here == place
 }
 
-// The place behind one more byte, where columns count bytes.
-fn byte_place_after(place: BytePlace, byte: u8) -> BytePlace
+// The place after one more byte, where columns count bytes.
+fn next_byte_place(place: BytePlace, byte: u8) -> BytePlace
     requires line { place.line ≤ most_bytes }
     requires column { place.column ≤ most_bytes }
-    ensures place { (bytes : List ℕ) → place ≡ byte_place_behind bytes
-        → result ≡ byte_place_behind (bytes ++ byte ∷ []) }
+    ensures place { (bytes : List ℕ) → place ≡ byte_place_after bytes
+        → result ≡ byte_place_after (bytes ++ byte ∷ []) }
     ensures line { result.line ≤ place.line + 1 }
     ensures column { result.column ≤ place.column + 1 }
 {
@@ -108,23 +108,23 @@ fn byte_place_after(place: BytePlace, byte: u8) -> BytePlace
     }
 }
 
-// The place behind these bytes.
-fn place_behind(bytes: &[u8]) -> FilePlace
+// The place after these bytes.
+fn place_after(bytes: &[u8]) -> FilePlace
     requires { length bytes.now ≤ most_bytes }
-    ensures { result ≡ place_behind bytes.now }
+    ensures { result ≡ place_after bytes.now }
 {
     let mut place = FilePlace { line: 1, column: 1 };
     for byte in bytes {
-        place = place_after(place, *byte);
+        place = next_place(place, *byte);
     }
     place
 }
 
-// The place behind one more byte: a line feed ends a line, and each code point is a column.
-fn place_after(place: FilePlace, byte: u8) -> FilePlace
+// The place after one more byte: a line feed ends a line, and each code point is a column.
+fn next_place(place: FilePlace, byte: u8) -> FilePlace
     requires line { place.line ≤ most_bytes }
     requires column { place.column ≤ most_bytes }
-    ensures place { (bytes : List ℕ) → place ≡ place_behind bytes → result ≡ place_behind (bytes ++ byte ∷ []) }
+    ensures place { (bytes : List ℕ) → place ≡ place_after bytes → result ≡ place_after (bytes ++ byte ∷ []) }
     ensures line { result.line ≤ place.line + 1 }
     ensures column { result.column ≤ place.column + 1 }
 {

@@ -3,7 +3,7 @@ ghost use Rattle.std.specs.Prelude.{◌≡◌, ◌+◌, ◌-◌, ◌^◌, ◌<�
 ghost use Rattle.std.specs.Prelude.{position, string_bytes};
 ghost use Rattle.serde_json.specs.View.{items_view, view};
 ghost use Rattle.uv_vectors.specs.Case.{is_malformed, list_of};
-ghost use Rattle.uv_vectors.specs.Run.{EndsBytes, EndsValue, WritesVectors, WritesVectorsPrefix, is_judged};
+ghost use Rattle.uv_vectors.specs.Run.{EndsBytes, EndsValue, WritesVectors, WritesVectorsPrefix, is_checked};
 
 use crate::case::VectorCase;
 use crate::case_fault::fault_at;
@@ -18,10 +18,10 @@ use uv_io::{DeviceFault, Sink, write_whole};
 /// The most bytes that a vector file may have.
 pub const MOST_BYTES: usize = 16_777_216;
 
-// How a run over a vector file ends, and the report, where cases are judged.
+// How a run over a vector file ends, and the report, where cases are checked.
 #[derive(Drop)]
 enum Ending {
-    Unjudged(CasesEnd),
+    Unchecked(CasesEnd),
     Report(CasesEnd, String),
 }
 
@@ -30,13 +30,13 @@ enum Ending {
 /// why the bytes are no JSON text, or a value is no case.
 ///
 /// A case passes where its base, if it has one, is valid alone, and where its input against it has the record's text,
-/// or the refusal, that the case expects. No case is judged before all of them have been read. A fault of memory leaves
-/// the output as it was; a fault of a write leaves a beginning of the report.
+/// or the refusal, that the case expects. No case is checked before all of them have been read. A fault of memory
+/// leaves the output as it was; a fault of a write leaves a beginning of the report.
 pub fn run_cases<S: Sink>(alloc: Global, bytes: &[u8], out: &mut S) -> Result<CasesEnd, VectorFault>
     requires { S.failed out.old < 2 ^ 64 - 1 }
     ensures written { IfOk result (λ end.
         WritesVectors bytes.now end (S.contents out.old) (S.contents out.new)) }
-    ensures unjudged { IfOk result (λ end. is_judged end ≡ false → out.new ≡ out.old) }
+    ensures unchecked { IfOk result (λ end. is_checked end ≡ false → out.new ≡ out.old) }
     ensures quiet { OnOk result (S.failed out.new ≡ S.failed out.old) }
     ensures memory { result ≡ Err VectorFault.Memory → out.new ≡ out.old }
     ensures prefix { result ≡ Err VectorFault.Write →
@@ -44,7 +44,7 @@ pub fn run_cases<S: Sink>(alloc: Global, bytes: &[u8], out: &mut S) -> Result<Ca
     ensures failed { result ≡ Err VectorFault.Write → S.failed out.new ≡ S.failed out.old + 1 }
 {
     match ending_of_bytes(alloc, bytes)? {
-        Ending::Unjudged(end) => Ok(end),
+        Ending::Unchecked(end) => Ok(end),
         Ending::Report(end, text) => match write_whole(out, text.as_bytes()) {
             Ok(()) => Ok(end),
             Err(DeviceFault) => Err(VectorFault::Write),
@@ -57,14 +57,14 @@ fn ending_of_bytes(alloc: Global, bytes: &[u8]) -> Result<Ending, AllocError>
     ensures { IfOk result (EndsBytes bytes.now) }
 {
     if bytes.len() > MOST_BYTES {
-        return Ok(Ending::Unjudged(CasesEnd::TooLarge));
+        return Ok(Ending::Unchecked(CasesEnd::TooLarge));
     }
     match Value::from_slice(alloc, bytes) {
         Ok(value) => ending_of_value(alloc, &value),
         Err(error) if error.is_memory() => Err(AllocError),
         Err(error) => {
             let fault = JsonFault::of(bytes, &error);
-            Ok(Ending::Unjudged(CasesEnd::NotJson(fault)))
+            Ok(Ending::Unchecked(CasesEnd::NotJson(fault)))
         }
     }
 }
@@ -74,11 +74,11 @@ fn ending_of_value(alloc: Global, value: &Value) -> Result<Ending, AllocError>
     ensures { IfOk result (EndsValue (view value.now)) }
 {
     let Some(values) = value.as_array() else {
-        return Ok(Ending::Unjudged(CasesEnd::NotArray));
+        return Ok(Ending::Unchecked(CasesEnd::NotArray));
     };
     if let Some(at) = first_malformed(values.as_slice()) {
         let fault = fault_at(alloc, values.as_slice(), at)?;
-        return Ok(Ending::Unjudged(CasesEnd::Malformed(at + 1, fault)));
+        return Ok(Ending::Unchecked(CasesEnd::Malformed(at + 1, fault)));
     }
     let (end, text) = report_on(alloc, values.as_slice())?;
     Ok(Ending::Report(end, text))

@@ -34,7 +34,7 @@ first_words-pushed gives words more word n long each next is =
 
 -- ---- arguments that aren't UTF-8
 
--- what stands behind a hyphen
+-- what is after a hyphen
 pub without_some : (text rest : List ℕ) → text ≡ 0x2D ∷ rest → rest ≡ without_hyphen text
 without_some text rest is = rw is refl
 
@@ -56,7 +56,7 @@ said_none text none =
     let nowhere : position (λ b. b == 0) text ≡ None = grind (arith, common_steps) in
     rw nowhere refl
 
--- what stands before the first NUL
+-- what is before the first NUL
 pub said_before : (text before said : List ℕ) → position_or_len (λ b. b == 0) text < length text
     → before ≡ before_first (λ b. b == 0) text → said ≡ without_hyphen before → Some said ≡ said_of text
 said_before text before said within is says =

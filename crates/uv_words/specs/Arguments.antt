@@ -24,7 +24,7 @@ has_hyphen [] = false
 has_hyphen (first ∷ rest) = first == 0x2D
 
 -- what stands for the argument with a number, where it isn't UTF-8: that it isn't, and a NUL, which no argument has;
--- behind a hyphen where the argument begins with one, since it may be an option then
+-- after a hyphen where the argument begins with one, since it may be an option then
 unfoldable pub mark_text : ℕ → Bool → List ℕ
 mark_text number true = codes "-argument " ++ (decimal number ++ (codes " isn't UTF-8" ++ (0 ∷ [])))
 mark_text number false = codes "argument " ++ (decimal number ++ (codes " isn't UTF-8" ++ (0 ∷ [])))
@@ -39,7 +39,7 @@ abbrev pub IsWordAt : (Option (List ℕ) → Type 0) → ℕ → Option (List �
 IsWordAt gives number None = gives None
 IsWordAt gives number (Some word) = (argument : List ℕ) × gives (Some argument) × IsWord number argument word
 
--- the words are those of all arguments, in order: each is the word of the argument with its number, and behind the last
+-- the words are those of all arguments, in order: each is the word of the argument with its number, and after the last
 -- there is none
 pub record AreWords (gives : ℕ → Option (List ℕ) → Type 0) (words : List (List ℕ)) : Type 0 where
   pub each : (number : ℕ) → number < length words
@@ -53,7 +53,7 @@ abbrev pub without_hyphen : List ℕ → List ℕ
 without_hyphen [] = []
 without_hyphen (first ∷ rest) = if first == 0x2D then rest else first ∷ rest
 
--- what is said of an argument, by its word: what stands before the NUL, where it has one, without a hyphen at its start
+-- what is said of an argument, by its word: what is before the NUL, where it has one, without a hyphen at its start
 abbrev pub said_of : List ℕ → Option (List ℕ)
 said_of word =
     option_map (λ at. without_hyphen (before_first (λ b. b == 0) word)) (position (λ b. b == 0) word)

@@ -30,7 +30,7 @@ use Rattle.uv_words.specs.declared.words.WordsFault.TheVariants as fault
 -- ---- what is asked for
 
 -- what a lint asks for: the files, the base, how many violations of a line, the profile, the names of the format and of
--- the unit of columns, whether each line says where its link stands, the name of standard input, and whether no counts
+-- the unit of columns, whether each line says where its link is, the name of standard input, and whether no counts
 -- are wanted
 pub record LintRequest : Type 0 where
   pub files : List Text
@@ -166,19 +166,19 @@ lint_in rows profile =
     option_map (λ files. lint_by (first_of (codes "stdin-name") rows) files rows profile)
     (all_of (codes "FILE") rows)
 
--- the request of a command that judges by a profile
-abbrev pub judged_in : Text → List Row → Profile → Option Request
-judged_in name rows profile =
+-- the request of a command that checks by a profile
+abbrev pub checked_in : Text → List Row → Profile → Option Request
+checked_in name rows profile =
     if bytes_eq name (codes "check") then check_in rows profile
     else (if bytes_eq name (codes "lint") then lint_in rows profile
     else (if bytes_eq name (codes "links") then Some (links (base_in rows) profile)
     else (if bytes_eq name (codes "mend") then mend_in rows profile
     else None)))
 
--- the request of a command that judges by the profile that is asked for
+-- the request of a command that checks by the profile that is asked for
 abbrev pub profiled_in : Text → List Row → Option Wanted → Option Request
 profiled_in name rows None = None
-profiled_in name rows (Some (known profile)) = judged_in name rows profile
+profiled_in name rows (Some (known profile)) = checked_in name rows profile
 profiled_in name rows (Some (unknown other)) = Some (unknown_profile other)
 
 -- the names of the rules that are to be explained

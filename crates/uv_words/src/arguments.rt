@@ -50,7 +50,7 @@ impl<R: Env> Arguments for OwnArguments<'_, R> {
     }
 }
 
-/// The words of all arguments, in order. For an argument that isn't UTF-8 stands a text that says so, by its number,
+/// The words of all arguments, in order. For an argument that isn't UTF-8 is a text that says so, by its number,
 /// and ends with a NUL: it can be no file's name.
 pub fn words_of<A: Arguments>(alloc: Global, arguments: &A) -> Result<Vec<String>, AllocError>
     ensures { IfOk result (λ words. AreWords (A.gives arguments.now) (map string_bytes words.items)) }

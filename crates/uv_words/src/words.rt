@@ -3,7 +3,7 @@ ghost use Rattle.std.specs.Prelude.{◌≡◌, IfOk, IfErr, Some, codes, map, op
 ghost use Rattle.clap.specs.Words.{all_of, first_of, found_of, kind_of, rows_of, subcommand_of, subcommand_rows_of};
 ghost use Rattle.clap.specs.Words.{takes};
 ghost use Rattle.uv_words.specs.Commands.{urlcheck};
-ghost use Rattle.uv_words.specs.Words.{asked_by, asks_to_show, check_in, extent_in, has_flag, judged_in, lint_in};
+ghost use Rattle.uv_words.specs.Words.{asked_by, asks_to_show, check_in, checked_in, extent_in, has_flag, lint_in};
 ghost use Rattle.uv_words.specs.Words.{explain, filter_by, filter_in, mend_in, rules_in};
 ghost use Rattle.uv_words.specs.Words.{request_in, request_of, told_in, vectors, wanted_in, wanted_view, IsFaultOf};
 ghost use Rattle.uv_words.specs.Words.{IsFrom};
@@ -28,7 +28,7 @@ pub enum Job {
         base: Option<String>,
         /// How many of its violations are wanted.
         extent: Extent,
-        /// By which profile it is judged, and the base too.
+        /// By which profile it is checked, and the base too.
         profile: Profile,
     },
     /// To say what is wrong with the lines of files.
@@ -41,7 +41,7 @@ pub enum Job {
     Links {
         /// The base's text, if there is a base.
         base: Option<String>,
-        /// By which profile the lines are judged, and the base too.
+        /// By which profile the lines are checked, and the base too.
         profile: Profile,
     },
     /// To say what to write in place of a text.
@@ -50,7 +50,7 @@ pub enum Job {
         text: String,
         /// The base's text, if there is a base.
         base: Option<String>,
-        /// By which profile it is judged, and the base too.
+        /// By which profile it is checked, and the base too.
         profile: Profile,
     },
     /// To write the lines of the standard input, mended where they can be.
@@ -69,7 +69,7 @@ pub enum Job {
         /// What is told of each of them.
         told: Told,
     },
-    /// To judge by a profile that there is none of.
+    /// To check by a profile that there is none of.
     UnknownProfile {
         /// The name that no profile has.
         name: String,
@@ -85,7 +85,7 @@ pub enum Told {
     Page,
 }
 
-/// The files whose lines are judged, by what, and how what is wrong with them is reported.
+/// The files whose lines are checked, by what, and how what is wrong with them is reported.
 #[derive(Drop)]
 pub struct LintJob {
     /// The names of the files. `-` is the standard input.
@@ -94,13 +94,13 @@ pub struct LintJob {
     pub base: Option<String>,
     /// How many of the violations of a line are wanted.
     pub extent: Extent,
-    /// By which profile the lines are judged, and the base too.
+    /// By which profile the lines are checked, and the base too.
     pub profile: Profile,
     /// The name of the format, if one is named.
     pub format: Option<String>,
     /// The name of what columns count, if one is named.
     pub columns: Option<String>,
-    /// Whether each line says where its link stands.
+    /// Whether each line says where its link is.
     pub located: bool,
     /// The name under which the standard input is reported on, if another one than `-`.
     pub stdin_name: Option<String>,
@@ -113,7 +113,7 @@ pub struct LintJob {
 pub struct FilterJob {
     /// The base's text, if there is a base.
     pub base: Option<String>,
-    /// By which profile the lines are judged, and the base too.
+    /// By which profile the lines are checked, and the base too.
     pub profile: Profile,
     /// The name of the kind of the mended texts that are wanted, if not all are.
     pub only: Option<String>,
@@ -203,7 +203,7 @@ fn job_in(alloc: Global, name: &str, entries: &ArgMatches<'_>) -> Result<Option<
         return explain_in(alloc, entries);
     }
     match profile_asked(entries) {
-        Some(Asked::Known(profile)) => judged_in(alloc, name, entries, profile),
+        Some(Asked::Known(profile)) => checked_in(alloc, name, entries, profile),
         Some(Asked::Unknown(name)) => Ok(Some(Job::UnknownProfile {
             name: name.to_string(alloc)?,
         })),
@@ -256,15 +256,15 @@ fn profile_asked<'a>(entries: &ArgMatches<'a>) -> Option<Asked<'a>>
     asked_for(has(entries, "wide"), value(entries, "profile"))
 }
 
-// The job of a command that judges by a profile.
-fn judged_in(
+// The job of a command that checks by a profile.
+fn checked_in(
     alloc: Global,
     name: &str,
     entries: &ArgMatches<'_>,
     profile: Profile,
 ) -> Result<Option<Job>, AllocError>
     ensures { IfOk result (λ job.
-        option_map asked_by job ≡ judged_in name.now (rows_of (found_of entries.now)) profile) }
+        option_map asked_by job ≡ checked_in name.now (rows_of (found_of entries.now)) profile) }
 {
     if name == "check" {
         return check_in(alloc, entries, profile);

@@ -1,12 +1,12 @@
 # Completions of urlcheck for bash, made by make-manual.
 _urlcheck() {
-    local word=${COMP_WORDS[COMP_CWORD]} previous=${COMP_WORDS[COMP_CWORD - 1]} command= words= is_value= option= is_behind= i
+    local word=${COMP_WORDS[COMP_CWORD]} previous=${COMP_WORDS[COMP_CWORD - 1]} command= words= is_value= option= is_after= i
     # A value after `=` is a word of its own, or with COMP_WORDBREAKS changed a part of the option.
     if [[ $word == = ]]; then word=
     elif [[ $previous == = ]]; then previous=${COMP_WORDS[COMP_CWORD - 2]}
     elif [[ $word == --*=* ]]; then previous=${word%%=*} option=$previous= word=${word#*=}; fi
     for ((i = 1; i < COMP_CWORD; i++)); do
-        if [[ ${COMP_WORDS[i]} == -- || $command == help ]]; then is_behind=yes
+        if [[ ${COMP_WORDS[i]} == -- || $command == help ]]; then is_after=yes
         elif [[ -z $command && ${COMP_WORDS[i]} != -* ]]; then command=${COMP_WORDS[i]}; fi
     done
     case $command:$previous in
@@ -35,7 +35,7 @@ _urlcheck() {
             esac ;;
     esac
     # After `--` there are texts and files alone, and after the command of `help` nothing.
-    if [[ $is_behind ]]; then words= is_value=; fi
+    if [[ $is_after ]]; then words= is_value=; fi
     mapfile -t COMPREPLY < <(compgen -P "$option" -W "$words" -- "$word")
     case $is_value$command in
         lint | vectors)

@@ -179,11 +179,11 @@ canonical: https://h/a^1
 """
 
 TWICE = {"20": 2}
-"""Those of whose marks the first stands in a literal block."""
+"""Those of whose marks the first is in a literal block."""
 
 
 def places_of(files):
-    """Where each mark stands in the sources that are to be told: file, line, column."""
+    """Where each mark is in the sources that are to be told: file, line, column."""
     places = {}
     for name, text in files.items():
         for found in re.finditer(r"\^(\d+)", text):

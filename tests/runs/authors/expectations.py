@@ -22,9 +22,9 @@ class Expectation(NamedTuple):
     name: str
     files: Dict[str, str]
     words: Tuple[str, ...]
-    """Its words behind ``--check``."""
+    """Its words after ``--check``."""
     places: List[Tuple[str, str]]
-    """The documents that have a wrong link, each with the text that stands from its place on."""
+    """The documents that have a wrong link, each with the text that is from its place on."""
     said: str = ""
     """What the last line of standard error has to have."""
     needs: str = ""

@@ -1,5 +1,5 @@
 """How long the server takes from a change of a page with 2,000 wrong links to what is said of it: latency.py. Beside the
-clock's time it says the processor's, of the server and of what judges for it, which a busy machine changes less. The package
+clock's time it says the processor's, of the server and of what checks for it, which a busy machine changes less. The package
 is on PYTHONPATH."""
 
 import os

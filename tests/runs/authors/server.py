@@ -326,7 +326,7 @@ class Served(unittest.TestCase):
         self.assertEqual(client.end(), 0)
 
     def test_limits(self):
-        """A text that takes all memory ends the process that judges, and the next text is judged by another."""
+        """A text that takes all memory ends the process that checks, and the next text is checked by another."""
         client = self.start()
         (found,) = client.open("file:///nowhere/a.md", "[a](<b c>)\n\n" * 400_000)
         self.assertIn("can't be checked: ", found["message"])
@@ -347,7 +347,7 @@ class Served(unittest.TestCase):
         self.assertEqual(hover["result"]["range"], at(0, 9, 12))
         took = time.monotonic() - begun
         self.assertLess(took, 3)
-        # A request on a text that changes before it is judged is answered at once.
+        # A request on a text that changes before it is checked is answered at once.
         client.change(large, {"range": at(50_000, 3), "text": "y"})
         number = client.begin("textDocument/codeAction", {"textDocument": {"uri": large}, "range": at(0, 0), "context": {}})
         client.change(large, {"range": at(50_000, 3), "text": "<a href='^'>"})
@@ -426,7 +426,7 @@ class Served(unittest.TestCase):
                 self.assertEqual(client.process.wait(20), 1)
                 self.assertNotIn(b"Traceback", client.process.stderr.read())
                 self.assertLess(time.monotonic() - begun, 10)
-        # The end without `shutdown` is 1; before `initialize` nothing else is answered, and behind `shutdown` neither.
+        # The end without `shutdown` is 1; before `initialize` nothing else is answered, and after `shutdown` neither.
         client = self.start()
         client.tell("exit", None)
         self.assertEqual(client.process.wait(20), 1)

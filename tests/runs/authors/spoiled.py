@@ -21,7 +21,7 @@ class Spoiled(NamedTuple):
     name: str
     module: str
     old: str
-    """What stands there once."""
+    """What is there once."""
     new: str
     test: Tuple[str, ...]
     """The file of the test, and which of its tests."""

@@ -1,4 +1,4 @@
-// What callers of urlcheck.js see: refusals by their types, out of memory and the call behind it, memory that doesn't
+// What callers of urlcheck.js see: refusals by their types, out of memory and the call after it, memory that doesn't
 // grow with the number of calls, instances beside each other, a thread of its own, and each way to give the module.
 // Usage: node calls.mjs FOLDER
 import assert from 'node:assert/strict'
@@ -29,7 +29,7 @@ async function withMemory(source) {
   }
 }
 
-/** The calls that judge a text. */
+/** The calls that check a text. */
 const CALLS = ['check', 'isValid', 'faults', 'resolve', 'mend']
 
 const tests = {
@@ -120,7 +120,7 @@ const tests = {
     }
   },
 
-  async 'a base that is judged once'() {
+  async 'a base that is checked once'() {
     const { urlcheck, memory } = await withMemory(bytes)
     const [plain, file, opaque] = ['http://h/a/b?q', 'file:///C:/x', 'urn:a'].map(text => urlcheck.base(text))
     const wide = urlcheck.base('http://a_b/', { profile: 'wide' })
@@ -307,7 +307,7 @@ const tests = {
     assert.throws(() => report.fileBegin('\ud800'), TypeError)
     assert.throws(() => report.end('ended'), TypeError)
     assert.equal(report.diagnostic(told), line)
-    // A comma stands before each result of SARIF but the first, and a long text is written whole.
+    // A comma is before each result of SARIF but the first, and a long text is written whole.
     const sarif = urlcheck.report('sarif')
     const text = `${'\u00e9'.repeat(5000)} `
     const pieces = [1, 2].map(() => sarif.diagnostic({ ...told, text, mended: { text: 'a'.repeat(9000), kind: 'changed' } }))
@@ -331,7 +331,7 @@ const tests = {
     assert.equal(memory.buffer.byteLength, before)
   },
 
-  async 'a long text, and a short one behind it'() {
+  async 'a long text, and a short one after it'() {
     const { urlcheck, memory } = await withMemory(bytes)
     const long = `http://h/${'a'.repeat(3_000_000)}`
     assert.equal(urlcheck.check(long).ranges.path[1], long.length)

@@ -1,5 +1,5 @@
 // Holds a checker's answers to what the program says of the same cases (see answers.py), and its answers against a base
-// that is judged once to those against the base's text. Runs under Node and in a browser.
+// that is checked once to those against the base's text. Runs under Node and in a browser.
 
 /** The lines that `urlcheck check` prints of a record. */
 function recordLines({ scheme, host, port, segments, opaquePath, query, fragment }) {
@@ -100,10 +100,10 @@ function differencesOf(urlcheck, text, options, wanted, said) {
   return found
 }
 
-/** The profiles, by which each case is judged. */
+/** The profiles, by which each case is checked. */
 const PROFILES = ['standard', 'wide', 'parser']
 
-/** The calls of a checker with each base held: it is judged once, and taken again behind calls with other ones. */
+/** The calls of a checker with each base held: it is checked once, and taken again after calls with other ones. */
 function holding(urlcheck) {
   const bases = Object.fromEntries(PROFILES.map(profile => [profile, new Map()]))
   const held = ({ base, profile }) => {

@@ -1,4 +1,4 @@
-// The texts of the page whose contrast with what is behind them is below 4.5 (WCAG 2, level AA).
+// The texts of the page whose contrast with what is after them is below 4.5 (WCAG 2, level AA).
 const light = c => { const part = c.map(v => (v /= 255) <= 0.04045 ? v / 12.92 : ((v + 0.055) / 1.055) ** 2.4);
   return 0.2126 * part[0] + 0.7152 * part[1] + 0.0722 * part[2] }
 const canvas = document.createElement('canvas').getContext('2d', { willReadFrequently: true })

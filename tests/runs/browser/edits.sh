@@ -78,7 +78,7 @@ script 'a base that stays held where another is given' vectors memory.js \
 script 'a base that is held by half' vectors layout.js 's/^export const HELD_WORDS = 10$/export const HELD_WORDS = 9/'
 script 'a base that is held where the memory was' calls memory.js \
     '/this.held = new Uint32Array(buffer/s/= new/= this.heldWords ? this.held : new/'
-script 'a base that is judged by another profile' calls options.js 's/=== undefined || profile === number/!== null/'
+script 'a base that is checked by another profile' calls options.js 's/=== undefined || profile === number/!== null/'
 script 'a refused base that is held' calls urlcheck.js '/^    const words = room.prepared/{n;d}'
 script 'no memory taken for a refusal' calls urlcheck.js 's/known === 1 || this.check(text, options).valid/known === 1/'
 script 'a swapped parameter of mend' vectors urlcheck.js "/mend_against(/$swap"
@@ -101,11 +101,11 @@ script 'a profile of any name' calls options.js 's/^  throw new TypeError("the p
 script 'lines against a base that is ignored' calls lines.js 's/held === undefined ? 0 : 1/0/'
 script 'lines numbered from each piece on' calls lines.js 's/line: many.lines + words/line: words/'
 script 'lines that stand where they do in their piece' calls lines.js 's/const from = start + words/const from = words/'
-script 'the lines behind the rows of a call left out' calls lines.js '/^    for (let from = 0/s/from = room.word(NEXT_LINE)/from = end/'
+script 'the lines after the rows of a call left out' calls lines.js '/^    for (let from = 0/s/from = room.word(NEXT_LINE)/from = end/'
 script 'a piece that ends within a line' calls lines.js 's/return last + 1$/return last + 2/'
-script 'empty lines counted as judged' calls lines.js 's/ - room.word(EMPTY_LINES)//'
+script 'empty lines counted as checked' calls lines.js 's/ - room.word(EMPTY_LINES)//'
 script 'a wrong offset of a place of a line' calls layout.js 's/^export const ROW_PLACE = 5$/export const ROW_PLACE = 6/'
-script 'a place behind the end let through' calls memory.js '/=== NO_PLACE/d'
+script 'a place after the end let through' calls memory.js '/=== NO_PLACE/d'
 script 'a line of a report that is any number' calls reports.js "s/wholeNumber(line, 'line', 1)/line/"
 script 'each diagnostic taken for the first' calls reports.js 's/^    this.#isFirst = false$//'
 script 'a mended text that is left out' reports reports.js "s/mended?.text ?? ''/''/"

@@ -88,7 +88,7 @@ static void an_emptied_heap_begins_anew(void) {
     HOLDS(growths == grown);
 }
 
-static void blocks_behind_a_mark_are_given_up(void) {
+static void blocks_after_a_mark_are_given_up(void) {
     HOLDS(heap_lay_out(10, 10));
     uint8_t *kept = heap_take(100, 16);
     uint64_t mark = heap_mark();
@@ -138,7 +138,7 @@ int main(void) {
     blocks_are_apart_and_aligned();
     resized_blocks_keep_their_bytes();
     an_emptied_heap_begins_anew();
-    blocks_behind_a_mark_are_given_up();
+    blocks_after_a_mark_are_given_up();
     a_refused_growth_leaves_all();
     no_address_is_too_high();
     puts("browser: the heap keeps blocks apart, is emptied, and bears a refused growth");

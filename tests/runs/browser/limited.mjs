@@ -3,7 +3,7 @@
 
 const MEMORY_SECTION = 5
 
-/** A number in the form of WebAssembly (LEB128), and the place behind it. */
+/** A number in the form of WebAssembly (LEB128), and the place after it. */
 function numberAt(bytes, place) {
   let number = 0
   for (let shift = 0; ; shift += 7) {

@@ -17,7 +17,7 @@ from selenium.webdriver.remote.webdriver import WebDriver
 
 HERE = os.path.dirname(os.path.abspath(__file__))
 TOP = os.path.dirname(os.path.dirname(os.path.dirname(HERE)))
-# What stands first in the head of the page.
+# What is first in the head of the page.
 FIRST = '<meta charset="utf-8">'
 
 

@@ -20,7 +20,7 @@ class Spoiled:
     is_always_tried: bool = False
 
     def made(self, folder: str, copy: str) -> None:
-        """Makes the copy, in which the old text, which stands there once, is the new one."""
+        """Makes the copy, in which the old text, which is there once, is the new one."""
         shutil.copytree(folder, copy)
         path = os.path.join(copy, self.file)
         with open(path, encoding="utf-8") as file:

@@ -15,7 +15,7 @@ from session import TOP, PageCase
 # So many lines a list has, and in a sample.
 LINES = 200_000
 LINES_OF_SAMPLE = 20_000
-# How long the page may not answer while a list is judged: in milliseconds, or as a part of all the time that it takes.
+# How long the page may not answer while a list is checked: in milliseconds, or as a part of all the time that it takes.
 LONGEST_PAUSE = 500
 LONGEST_PART = 0.25
 # Lines that are no texts, or odd ones.
@@ -27,7 +27,7 @@ CLOSED = {it: "</{}>".format(it) for it in ("script", "iframe", "audio", "video"
 
 class Lists(PageCase):
     def test_long_list(self) -> None:
-        """A list is judged as `urlcheck lint` judges it, and the page answers meanwhile."""
+        """A list is checked as `urlcheck lint` checks it, and the page answers meanwhile."""
         count = LINES if self.session.is_whole else LINES_OF_SAMPLE
         self.write_list(count)
         pause = self.longest_pause()
@@ -56,7 +56,7 @@ class Lists(PageCase):
             out.write(b"\xef\xbb\xbfhttp://h/ \n" + b"\n".join(lines[1:]))
 
     def longest_pause(self) -> float:
-        """Has the list judged: so many milliseconds the page didn't answer meanwhile."""
+        """Has the list checked: so many milliseconds the page didn't answer meanwhile."""
         self.page.open(view="list")
         self.page.run(
             "window.pauses = []; let last = performance.now();"
@@ -66,7 +66,7 @@ class Lists(PageCase):
         self.page.wait(self.page.report_ended, 300)
         pauses = self.page.run("return window.pauses")
         longest = max(LONGEST_PAUSE, LONGEST_PART * sum(pauses))
-        self.assertLess(max(pauses), longest, "the page doesn't answer while a list is judged")
+        self.assertLess(max(pauses), longest, "the page doesn't answer while a list is checked")
         return float(max(pauses))
 
     def shows_what_lint_says(self) -> None:
@@ -87,7 +87,7 @@ class Lists(PageCase):
         self.page.wait(lambda: bool(self.page.run(count) > before))
 
     def test_stopping(self) -> None:
-        """A job that takes long can be stopped, and lists that are changed are judged anew."""
+        """A job that takes long can be stopped, and lists that are changed are checked anew."""
         self.page.open(view="list")
         self.write("long.txt", "".join("http://b\u00fccher{}.example/ x\n".format(it) for it in range(400_000)))
         self.page.drop("long.txt", "/room/long.txt")

@@ -52,12 +52,12 @@ class Texts(PageCase):
         self.told = "{} cases in three profiles, {} answers, 0 differences".format(count, compared)
 
     def test_typing(self) -> None:
-        """Each key gives the verdict that the program gives of what stands there."""
+        """Each key gives the verdict that the program gives of what is there."""
         self.page.open(view="text", text="")
         typed = "http://ex ample.com:8x/%4?^#"
         for end in range(1, len(typed) + 1):
             self.type(typed[end - 1], typed[:end])
-            self.judged_as_program(typed[:end])
+            self.checked_as_program(typed[:end])
         text = "https://user.example:8080/a/../b?q#f"
         self.page.find("#text").send_keys(Keys.CONTROL, "a")
         self.type(text, text)
@@ -75,7 +75,7 @@ class Texts(PageCase):
         self.page.find("#text").send_keys(keys)
         self.page.wait(lambda: bool(self.page.run("return document.getElementById('text').value") == text))
 
-    def judged_as_program(self, text: str) -> None:
+    def checked_as_program(self, text: str) -> None:
         ended = self.program("check", "--all", "--", text)
         word, rest = self.page.verdict()
         self.assertEqual(word, "Refused" if ended.status else "Valid", text)
@@ -150,7 +150,7 @@ class Texts(PageCase):
         return [] if example["base"] is None else ["--base=" + example["base"]]
 
     def test_bases_and_profiles(self) -> None:
-        """A base is judged too, and each profile judges as it does."""
+        """A base is checked too, and each profile checks as it does."""
         self.page.open(view="text", text="x", base="http://h/ \u00e9")
         word, rest = self.page.verdict()
         self.assertEqual(word, "Base refused")
@@ -205,7 +205,7 @@ class Texts(PageCase):
             self.page.wait(self.page.report_ended)
 
     def test_large_texts(self) -> None:
-        """A text of millions of units is judged, and not drawn whole."""
+        """A text of millions of units is checked, and not drawn whole."""
         self.page.open()
         for units in (100_000, 3_000_000):
             self.page.fill("text", "http://h/" + "a^" * (units // 2))
@@ -218,7 +218,7 @@ class Texts(PageCase):
         self.told = "3,000,000 units"
 
     def test_little_memory(self) -> None:
-        """A text for which there is no memory isn't judged, and the next one is."""
+        """A text for which there is no memory isn't checked, and the next one is."""
         page: Page = self.session.other_page("limited")
         page.open()
         for _ in range(3):

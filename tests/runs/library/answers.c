@@ -1,6 +1,6 @@
 /*
  * Answers each case of a file of cases (see cases.py) by the library, in each profile, a line each. With the word
- * `places` behind the file a line has where the parts of a valid text stand, and is empty for each other text; with
+ * `places` after the file a line has where the parts of a valid text are, and is empty for each other text; with
  * `mended` it says what `urlcheck mend` says. No bytes are handed in by a null pointer.
  */
 #include "urlcheck.h"
@@ -82,8 +82,8 @@ static urlcheck_record resolve_record(const text *given, const text *base, uint3
     return urlcheck_resolve_record_against(given->bytes, given->length, base->bytes, base->length, profile, out, room);
 }
 
-/* The end of a part that stands here, behind a delimiter in the text, or this place where it is absent. */
-static size_t behind(const uint8_t *whole, urlcheck_span part, size_t at, const char *mark) {
+/* The end of a part that is here, after a delimiter in the text, or this place where it is absent. */
+static size_t after(const uint8_t *whole, urlcheck_span part, size_t at, const char *mark) {
     size_t front = strlen(mark);
     if (!part.present) {
         if (part.start || part.length) fail("a part that is absent has a place");
@@ -96,12 +96,12 @@ static size_t behind(const uint8_t *whole, urlcheck_span part, size_t at, const 
 /* The parts of a record, with their delimiters, are its text, but for the `/.` before a path. */
 static void join_parts(const uint8_t *whole, size_t length, urlcheck_record record) {
     urlcheck_spans parts = record.parts;
-    size_t at = behind(whole, parts.scheme, 0, "");
+    size_t at = after(whole, parts.scheme, 0, "");
     if (!parts.scheme.present || !parts.path.present || at >= length || whole[at] != ':') fail("no scheme of a record");
-    at = behind(whole, parts.port, behind(whole, parts.host, at + 1, "//"), ":");
+    at = after(whole, parts.port, after(whole, parts.host, at + 1, "//"), ":");
     if (!parts.host.present && parts.path.start == at + 2 && memcmp(whole + at, "/.//", 4) == 0) at += 2;
-    at = behind(whole, parts.query, behind(whole, parts.path, at, ""), "?");
-    if (behind(whole, parts.fragment, at, "#") != length) fail("the parts of a record aren't its text");
+    at = after(whole, parts.query, after(whole, parts.path, at, ""), "?");
+    if (after(whole, parts.fragment, at, "#") != length) fail("the parts of a record aren't its text");
     if ((record.host != 0) != parts.host.present) fail("a kind of no host");
     if ((record.host == URLCHECK_EMPTY_HOST) != (parts.host.present && !parts.host.length)) fail("an empty host");
     int is_slashed = parts.path.length && whole[parts.path.start] == '/';

@@ -1,5 +1,5 @@
 /*
- * Judges and resolves the lines of a file by the calls for many texts, and compares each row with what a call on that text
+ * Checks and resolves the lines of a file by the calls for many texts, and compares each row with what a call on that text
  * alone says: batches FILE [time]. Then hands in what is wrong: each is an outcome of its own, and nothing is written. With
  * the word `time` it says how long a text takes by each call.
  */
@@ -222,10 +222,10 @@ static void bad_input(void) {
     is_untouched(column, sizeof column);
     if (urlcheck_check_many(NULL, 0, NULL, 0, 0, NULL, NULL, NULL).outcome != URLCHECK_DONE ||
         urlcheck_next_refused(NULL, 0, 0, 0).found.verdict != URLCHECK_VALID) {
-        fail("no texts aren't judged", 0);
+        fail("no texts aren't checked", 0);
     }
-    urlcheck_line behind = urlcheck_next_refused(text, 9, 10, 0);
-    if (behind.found.verdict != URLCHECK_NO_PLACE || behind.next || behind.passed) fail("a place behind the end", 10);
+    urlcheck_line after = urlcheck_next_refused(text, 9, 10, 0);
+    if (after.found.verdict != URLCHECK_NO_PLACE || after.next || after.passed) fail("a place after the end", 10);
     if (urlcheck_next_refused(text, 9, 0, 3).found.verdict != URLCHECK_NO_PROFILE) fail("a profile of no number", 3);
 }
 

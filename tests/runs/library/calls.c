@@ -1,6 +1,6 @@
 /*
  * The calls of reports, columns, explanations, records and held bases on texts that are written out: what they give, and what
- * they answer to a number of nothing, a place behind the end, a column out of range, bytes that are no UTF-8 and null
+ * they answer to a number of nothing, a place after the end, a column out of range, bytes that are no UTF-8 and null
  * pointers. Expected texts are those of docs/COMMANDS.md and docs/RULES.md, places and columns are counted by hand.
  */
 #include "urlcheck.h"
@@ -21,7 +21,7 @@ static const uint8_t *bytes(const char *text) { return (const uint8_t *)text; }
 
 static uint8_t out[4096];
 
-/* The call gave this text, and left what stands behind it. */
+/* The call gave this text, and left what is after it. */
 static void gives(urlcheck_written answer, const char *text) {
     size_t length = strlen(text);
     expect(answer.found.verdict == URLCHECK_DONE && answer.length == length, text);
@@ -55,7 +55,7 @@ static void messages(void) {
     refuses(message("a", 0, 0, 0), URLCHECK_NO_RULE, "a message of rule 0");
     refuses(message("a", 0, 15, 0), URLCHECK_NO_RULE, "a message of rule 15");
     refuses(message("a", 0, 109, 0), URLCHECK_NO_RULE, "a message of rule 109");
-    refuses(message("a", 0, URLCHECK_PERCENT, 2), URLCHECK_NO_PLACE, "a message at a place behind the end");
+    refuses(message("a", 0, URLCHECK_PERCENT, 2), URLCHECK_NO_PLACE, "a message at a place after the end");
     urlcheck_written foreign = message("\xc3\xa9\xff", 0, URLCHECK_PERCENT, 0);
     expect(foreign.found.place == 1 && foreign.found.byte_place == 2, "where a message's text is no UTF-8");
     refuses(foreign, URLCHECK_NO_UTF8, "a message on what is no UTF-8");
@@ -85,7 +85,7 @@ static urlcheck_written diagnostic(uint32_t format, const urlcheck_violation *it
 
 static const char TEXT[] = "http://h/a b", MENDED[] = "http://h/a%20b";
 
-/* The formats in which an end, a fingerprint or an edit stands. The fingerprint is that of `sha256sum`, of the lines 3, 15,
+/* The formats in which an end, a fingerprint or an edit is. The fingerprint is that of `sha256sum`, of the lines 3, 15,
    "a.md", code-point and 10 and the text. */
 static void more_diagnostics(const urlcheck_violation *it) {
     gives(diagnostic(URLCHECK_JUNIT, it, "a&b", TEXT, MENDED),
@@ -210,7 +210,7 @@ static void rounds(void) {
            "which units are taken");
 }
 
-/* A text with a combining mark, a wide code point, one beyond U+FFFF and a tab; and the column behind each. */
+/* A text with a combining mark, a wide code point, one beyond U+FFFF and a tab; and the column after each. */
 static void columns(void) {
     const char *text = "e\xcc\x81\xe6\x97\xa5\xf0\x9f\x98\x80\ta";
     const uint64_t wanted[4][7] = {
@@ -225,7 +225,7 @@ static void columns(void) {
     expect(urlcheck_column(bytes("ab"), 2, 0, 0, 0).found.verdict == URLCHECK_NO_COLUMN, "from column 0");
     expect(urlcheck_column(bytes("ab"), 2, 0, 4294967296, 0).found.verdict == URLCHECK_NO_COLUMN, "from 2^32");
     expect(urlcheck_column(bytes("ab"), 2, 4, 1, 0).found.verdict == URLCHECK_NO_UNIT, "in no unit");
-    expect(urlcheck_column(bytes("ab"), 2, 0, 1, 3).found.verdict == URLCHECK_NO_PLACE, "behind the end");
+    expect(urlcheck_column(bytes("ab"), 2, 0, 1, 3).found.verdict == URLCHECK_NO_PLACE, "after the end");
     expect(urlcheck_column(bytes("a\xff"), 2, 0, 1, 0).found.verdict == URLCHECK_NO_UTF8, "of no UTF-8");
     expect(urlcheck_column(NULL, 2, 0, 1, 0).found.verdict == URLCHECK_NULL, "of null");
     expect(urlcheck_column(NULL, 0, 0, 5, 0).column == 5, "of nothing");
@@ -264,7 +264,7 @@ static void has_part(urlcheck_span part, const char *text, const char *what) {
     expect(memcmp(out + part.start, text, part.length) == 0, what);
 }
 
-/* A text, the text of its record, the parts of that as the URL Standard, section 4.5, writes them one behind the other,
+/* A text, the text of its record, the parts of that as the URL Standard, section 4.5, writes them one after the other,
    where the host begins, of which kind it is, and whether the path is opaque. Counted by hand. */
 static const struct placed {
     const char *text, *written, *scheme, *host, *port, *path, *query, *fragment;

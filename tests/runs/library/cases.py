@@ -5,7 +5,7 @@
     cases.py mended PROGRAM MENDED VECTORS..     compares what the library mends with what `urlcheck mend` does
     cases.py places PLACES VECTORS..       compares where the parts of the valid cases stand with their delimiters
 
-A file of cases has for each case the text and the base, each behind its length in four bytes, lowest first; an absent
+A file of cases has for each case the text and the base, each after its length in four bytes, lowest first; an absent
 base has the length 0xFFFFFFFF.
 """
 
@@ -17,9 +17,9 @@ import subprocess
 import sys
 
 ABSENT = 0xFFFFFFFF
-# The profiles, by which each case is judged in this order.
+# The profiles, by which each case is checked in this order.
 PROFILES = ("standard", "wide", "parser")
-# Texts beside the vectors: each kind of host, references, places behind code points of each length, and empty texts.
+# Texts beside the vectors: each kind of host, references, places after code points of each length, and empty texts.
 MORE = [
     ("", None),
     ("", "http://h/a?q#f"),
@@ -176,7 +176,7 @@ def compare_mended(program, answers, paths):
 
 
 def places_of(text):
-    """Where the parts of a valid text stand in its bytes: each with its name, its start and its length."""
+    """Where the parts of a valid text are in its bytes: each with its name, its start and its length."""
     found = DELIMITED.fullmatch(text.encode())
     spans = {name: found.span(name) for name in ("scheme", "host", "port", "path", "query", "fragment")}
     return "".join("{} {} {} ".format(name, at, end - at) for name, (at, end) in spans.items() if at >= 0)

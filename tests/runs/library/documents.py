@@ -1,4 +1,4 @@
-"""Tests of urlcheck.documents: where links stand, and what is said of them. The package is on PYTHONPATH."""
+"""Tests of urlcheck.documents: where links are, and what is said of them. The package is on PYTHONPATH."""
 
 import importlib.util
 import os
@@ -105,19 +105,19 @@ NOTES_LINKS = """1:13:http://h/a%20b
 class Documents(Texts):
     def test_html(self):
         self.finds("a.html", PAGE, PAGE_LINKS)
-        self.judges("a.html", [("3:48", "code-point"), ("4:18", "code-point"), ("5:49", "code-point"),
+        self.checks("a.html", [("3:48", "code-point"), ("4:18", "code-point"), ("5:49", "code-point"),
                                ("9:26", "code-point"), ("11:40", "code-point")])
 
     def test_empty_links_of_html(self):
         """An attribute without a value has the empty one (HTML Standard, section 13.1.2.3); a list of none has no link."""
         self.finds("a.html", "<a href>\n<a HREF class=x><a href=><a href=''><a href = \"\">\n<img srcset src><a ping>\n",
                    "1:8:\n2:8:\n2:25:\n2:35:\n2:48:\n3:16:\n")
-        self.judges("a.html", [("3:16", "empty")])
-        self.judges("a.html", [], "--no-empty")
+        self.checks("a.html", [("3:16", "empty")])
+        self.checks("a.html", [], "--no-empty")
         self.write("b.html", "<base href><base href='urn:a'><a href=x><a href='y z'>")
-        self.judges("b.html", [("1:51", "code-point")])
+        self.checks("b.html", [("1:51", "code-point")])
         self.write("c.html", "<base href='urn:a'><a href>")
-        self.judges("c.html", [("1:27", "opaque-base")])
+        self.checks("c.html", [("1:27", "opaque-base")])
 
     def test_character_references_of_html(self):
         """As the HTML Standard reads them in attributes, sections 13.2.5.72 to 13.2.5.80."""
@@ -136,7 +136,7 @@ class Documents(Texts):
 
     def test_xml(self):
         self.finds("a.rss", FEED, FEED_LINKS)
-        self.judges("a.rss", [("3:18", "code-point"), ("4:51", "port-range"), ("5:62", "percent"), ("6:60", "code-point")])
+        self.checks("a.rss", [("3:18", "code-point"), ("4:51", "port-range"), ("5:62", "percent"), ("6:60", "code-point")])
         self.finds("sitemap.xml", SITEMAP, "2:3:http://h/ b\n")
         self.finds("videos.xml", VIDEOS, "3:27:http://h/t\n4:17:http://h/ c\n5:16:p\n")
         self.finds("podcast.rss", PODCAST, "2:21:http://h/ b\n4:28:http://h/c\n5:20:d.png\n")
@@ -144,17 +144,17 @@ class Documents(Texts):
     @unittest.skipUnless(importlib.util.find_spec("markdown_it"), "markdown-it-py isn't installed")
     def test_markdown(self):
         self.finds("a.md", NOTES, NOTES_LINKS)
-        self.judges("a.md", [("1:47", "percent"), ("3:24", "code-point"), ("3:48", "host-ipv6"), ("6:26", "port-digit"),
+        self.checks("a.md", [("1:47", "percent"), ("3:24", "code-point"), ("3:48", "host-ipv6"), ("6:26", "port-digit"),
                              ("7:13", "code-point"), ("14:17", "code-point"), ("15:19", "code-point")])
 
     @unittest.skipUnless(importlib.util.find_spec("markdown_it"), "markdown-it-py isn't installed")
     def test_empty_links_of_markdown(self):
         self.finds("a.md", "[a]() ![]( ) [b](<>) [c](x)\n\n[d]: )\n", "1:5:\n1:12:\n1:19:\n1:26:x\n")
-        self.judges("a.md", [])
+        self.checks("a.md", [])
 
     @unittest.skipUnless(importlib.util.find_spec("markdown_it"), "markdown-it-py isn't installed")
     def test_what_stands_twice_in_markdown(self):
-        """A link is that of its own place, also where the same stands before it as text or in a destination."""
+        """A link is that of its own place, also where the same is before it as text or in a destination."""
         self.finds("a.md", "`<http://h/a>` <http://h/a>\n\n`<a href='x'>` <a href='x'>\n\n\\<http://h/b> <http://h/b>\n\n"
                    "[x](<http://h/c>) <http://h/c>\n\n![<q cite=y>](z) <q cite=y>\n",
                    "1:17:http://h/a\n3:25:x\n5:16:http://h/b\n7:6:http://h/c\n7:20:http://h/c\n9:15:z\n9:26:y\n")
@@ -169,7 +169,7 @@ class Documents(Texts):
         places = [(place, "code-point") for place in ("2:10", "5:10", "10:10", "14:15")]
         for end in ("\n", "\r\n"):
             self.finds("a.md", text.replace("\n", end), links)
-            self.judges("a.md", places)
+            self.checks("a.md", places)
 
     @unittest.skipUnless(importlib.util.find_spec("markdown_it"), "markdown-it-py isn't installed")
     def test_code_points_that_markdown_replaces(self):
@@ -235,17 +235,17 @@ class Documents(Texts):
 
     def test_bases(self):
         self.write("none.html", '<a href="//h/C|">')
-        self.judges("none.html", [("1:15", "code-point")])
+        self.checks("none.html", [("1:15", "code-point")])
         self.write("base.html", '<base href="urn:a"><a href="x">')
-        self.judges("base.html", [("1:29", "opaque-base")])
+        self.checks("base.html", [("1:29", "opaque-base")])
         # (the Standard lets no base be of these schemes, and a further one doesn't count)
         self.write("data.html", '<base href="DATA:,">\n<base href="urn:a">\n<a href="x"><a href="y z">')
-        self.judges("data.html", [("3:23", "code-point")])
+        self.checks("data.html", [("3:23", "code-point")])
         self.write("script.xhtml", '<html xmlns="http://www.w3.org/1999/xhtml"><base href="javascript:x"/>\n'
                    '<base href="urn:a"/><a href="x"/><a href="y z"/></html>')
-        self.judges("script.xhtml", [("2:44", "code-point")])
+        self.checks("script.xhtml", [("2:44", "code-point")])
         self.write("given.html", '<a href="/C:/x"><a href="//">')
-        self.judges("given.html", [("1:10", "drive-after-host"), ("1:28", "host-missing")], "--base", "file://h/a")
+        self.checks("given.html", [("1:10", "drive-after-host"), ("1:28", "host-missing")], "--base", "file://h/a")
         status, _, said = self.run_on("--check", "--base", "x", "none.html")
         self.assertEqual(status, 2)
         self.assertIn("the base is refused at place 0: it has no scheme [no-scheme]", said)
@@ -273,10 +273,10 @@ class Documents(Texts):
         ):
             with self.subTest(base):
                 self.write("a.html", '<base href="{}">\n<a href="x y"><a href="/C:/z"><a href="///">'.format(base))
-                self.judges("a.html", places)
+                self.checks("a.html", places)
 
     def test_bases_of_xhtml(self):
-        """The first `base` with an `href` counts for what a page has behind it, but where `xml:base` stands around."""
+        """The first `base` with an `href` counts for what a page has after it, but where `xml:base` is around."""
         page = '<html xmlns="http://www.w3.org/1999/xhtml" xmlns:x="http://www.w3.org/1999/xlink">{}</html>'
         for name, text, places in (
             ("a.xhtml", '\n<a href="x"/><base/><base target="y"/><base href=" urn:a "/><a href="x"/>', ["2:70"]),
@@ -298,19 +298,19 @@ class Documents(Texts):
             with self.subTest(name):
                 self.write(name, page.format(text))
                 wanted = [(place, rule or "opaque-base") for place, _, rule in (it.partition(" ") for it in places)]
-                self.judges(name, wanted)
+                self.checks(name, wanted)
 
     def test_profiles(self):
         self.write("a.html", '<a href="http://a_b/">')
-        self.judges("a.html", [("1:17", "host-domain")])
-        self.judges("a.html", [], "--profile", "wide")
+        self.checks("a.html", [("1:17", "host-domain")])
+        self.checks("a.html", [], "--profile", "wide")
         self.write("b.html", '<a href="http://a%2Db/"><a href="http://256/"><a href="urn:a b">')
         wide = [("1:17", "host-domain"), ("1:41", "host-number"), ("1:61", "code-point")]
-        self.judges("b.html", wide, "--profile", "wide")
-        self.judges("b.html", [("1:41", "host-number")], "--profile", "parser")
+        self.checks("b.html", wide, "--profile", "wide")
+        self.checks("b.html", [("1:41", "host-number")], "--profile", "parser")
 
     def test_broken(self):
-        """Where a document can't be read from a place on, what stands before it is written or judged."""
+        """Where a document can't be read from a place on, what is before it is written or checked."""
         self.write("b.xml", "<urlset><loc>http://h/ a</loc>\r<loc>http://h/ b</urlset>")
         place = "urlcheck-documents: b.xml:1:50: can't be read from here on: mismatched tag\n"
         status, out, said = self.run_on("b.xml")
@@ -339,7 +339,7 @@ class Documents(Texts):
         self.assertEqual(said, "urlcheck-documents: " + wanted)
 
     def test_the_page(self):
-        """Each command of docs/DOCUMENTS.md writes what stands there."""
+        """Each command of docs/DOCUMENTS.md writes what is there."""
         with open(os.path.join(TOP, "docs", "DOCUMENTS.md"), encoding="utf-8") as page:
             blocks = re.findall(r"^```shell-session\n(.*?)^```$", page.read(), re.M | re.S)
         self.assertTrue(blocks)

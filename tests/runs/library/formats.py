@@ -34,7 +34,7 @@ NAMES = ("two words.html", "b\u00fccher.html", "\u65e5\u672c.html", "a%20b,c;d=e
 
 
 def page(links, before=("",)):
-    """A document of HTML with these links, which have no character reference and no line's end, each behind a text."""
+    """A document of HTML with these links, which have no character reference and no line's end, each after a text."""
     return "".join("{}<a href='{}'>\n".format(before[at % len(before)], link) for at, link in enumerate(links))
 
 
@@ -125,7 +125,7 @@ class Alone(Reported):
     """What no located line says."""
 
     def test_a_base_of_the_document(self):
-        """A link is judged and mended against the base that its document names."""
+        """A link is checked and mended against the base that its document names."""
         self.write("a.html", '<base href="http://h/">\n<a href="http:a">')
         self.write("b.html", '<a href="http:a">')
         self.write("c.html", '<base href="urn:a">\n<a href="x"><a href="#x">')
@@ -144,7 +144,7 @@ class Alone(Reported):
         self.assertEqual(self.results("a.html")[0]["fixes"], [fix])
 
     def fix(self, uri, region, text, kind):
-        """A fix: `text` stands from a line and a column to a line and the column behind it."""
+        """A fix: `text` is from a line and a column to a line and the column after it."""
         line, start, last, end = region
         deleted = {"startLine": line, "startColumn": start, "endColumn": end}
         if last != line:
@@ -182,10 +182,10 @@ class Alone(Reported):
         self.assertEqual(found["locations"][0]["physicalLocation"]["region"], region)
         self.write("d.html", "<a href='a&#94;b'>")
         (found,) = self.results("d.html")
-        # The wrong code point is written as five, and ends behind them.
+        # The wrong code point is written as five, and ends after them.
         region = {"endColumn": 16, "startColumn": 11, "startLine": 1}
         self.assertEqual(found["locations"][0]["physicalLocation"]["region"], region)
-        # Without the tab `&amp;` would stand there, which is read as another link.
+        # Without the tab `&amp;` would be there, which is read as another link.
         self.write("c.html", "<a href='a&am\tp;'>")
         self.assertEqual(json.loads(self.reported("json", "c.html"))["mended"], "a&amp;")
         self.assertNotIn("fixes", self.results("c.html")[0])
@@ -269,7 +269,7 @@ class Alone(Reported):
         self.assertEqual(len(self.results("a.html")), 20_000)
 
     def test_columns(self):
-        """Where a link and a wrong place stand in each unit: behind `h` with a combining mark, two wide code points of three
+        """Where a link and a wrong place are in each unit: after `h` with a combining mark, two wide code points of three
         bytes, one of four bytes and two code units of UTF-16, and a tab, which goes on to the column 17."""
         text = "<p>h\u0301\u65e5\u672c\U0001f600 \t<a href='x\u65e5 \U0001f600'>\n"
         self.write("a.html", text)
@@ -282,7 +282,7 @@ class Alone(Reported):
                 self.assertEqual(self.run_on(*words, "a.html")[1].split(b":")[2], str(link).encode())
                 self.assertEqual(self.run_on(*words, "--check", "a.html")[1].split(b":")[2], str(place).encode())
                 found = [json.loads(self.reported("json", "--columns", unit, name)) for name in ("a.html", "b.html")]
-                # (a reference of five code points of ASCII stands before the second)
+                # (a reference of five code points of ASCII is before the second)
                 self.assertEqual([it["column"] for it in found], [place, place + 5])
                 self.assertIn(",col={},".format(place), self.reported("github", "--columns", unit, "a.html"))
                 self.assertIn(' column="{}" '.format(place), self.reported("checkstyle", "--columns", unit, "a.html"))

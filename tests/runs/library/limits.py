@@ -42,7 +42,7 @@ class Limits(Texts):
             self.assertIn(word, said)
 
     def test_what_is_not_utf8(self):
-        """The place of the first byte that isn't, in each unit; nothing of the document is judged."""
+        """The place of the first byte that isn't, in each unit; nothing of the document is checked."""
         before = "<a href='x y'>\n\u65e5e\u0301\U0001f600\t".encode()
         for data, places in (
             (b"<p>caf\xe9", ("1:7",) * 4),
@@ -67,7 +67,7 @@ class Limits(Texts):
         self.assertEqual(self.run_on("a.html", "b.html"), (2, "b.html:1:9:x\n", wanted))
 
     def test_what_github_shows(self):
-        """A document that isn't read to its end has an annotation behind those of its links, and a line as by all formats."""
+        """A document that isn't read to its end has an annotation after those of its links, and a line as by all formats."""
         self.write("a,b.html", "<a href='x y'>")
         self.write("broken.xml", "<urlset>\n<loc>http://h/ a</loc><b></urlset>")
         self.write("c.html", b"<a href='x y'>\n\xff")
@@ -165,7 +165,7 @@ class Limits(Texts):
         self.assertIn("a\ufffdb.html:1:11: error: ", self.run_on("--check", "a\nb.html")[1])
 
     def test_names_with_a_place(self):
-        """A name that a located line would cut elsewhere: it is judged, and not written."""
+        """A name that a located line would cut elsewhere: it is checked, and not written."""
         for name in ("a:1:2:b.html", "a:1:2.html", ":3:4:.html", "C:\\b.html", "a:1b:2:.html"):
             with self.subTest(name):
                 self.write(name, "<a href='x y'>")
@@ -325,7 +325,7 @@ class Limits(Texts):
                 faults = [] if fault is None else [_apart.Fault(fault)]
                 self.assertEqual(self.taken(parts), (PART.lines * count, faults))
         _, (fault,) = self.taken(busy)
-        self.assertRegex(fault.behind(), "^: takes more than 1 seconds (of processor time )?to read$")
+        self.assertRegex(fault.after(), "^: takes more than 1 seconds (of processor time )?to read$")
 
     def test_a_slow_reader(self):
         """A report that is read slowly takes no processor time."""
@@ -363,16 +363,16 @@ class Limits(Texts):
 
     def test_modules_of_strangers(self):
         """No process of the package takes a module of the current folder, which may be a stranger's."""
-        for name in ("urlcheck/__init__.py", "urlcheck/_judging.py", "urlcheck/_apart.py", "pickle.py", "queue.py"):
+        for name in ("urlcheck/__init__.py", "urlcheck/_checking.py", "urlcheck/_apart.py", "pickle.py", "queue.py"):
             self.write(name, "import os\nos.open('taken', os.O_CREAT)\n")
         self.write("a.html", "<a href='x y'>")
         folder = os.path.dirname(os.path.dirname(_apart.__file__))
         first = "sys.path.remove(''); sys.path.append({!r}); ".format(folder)
-        judges = first + "from urlcheck import _judging as it; "
-        judges += "print(len(it.Judging().judge(it.Asked('[a](b c)', 'markdown', 'utf-16'), lambda: False).remarks))"
+        checks = first + "from urlcheck import _checking as it; "
+        checks += "print(len(it.Checking().check(it.Asked('[a](b c)', 'markdown', 'utf-16'), lambda: False).remarks))"
         reads = first + "from urlcheck import documents; sys.argv[1:] = ['-q', 'a.html']; "
         reads += "documents.main()"
-        for program in (judges, reads):
+        for program in (checks, reads):
             ran = self.without_fork(program)
             self.assertEqual((ran.returncode, ran.stderr), (0, b""))
         self.assertFalse(os.path.exists(os.path.join(self.room, "taken")))

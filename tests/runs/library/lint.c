@@ -84,7 +84,7 @@ static uint64_t column(const uint8_t *text, size_t length, size_t place) {
     return told.column;
 }
 
-/* What the message says stands in the line of a compiler. */
+/* What the message says is in the line of a compiler. */
 static void see_message(const asked *it) {
     asked message = *it;
     message.call = MESSAGE;

@@ -153,7 +153,7 @@ static void refuse_each(int kind) {
 /* A unit a million times between two texts: where its first fault is, its rule, how many code points lie between two of
    them, and how many of them a unit has, by each profile. Worked out by hand from the URL Standard, section 4.3. */
 static const struct repeated {
-    const char *base, *before, *unit, *behind;
+    const char *base, *before, *unit, *after;
     size_t place;
     uint32_t rule;
     size_t step, each;
@@ -196,12 +196,12 @@ static void list_faults_of(const struct repeated *row, const uint8_t *text, size
 static void list_faults(void) {
     for (size_t at = 0; at < sizeof REPEATED / sizeof *REPEATED; at++) {
         const struct repeated *row = &REPEATED[at];
-        size_t front = strlen(row->before), size = strlen(row->unit), end = strlen(row->behind);
+        size_t front = strlen(row->before), size = strlen(row->unit), end = strlen(row->after);
         uint8_t *text = malloc(front + size * MILLION + end);
         if (!text) exit(1);
         memcpy(text, row->before, front);
         for (size_t unit = 0; unit < MILLION; unit++) memcpy(text + front + unit * size, row->unit, size);
-        memcpy(text + front + size * MILLION, row->behind, end);
+        memcpy(text + front + size * MILLION, row->after, end);
         for (uint32_t profile = 0; profile < 3; profile++) {
             list_faults_of(row, text, front + size * MILLION + end, profile);
         }
@@ -210,7 +210,7 @@ static void list_faults(void) {
     printf("library: all the faults of units repeated %d times\n", MILLION);
 }
 
-static void judge_100_mb(void) {
+static void check_100_mb(void) {
     size_t size = 100u << 20, front = sizeof "http://h/" - 1;
     uint8_t *text = malloc(size);
     if (!text) exit(1);
@@ -236,6 +236,6 @@ static void judge_100_mb(void) {
 int main(void) {
     for (int kind = 0; kind < 23; kind++) refuse_each(kind);
     list_faults();
-    judge_100_mb();
+    check_100_mb();
     return failed;
 }

@@ -109,7 +109,7 @@ class Configured(Texts):
     def test_kinds_and_gfm(self):
         self.write(".urlcheck.toml", "gfm = true\n[kinds]\n'md.in' = 'markdown'\n")
         self.write("a.md.in", "[a](<b c>) http://h/^\n")
-        self.judges("a.md.in", [("1:7", "code-point"), ("1:21", "code-point")])
+        self.checks("a.md.in", [("1:7", "code-point"), ("1:21", "code-point")])
 
     def test_the_nearest_counts(self):
         self.write(".urlcheck.toml", "ignore = ['x']")

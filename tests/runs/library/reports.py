@@ -2,7 +2,7 @@
 that it has a word for, of links alone and against a base.
 
     reports.py PROGRAM FILE [PROFILE..]: FILE has lines FILE:LINE:COLUMN:LINK. Any other line is taken for a link, and
-    gets a place in a file of a strange name. What `lint` doesn't judge is left out.
+    gets a place in a file of a strange name. What `lint` doesn't check is left out.
 """
 
 import itertools

@@ -50,7 +50,7 @@ class Texts(Room):
         self.assertEqual(out, "".join(name + ":" + line + "\n" for line in links.splitlines()))
         self.assertEqual(status, 0)
 
-    def judges(self, name, places, *words):
+    def checks(self, name, places, *words):
         """The program names these places, each with its rule."""
         status, out, _ = self.run_on("--check", *words, name)
         found = re.findall(r"^.*?:(\d+:\d+): error: .* \[(.*)\]$", out, re.M)

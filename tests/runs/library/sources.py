@@ -51,8 +51,8 @@ class Markdown(Texts):
                 out = self.run_on("-q", "--gfm", "a.md")[1]
                 self.assertEqual([it.split(":", 3)[3] for it in out.splitlines()], links)
         self.write("a.md", "x\n\n- y http://h/a^b\n\n> www.h.x/%4\n\n[z](b c)\n")
-        self.judges("a.md", [("3:15", SPACE), ("5:11", "percent"), ("7:6", "no-link")], "--gfm")
-        self.judges("a.md", [])
+        self.checks("a.md", [("3:15", SPACE), ("5:11", "percent"), ("7:6", "no-link")], "--gfm")
+        self.checks("a.md", [])
 
     @has("markdown_it")
     def test_destinations_with_a_space(self):
@@ -66,7 +66,7 @@ class Markdown(Texts):
                 found = [(place, "no-link") for place in places]
                 if rules == ["code-point"]:
                     found = [("1:7", "code-point")]
-                self.judges("a.md", found, "--gfm")
+                self.checks("a.md", found, "--gfm")
 
     @has("markdown_it")
     def test_front_matter(self):
@@ -110,7 +110,7 @@ class Rst(Texts):
 .. urlcheck: ignore
 `j <^>`_
 """, "4:5:http://h/a b\n4:30:http://h/c^\n4:50:http://h/d\n6:8:http://h/%4\n8:12:f^.png\n9:13:http://h/g\n13:13:h i\n")
-        self.judges("a.rst", [("4:15", SPACE), ("4:40", SPACE), ("6:17", "percent"), ("8:13", SPACE), ("13:14", SPACE)])
+        self.checks("a.rst", [("4:15", SPACE), ("4:40", SPACE), ("6:17", "percent"), ("8:13", SPACE), ("13:14", SPACE)])
 
     @has("docutils")
     def test_spaces_that_docutils_takes_away(self):
@@ -118,14 +118,14 @@ class Rst(Texts):
         self.finds("a.rst", "`a <http://h/long/\npath>`_ and `b <http://h/b\tc d>`_ and e_ and e_.\n\n.. _e: http://h/e f\n\n"
                    "`g <http://h/gh>`_ http://h/g h\n",
                    "1:5:http://h/long/path\n2:17:http://h/b\tc d\n4:8:http://h/e f\n6:5:http://h/gh\n6:20:http://h/g\n")
-        self.judges("a.rst", [("2:27", SPACE), ("4:18", SPACE)])
+        self.checks("a.rst", [("2:27", SPACE), ("4:18", SPACE)])
 
     @has("docutils")
     def test_what_docutils_does_not_know(self):
         self.write("a.rst", ":doc:`x`\n\n.. versionadded:: 1\n   See `y <http://h/^>`_.\n\n:d:`z <http://h/%>`\n\n"
                    ".. code-block:: c\n\n   http://no/^\n")
         self.write("b.rst", ":doc:`x`\n")
-        self.judges("a.rst", [("4:21", SPACE), ("6:17", "percent")])
+        self.checks("a.rst", [("4:21", SPACE), ("6:17", "percent")])
         said = self.run_on("a.rst", "b.rst")[2]
         self.assertEqual(said.count("are read for their text alone"), 1)
         self.assertTrue(said.startswith("urlcheck-documents: a.rst: roles and directives"), said)
@@ -201,12 +201,12 @@ class Feeds(Texts):
         """A `loc`, the `link` of RSS and a `guid` that is a permalink, and the `id` of Atom."""
         self.write("a.xml", "<rss><channel><link>x</link>\n<link/><item><link></link>\n<guid> /a </guid><guid isPermaLink='false'/>"
                    "<comments>x</comments><guid isPermaLink='false'>y</guid></item></channel></rss>")
-        self.judges("a.xml", [("1:21", "no-scheme"), ("2:1", "no-scheme"), ("2:20", "no-scheme"), ("3:8", "no-scheme")])
+        self.checks("a.xml", [("1:21", "no-scheme"), ("2:1", "no-scheme"), ("2:20", "no-scheme"), ("3:8", "no-scheme")])
         self.write("b.xml", "<urlset><url><loc>/a</loc></url><url><loc>http://h/</loc></url><url><loc/></url></urlset>")
-        self.judges("b.xml", [("1:19", "no-scheme"), ("1:69", "no-scheme")])
-        self.judges("b.xml", [("1:19", "no-scheme")], "--no-empty")
+        self.checks("b.xml", [("1:19", "no-scheme"), ("1:69", "no-scheme")])
+        self.checks("b.xml", [("1:19", "no-scheme")], "--no-empty")
         self.write("c.xml", "<feed xmlns='http://www.w3.org/2005/Atom'><id>tag:h,2005:x</id><id>y</id><link href='z'/></feed>")
-        self.judges("c.xml", [("1:68", "no-scheme")])
+        self.checks("c.xml", [("1:68", "no-scheme")])
 
     def test_html_in_feeds(self):
         """That of descriptions, however it is written, at its own places."""
@@ -214,10 +214,10 @@ class Feeds(Texts):
                    "<description>&lt;a href=\"x y\"&gt; &lt;img src='&amp;amp;^'&gt;</description>\n"
                    "<c:encoded><![CDATA[\n<p><a href='z z'>]]></c:encoded><title>&lt;a href='no no'></title>\n"
                    "<description>a &lt; b</description></channel></rss>")
-        self.judges("a.xml", [("2:27", SPACE), ("2:57", SPACE), ("4:14", SPACE)])
+        self.checks("a.xml", [("2:27", SPACE), ("2:57", SPACE), ("4:14", SPACE)])
         self.write("b.xml", "<feed xmlns='http://www.w3.org/2005/Atom' xml:base='urn:a'><summary type='html'>&lt;a href='b'></summary>"
                    "<summary>&lt;a href='no no'></summary></feed>")
-        self.judges("b.xml", [("1:93", "opaque-base")])
+        self.checks("b.xml", [("1:93", "opaque-base")])
 
 
 class Vocabularies(Texts):
@@ -253,9 +253,9 @@ class Vocabularies(Texts):
         """Images of AppStream have a scheme, unless the catalog says what they are relative to."""
         text = "<components{}><component><url>x</url><image>y</image><icon type='remote'>z</icon></component></components>"
         self.write("a.xml", text.format(""))
-        self.judges("a.xml", [("1:29", "no-scheme"), ("1:43", "no-scheme"), ("1:72", "no-scheme")])
+        self.checks("a.xml", [("1:29", "no-scheme"), ("1:43", "no-scheme"), ("1:72", "no-scheme")])
         self.write("b.xml", text.format(" media_baseurl='http://h/^'"))
-        self.judges("b.xml", [("1:37", SPACE), ("1:56", "no-scheme")])
+        self.checks("b.xml", [("1:37", SPACE), ("1:56", "no-scheme")])
 
     def test_unknown(self):
         """What looks like a link is read, and that no name is known is said."""
@@ -285,7 +285,7 @@ class Vocabularies(Texts):
         text = "<rss{}><channel>\n{}\n</channel></rss>".format(spaces, "\n".join(it.format("http://h/^") for it in elements))
         self.write("a.xml", text)
         wanted = [("{}:{}".format(at, it.index("{") + 10), SPACE) for at, it in enumerate(elements, 2)]
-        self.judges("a.xml", wanted)
+        self.checks("a.xml", wanted)
 
 
 class Css(Texts):
@@ -295,15 +295,15 @@ class Css(Texts):
                    "b { background: url( \"d e\" ), url(f%); content: 'url(no)' }\n@media x { c { src: url('g') } }\nd { x: url(h\\) i) }\n",
                    "1:10:a b.css\n2:13:c.css\n3:23:d e\n3:35:f%\n4:26:g\n")
         self.write("b.css", "a { b: url(c\\ d) }\n/* urlcheck: ignore */\ne { f: url('g h') }\r\ni { j: url('\u00e9 k') }")
-        self.judges("b.css", [("1:12", SPACE), ("4:14", SPACE)])
+        self.checks("b.css", [("1:12", SPACE), ("4:14", SPACE)])
 
     @has("tinycss2")
     def test_in_html(self):
         self.write("a.html", "<style>\n@import 'a b';\nc { d: url(e^) }</style>\n<p style='x: url(\"f&amp;g^\")' style='url(no^)'><p style=\"color: red\">"
                    "<a href='h i'>")
-        self.judges("a.html", [("2:11", SPACE), ("3:13", SPACE), ("4:26", SPACE), ("4:80", SPACE)])
+        self.checks("a.html", [("2:11", SPACE), ("3:13", SPACE), ("4:26", SPACE), ("4:80", SPACE)])
         self.write("b.svg", "<svg xmlns='http://www.w3.org/2000/svg'><g style='fill: url(a^)'/></svg>")
-        self.judges("b.svg", [("1:62", SPACE)])
+        self.checks("b.svg", [("1:62", SPACE)])
 
     def test_without_its_package(self):
         """A folder's style sheets are counted, one that is named isn't read, and of HTML that is said."""
@@ -369,9 +369,9 @@ class Asked(Texts):
                 self.assertIn("this link is empty, which its format forbids here [empty]", out)
                 self.assertEqual(self.run_on("-q", "--check", "--no-empty", "a.html"), (0, "", ""))
         self.write("b.html", "<a href=''><area href=''><base href=''><q cite=''></q>")
-        self.judges("b.html", [])
+        self.checks("b.html", [])
         self.write("c.xhtml", "<html xmlns='http://www.w3.org/1999/xhtml'><img src=''/><a href=''/></html>")
-        self.judges("c.xhtml", [("1:54", "empty")])
+        self.checks("c.xhtml", [("1:54", "empty")])
 
     def test_in_each_format(self):
         self.write("a.html", "<img src=''>")

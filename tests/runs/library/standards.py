@@ -15,7 +15,7 @@ CANDIDATES = (
     # A URL reaches to the next space; the commas at its end aren't part of it, and end the candidate.
     ("a,b", ["a,b"]), ("a,b 1x,c", ["a,b", "c"]), ("a, b", ["a", "b"]), ("a,, b", ["a", "b"]), ("a,,,", ["a"]),
     ("a,, 1x", ["a", "1x"]), ("data:image/png;base64,AA== 1x, b", ["data:image/png;base64,AA==", "b"]),
-    # A comma ends descriptors, also without a space behind it, and right behind spaces.
+    # A comma ends descriptors, also without a space after it, and right after spaces.
     ("a 1x,b 2x", ["a", "b"]), ("a 100w 50h,b", ["a", "b"]), ("a ,b", ["a", "b"]), ("a 1x ,, b", ["a", "b"]),
     # But parentheses keep spaces and commas, up to the first that closes, or else to the end.
     ("a f(1, 2) 1x, b", ["a", "b"]), ("a (, ) , b", ["a", "b"]), ("a f((1), b", ["a", "b"]), ("a f()(,) 1x, b", ["a", "b"]),
@@ -24,7 +24,7 @@ CANDIDATES = (
     ("my photo.png 1x, b.png 2x", ["my photo.png", "b.png"]), ("my photo.png, b.png", ["my photo.png", "b.png"]),
     ("a b\n c.png 100w 50h,d e", ["a b\n c.png", "d e"]), ("a.png, b c.png", ["a.png", "b c.png"]), ("a large", ["a large"]),
     ("photo 2.png .5x", ["photo 2.png"]), ("a (1).png 2x", ["a (1).png"]), ("a f(b, c 2x", ["a f(b, c 2x"]),
-    # What was perhaps to be a descriptor isn't part of the link, nor what stands behind one.
+    # What was perhaps to be a descriptor isn't part of the link, nor what is after one.
     ("a 2", ["a"]), ("a x2", ["a"]), ("a 100px", ["a"]), ("a -1x", ["a"]), ("a +.5e-3X", ["a"]), ("a w", ["a"]),
     ("a 1x b.png 2x", ["a"]),
 )
@@ -34,7 +34,7 @@ REFRESHES = (
     ("0;a", "a"), (" 5 ; a ", "a"), ("5.0.1,a", "a"), (".5;a", "a"), (".;a", "a"), ("5 a", "a"), ("5;;a", ";a"), ("5,;a", ";a"),
     ("a", None), (";a", None), ("5a", None), ("-1;a", None), ("+1;a", None), ("\u00a05;a", None), ("5\v;a", None),
     ("", None), ("5", None), ("5;", None), ("5; ", None),
-    # `url`, `=` and a quote, each with spaces behind it, may stand before the URL.
+    # `url`, `=` and a quote, each with spaces after it, may be before the URL.
     ("0;url=a", "a"), ("0; URL\t= 'a b' c", "a b"), ("0;uRl='a", "a"), ("0;'a'b", "a"), ("0;url= ' a '", "a"),
     ("0;url", "url"), ("0;url a", "url a"), ("0;ur=a", "ur=a"), ("0;u'a'", "u'a'"), ("0;url=url=a", "url=a"), ("0;url=''", None),
     ("0;url=a'b", "a'b"),
@@ -61,10 +61,10 @@ class Standards(Texts):
         self.write("a.html", '<p srcset="a b 1x"><img imagesrcset="a b 1x">')
         self.assertEqual(self.run_on("a.html")[1], "")
         self.write("a.xhtml", '<img xmlns="{}" srcset="a b.png 1x, c"/>'.format(XHTML))
-        self.judges("a.xhtml", [("1:52", "code-point")])
+        self.checks("a.xhtml", [("1:52", "code-point")])
 
     def test_spaces_in_candidates(self):
-        """A space in a candidate is refused where it stands, and the link is mended with its words."""
+        """A space in a candidate is refused where it is, and the link is mended with its words."""
         self.write("a.html", '<img srcset="a.png 1x, my photo.png 2x">')
         status, out, _ = self.run_on("-q", "--check", "--format", "caret", "a.html")
         self.assertEqual((status, out.splitlines()), (1, [
@@ -86,10 +86,10 @@ class Standards(Texts):
     def test_refreshes_of_xhtml(self):
         page = '<html xmlns="{}"><base href="urn:a"/>\n<meta http-equiv="Refresh" content="5; url=a&amp;b"/>\n{}</html>'
         self.write("a.xhtml", page.format(XHTML, '<meta name="x" content="5; url=c d"/><meta http-equiv="refresh"/>'))
-        self.judges("a.xhtml", [("2:44", "opaque-base")])
+        self.checks("a.xhtml", [("2:44", "opaque-base")])
 
-    def test_places_behind_references(self):
-        """A violation is reported where it stands in the source, also where that has references before it."""
+    def test_places_after_references(self):
+        """A violation is reported where it is in the source, also where that has references before it."""
         space = "code-point"
         for name, text, place in (
             # A reference may be read as two code points, and one that is none is read as itself.
@@ -119,7 +119,7 @@ class Standards(Texts):
         # A value with very many of them is reported at its beginning, and one with many isn't.
         for count, place in ((10_000, "1:50010"), (10_001, "1:10")):
             self.write("z.html", "<a href='" + "&amp;" * count + "^'>")
-            self.judges("z.html", [(place, space)])
+            self.checks("z.html", [(place, space)])
 
     def test_comments(self):
         """HTML Standard, sections 13.2.5.43 to 13.2.5.52: what ends a comment, and what doesn't."""
@@ -140,10 +140,10 @@ class Standards(Texts):
         for before in ("", "\ufeff"):
             for end in ("\n", "\r\n"):
                 self.finds("a.xml", before + text.replace("\n", end), "2:24:a b.css\n4:41:\u00e9&c d.xsl\n")
-                self.judges("a.xml", [("2:25", "code-point"), ("4:48", "code-point")])
+                self.checks("a.xml", [("2:25", "code-point"), ("4:48", "code-point")])
         self.write("b.xhtml", '<?xml-stylesheet href="x"?><html xmlns="{}"><base href="urn:a"/></html>'.format(XHTML))
-        self.judges("b.xhtml", [])
-        self.judges("b.xhtml", [("1:24", "opaque-base")], "--base", "urn:b")
+        self.checks("b.xhtml", [])
+        self.checks("b.xhtml", [("1:24", "opaque-base")], "--base", "urn:b")
 
     def test_bases_within_bases(self):
         """XML Base, section 4: each `xml:base` is relative to the one around it, the outermost to the document's own."""
@@ -179,19 +179,19 @@ class Standards(Texts):
         ):
             with self.subTest(outer=outer, inner=inner):
                 self.write("a.xml", feed.format(ATOM, outer, inner))
-                self.judges("a.xml", [(it, "opaque-base") for it in places])
+                self.checks("a.xml", [(it, "opaque-base") for it in places])
         # The outermost is read against what the caller names.
         self.write("a.xml", feed.format(ATOM, "c/", "../d/"))
-        self.judges("a.xml", [], "--base", "http://k/")
-        self.judges("a.xml", [(it, "opaque-base") for it in ("1:53", "2:13", "3:14", "3:33", "4:7")], "--base", "urn:k")
+        self.checks("a.xml", [], "--base", "http://k/")
+        self.checks("a.xml", [(it, "opaque-base") for it in ("1:53", "2:13", "3:14", "3:33", "4:7")], "--base", "urn:k")
 
     def test_bases_within_the_base_of_a_page(self):
         """In XHTML `xml:base` is relative to what `base` says, and that to the document's address alone."""
         page = '<html xmlns="{}">{}</html>'
         self.write("a.xhtml", page.format(XHTML, '<base href="foo://h/"/>\n<p xml:base="b/"><a href="//a^b"/></p>'))
-        self.judges("a.xhtml", [("2:30", "host-code-point")])
+        self.checks("a.xhtml", [("2:30", "host-code-point")])
         self.write("b.xhtml", page.format(XHTML, '<p xml:base="urn:a"><base href="b/"/>\n</p><a href="x"/>'))
-        self.judges("b.xhtml", [])
+        self.checks("b.xhtml", [])
 
     def test_many_bases(self):
         """Bases within bases get no longer from one to the next."""

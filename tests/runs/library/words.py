@@ -107,7 +107,7 @@ class Words(Texts):
             self.assertEqual((status, said), (2, "urlcheck-documents: b.html: can't be read: there is no such file\n"))
 
     def test_options_between_documents(self):
-        """Options stand before, between and behind the documents; behind `--` each word is one."""
+        """Options are before, between and after the documents; after `--` each word is one."""
         for name in ("a.html", "b.html", "--check", "-q"):
             self.write(name, "<a href='x y'>")
         links = "a.html:1:10:x y\nb.html:1:10:x y\n"
@@ -264,7 +264,7 @@ class Words(Texts):
                 self.assertEqual(found, wanted)
 
     def test_examples(self):
-        """Each example of the help and of the manual page judges, and finds the wrong link."""
+        """Each example of the help and of the manual page checks, and finds the wrong link."""
         wrong = '<a href="x y">'
         for name in ("site/a.html", "docs/a.html", "vendor/a.min.html"):
             self.write(name, wrong)
@@ -291,7 +291,7 @@ class Words(Texts):
     def test_ignored(self):
         self.write("patterns", "# templates\n\\{\\{\n")
         self.write("a.html", '<a href="{{ a }}"><a href="b c">')
-        self.judges("a.html", [("1:29", "code-point")], "--ignore", "patterns")
+        self.checks("a.html", [("1:29", "code-point")], "--ignore", "patterns")
         self.assertIn("1 ignored", self.run_on("--ignore", "patterns", "a.html")[2])
         self.write("wrong", "(\n")
         self.assertEqual(self.run_on("--ignore", "wrong", "a.html")[0], 2)
@@ -330,7 +330,7 @@ class Words(Texts):
         ):
             words = [word for name in names for word in ("--ignore", name)]
             with self.subTest(names):
-                self.judges("a.html", [(place, "code-point") for place in places], *words)
+                self.checks("a.html", [(place, "code-point") for place in places], *words)
                 counts = "urlcheck-documents: 1 document, 3 links, {} ignored\n".format(count)
                 self.assertEqual(self.run_on(*words, "a.html")[2], counts)
         for name, why in (("wrong", "wrong:2: no regular expression: "), ("missing", "missing: can't be read: ")):

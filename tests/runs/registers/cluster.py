@@ -17,15 +17,15 @@ PROGRAM = sys.argv[1]
 CUSTOM = """
 import os, time
 import urlcheck._spans as spans
-own = spans.judge
-def judge(span, base, profile):
+own = spans.check
+def check(span, base, profile):
     with open(span.file, "rb") as file:
         data = spans._lines_of(file, span)
     if b"kills" in data: os._exit(9)
     if b"fails" in data: raise RuntimeError("it fails")
     if b"kills-one" not in data and b"slow" in data: time.sleep(0.3)
     return own(span, base, profile)
-spans.judge = judge
+spans.check = check
 """
 
 
@@ -119,7 +119,7 @@ class Clusters(unittest.TestCase):
         self.assertEqual((ran.returncode, out.splitlines()), (1, self.said(path)), said)
 
     def test_parts_that_fail(self):
-        """A line that kills each worker that takes it, and one at which it fails: what is left is judged, and they are named."""
+        """A line that kills each worker that takes it, and one at which it fails: what is left is checked, and they are named."""
         for word in ("fails", "kills"):
             before = "".join(line + "\n" for line in lines(8_000, 3))
             path = self.write(word, (before + "http://h/" + word + "\n" + before).encode())

@@ -136,14 +136,14 @@ class Lists(Compared):
                     call(*words)
 
     def test_other_threads_run(self):
-        """While a text that takes long is judged, another thread counts."""
+        """While a text that takes long is checked, another thread counts."""
         texts, ticks, is_done = ["http://h/" + 20_000_000 * "a"] * 4, 0, []
 
-        def judge():
+        def check():
             urlcheck.check_many(texts)
             is_done.append(True)
 
-        thread = threading.Thread(target=judge)
+        thread = threading.Thread(target=check)
         thread.start()
         while not is_done:
             ticks += 1
@@ -198,7 +198,7 @@ class Lists(Compared):
 
 class Lines(Compared):
     def test_lines(self):
-        """Of lines of each end: their count, and each that is refused, with its number and where it stands."""
+        """Of lines of each end: their count, and each that is refused, with its number and where it is."""
         from urlcheck._native import check_lines
 
         data = b"".join(text.encode().replace(b"\n", b"") + end for text, end in zip(TEXTS, 1000 * [b"\n", b"\r\n", b"\r\r\n"]))

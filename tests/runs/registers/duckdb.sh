@@ -29,7 +29,7 @@ else
     extension=$room/duckdb/urlcheck.duckdb_extension
     in_its_shell "$extension" || fail 'duckdb: the answers in its shell'
     on_cases "$extension" "$cases" "$answers/wanted"
-    # (a base that is constant is judged once for a chunk of 2048 rows)
+    # (a base that is constant is checked once for a chunk of 2048 rows)
     { echo 'SET threads = 1;' && echo "SELECT count(url_resolve('a' || range, 'http://h/')) FROM range(10240);"; } |
         LD_PRELOAD="$counter $library/lib/liburlcheck.so" in_duckdb "$extension" >"$room/found" 2>&1
     grep -qx 'bases checked: 5' "$room/found" || fail "duckdb: a base is checked anew: $(cat "$room/found")"

@@ -106,7 +106,7 @@ encodings() {
     says "SELECT url_host('http://münchen.de/ü'), url_place('http://münchen.de/ü b')" 'münchen.de|20' latin1
     says "SELECT encode(convert_to(url_path('http://h/ü'), 'LATIN1'), 'hex'), encode(url_mend('http://h/ü b')::bytea, 'hex')" \
         '2ffc|687474703a2f2f682ffc25323062' latin1
-    # what has no form in UTF-8 ends the text that is judged
+    # what has no form in UTF-8 ends the text that is checked
     says "SELECT url_rule(convert_from('\x687474703a2f2f682f61'::bytea || '\x81'::bytea, 'SQL_ASCII'))" '' win1252
     if [ "$(sql -c 'SHOW server_version_num')" -ge 140000 ]; then
         says "SELECT url_rule('http://h/ü' || chr(129)), url_place('http://h/ü' || chr(129))" 'no-utf8|11' win1252
@@ -156,7 +156,7 @@ SQL
     [ "$after" -lt $((before + 1024)) ] || fail "postgresql: a backend grew from $before to $after kB"
 }
 
-# prepares QUERY COUNT : how often a query of one session has a base judged
+# prepares QUERY COUNT : how often a query of one session has a base checked
 prepares() {
     local before found
     before=$(grep -c 'bases checked' "$data/log" || true)
@@ -169,7 +169,7 @@ prepares() {
     [ "$found" = "bases checked: $2" ] || fail "postgresql: a base is checked anew: $1: $found"
 }
 
-# A base that stays is judged once for all rows, and one that changes for each.
+# A base that stays is checked once for all rows, and one that changes for each.
 bases() {
     prepares "SELECT count(url_is_valid(url, 'http://h/')) FROM many" 1
     prepares "SELECT count(url_resolve('a', url)) FROM many WHERE id BETWEEN 1 AND 200" 200

@@ -1,6 +1,6 @@
 /*
- * Preloaded into an engine, counts how often the extension has a base judged, and says so on standard error at the end of
- * the process: a base that stays is to be judged once.
+ * Preloaded into an engine, counts how often the extension has a base checked, and says so on standard error at the end of
+ * the process: a base that stays is to be checked once.
  */
 #define _GNU_SOURCE
 #include <dlfcn.h>

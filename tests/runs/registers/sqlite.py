@@ -81,7 +81,7 @@ class Registers(unittest.TestCase):
         self.assertEqual(self.database.execute("SELECT * FROM wrong").fetchall(), [])
 
     def test_a_base_is_kept(self):
-        """A base that stays is judged once, and one that changes, or its profile, at each row."""
+        """A base that stays is checked once, and one that changes, or its profile, at each row."""
         self.database.execute("CREATE TABLE link (url TEXT, base TEXT, profile TEXT)")
         rows = [("x", "http://h/", None), ("x", "mailto:x", None), ("//a_b/", "http://h/", "wide"), ("//a_b/", "http://h/", None)]
         self.database.executemany("INSERT INTO link VALUES (?, ?, ?)", rows * 3)

@@ -58,7 +58,7 @@ def duckdb(path, table):
         for number, (text, base) in enumerate(unpacked(path)):
             rows.writerow([number, _hex(text), "none" if base is None else _hex(base)])
     words = "url, base, profile"
-    # (texts go as hex digits behind an x, so that no reader of CSV has a say in them)
+    # (texts go as hex digits after an x, so that no reader of CSV has a say in them)
     print("CREATE TABLE cases AS SELECT id, decode(unhex(url[2:])) AS url, CASE base WHEN 'none' THEN NULL ELSE decode(unhex(base[2:])) END AS base "
           "FROM read_csv('{}', header = false, columns = {{'id': 'INTEGER', 'url': 'TEXT', 'base': 'TEXT'}});".format(table))
     columns = (COLUMNS + ", url_is_valid({0})").format(words).replace("), ", ")\n").split("\n")

@@ -174,7 +174,7 @@ fn framed(alloc: Global, parts: u64) -> Result<Vec<u8>, AllocError> {
     Ok(text)
 }
 
-// A run over a list with so many parts of each line answers so behind so many writes, reports on so many lines, and
+// A run over a list with so many parts of each line answers so after so many writes, reports on so many lines, and
 // writes this. Returned is how many bytes came at once at most, and how many writes failed.
 fn leaves(
     rt: &(impl Abort + AllocGlobal),
@@ -210,7 +210,7 @@ fn writes_what_is_much_in_the_midst_of_a_piece_and_of_a_line(rt: HostRuntime) ->
     Ok(())
 }
 
-// Behind so many writes one fails. What was taken before it is a prefix, and nothing is written behind it.
+// After so many writes one fails. What was taken before it is a prefix, and nothing is written after it.
 fn stops(
     rt: &(impl Abort + AllocGlobal),
     list: &[u8],
@@ -229,7 +229,7 @@ fn stops(
 }
 
 // Each write of a list of one line fails in turn. Those within the line fail before it is counted; the last two, of
-// what waits at the piece's end and of the frame's end, behind that.
+// what waits at the piece's end and of the frame's end, after that.
 fn stops_at_each_write(rt: &(impl Abort + AllocGlobal), list: &[u8], whole: &[u8]) {
     stops(rt, list, whole, (0, 0, 0));
     stops(rt, list, whole, (1, 1, 0));
@@ -247,7 +247,7 @@ fn stops_at_each_write_that_fails(rt: HostRuntime) -> Result<(), Fail> {
     Ok(())
 }
 
-// Where no memory is left behind so many parts of a line these are written, and the frame's end. The line isn't
+// Where no memory is left after so many parts of a line these are written, and the frame's end. The line isn't
 // counted.
 fn writes_parts(
     rt: &(impl Abort + AllocGlobal),

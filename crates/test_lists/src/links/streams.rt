@@ -1,5 +1,5 @@
 //! Runs over readers and writers that play a list of answers: I/O errors written out, and each read and each write made
-//! to fail in turn, behind short ones, in each profile.
+//! to fail in turn, after short ones, in each profile.
 ghost use Rattle.std.specs.Prelude.{◌<◌};
 
 use crate::line_ends::line_feeds;
@@ -141,9 +141,9 @@ fn reports_a_list_written_out(rt: HostRuntime) -> Result<(), Fail> {
     Ok(())
 }
 
-// Behind these reads one fails: of the report the lines of those that have ended, which are so many, are written, and
+// After these reads one fails: of the report the lines of those that have ended, which are so many, are written, and
 // no more.
-fn fails_behind(
+fn fails_after(
     rt: &(impl Abort + AllocGlobal),
     row: &Row<'_>,
     reads: &[Result<&[u8], DeviceFault>],
@@ -157,7 +157,7 @@ fn fails_behind(
     Ok(())
 }
 
-// Each read behind so many pieces fails in turn. Where none fails the report is whole.
+// Each read after so many pieces fails in turn. Where none fails the report is whole.
 fn fails_each_read(
     rt: &(impl Abort + AllocGlobal),
     row: &Row<'_>,
@@ -169,7 +169,7 @@ fn fails_each_read(
     let mut ended = 0usize;
     for piece in row.list.chunks(length) {
         reads.push(Err(DeviceFault))?;
-        fails_behind(rt, row, &reads, ended)?;
+        fails_after(rt, row, &reads, ended)?;
         reads.pop();
         reads.push(Ok(piece))?;
         ended = ended.saturating_add(line_feeds(piece));
@@ -198,7 +198,7 @@ fn reports_each_failed_read(rt: HostRuntime) -> Result<(), Fail> {
 // More writes than a run of the rows makes.
 const MOST_WRITES: usize = 200;
 
-// Whether the writes suffice for the whole report. Where they don't, the one behind them fails, and a beginning of the
+// Whether the writes suffice for the whole report. Where they don't, the one after them fails, and a beginning of the
 // report is written.
 fn writes_all(
     rt: &(impl Abort + AllocGlobal),
@@ -217,7 +217,7 @@ fn writes_all(
     Ok(false)
 }
 
-// Each write behind so many short ones fails in turn, until none does.
+// Each write after so many short ones fails in turn, until none does.
 fn fails_each_write(
     rt: &(impl Abort + AllocGlobal),
     row: &Row<'_>,
@@ -306,9 +306,9 @@ fn reads_what_a_source_gives(rt: HostRuntime) -> Result<(), Fail> {
     ends(&rt, long, &[Ok(b"\xff\xff\xff\xff\n")], &TAKEN, None)
 }
 
-// Behind as many lines as may come a further one is a fault.
+// After as many lines as may come a further one is a fault.
 #[test]
-fn stops_behind_the_last_line_that_may_come(rt: HostRuntime) -> Result<(), Fail> {
+fn stops_after_the_last_line_that_may_come(rt: HostRuntime) -> Result<(), Fail> {
     let one = Row {
         base: Some("http://h/"),
         line_bytes: 3,
@@ -331,7 +331,7 @@ fn stops_behind_the_last_line_that_may_come(rt: HostRuntime) -> Result<(), Fail>
     ends(&rt, whole, &[], &TAKEN, None)
 }
 
-// A sink that takes one byte a call and fails behind 20, and one that takes none.
+// A sink that takes one byte a call and fails after 20, and one that takes none.
 #[test]
 fn writes_what_a_sink_takes(rt: HostRuntime) -> Result<(), Fail> {
     let begun = Row {

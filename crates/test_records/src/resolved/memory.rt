@@ -19,8 +19,8 @@ fn repeated(alloc: Global, prefix: &str, piece: &str, count: usize) -> Result<St
     Ok(text)
 }
 
-// Whether long opaque paths, segments, queries and fragments behind a prefix are encoded, each code point as six.
-fn encodes_behind(alloc: Global, prefix: &str) -> Result<bool, ResolveFault> {
+// Whether long opaque paths, segments, queries and fragments after a prefix are encoded, each code point as six.
+fn encodes_after(alloc: Global, prefix: &str) -> Result<bool, ResolveFault> {
     let text = repeated(alloc, prefix, "\u{E9}", LONG)?;
     let url = repeated(alloc, prefix, "%C3%A9", LONG)?;
     denotes(alloc, text.as_str(), None, url.as_str())
@@ -29,7 +29,7 @@ fn encodes_behind(alloc: Global, prefix: &str) -> Result<bool, ResolveFault> {
 #[test]
 fn resolves_long_texts(rt: HostRuntime) -> Result<(), ResolveFault> {
     for prefix in ["urn:", "http://h/", "http://h/?", "http://h/#", "foo://"] {
-        assert!(rt; encodes_behind(rt.alloc(), prefix)?);
+        assert!(rt; encodes_after(rt.alloc(), prefix)?);
     }
     Ok(())
 }
@@ -74,7 +74,7 @@ fn refuses_a_long_text(rt: HostRuntime) -> Result<(), ResolveFault> {
     Ok(())
 }
 
-// The size of a block to ask for behind one that was refused.
+// The size of a block to ask for after one that was refused.
 fn smaller(size: usize) -> usize {
     if size > 4096 {
         size / 2

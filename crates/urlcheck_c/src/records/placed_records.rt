@@ -1,8 +1,8 @@
-//! The record that a valid text denotes: its text, and where its parts stand there.
+//! The record that a valid text denotes: its text, and where its parts are there.
 ghost use Rattle.std.specs.Prelude.{◌≡◌, ℕ, IfOk, None, Some, option_copied, string_bytes};
 ghost use Rattle.uv_model.specs.Records.Serialize.{serial};
-ghost use Rattle.urlcheck_c.specs.Base.{IsPreparedBase, IsUnjudgedWith, SaysNoBase};
-ghost use Rattle.urlcheck_c.specs.PlacedRecord.{IsPlacedAnswer, IsPlacedJudged, IsPlacedOrWanting, IsUnplaced};
+ghost use Rattle.urlcheck_c.specs.Base.{IsPreparedBase, IsUncheckedWith, SaysNoBase};
+ghost use Rattle.urlcheck_c.specs.PlacedRecord.{IsPlacedAnswer, IsPlacedChecked, IsPlacedOrWanting, IsUnplaced};
 ghost use Rattle.urlcheck_c.specs.PlacedRecord.{no_record};
 ghost use Rattle.urlcheck_c.specs.RecordPlaces.{AreRecordSpans};
 
@@ -16,7 +16,7 @@ use std::alloc::{AllocError, Global};
 use uv_model::Record;
 use uv_resolve::{ResolveFault, resolve};
 
-/// What a text is, and what stands where in the text of its record.
+/// What a text is, and what is where in the text of its record.
 #[repr(C)]
 #[derive(Clone, Copy)]
 pub struct PlacedRecord {
@@ -34,7 +34,7 @@ pub struct PlacedRecord {
 }
 
 /// Writes the text of the record that the bytes denote alone (URL Standard, sections 4.4 and 4.5) to the start of
-/// `out`, where it fits, and tells where its parts stand. Else, and where the bytes denote none, `out` stays as it is.
+/// `out`, where it fits, and tells where its parts are. Else, and where the bytes denote none, `out` stays as it is.
 #[unsafe(no_mangle)]
 pub extern "C" fn urlcheck_resolve_record(
     alloc: Global,
@@ -47,7 +47,7 @@ pub extern "C" fn urlcheck_resolve_record(
     placed_answer(alloc, text, None, profile, out)
 }
 
-/// The same against the bytes of a base, which is judged alone by the same profile.
+/// The same against the bytes of a base, which is checked alone by the same profile.
 #[unsafe(no_mangle)]
 pub extern "C" fn urlcheck_resolve_record_against(
     alloc: Global,
@@ -73,7 +73,7 @@ pub extern "C" fn urlcheck_resolve_record_with(
     ensures held { (number : ℕ) → IsPreparedBase number base_text.now base.now
         → IsPlacedAnswer number (Some base_text.now) text.now out.old out.new result }
     ensures none { SaysNoBase base.now
-        → IsUnplaced out.old out.new result × IsUnjudgedWith base.now text.now result.found }
+        → IsUnplaced out.old out.new result × IsUncheckedWith base.now text.now result.found }
 {
     match base.read() {
         Some(_) => placed_answer(alloc, text, Some(base_text), base.profile, out),
@@ -97,9 +97,9 @@ fn placed_answer(
     }
 }
 
-// The record of a text that is judged.
+// The record of a text that is checked.
 fn request_placed(alloc: Global, request: &Request<'_>, out: &mut [u8]) -> PlacedRecord
-    ensures { IsPlacedJudged request.now.profile request.now.base request.now.text.now out.old out.new result }
+    ensures { IsPlacedChecked request.now.profile request.now.base request.now.text.now out.old out.new result }
 {
     let text = request.text;
     match resolve(alloc, text, request.base.as_ref(), request.profile) {
@@ -111,7 +111,7 @@ fn request_placed(alloc: Global, request: &Request<'_>, out: &mut [u8]) -> Place
     }
 }
 
-// The record's text, written where it fits, and what stands where.
+// The record's text, written where it fits, and what is where.
 fn placed(alloc: Global, url: &Record, out: &mut [u8]) -> PlacedRecord
     ensures { IsPlacedOrWanting url.now out.old out.new result }
 {
@@ -127,14 +127,14 @@ fn placed(alloc: Global, url: &Record, out: &mut [u8]) -> PlacedRecord
     }
 }
 
-// A record's text, and where its parts stand.
+// A record's text, and where its parts are.
 #[derive(Drop)]
 struct PlacedText {
     text: String,
     parts: Spans,
 }
 
-// The text of a record, and where its parts stand there.
+// The text of a record, and where its parts are there.
 fn placed_text(alloc: Global, url: &Record) -> Result<PlacedText, AllocError>
     ensures text { IfOk result (λ placed. string_bytes placed.text ≡ serial url.now) }
     ensures parts { IfOk result (λ placed. AreRecordSpans url.now placed.parts) }

@@ -1,4 +1,4 @@
-//! Where the parts of a record stand in its text.
+//! Where the parts of a record are in its text.
 ghost use Rattle.std.specs.Prelude.{◌≡◌, ◌+◌, ◌<◌, ◌^◌, IfOk, None, length, option_copied};
 ghost use Rattle.uv_model.specs.declared.path.UrlPath.TheVariants.{Segments};
 ghost use Rattle.uv_model.specs.Records.Serialize.{serial_authority};
@@ -97,7 +97,7 @@ fn host_length(alloc: Global, host: Option<&Host>) -> Result<Option<usize>, Allo
     }
 }
 
-// The length of a port's digits, behind a host.
+// The length of a port's digits, after a host.
 fn port_length(
     alloc: Global,
     host: Option<&Host>,
@@ -115,7 +115,7 @@ fn port_length(
     }
 }
 
-// The length of what stands before a path in the place of a host.
+// The length of what is before a path in the place of a host.
 fn prefix_length(host: Option<&Host>, path: &UrlPath) -> usize
     ensures { result ≡ length (dot_prefix (option_copied host.entry) path.now) }
 {

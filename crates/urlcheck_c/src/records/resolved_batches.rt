@@ -13,8 +13,8 @@ use crate::request::{LoneRequest, prepared_alone, profile_of};
 use std::alloc::{AllocError, Global};
 use uv_resolve::{ResolveFault, resolve_serialized};
 
-/// Resolves texts that stand one behind the other in a buffer, alone, by the profile with this number, and writes the
-/// texts of their records one behind the other to the start of `out`, where they fit; else `out` stays as it is. Of
+/// Resolves texts that are one after the other in a buffer, alone, by the profile with this number, and writes the
+/// texts of their records one after the other to the start of `out`, where they fit; else `out` stays as it is. Of
 /// each text the number of its verdict, that of its rule and its place in code points go to three columns. A fourth has
 /// where the texts in `out` begin, and where the last ends. Each is left out where it has no room for all. Where
 /// nothing is resolved, nothing is written.
@@ -94,10 +94,10 @@ fn resolved(
         (resolved_columns verdicts.new rules.new places.new ends.new) out.old out.new result }
 {
     if profile_of(profile).is_none() {
-        return Batch::unjudged(CallOutcome::NoProfile, 0);
+        return Batch::unchecked(CallOutcome::NoProfile, 0);
     }
     if let Some(row) = offsets.first_wrong(texts.len()) {
-        return Batch::unjudged(CallOutcome::NoOffsets, row);
+        return Batch::unchecked(CallOutcome::NoOffsets, row);
     }
     let rows = resolve_rows(
         alloc, texts, offsets, profile, verdicts, rules, places, ends,
@@ -110,7 +110,7 @@ fn resolved(
     }
 }
 
-// The texts of the records of rows, one behind the other, and how many rows are valid.
+// The texts of the records of rows, one after the other, and how many rows are valid.
 #[derive(Drop)]
 struct ResolvedRows {
     text: String,

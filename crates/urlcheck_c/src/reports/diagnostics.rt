@@ -1,4 +1,4 @@
-//! A diagnostic on a text that stands in a file.
+//! A diagnostic on a text that is in a file.
 ghost use Rattle.std.specs.Prelude.{◌≡◌, ◌==◌, IfOk, not, string_bytes};
 ghost use Rattle.uv_report.specs.Report.{diagnostic_text};
 ghost use Rattle.urlcheck_c.specs.Diagnostic.{IsDiagnosticAnswer, IsDiagnosticRead, IsMendedRead};
@@ -12,11 +12,11 @@ use crate::written::{Written, given};
 use std::alloc::{AllocError, Global};
 use uv_report::{Diagnostic, Format, Mended, push_diagnostic};
 
-/// What is wrong with a text that stands in a file, by numbers.
+/// What is wrong with a text that is in a file, by numbers.
 #[repr(C)]
 #[derive(Clone, Copy)]
 pub struct Violation {
-    /// The number of the profile by which the text is judged.
+    /// The number of the profile by which the text is checked.
     pub profile: u32,
     /// The number of the violated rule, of texts or of lines.
     pub rule: u32,
@@ -28,11 +28,11 @@ pub struct Violation {
     pub column: u64,
     /// The number of the kind of the text to write in its place, or 0 where there is none.
     pub kind: u32,
-    /// Whether a program may write that where the text stands: not 0 for yes.
+    /// Whether a program may write that where the text is: not 0 for yes.
     pub has_region: u32,
     /// The column of the text's first code point, from 1.
     pub first_column: u64,
-    /// The column behind its last one, from 1.
+    /// The column after its last one, from 1.
     pub end_column: u64,
     /// The column at which what is wrong ends, from 1.
     pub end: u64,

@@ -2,8 +2,8 @@
 ghost use Rattle.std.specs.Prelude.{◌≡◌, ℕ, List, None, Some, option_copied};
 ghost use Rattle.uv_grammar.specs.Bases.{IsOfKind};
 ghost use Rattle.uv_model.specs.Records.Url.{Url};
-ghost use Rattle.urlcheck_c.specs.Base.{IsPreparedBase, IsUnjudgedWith, SaysNoBase};
-ghost use Rattle.urlcheck_c.specs.Faults.{IsFaultsAnswer, IsFaultsJudged, first_finding};
+ghost use Rattle.urlcheck_c.specs.Base.{IsPreparedBase, IsUncheckedWith, SaysNoBase};
+ghost use Rattle.urlcheck_c.specs.Faults.{IsFaultsAnswer, IsFaultsChecked, first_finding};
 
 use crate::bases::{Base, HeldRequest, prepared_with};
 use crate::buffers::store;
@@ -36,7 +36,7 @@ pub struct FaultCount {
 }
 
 /// Writes the faults of the bytes alone to the start of `out`, by place and at one place by the rule's number, as many
-/// as it holds, and gives their count. Behind them `out` stays as it is.
+/// as it holds, and gives their count. After them `out` stays as it is.
 #[unsafe(no_mangle)]
 pub extern "C" fn urlcheck_faults(
     alloc: Global,
@@ -49,7 +49,7 @@ pub extern "C" fn urlcheck_faults(
     answered(alloc, text, None, profile, out)
 }
 
-/// The same against the bytes of a base, which is judged alone by the same profile.
+/// The same against the bytes of a base, which is checked alone by the same profile.
 #[unsafe(no_mangle)]
 pub extern "C" fn urlcheck_faults_against(
     alloc: Global,
@@ -74,10 +74,10 @@ pub extern "C" fn urlcheck_faults_with(
     ensures held { (number : ℕ) (bytes : List ℕ) → IsPreparedBase number bytes base.now
         → IsFaultsAnswer number (Some bytes) text.now out.old out.new result }
     ensures none { SaysNoBase base.now
-        → (result.count ≡ 0) × (out.new ≡ out.old) × IsUnjudgedWith base.now text.now result.found }
+        → (result.count ≡ 0) × (out.new ≡ out.old) × IsUncheckedWith base.now text.now result.found }
 {
     match prepared_with(text, base) {
-        Ok(request) => judged_with(alloc, &request, out),
+        Ok(request) => checked_with(alloc, &request, out),
         Err(found) => FaultCount { found, count: 0 },
     }
 }
@@ -93,14 +93,14 @@ fn answered(
     ensures { IsFaultsAnswer profile (option_copied base.entry) text.now out.old out.new result }
 {
     match prepared(alloc, text, base, profile) {
-        Ok(request) => judged(alloc, &request, out),
+        Ok(request) => checked(alloc, &request, out),
         Err(found) => FaultCount { found, count: 0 },
     }
 }
 
-// The faults of a text that is judged.
-fn judged(alloc: Global, request: &Request<'_>, out: &mut [Fault]) -> FaultCount
-    ensures { IsFaultsJudged request.now.profile request.now.base request.now.text.now out.old out.new result }
+// The faults of a text that is checked.
+fn checked(alloc: Global, request: &Request<'_>, out: &mut [Fault]) -> FaultCount
+    ensures { IsFaultsChecked request.now.profile request.now.base request.now.text.now out.old out.new result }
 {
     let text = request.text;
     match faults(alloc, text, request.base.as_ref(), request.profile) {
@@ -118,10 +118,10 @@ fn judged(alloc: Global, request: &Request<'_>, out: &mut [Fault]) -> FaultCount
     }
 }
 
-// The faults of a text that is judged against a base that is held.
-fn judged_with(alloc: Global, request: &HeldRequest<'_>, out: &mut [Fault]) -> FaultCount
+// The faults of a text that is checked against a base that is held.
+fn checked_with(alloc: Global, request: &HeldRequest<'_>, out: &mut [Fault]) -> FaultCount
     ensures { (url : Url) → IsOfKind url request.now.base.kind
-        → IsFaultsJudged request.now.base.profile (Some url) request.now.text.now out.old out.new result }
+        → IsFaultsChecked request.now.base.profile (Some url) request.now.text.now out.old out.new result }
 {
     let text = request.text;
     match faults_of_kind(alloc, text, request.base.kind, request.base.profile) {

@@ -13,7 +13,7 @@ use uv_model::Profile;
 use uv_report::{LineViolation, push_message};
 use uv_text::count_code_points;
 
-/// What is wrong with a text that is judged by a profile.
+/// What is wrong with a text that is checked by a profile.
 #[derive(Drop)]
 pub(crate) struct FoundViolation<'t> {
     /// The text.
@@ -24,8 +24,8 @@ pub(crate) struct FoundViolation<'t> {
     pub(crate) violation: LineViolation,
 }
 
-/// Writes the sentence, without its end, on a violation of a text by a profile, at a place in code points: what stands
-/// behind `error: ` in the lines of compilers.
+/// Writes the sentence, without its end, on a violation of a text by a profile, at a place in code points: what is
+/// after `error: ` in the lines of compilers.
 #[unsafe(no_mangle)]
 pub extern "C" fn urlcheck_message(
     alloc: Global,

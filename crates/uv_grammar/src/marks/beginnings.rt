@@ -98,7 +98,7 @@ pub(crate) fn bracket_first(bytes: &[u8]) -> bool
     }
 }
 
-/// The place of the `:` behind the URL-scheme string with which the bytes begin (URL Standard, section 4.3). The search
+/// The place of the `:` after the URL-scheme string with which the bytes begin (URL Standard, section 4.3). The search
 /// ends at the first byte that no scheme holds, so that it doesn't go through the whole of a text without a scheme.
 pub(crate) fn scheme_end(bytes: &[u8]) -> Option<usize>
     ensures { IsSchemeEnd bytes.now result }
@@ -118,7 +118,7 @@ fn scheme_prefix(bytes: &[u8]) -> usize
     bytes.iter().take_while(|b| is_scheme_byte(**b)).count()
 }
 
-// Whether a letter stands at the start, and `:` at a place.
+// Whether a letter is at the start, and `:` at a place.
 fn ends_scheme(bytes: &[u8], end: usize) -> bool
     requires { end ≤ length bytes.now }
     ensures { result ≡ (starts_in is_ascii_alphabetic bytes.now && starts_in (λ c. c == colon) (drop end bytes.now)) }

@@ -37,8 +37,8 @@ ipv6_unique text pieces other is is' =
 pub bracketed_unique : (text pieces other : List ℕ) → IsBracketedIpv6 text pieces → IsBracketedIpv6 text other
     → pieces ≡ other
 bracketed_unique text pieces other (inner, spelled, is) (inner', spelled', is') =
-    let behind : inner ++ right_bracket ∷ [] ≡ inner' ++ right_bracket ∷ [] = cc in
-    let same : inner ≡ inner' = append_cancel_right inner inner' (right_bracket ∷ []) behind in
+    let after : inner ++ right_bracket ∷ [] ≡ inner' ++ right_bracket ∷ [] = cc in
+    let same : inner ≡ inner' = append_cancel_right inner inner' (right_bracket ∷ []) after in
     ipv6_unique inner' pieces other (rw same at is) is'
 
 -- digits don't begin with a bracket
@@ -54,9 +54,9 @@ digits_no_bracket (d ∷ digits) rest all some = no_bracket d all.0
 pub ipv4_no_bracket : (text : List ℕ) (value : ℕ) → IsIpv4 text value → starts_with_bracket text ≡ false
 ipv4_no_bracket text value (a, b, c, d, is, e) =
     let (numeral, number) = decimal_is_IsNumeral a (omega (arith, is.fit.0)) in
-    let behind = codes "." ++ (decimal b ++ (codes "." ++ (decimal c ++ (codes "." ++ decimal d)))) in
-    let shown : text ≡ decimal a ++ behind = is.spelled ∙ simp append_assoc in
-    rw shown (digits_no_bracket (decimal a) behind numeral.1 numeral.0)
+    let after = codes "." ++ (decimal b ++ (codes "." ++ (decimal c ++ (codes "." ++ decimal d)))) in
+    let shown : text ≡ decimal a ++ after = is.spelled ∙ simp append_assoc in
+    rw shown (digits_no_bracket (decimal a) after numeral.1 numeral.0)
 
 -- a bracketed text does
 pub bracketed_bracket : (text pieces : List ℕ) → IsBracketedIpv6 text pieces → starts_with_bracket text ≡ true

@@ -8,17 +8,17 @@ use Rattle.std.proofs.Math.Seq.{drop-append_seam}
 use Rattle.uv_model.specs.declared.scheme.Class.{Class}
 use Rattle.uv_model.specs.declared.scheme.Class.TheVariants.{SpecialNotFile, File, Other}
 use Rattle.uv_model.specs.Ascii.{slash, colon}
-use Rattle.uv_model.specs.Parts.{written_authority, written_behind}
+use Rattle.uv_model.specs.Parts.{written_after, written_authority}
 use Rattle.uv_model.specs.Path.{is_without, starts_with_slash}
-use Rattle.uv_model.specs.Cut.{IsHostCut, IsAuthorityCut, EndsAtPort, text_before, host_before, port_behind, host_cut}
+use Rattle.uv_model.specs.Cut.{IsHostCut, IsAuthorityCut, EndsAtPort, text_before, host_before, port_after, host_cut}
 use Rattle.uv_model.specs.Cut.{port_cut, host_text_cut, port_text_cut, path_text_cut, authority_in, is_within}
 use Rattle.uv_model.specs.Cut.{is_within_at_end, is_port_mark, starts_with_two_slashes}
 use Rattle.uv_model.proofs.Texts.MarkLemmas.{is_without-before, text_before-none, text_before-mark, at_first_mark}
 
 -- ---- the host and the port of an authority
 
--- Each `:` of the host text stands within brackets, and a port's `:` doesn't; `within` says whether the text's start
--- stands within brackets.
+-- Each `:` of the host text is within brackets, and a port's `:` doesn't; `within` says whether the text's start
+-- is within brackets.
 pub record EndsFrom (within : Bool) (host_text : List ℕ) (port_text : Option (List ℕ)) : Type 0 where
   pub none_before : (prefix rest : List ℕ) → host_text ≡ prefix ++ colon ∷ rest → is_within_at_end within prefix ≡ true
   pub ends : IsSome port_text → is_within_at_end within host_text ≡ false
@@ -44,38 +44,38 @@ rest_ends within c rest port_text e = record {
 -- the host before a port that may be there
 host_before-written : (within : Bool) (host_text : List ℕ) (port_text : Option (List ℕ))
     → EndsFrom within host_text port_text
-    → host_before within (host_text ++ written_behind colon port_text) ≡ host_text
+    → host_before within (host_text ++ written_after colon port_text) ≡ host_text
 host_before-written within [] None e = refl
 host_before-written within [] (Some port_text) e = rw (e.ends refl) refl
 host_before-written within (c ∷ rest) port_text e =
     rw (first_is_no_mark within c rest port_text e)
     (ap (λ xs. c ∷ xs) (host_before-written (is_within within c) rest port_text (rest_ends within c rest port_text e)))
 
--- the port behind a host
-port_behind-written : (within : Bool) (host_text : List ℕ) (port_text : Option (List ℕ))
+-- the port after a host
+port_after-written : (within : Bool) (host_text : List ℕ) (port_text : Option (List ℕ))
     → EndsFrom within host_text port_text
-    → port_behind within (host_text ++ written_behind colon port_text) ≡ port_text
-port_behind-written within [] None e = refl
-port_behind-written within [] (Some port_text) e = rw (e.ends refl) refl
-port_behind-written within (c ∷ rest) port_text e =
+    → port_after within (host_text ++ written_after colon port_text) ≡ port_text
+port_after-written within [] None e = refl
+port_after-written within [] (Some port_text) e = rw (e.ends refl) refl
+port_after-written within (c ∷ rest) port_text e =
     rw (first_is_no_mark within c rest port_text e)
-    (port_behind-written (is_within within c) rest port_text (rest_ends within c rest port_text e))
+    (port_after-written (is_within within c) rest port_text (rest_ends within c rest port_text e))
 
 -- an authority is its host and what follows it
 written_host : (within : Bool) (authority : List ℕ)
-    → authority ≡ host_before within authority ++ written_behind colon (port_behind within authority)
+    → authority ≡ host_before within authority ++ written_after colon (port_after within authority)
 written_host within [] = refl
 written_host within (c ∷ rest) = elim (cases_Bool (is_port_mark within c)) [
   | inl mark ↦ rw mark (ap (λ x. x ∷ rest) (eqb-true c colon (and_parts _ _ mark).0))
   | inr other ↦ rw other (ap (λ xs. c ∷ xs) (written_host (is_within within c) rest))
 ]
 
--- nothing stands round a code point in the empty text
+-- nothing is round a code point in the empty text
 pub nil_holds_none : (prefix rest : List ℕ) → [] ≡ prefix ++ colon ∷ rest → ⊥
 nil_holds_none [] rest same = cc
 nil_holds_none (c ∷ prefix) rest same = cc
 
--- a `:` that isn't a port's stands within brackets
+-- a `:` that isn't a port's is within brackets
 within_at_colon : (within : Bool) (c : ℕ) → is_port_mark within c ≡ false → c ≡ colon → within ≡ true
 within_at_colon within c other same =
     let test : not within ≡ false = rw (eq-eqb c colon same) at other in
@@ -95,7 +95,7 @@ ends_with_more within c rest port_text other e = record { none_before = before; 
 
 -- the computed host ends where it should
 host_before-ends : (within : Bool) (authority : List ℕ)
-    → EndsFrom within (host_before within authority) (port_behind within authority)
+    → EndsFrom within (host_before within authority) (port_after within authority)
 host_before-ends within [] =
     record {
       none_before = λ prefix rest same. absurd (nil_holds_none prefix rest same);
@@ -121,7 +121,7 @@ ends_at_port host_text port_text e = record { none_before = e.none_before; ends 
 -- the host by the class, of an authority that is written
 host_cut-written : (class : Class) (host_text : List ℕ) (port_text : Option (List ℕ))
     → IsHostCut class host_text port_text
-    → host_cut class (host_text ++ written_behind colon port_text) ≡ host_text
+    → host_cut class (host_text ++ written_after colon port_text) ≡ host_text
 host_cut-written File host_text port_text is = rw is (append-nil host_text)
 host_cut-written SpecialNotFile host_text port_text is =
     host_before-written false host_text port_text (ends_from_start host_text port_text is)
@@ -131,12 +131,12 @@ host_cut-written Other host_text port_text is =
 -- the port by the class
 port_cut-written : (class : Class) (host_text : List ℕ) (port_text : Option (List ℕ))
     → IsHostCut class host_text port_text
-    → port_cut class (host_text ++ written_behind colon port_text) ≡ port_text
+    → port_cut class (host_text ++ written_after colon port_text) ≡ port_text
 port_cut-written File host_text port_text is = sym is
 port_cut-written SpecialNotFile host_text port_text is =
-    port_behind-written false host_text port_text (ends_from_start host_text port_text is)
+    port_after-written false host_text port_text (ends_from_start host_text port_text is)
 port_cut-written Other host_text port_text is =
-    port_behind-written false host_text port_text (ends_from_start host_text port_text is)
+    port_after-written false host_text port_text (ends_from_start host_text port_text is)
 
 -- the computed host and port are a cut
 pub host_cut-is : (class : Class) (authority : List ℕ)
@@ -147,14 +147,14 @@ host_cut-is Other authority = ends_at_port _ _ (host_before-ends false authority
 
 -- and the authority is written with them
 pub written_host_cut : (class : Class) (authority : List ℕ)
-    → authority ≡ host_cut class authority ++ written_behind colon (port_cut class authority)
+    → authority ≡ host_cut class authority ++ written_after colon (port_cut class authority)
 written_host_cut File authority = sym (append-nil authority)
 written_host_cut SpecialNotFile authority = written_host false authority
 written_host_cut Other authority = written_host false authority
 
 -- ---- the authority and the path
 
--- what stands before the next `/`, of an authority and a path
+-- what is before the next `/`, of an authority and a path
 authority-written : (authority path : List ℕ) → is_without slash authority ≡ true → (path ≢ []
     → starts_with_slash path ≡ true)
     → text_before slash (authority ++ path) ≡ authority
@@ -166,13 +166,13 @@ authority-written authority (c ∷ rest) none path =
 -- an authority that is written after `//`, before a path
 record IsWritten (class : Class) (host_text : List ℕ) (port_text : Option (List ℕ)) (path : List ℕ) : Type 0 where
   authority :
-      authority_in (written_authority (Some host_text) port_text ++ path) ≡ host_text ++ written_behind colon port_text
+      authority_in (written_authority (Some host_text) port_text ++ path) ≡ host_text ++ written_after colon port_text
   is : IsHostCut class host_text port_text
 
 is_written : (class : Class) (host_text : List ℕ) (port_text : Option (List ℕ)) (path : List ℕ)
     → IsAuthorityCut class (Some host_text) port_text path → IsWritten class host_text port_text path
 is_written class host_text port_text path is = record {
-  authority = authority-written (host_text ++ written_behind colon port_text) path is.0 is.1;
+  authority = authority-written (host_text ++ written_after colon port_text) path is.0 is.1;
   is = is.2;
 }
 
@@ -200,31 +200,31 @@ pub path_text_cut-written : (class : Class) (host_text port_text : Option (List 
     → path_text_cut (written_authority host_text port_text ++ path) ≡ path
 path_text_cut-written class None port_text path is = rw is.1 refl
 path_text_cut-written class (Some host_text) port_text path is =
-    let authority = host_text ++ written_behind colon port_text in
+    let authority = host_text ++ written_after colon port_text in
     let w = is_written class host_text port_text path is in
     ap (λ a. drop (length a) (authority ++ path)) w.authority ∙ drop-append_seam authority path
 
 -- ---- the computed authority
 
--- what is left behind the text before the first `/` is nothing, or begins with that `/`
-record LeftBehind (text : List ℕ) : Type 0 where
+-- what is left after the text before the first `/` is nothing, or begins with that `/`
+record LeftAfter (text : List ℕ) : Type 0 where
   joined : text ≡ text_before slash text ++ drop (length (text_before slash text)) text
   start : drop (length (text_before slash text)) text ≢ []
       → starts_with_slash (drop (length (text_before slash text)) text) ≡ true
 
 -- the same with names for both parts
-left_behind_parts : (text before left : List ℕ) → text_before slash text ≡ before → text ≡ before ++ left
-    → (left ≢ [] → starts_with_slash left ≡ true) → LeftBehind text
-left_behind_parts text before left same joined start =
+left_after_parts : (text before left : List ℕ) → text_before slash text ≡ before → text ≡ before ++ left
+    → (left ≢ [] → starts_with_slash left ≡ true) → LeftAfter text
+left_after_parts text before left same joined start =
     let rest : drop (length (text_before slash text)) text ≡ left
     = ap (λ a. drop (length a) text) same ∙ (ap (drop (length before)) joined ∙ drop-append_seam before left) in
     record { joined = rw (rest, same) joined; start = rw rest start }
 
-left_behind : (text : List ℕ) → LeftBehind text
-left_behind text = elim (cases_Bool (is_without slash text)) [
-  | inl none ↦ left_behind_parts text text [] (text_before-none slash text none) (sym (append-nil text))
+left_after : (text : List ℕ) → LeftAfter text
+left_after text = elim (cases_Bool (is_without slash text)) [
+  | inl none ↦ left_after_parts text text [] (text_before-none slash text none) (sym (append-nil text))
       (λ some. absurd (some refl))
-  | inr some ↦ left_behind_parts text (text_before slash text) (slash ∷ after_first (λ c. c == slash) text) refl
+  | inr some ↦ left_after_parts text (text_before slash text) (slash ∷ after_first (λ c. c == slash) text) refl
       (at_first_mark slash text some) (λ more. refl)
 ]
 
@@ -238,7 +238,7 @@ two_slashes_before (c ∷ d ∷ rest) starts =
     let second : d ≡ slash = eqb-true d slash parts.1 in
     cc
 
--- the authority, written with its host and port, and the path behind it
+-- the authority, written with its host and port, and the path after it
 pub written_middle_cut : (class : Class) (middle : List ℕ)
     → middle ≡ written_authority (host_text_cut class middle) (port_text_cut class middle) ++ path_text_cut middle
 written_middle_cut class middle = elim (cases_Bool (starts_with_two_slashes middle)) [
@@ -246,10 +246,10 @@ written_middle_cut class middle = elim (cases_Bool (starts_with_two_slashes midd
       let authority = authority_in middle in
       let path = drop (length authority) (drop 2 middle) in
       let two : middle ≡ slash ∷ slash ∷ drop 2 middle = two_slashes_before middle starts in
-      let behind : drop 2 middle ≡ authority ++ path = (left_behind (drop 2 middle)).joined in
-      let host : authority ≡ host_cut class authority ++ written_behind colon (port_cut class authority)
+      let after : drop 2 middle ≡ authority ++ path = (left_after (drop 2 middle)).joined in
+      let host : authority ≡ host_cut class authority ++ written_after colon (port_cut class authority)
       = written_host_cut class authority in
-      rw starts (two ∙ ap (λ xs. slash ∷ slash ∷ xs) (behind ∙ ap (λ xs. xs ++ path) host))
+      rw starts (two ∙ ap (λ xs. slash ∷ slash ∷ xs) (after ∙ ap (λ xs. xs ++ path) host))
   | inr other ↦ rw other refl
 ]
 
@@ -259,10 +259,10 @@ pub authority_cut-is : (class : Class) (middle : List ℕ)
 authority_cut-is class middle = elim (cases_Bool (starts_with_two_slashes middle)) [
   | inl starts ↦
       let authority = authority_in middle in
-      let host : authority ≡ host_cut class authority ++ written_behind colon (port_cut class authority)
+      let host : authority ≡ host_cut class authority ++ written_after colon (port_cut class authority)
       = written_host_cut class authority in
-      let none : is_without slash (host_cut class authority ++ written_behind colon (port_cut class authority)) ≡ true
+      let none : is_without slash (host_cut class authority ++ written_after colon (port_cut class authority)) ≡ true
       = subst (λ (xs : List ℕ). is_without slash xs ≡ true) host (is_without-before slash (drop 2 middle)) in
-      rw starts (none, (left_behind (drop 2 middle)).start, host_cut-is class authority)
+      rw starts (none, (left_after (drop 2 middle)).start, host_cut-is class authority)
   | inr other ↦ rw other (refl, other)
 ]

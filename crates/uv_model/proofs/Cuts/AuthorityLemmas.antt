@@ -1,4 +1,4 @@
--- Authorities: the host, the port and the path that stand behind `//` in a valid text make a well-formed record.
+-- Authorities: the host, the port and the path that are after `//` in a valid text make a well-formed record.
 use Rattle.std.proofs.Common.{◌≡◌, ℕ, true, false, List, [], ◌∷◌, Option, Some, None, refl, sym, ap, subst, ◌∙◌, inl}
 use Rattle.std.proofs.Common.{inr, arith}
 use Rattle.std.specs.Str.Parse.{digits_value}
@@ -26,7 +26,7 @@ use Rattle.uv_model.proofs.Records.WellFormedLemmas.{IsUrlDomain-form, IsUrlOpaq
 
 -- ---- ports
 
--- the port that a text gives behind a host
+-- the port that a text gives after a host
 pub IsUrlPort-given : (scheme : List ℕ) (host : Option Host) (port_text : Option (List ℕ)) → MayBePortText port_text
     → takes_port (scheme_class scheme) host ≡ true → IsUrlPort scheme host (port_given (default_port scheme) port_text)
 IsUrlPort-given scheme host None is takes = tt
@@ -65,7 +65,7 @@ IsUrlPath-joined profile class host start [] text are joins = absurd (nothing jo
 IsUrlPath-joined profile class host start (segment ∷ rest) text are joins =
     IsUrlPath-walk profile class host start segment rest are joins.each
 
--- the path behind a host
+-- the path after a host
 pub IsUrlPath-authority : (profile : Profile) (class : Class) (host : Host) (segments : List (List ℕ))
     → AreSegments segments → IsUrlPath profile class (Some host) (Segments (authority_path class segments))
 IsUrlPath-authority profile SpecialNotFile host [] each = (IsUrlSegment-nil, tt)
@@ -78,7 +78,7 @@ IsUrlPath-authority profile File host (segment ∷ rest) each =
 IsUrlPath-authority profile Other host (segment ∷ rest) each =
     IsUrlPath-walk profile Other (Some host) [] segment rest tt each
 
--- the segments of a path behind an authority, where there is one
+-- the segments of a path after an authority, where there is one
 pub AreSegments-maybe : (segments : List (List ℕ)) (text : List ℕ) → MayBePathSlashed segments text
     → AreSegments segments
 AreSegments-maybe segments text (inl none) = rw none.1 tt
@@ -234,7 +234,7 @@ IsAuthority-other setting scheme text parts class default spelled (host, given, 
       }
     ]
 
--- what stands behind `//` makes a well-formed record
+-- what is after `//` makes a well-formed record
 pub IsAuthority-fits : (class : Class) (setting : Setting) (scheme text : List ℕ) (parts : Parts)
     → scheme_class scheme ≡ class → setting.default_port ≡ default_port scheme → parts.host_text ≡ Some text
     → FitsAuthority class setting text parts → IsAuthority setting.profile class scheme parts

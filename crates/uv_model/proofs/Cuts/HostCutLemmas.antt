@@ -26,7 +26,7 @@ use Rattle.uv_model.proofs.Hosts.DomainLemmas.{as_written}
 
 -- ---- texts whose code points pass a test
 
--- a mark that fails a test doesn't stand in a text that passes it
+-- a mark that fails a test isn't in a text that passes it
 pub is_without-passes : (test : ℕ → Bool) (mark : ℕ) (text : List ℕ) → test mark ≡ false → list_all test text ≡ true
     → is_without mark text ≡ true
 is_without-passes test mark [] fails each = refl
@@ -81,7 +81,7 @@ units_without_number_sign text units =
 
 -- ---- the texts of hosts, each by what it holds and where it ends
 
--- no mark that ends a host stands in the text, but for a `:` within brackets
+-- no mark that ends a host is in the text, but for a `:` within brackets
 pub record IsHostWord (text : List ℕ) : Type 0 where
   pub no_slash : is_without slash text ≡ true
   pub no_question_mark : is_without question_mark text ≡ true
@@ -214,28 +214,28 @@ closed within (c ∷ rest) = closed (is_within within c) rest
 stays_within : (c : ℕ) → is_address_code_point c ≡ true → is_within true c ≡ true
 stays_within c h = grind (arith, nat_tests)
 
--- what stands before a `:` of an address in brackets is within them
+-- what is before a `:` of an address in brackets is within them
 within_address : (inner prefix rest : List ℕ) → list_all is_address_code_point inner ≡ true
     → inner ++ right_bracket ∷ [] ≡ prefix ++ colon ∷ rest → is_within_at_end true prefix ≡ true
 within_address inner [] rest each same = refl
 within_address [] (x ∷ prefix) rest each same =
-    let behind : [] ≡ prefix ++ colon ∷ rest = cc in
-    absurd (nil_holds_none prefix rest behind)
+    let after : [] ≡ prefix ++ colon ∷ rest = cc in
+    absurd (nil_holds_none prefix rest after)
 within_address (c ∷ inner) (x ∷ prefix) rest each same =
     let parts = and_parts (is_address_code_point c) (list_all is_address_code_point inner) each in
     let first : c ≡ x = cc in
-    let behind : inner ++ right_bracket ∷ [] ≡ prefix ++ colon ∷ rest = cc in
-    rw (← first, stays_within c parts.0) (within_address inner prefix rest parts.1 behind)
+    let after : inner ++ right_bracket ∷ [] ≡ prefix ++ colon ∷ rest = cc in
+    rw (← first, stays_within c parts.0) (within_address inner prefix rest parts.1 after)
 
--- each `:` behind an opening bracket has it as the nearest bracket before it
+-- each `:` after an opening bracket has it as the nearest bracket before it
 within_opened : (opening : ℕ) (inner prefix rest : List ℕ) → is_within false opening ≡ true → opening ≢ colon
     → list_all is_address_code_point inner ≡ true → opening ∷ (inner ++ right_bracket ∷ []) ≡ prefix ++ colon ∷ rest
     → ends_within prefix ≡ true
 within_opened opening inner [] rest opens other each same = absurd (other cc)
 within_opened opening inner (x ∷ prefix) rest opens other each same =
     let first : opening ≡ x = cc in
-    let behind : inner ++ right_bracket ∷ [] ≡ prefix ++ colon ∷ rest = cc in
-    rw (← first, opens) (within_address inner prefix rest each behind)
+    let after : inner ++ right_bracket ∷ [] ≡ prefix ++ colon ∷ rest = cc in
+    rw (← first, opens) (within_address inner prefix rest each after)
 
 -- each `:` of an address in brackets has `[` as the nearest bracket before it
 within_brackets : (inner prefix rest : List ℕ) → list_all is_address_code_point inner ≡ true

@@ -10,8 +10,8 @@ use Rattle.uv_model.specs.Parts.{written_scheme}
 use Rattle.uv_model.specs.Path.{is_without}
 use Rattle.uv_model.specs.Scheme.{is_scheme, is_scheme_code_point}
 use Rattle.uv_model.specs.Scheme.{starts_with_scheme, goes_on_to_colon}
-use Rattle.uv_model.specs.Cut.{IsSchemeCut, scheme_cut, behind_scheme, text_before}
-use Rattle.uv_model.proofs.Texts.MarkLemmas.{is_without-more, text_before-mark, after_first-mark}
+use Rattle.uv_model.specs.Cut.{IsSchemeCut, after_scheme, scheme_cut, text_before}
+use Rattle.uv_model.proofs.Texts.MarkLemmas.{after_first-mark, is_without-more, text_before-mark}
 
 -- a code point of a scheme isn't `:`
 pub scheme_not_colon : (c : ℕ) → is_scheme_code_point c ≡ true → (c == colon) ≡ false
@@ -50,7 +50,7 @@ starts_with_written_scheme (c ∷ scheme) rest is =
     let parts = and_parts (is_ascii_alphabetic c) (list_all is_scheme_code_point scheme) is in
     and_from _ _ parts.0 (goes_on_written scheme rest parts.1)
 
--- what stands before the first `:` of such a text
+-- what is before the first `:` of such a text
 record Before (text : List ℕ) : Type 0 where
   prefix : List ℕ
   rest : List ℕ
@@ -102,29 +102,29 @@ scheme_cut-written (Some scheme) middle is =
     (ap Some (text_before-mark colon scheme middle (scheme_without_colon scheme is)))
 
 -- what follows that scheme
-pub behind_scheme-written : (scheme : Option (List ℕ)) (middle : List ℕ) → IsSchemeCut scheme middle
-    → behind_scheme (written_scheme scheme ++ middle) ≡ middle
-behind_scheme-written None middle is = rw is refl
-behind_scheme-written (Some scheme) middle is =
+pub after_scheme-written : (scheme : Option (List ℕ)) (middle : List ℕ) → IsSchemeCut scheme middle
+    → after_scheme (written_scheme scheme ++ middle) ≡ middle
+after_scheme-written None middle is = rw is refl
+after_scheme-written (Some scheme) middle is =
     rw (append_assoc scheme (colon ∷ []) middle, starts_with_written_scheme scheme middle is)
     (after_first-mark colon scheme middle (scheme_without_colon scheme is))
 
 -- a start is its scheme and what follows it
-pub written_scheme_cut : (start : List ℕ) → start ≡ written_scheme (scheme_cut start) ++ behind_scheme start
+pub written_scheme_cut : (start : List ℕ) → start ≡ written_scheme (scheme_cut start) ++ after_scheme start
 written_scheme_cut start = elim (cases_Bool (starts_with_scheme start)) [
   | inl starts ↦
       let split = splits_at_scheme start starts in
       let none = scheme_without_colon split.scheme split.is in
       let before : text_before colon start ≡ split.scheme
       = ap (text_before colon) split.joined ∙ text_before-mark colon split.scheme split.rest none in
-      let behind : after_first (λ c. c == colon) start ≡ split.rest
+      let after : after_first (λ c. c == colon) start ≡ split.rest
       = ap (after_first (λ c. c == colon)) split.joined ∙ after_first-mark colon split.scheme split.rest none in
-      rw (starts, before, behind, append_assoc split.scheme (colon ∷ []) split.rest) split.joined
+      rw (starts, before, after, append_assoc split.scheme (colon ∷ []) split.rest) split.joined
   | inr other ↦ rw other refl
 ]
 
 -- the computed scheme is a cut
-pub scheme_cut-is : (start : List ℕ) → IsSchemeCut (scheme_cut start) (behind_scheme start)
+pub scheme_cut-is : (start : List ℕ) → IsSchemeCut (scheme_cut start) (after_scheme start)
 scheme_cut-is start = elim (cases_Bool (starts_with_scheme start)) [
   | inl starts ↦
       let split = splits_at_scheme start starts in

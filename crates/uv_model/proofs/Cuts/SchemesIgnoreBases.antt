@@ -1,4 +1,4 @@
--- A text with a scheme is judged without looking at the base.
+-- A text with a scheme is checked without looking at the base.
 use Rattle.std.proofs.Common.{◌≡◌, ℕ, true, false, ◌==◌, List, [], ◌∷◌, ◌++◌, Option, Some, None, refl, sym, ap, ◌∙◌}
 use Rattle.std.proofs.Common.{inl, inr, subst, append_assoc}
 use Rattle.std.specs.Prelude.{IsSome}
@@ -21,12 +21,12 @@ use Rattle.uv_model.specs.Setting.{Setting, scheme_or, setting_of}
 use Rattle.uv_model.specs.Valid.{Valid, FitsAuthority, FitsCut, FitsHostText, FitsForm, FitsScheme, FitsBase}
 use Rattle.uv_model.specs.Valid.{scheme_in}
 use Rattle.uv_model.specs.Scheme.{starts_with_scheme}
-use Rattle.uv_model.specs.Cut.{Cut, cut_of, class_in, scheme_cut, behind_scheme, text_before, text_behind}
+use Rattle.uv_model.specs.Cut.{Cut, cut_of, class_in, scheme_cut, after_scheme, text_before, text_after}
 use Rattle.uv_model.specs.Cut.{IsAuthorityCut, host_text_cut, is_followed, port_text_cut, path_text_cut}
 use Rattle.uv_model.specs.Laws.Cuts.{TextsWithASchemeIgnoreTheBase}
 use Rattle.uv_model.specs.Violations.Violation.{StartViolation, PathStartViolation, HostPartViolation}
 use Rattle.uv_model.specs.Violations.UnitViolation.{PathUnitViolation}
-use Rattle.uv_model.specs.Violations.Violation.{JudgedViolation, HasHost, ViolationOf, Violation, has_opaque_path}
+use Rattle.uv_model.specs.Violations.Violation.{CheckedViolation, HasHost, ViolationOf, Violation, has_opaque_path}
 use Rattle.uv_model.proofs.Texts.MarkLemmas.{is_without-cons, text_before-other}
 use Rattle.uv_model.proofs.Cuts.SchemeCutLemmas.{splits_at_scheme, starts_with_written_scheme}
 use Rattle.uv_model.proofs.Cuts.ValidCutLemmas.{scheme_without, valid_texts}
@@ -35,15 +35,15 @@ use Rattle.uv_model.proofs.Violations.ViolationsExcludeParts.{class_with_scheme}
 
 -- ---- a text with a scheme has it before its first `?` and `#`
 
--- what stands before the first mark, of a text that begins with one without it
-text_before-behind : (mark : ℕ) (xs ys : List ℕ) → is_without mark xs ≡ true
+-- what is before the first mark, of a text that begins with one without it
+text_before-after : (mark : ℕ) (xs ys : List ℕ) → is_without mark xs ≡ true
     → text_before mark (xs ++ ys) ≡ xs ++ text_before mark ys
-text_before-behind mark [] ys none = refl
-text_before-behind mark (c ∷ xs) ys none =
+text_before-after mark [] ys none = refl
+text_before-after mark (c ∷ xs) ys none =
     let parts = is_without-cons mark c xs none in
-    text_before-other mark c (xs ++ ys) parts.0 ∙ ap (λ zs. c ∷ zs) (text_before-behind mark xs ys parts.1)
+    text_before-other mark c (xs ++ ys) parts.0 ∙ ap (λ zs. c ∷ zs) (text_before-after mark xs ys parts.1)
 
--- so what stands before the first such mark begins with the scheme too
+-- so what is before the first such mark begins with the scheme too
 starts_before : (mark : ℕ) (text : List ℕ) → is_scheme_code_point mark ≡ false → is_ascii_alphabetic mark ≡ false
     → (colon == mark) ≡ false → starts_with_scheme text ≡ true → starts_with_scheme (text_before mark text) ≡ true
 starts_before mark text other letter differs starts =
@@ -52,11 +52,11 @@ starts_before mark text other letter differs starts =
     let whole : text ≡ (split.scheme ++ colon ∷ []) ++ split.rest
     = split.joined ∙ sym (append_assoc split.scheme (colon ∷ []) split.rest) in
     let prefix : text_before mark text ≡ split.scheme ++ colon ∷ text_before mark split.rest
-    = ap (text_before mark) whole ∙ (text_before-behind mark (split.scheme ++ colon ∷ []) split.rest none
+    = ap (text_before mark) whole ∙ (text_before-after mark (split.scheme ++ colon ∷ []) split.rest none
     ∙ append_assoc split.scheme (colon ∷ []) (text_before mark split.rest)) in
     ap starts_with_scheme prefix ∙ starts_with_written_scheme split.scheme (text_before mark split.rest) split.is
 
--- what stands before the query begins with the scheme
+-- what is before the query begins with the scheme
 start_with_scheme : (text : List ℕ) → starts_with_scheme text ≡ true
     → starts_with_scheme (text_before question_mark (text_before number_sign text)) ≡ true
 start_with_scheme text starts =
@@ -87,16 +87,16 @@ same_cut base other text starts =
     with_class : Class → List ℕ → Cut
     with_class class start = record {
       scheme = scheme_cut start;
-      host_text = host_text_cut class (behind_scheme start);
-      port_text = port_text_cut class (behind_scheme start);
-      path_text = path_text_cut (behind_scheme start);
-      query = text_behind question_mark (text_before number_sign text);
-      fragment = text_behind number_sign text;
+      host_text = host_text_cut class (after_scheme start);
+      port_text = port_text_cut class (after_scheme start);
+      path_text = path_text_cut (after_scheme start);
+      query = text_after question_mark (text_before number_sign text);
+      fragment = text_after number_sign text;
     }
 
 -- ---- valid parts
 
--- the scheme by which the parts are judged
+-- the scheme by which the parts are checked
 same_scheme : (base other : Option Url) (scheme : Option (List ℕ)) → IsSome scheme
     → scheme_or base scheme ≡ scheme_or other scheme
 same_scheme base other None some = absurd (false≢true some)
@@ -230,12 +230,12 @@ same_path_start profile base other cut some place DriveAfterHost (class, host, d
     (same ∙ class, same_has_host base other cut.scheme cut.host_text some host, drive, at)
 same_path_start profile base other cut some place _ h = absurd h
 
-same_judged : (profile : Profile) (base other : Option Url) (cut : Cut) → IsSome cut.scheme → (place : ℕ) (rule : Rule)
-    → JudgedViolation (setting_of profile base cut.scheme) cut place rule
-    → JudgedViolation (setting_of profile other cut.scheme) cut place rule
-same_judged profile base other cut some place rule (inl h) = inl (same_host profile base other cut some place rule h)
-same_judged profile base other cut some place rule (inr (inl h)) = inr (inl h)
-same_judged profile base other cut some place rule (inr (inr h)) =
+same_checked : (profile : Profile) (base other : Option Url) (cut : Cut) → IsSome cut.scheme → (place : ℕ) (rule : Rule)
+    → CheckedViolation (setting_of profile base cut.scheme) cut place rule
+    → CheckedViolation (setting_of profile other cut.scheme) cut place rule
+same_checked profile base other cut some place rule (inl h) = inl (same_host profile base other cut some place rule h)
+same_checked profile base other cut some place rule (inr (inl h)) = inr (inl h)
+same_checked profile base other cut some place rule (inr (inr h)) =
     inr (inr (record {
       inner = h.inner;
       moved = h.moved;
@@ -252,7 +252,7 @@ same_violation_of profile base other text cut some place rule (inr (inl (started
     inr (inl (
       (λ p r s. started p r
           (same_start profile other base text cut some p r s)),
-      same_judged profile base other cut some place rule h,
+      same_checked profile base other cut some place rule h,
     ))
 same_violation_of profile base other text cut some place rule (inr (inr (inl h))) =
     inr (inr (inl (record {

@@ -12,7 +12,7 @@ use Rattle.uv_model.specs.declared.scheme.Class.TheVariants.{SpecialNotFile, Fil
 use Rattle.uv_model.specs.declared.host.Host.{Host}
 use Rattle.uv_model.specs.Ascii.{slash}
 use Rattle.uv_model.specs.Path.{MayBePathSlashed, IsPathAbsolute, IsPathRelative, IsPathSlashed, JoinsTo, AreSegments}
-use Rattle.uv_model.specs.Path.{segments_behind, starts_with_slash}
+use Rattle.uv_model.specs.Path.{segments_after, starts_with_slash}
 use Rattle.uv_model.specs.Parts.{Form, SchemeAuthority, SchemePath, SchemeOpaque, Authority, PathAbsolute}
 use Rattle.uv_model.specs.Parts.{PathRelative, NoPath, Parts, has_scheme}
 use Rattle.uv_model.specs.Setting.{Setting, setting_of}
@@ -50,17 +50,17 @@ relative_segments segments text is = joined_segments segments text is.joins
 
 -- the segments of a path-absolute string
 pub absolute_segments : (segments : List (List ℕ)) (text : List ℕ) → IsPathAbsolute segments text
-    → segments ≡ segments_behind text
-absolute_segments segments text is = rw is.slashed (relative_segments segments is.behind is.relative)
+    → segments ≡ segments_after text
+absolute_segments segments text is = rw is.slashed (relative_segments segments is.after is.relative)
 
 -- the segments of `/` and any segments
 pub slashed_segments : (segments : List (List ℕ)) (text : List ℕ) → IsPathSlashed segments text
-    → segments ≡ segments_behind text
-slashed_segments segments text is = rw is.slashed (joined_segments segments is.behind is.joins)
+    → segments ≡ segments_after text
+slashed_segments segments text is = rw is.slashed (joined_segments segments is.after is.joins)
 
--- the segments of a path behind an authority
+-- the segments of a path after an authority
 pub may_be_segments : (segments : List (List ℕ)) (text : List ℕ) → MayBePathSlashed segments text
-    → segments ≡ segments_behind text
+    → segments ≡ segments_after text
 may_be_segments segments text (inl (nothing, none)) = rw (nothing, none) refl
 may_be_segments segments text (inr is) = slashed_segments segments text is
 
@@ -69,7 +69,7 @@ abbrev pub segments_of : Form → List ℕ → List (List ℕ)
 segments_of SchemeOpaque text = []
 segments_of PathRelative text = pieces text
 segments_of NoPath text = []
-segments_of _ text = segments_behind text
+segments_of _ text = segments_after text
 
 -- ---- the form
 

@@ -17,7 +17,7 @@ use Rattle.uv_model.specs.Scheme.{is_scheme, is_scheme_code_point}
 use Rattle.uv_model.specs.Records.Url.{Url}
 use Rattle.uv_model.specs.Parts.{Form, SchemeAuthority, SchemePath, SchemeOpaque, Authority, PathAbsolute}
 use Rattle.uv_model.specs.Parts.{PathRelative, NoPath, Parts, has_scheme, written, written_scheme, written_authority}
-use Rattle.uv_model.specs.Parts.{written_behind}
+use Rattle.uv_model.specs.Parts.{written_after}
 use Rattle.uv_model.specs.Setting.{Setting, setting_of}
 use Rattle.uv_model.specs.Valid.{Valid, IsHostText, IsFileHostText, IsOpaqueHostText, MayBePortText, MayBeUnits}
 use Rattle.uv_model.specs.Valid.{FitsAuthority, FitsHostText, HasNoAuthority, FitsForm, FitsScheme, IsOpaquePath}
@@ -35,7 +35,7 @@ use Rattle.uv_model.proofs.Cuts.HostCutLemmas.{is_without-passes, units_without_
 use Rattle.uv_model.proofs.Cuts.HostCutLemmas.{word_of_opaque, word_of_nothing, word_of_ipv4, word_of_ipv6}
 use Rattle.uv_model.proofs.Cuts.HostCutLemmas.{digits_without}
 use Rattle.uv_model.proofs.Cuts.CutLemmas.{cut_is_computed}
-use Rattle.uv_model.proofs.Paths.SlashedPaths.{slashed_behind, slashed_or_none}
+use Rattle.uv_model.proofs.Paths.SlashedPaths.{slashed_after, slashed_or_none}
 
 -- ---- hosts
 
@@ -75,9 +75,9 @@ word_of_opaque_host text (Some (V6 pieces)) is = word_of_ipv6 text pieces is
 word_of_opaque_host text (Some (Opaque host)) is = absurd is
 word_of_opaque_host text (Some Empty) is = absurd is
 
--- a valid port, written behind `:`, holds no such mark
+-- a valid port, written after `:`, holds no such mark
 port_without : (mark : ℕ) (port_text : Option (List ℕ)) → is_ascii_digit mark ≡ false → (colon == mark) ≡ false
-    → MayBePortText port_text → is_without mark (written_behind colon port_text) ≡ true
+    → MayBePortText port_text → is_without mark (written_after colon port_text) ≡ true
 port_without mark None other differs is = refl
 port_without mark (Some text) other differs is =
     is_without-more mark colon text differs (digits_without mark text other is.digits)
@@ -107,20 +107,20 @@ word_of_relative segments text is = word_of_segments segments text is.joins
 -- a path-absolute string
 word_of_absolute : (segments : List (List ℕ)) (text : List ℕ) → IsPathAbsolute segments text → IsPathWord text
 word_of_absolute segments text is =
-    rw is.slashed (word_of_slashed is.behind (word_of_relative segments is.behind is.relative))
+    rw is.slashed (word_of_slashed is.after (word_of_relative segments is.after is.relative))
 
 -- `/` and any segments
 word_of_path_slashed : (segments : List (List ℕ)) (text : List ℕ) → IsPathSlashed segments text → IsPathWord text
 word_of_path_slashed segments text is =
-    rw is.slashed (word_of_slashed is.behind (word_of_segments segments is.behind is.joins))
+    rw is.slashed (word_of_slashed is.after (word_of_segments segments is.after is.joins))
 
 -- a path-absolute string doesn't begin with `//`
 pub absolute_without_two_slashes : (segments : List (List ℕ)) (text : List ℕ) → IsPathAbsolute segments text
     → starts_with_two_slashes text ≡ false
 absolute_without_two_slashes segments text is =
-    rw is.slashed (one_slash is.behind is.relative.start)
+    rw is.slashed (one_slash is.after is.relative.start)
   where
-    one_slash : (behind : List ℕ) → starts_with_slash behind ≡ false → starts_with_two_slashes (slash ∷ behind) ≡ false
+    one_slash : (after : List ℕ) → starts_with_slash after ≡ false → starts_with_two_slashes (slash ∷ after) ≡ false
     one_slash [] none = refl
     one_slash (c ∷ rest) none = none
 
@@ -130,7 +130,7 @@ without_slash_without_two [] none = refl
 without_slash_without_two (c ∷ []) none = refl
 without_slash_without_two (c ∷ d ∷ rest) none = rw none refl
 
--- ---- what stands between the scheme and the query
+-- ---- what is between the scheme and the query
 
 -- what holds of these texts of a valid text, whichever its form
 pub record MiddleFits (class : Class) (host_text port_text : Option (List ℕ)) (path_text : List ℕ) : Type 0 where
@@ -138,17 +138,17 @@ pub record MiddleFits (class : Class) (host_text port_text : Option (List ℕ)) 
   pub no_number_sign : is_without number_sign (written_authority host_text port_text ++ path_text) ≡ true
   pub authority : IsAuthorityCut class host_text port_text path_text
 
--- the text of a path behind an authority
+-- the text of a path after an authority
 pub record IsPathEnd (text : List ℕ) : Type 0 where
   pub word : IsPathWord text
   pub start : text ≢ [] → starts_with_slash text ≡ true
 
-pub path_behind : (segments : List (List ℕ)) (text : List ℕ) → MayBePathSlashed segments text → IsPathEnd text
-path_behind segments text (inl (nothing, none)) = record {
+pub path_after : (segments : List (List ℕ)) (text : List ℕ) → MayBePathSlashed segments text → IsPathEnd text
+path_after segments text (inl (nothing, none)) = record {
   word = rw nothing (record { no_question_mark = refl; no_number_sign = refl });
   start = λ some. absurd (some nothing);
 }
-path_behind segments text (inr is) = record {
+path_after segments text (inr is) = record {
   word = word_of_path_slashed segments text is;
   start = λ some. rw is.slashed refl;
 }
@@ -156,13 +156,13 @@ path_behind segments text (inr is) = record {
 -- an authority and a path hold no mark that ends them
 authority_without : (mark : ℕ) (host_text : List ℕ) (port_text : Option (List ℕ)) (path_text : List ℕ)
     → (slash == mark) ≡ false
-    → is_without mark host_text ≡ true → is_without mark (written_behind colon port_text) ≡ true
+    → is_without mark host_text ≡ true → is_without mark (written_after colon port_text) ≡ true
     → is_without mark path_text ≡ true
     → is_without mark (written_authority (Some host_text) port_text ++ path_text) ≡ true
 authority_without mark host_text port_text path_text differs host port path =
-    let text = (host_text ++ written_behind colon port_text) ++ path_text in
-    let all = is_without-append mark (host_text ++ written_behind colon port_text) path_text
-    (is_without-append mark host_text (written_behind colon port_text) host port) path in
+    let text = (host_text ++ written_after colon port_text) ++ path_text in
+    let all = is_without-append mark (host_text ++ written_after colon port_text) path_text
+    (is_without-append mark host_text (written_after colon port_text) host port) path in
     is_without-more mark slash (slash ∷ text) differs (is_without-more mark slash text differs all)
 
 -- with an authority
@@ -193,9 +193,9 @@ no_port port_text none = rw none tt
 path_alone_end : (profile : Profile) (segments : List (List ℕ)) (text : List ℕ) → IsWritten profile
     → IsPathAlone profile segments text → IsPathEnd text
 path_alone_end Standard segments text written path =
-    path_behind segments text (inr (slashed_behind Standard segments text path))
+    path_after segments text (inr (slashed_after Standard segments text path))
 path_alone_end Wide segments text written path =
-    path_behind segments text (inr (slashed_behind Wide segments text path))
+    path_after segments text (inr (slashed_after Wide segments text path))
 path_alone_end Parser segments text written path = absurd written
 
 -- what follows `//` by the class
@@ -206,12 +206,12 @@ fits_by_class SpecialNotFile setting host_text parts written is =
     let word = word_of_host setting.profile host_text is.value written is.host in
     authority_fits SpecialNotFile host_text parts.port_text parts.path_text word is.port_text
     (word.ends parts.port_text)
-    (path_behind parts.segments parts.path_text
+    (path_after parts.segments parts.path_text
     (slashed_or_none setting.profile parts.segments parts.path_text is.path))
 fits_by_class File setting host_text parts written (none, absent, inl named) =
     authority_fits File host_text parts.port_text parts.path_text
     (word_of_file_host setting.profile host_text named.value written named.host)
-    (no_port parts.port_text none) none (path_behind parts.segments parts.path_text
+    (no_port parts.port_text none) none (path_after parts.segments parts.path_text
     (slashed_or_none setting.profile parts.segments parts.path_text named.path))
 fits_by_class File setting host_text parts written (none, absent, inr (nothing, valued, path)) =
     let word : IsHostWord host_text = rw nothing word_of_nothing in
@@ -220,13 +220,13 @@ fits_by_class File setting host_text parts written (none, absent, inr (nothing, 
 fits_by_class Other setting host_text parts written (inl (host, port), given, path) =
     let word = word_of_opaque_host host_text parts.host host in
     authority_fits Other host_text parts.port_text parts.path_text word port (word.ends parts.port_text)
-    (path_behind parts.segments parts.path_text
+    (path_after parts.segments parts.path_text
     (slashed_or_none setting.profile parts.segments parts.path_text path))
 fits_by_class Other setting host_text parts written (inr (nothing, valued, none), given, path) =
     let word : IsHostWord host_text = rw nothing word_of_nothing in
     authority_fits Other host_text parts.port_text parts.path_text word (no_port parts.port_text none)
     (word.ends parts.port_text)
-    (path_behind parts.segments parts.path_text
+    (path_after parts.segments parts.path_text
     (slashed_or_none setting.profile parts.segments parts.path_text path))
 
 -- with an authority, whose host text is there
@@ -288,7 +288,7 @@ fits_by_form setting NoPath parts written (none, nothing, empty) =
 
 -- ---- the scheme
 
--- what stands between the scheme and the query, with an authority
+-- what is between the scheme and the query, with an authority
 starts_like_authority : (setting : Setting) (parts : Parts) (host_text : Option (List ℕ))
     → FitsHostText setting parts host_text
     → starts_with_scheme (written_authority host_text parts.port_text ++ parts.path_text) ≡ false
@@ -336,9 +336,9 @@ written_scheme_without mark false scheme other letter differs is = rw is refl
 
 -- ---- the whole
 
--- units behind `?` hold no `#`
+-- units after `?` hold no `#`
 query_without : (query : Option (List ℕ)) → MayBeUnits query
-    → is_without number_sign (written_behind question_mark query) ≡ true
+    → is_without number_sign (written_after question_mark query) ≡ true
 query_without None is = refl
 query_without (Some query) is = units_without_number_sign query is
 
@@ -360,7 +360,7 @@ cut_of_parts base text parts has whole scheme free middle query =
     record {
       whole = whole ∙ written_as_cut parts;
       prefix =
-          is_without-append number_sign (written_start cut) (written_behind question_mark parts.query)
+          is_without-append number_sign (written_start cut) (written_after question_mark parts.query)
           (is_without-append number_sign (written_scheme parts.scheme) (written_middle cut) no_number
           middle.no_number_sign)
           (query_without parts.query query);

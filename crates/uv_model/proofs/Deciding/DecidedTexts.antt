@@ -25,11 +25,11 @@ use Rattle.uv_model.specs.Setting.{Setting, setting_of}
 use Rattle.uv_model.specs.Units.{IsUnits, is_faultless}
 use Rattle.uv_model.specs.Valid.{FitsAuthority, FitsBase, FitsCut, FitsDrive, FitsForm, FitsScheme, HasAuthority}
 use Rattle.uv_model.specs.Valid.{HasFileHost, HasNoAuthority, IsFileHostText, IsOpaqueHostText}
-use Rattle.uv_model.specs.Valid.{IsOpaquePath, IsPathAlone, IsPathBehind}
-use Rattle.uv_model.specs.Valid.{IsSpecialAuthority, IsWithoutDrive, MayBePathBehind, MayBePortText, MayBeUnits, Valid}
+use Rattle.uv_model.specs.Valid.{IsOpaquePath, IsPathAlone, IsPathAfter}
+use Rattle.uv_model.specs.Valid.{IsSpecialAuthority, IsWithoutDrive, MayBePathAfter, MayBePortText, MayBeUnits, Valid}
 use Rattle.uv_model.specs.Valid.{port_given}
 use Rattle.uv_model.proofs.Cuts.CutLemmas.{computed_is_cut}
-use Rattle.uv_model.proofs.Deciding.Decisions.{after, all_four, all_three, at_most, both, either, is_absent, is_false}
+use Rattle.uv_model.proofs.Deciding.Decisions.{and_then, all_four, all_three, at_most, both, either, is_absent, is_false}
 use Rattle.uv_model.proofs.Deciding.Decisions.{is_other_class, is_true, other_text, present, proof_of}
 use Rattle.uv_model.proofs.Deciding.Decisions.{same_number, same_option, same_text, same_texts}
 use Rattle.uv_model.proofs.Deciding.DecidedViolations.{HostDecisions}
@@ -51,8 +51,8 @@ units_or_none (Some text) = units text
 -- a segment
 abbrev segment : (text : List ℕ) → Option (IsSegment text)
 segment text =
-    after (units text)
-    (λ are. after (is_true (is_without slash text))
+    and_then (units text)
+    (λ are. and_then (is_true (is_without slash text))
     (λ no_slash. option_map
     (λ no_question_mark. record { units = are; no_slash = no_slash; no_question_mark = no_question_mark })
     (is_true (is_without question_mark text))))
@@ -66,7 +66,7 @@ segments (text ∷ rest) = both (segment text) (segments rest)
 abbrev joined : (texts : List (List ℕ)) (text : List ℕ) → Option (JoinsTo texts text)
 joined [] text = None
 joined (first ∷ others) text =
-    after (segments (first ∷ others))
+    and_then (segments (first ∷ others))
     (λ each. option_map
     (λ whole. record { first = first; others = others; some = refl; each = each; joined = whole })
     (same_text text (join_with_byte slash (first ∷ others))))
@@ -74,48 +74,48 @@ joined (first ∷ others) text =
 -- a path-relative string
 abbrev relative : (texts : List (List ℕ)) (text : List ℕ) → Option (IsPathRelative texts text)
 relative texts text =
-    after (joined texts text)
+    and_then (joined texts text)
     (λ joins. option_map (λ start. record { joins = joins; start = start }) (is_false (starts_with_slash text)))
 
 -- `/`, and a decision on what follows it
-abbrev behind_slash : {V : Type 0} → (text : List ℕ)
-    → ((behind : List ℕ) → text ≡ slash ∷ behind → Option V) → Option V
-behind_slash [] next = None
-behind_slash (c ∷ rest) next =
-    after (same_number c slash) (λ same. next rest (ap (λ (d : ℕ). d ∷ rest) same))
+abbrev after_slash : {V : Type 0} → (text : List ℕ)
+    → ((after : List ℕ) → text ≡ slash ∷ after → Option V) → Option V
+after_slash [] next = None
+after_slash (c ∷ rest) next =
+    and_then (same_number c slash) (λ same. next rest (ap (λ (d : ℕ). d ∷ rest) same))
 
 -- a path-absolute string
 abbrev absolute : (texts : List (List ℕ)) (text : List ℕ) → Option (IsPathAbsolute texts text)
 absolute texts text =
-    behind_slash text
-    (λ behind slashed. option_map (λ rest. record { behind = behind; slashed = slashed; relative = rest })
-    (relative texts behind))
+    after_slash text
+    (λ after slashed. option_map (λ rest. record { after = after; slashed = slashed; relative = rest })
+    (relative texts after))
 
 -- `/` and any segments
 abbrev slashed_path : (texts : List (List ℕ)) (text : List ℕ) → Option (IsPathSlashed texts text)
 slashed_path texts text =
-    behind_slash text
-    (λ behind slashed. option_map (λ rest. record { behind = behind; slashed = slashed; joins = rest })
-    (joined texts behind))
+    after_slash text
+    (λ after slashed. option_map (λ rest. record { after = after; slashed = slashed; joins = rest })
+    (joined texts after))
 
--- a path behind an authority
-abbrev path_behind : (profile : Profile) (texts : List (List ℕ)) (text : List ℕ)
-    → Option (IsPathBehind profile texts text)
-path_behind Standard texts text = absolute texts text
-path_behind _ texts text = slashed_path texts text
+-- a path after an authority
+abbrev path_after : (profile : Profile) (texts : List (List ℕ)) (text : List ℕ)
+    → Option (IsPathAfter profile texts text)
+path_after Standard texts text = absolute texts text
+path_after _ texts text = slashed_path texts text
 
 -- such a path, or none
 abbrev may_be_path : (profile : Profile) (texts : List (List ℕ)) (text : List ℕ)
-    → Option (MayBePathBehind profile texts text)
+    → Option (MayBePathAfter profile texts text)
 may_be_path profile texts text =
-    either (both (same_text text []) (same_texts texts [])) (path_behind profile texts text)
+    either (both (same_text text []) (same_texts texts [])) (path_after profile texts text)
 
 -- a path alone
 abbrev path_alone : (profile : Profile) (texts : List (List ℕ)) (text : List ℕ)
     → Option (IsPathAlone profile texts text)
 path_alone Parser texts text = may_be_path Parser texts text
-path_alone Standard texts text = path_behind Standard texts text
-path_alone Wide texts text = path_behind Wide texts text
+path_alone Standard texts text = path_after Standard texts text
+path_alone Wide texts text = path_after Wide texts text
 
 -- no drive letter at the start
 abbrev without_drive : (profile : Profile) (text : List ℕ) → Option (IsWithoutDrive profile text)
@@ -125,7 +125,7 @@ without_drive _ text = is_false (starts_with_drive_segment text)
 -- an opaque path
 abbrev opaque_path : (profile : Profile) (followed : Bool) (text : List ℕ) → Option (IsOpaquePath profile followed text)
 opaque_path Parser followed text =
-    after (all_three (is_true (is_spaced text)) (is_true (is_without question_mark text))
+    and_then (all_three (is_true (is_spaced text)) (is_true (is_without question_mark text))
     (is_false (starts_with_slash text)))
     (λ are. option_map
     (λ end. record {
@@ -144,7 +144,7 @@ opaque_path _ followed text =
 abbrev port_text : (text : Option (List ℕ)) → Option (MayBePortText text)
 port_text None = Some tt
 port_text (Some text) =
-    after (is_true (list_all is_ascii_digit text))
+    and_then (is_true (list_all is_ascii_digit text))
     (λ digits. option_map (λ range. record { digits = digits; range = range })
     (at_most (digits_value 10 text) 65535))
 
@@ -167,7 +167,7 @@ file_host hosts profile text Empty = hosts.host profile text (Domain (codes "loc
 abbrev opaque_host : (text : List ℕ) → Option (IsOpaqueHost text)
 opaque_host [] = None
 opaque_host (c ∷ rest) =
-    after (units (c ∷ rest))
+    and_then (units (c ∷ rest))
     (λ are. option_map (λ permitted. record { first = c; rest = rest; some = refl; units = are; permitted = permitted })
     (is_true (list_all (λ d. not (is_forbidden_host d)) (c ∷ rest))))
 
@@ -250,7 +250,7 @@ no_authority parts =
     option_map (λ are. record { host_text = are.0; host = are.1; port_text = are.2; port = are.3 })
     (all_four (is_absent parts.host_text) (is_absent parts.host) (is_absent parts.port_text) (is_absent parts.port))
 
--- no drive letter behind the host of a base
+-- no drive letter after the host of a base
 abbrev fits_drive : (profile : Profile) (base : Option Url) (path : List ℕ) → Option (FitsDrive profile base path)
 fits_drive profile None path = Some tt
 fits_drive profile (Some base) path = option_map (λ none. λ file host. none) (without_drive profile path)
@@ -329,7 +329,7 @@ fits_cut _ base text parts = Some tt
 abbrev pub valid_decision : (hosts : HostDecisions) (profile : Profile) (base : Option Url) (text : List ℕ)
     (parts : Parts) → Option (Valid profile base text parts)
 valid_decision hosts profile base text parts =
-    after (all_four (same_text text (written parts)) (fits_cut profile base text parts)
+    and_then (all_four (same_text text (written parts)) (fits_cut profile base text parts)
     (fits_scheme (has_scheme parts.form) parts.scheme) (fits_base base parts))
     (λ are. option_map
     (λ is. record {

@@ -30,15 +30,15 @@ use Rattle.uv_model.specs.Valid.{IsHostText}
 use Rattle.uv_model.specs.Violations.OpaqueHostViolation.{HasForeignHostCodePoint, OpaqueHostViolation}
 use Rattle.uv_model.specs.Violations.UnitViolation.{HasBarePercent, HasForeignCodePoint, IsTakenSpace}
 use Rattle.uv_model.specs.Violations.UnitViolation.{PathUnitViolation, UnitViolation}
-use Rattle.uv_model.specs.Violations.Violation.{Behind, ContentViolation, HasDrive, HasEmptyFirst}
+use Rattle.uv_model.specs.Violations.Violation.{After, ContentViolation, HasDrive, HasEmptyFirst}
 use Rattle.uv_model.specs.Violations.Violation.{HasHost, HasOpaquePath, HostContentViolation, HostPartViolation}
-use Rattle.uv_model.specs.Violations.Violation.{HostTextViolation, HostViolation, IsStarted, JudgedViolation}
+use Rattle.uv_model.specs.Violations.Violation.{CheckedViolation, HostTextViolation, HostViolation, IsStarted}
 use Rattle.uv_model.specs.Violations.Violation.{LacksFileHost, LacksHost, MayBeUnitViolation}
 use Rattle.uv_model.specs.Violations.Violation.{PathContentViolation, PathStartViolation, PortPartViolation}
 use Rattle.uv_model.specs.Violations.Violation.{PortViolation, StartViolation}
 use Rattle.uv_model.specs.Violations.Violation.{Violation, ViolationOf, has_opaque_path, slashes_place}
 use Rattle.uv_model.specs.Violations.Violation.{starts_with_number_sign}
-use Rattle.uv_model.proofs.Deciding.Decisions.{after, all_four, all_three, at_place, below, both, either, is_absent}
+use Rattle.uv_model.proofs.Deciding.Decisions.{and_then, all_four, all_three, at_place, below, both, either, is_absent}
 use Rattle.uv_model.proofs.Deciding.Decisions.{is_false, is_file_class, is_other_class, is_true, isnt_other_class}
 use Rattle.uv_model.proofs.Deciding.Decisions.{other_number, other_text, present, proof_of, same_number, same_text}
 
@@ -60,7 +60,7 @@ no_hosts = record { host = λ profile text value. None; violation = λ profile c
 abbrev foreign_at : (text : List ℕ) (place : ℕ) → Option (HasForeignCodePoint text place)
 foreign_at text place =
     at_place text place
-    (λ c rest here. after (is_false (is_url_code_point c))
+    (λ c rest here. and_then (is_false (is_url_code_point c))
     (λ foreign. option_map
     (λ other. record { code_point = c; rest = rest; here = here; foreign = foreign; no_escape = other })
     (other_number c percent_sign)))
@@ -75,7 +75,7 @@ bare_percent text place c rest here same bare =
 abbrev bare_percent_at : (text : List ℕ) (place : ℕ) → Option (HasBarePercent text place)
 bare_percent_at text place =
     at_place text place
-    (λ c rest here. after (same_number c percent_sign)
+    (λ c rest here. and_then (same_number c percent_sign)
     (λ same. option_map (λ bare. bare_percent text place c rest here same bare) (is_false (starts_with_two_hex rest))))
 
 -- a fault of units
@@ -118,7 +118,7 @@ start_violation setting text cut place TwoSlashes =
     (same_number place (slashes_place cut))
 start_violation setting text cut place _ = None
 
--- behind a scheme no rule of the start is violated in class Other, or where there is an authority
+-- after a scheme no rule of the start is violated in class Other, or where there is an authority
 pub scheme_started : (setting : Setting) (text : List ℕ) (cut : Cut) → IsSome cut.scheme
     → ((setting.class ≡ Other) ⊎ IsSome cut.host_text) → IsStarted setting text cut
 scheme_started setting text cut scheme slashed place NoScheme h = false≢true (rw h.0 at scheme)
@@ -142,10 +142,10 @@ base_started setting text cut base none is fits place _ h = h
 abbrev started : (setting : Setting) (text : List ℕ) (cut : Cut) → Option (IsStarted setting text cut)
 started setting text cut =
     option_or
-    (after (is_true (is_some cut.scheme))
+    (and_then (is_true (is_some cut.scheme))
     (λ scheme. option_map (λ slashed. scheme_started setting text cut scheme slashed)
     (either (is_other_class setting.class) (is_true (is_some cut.host_text)))))
-    (after (is_absent cut.scheme)
+    (and_then (is_absent cut.scheme)
     (λ none. present setting.base
     (λ base is. option_map (λ fits. base_started setting text cut base none is fits)
     (either (is_false (is_opaque base.path)) (is_true (starts_with_number_sign text))))))
@@ -210,7 +210,7 @@ port_violation text place PortDigit =
     (is_false (is_ascii_digit c)))
 port_violation text place PortRange =
     both
-    (after (is_true (list_all is_ascii_digit text))
+    (and_then (is_true (list_all is_ascii_digit text))
     (λ digits. option_map (λ large. record { digits = digits; large = large }) (below 65535 (digits_value 10 text))))
     (same_number place 0)
 port_violation text place _ = None
@@ -253,11 +253,11 @@ path_start setting cut place _ = None
 
 -- ---- the whole text
 
--- a violation of a part that begins behind so many code points
-abbrev behind : (violation : ℕ → Rule → Type 0) (start place : ℕ) (rule : Rule)
-    → ((inner : ℕ) → Option (violation inner rule)) → Option (Behind start violation place rule)
-behind violation start place rule decide =
-    after (same_number place (start + (place - start)))
+-- a violation of a part that begins after so many code points
+abbrev after : (violation : ℕ → Rule → Type 0) (start place : ℕ) (rule : Rule)
+    → ((inner : ℕ) → Option (violation inner rule)) → Option (After start violation place rule)
+after violation start place rule decide =
+    and_then (same_number place (start + (place - start)))
     (λ moved. option_map (λ holds. record { inner = place - start; moved = moved; holds = holds })
     (decide (place - start)))
 
@@ -268,7 +268,7 @@ host_part hosts setting cut place rule =
     elim cut.host_text as (λ o. Option (HostPartViolation setting (record cut { host_text = o }) place rule)) [
       | None ↦ None
       | Some host_text ↦
-          behind
+          after
           (HostViolation setting.profile setting.class (ends_at_host cut) host_text cut.port_text cut.path_text)
           (host_place cut) place rule
           (λ inner. host_violation hosts setting.profile setting.class (ends_at_host cut) host_text cut.port_text
@@ -286,32 +286,32 @@ port_part cut place rule =
           place rule)) [
             | None ↦ None
             | Some port_text ↦
-                behind (PortViolation port_text) (port_place host_text cut) place rule
+                after (PortViolation port_text) (port_place host_text cut) place rule
                 (λ inner. port_violation port_text inner rule)
           ]
     ]
 
--- of the parts that are judged where no rule of the start is violated
-abbrev judged_violation : (hosts : HostDecisions) (setting : Setting) (cut : Cut) (place : ℕ) (rule : Rule)
-    → Option (JudgedViolation setting cut place rule)
-judged_violation hosts setting cut place rule =
+-- of the parts that are checked where no rule of the start is violated
+abbrev checked_violation : (hosts : HostDecisions) (setting : Setting) (cut : Cut) (place : ℕ) (rule : Rule)
+    → Option (CheckedViolation setting cut place rule)
+checked_violation hosts setting cut place rule =
     either (host_part hosts setting cut place rule)
     (either (port_part cut place rule)
-    (behind (PathStartViolation setting cut) (path_place cut) place rule (λ inner. path_start setting cut inner rule)))
+    (after (PathStartViolation setting cut) (path_place cut) place rule (λ inner. path_start setting cut inner rule)))
 
 -- of a query or a fragment
 abbrev part_violation : (start : ℕ) (text : Option (List ℕ)) (place : ℕ) (rule : Rule)
     → Option (MayBeUnitViolation start text place rule)
 part_violation start None place rule = None
 part_violation start (Some text) place rule =
-    behind (UnitViolation text) start place rule (λ inner. unit_violation text inner rule)
+    after (UnitViolation text) start place rule (λ inner. unit_violation text inner rule)
 
 -- of what the path, the query and the fragment hold
 abbrev content_violation : (setting : Setting) (cut : Cut) (place : ℕ) (rule : Rule)
     → Option (ContentViolation setting cut place rule)
 content_violation setting cut place rule =
     either
-    (behind (PathContentViolation setting cut) (path_place cut) place rule
+    (after (PathContentViolation setting cut) (path_place cut) place rule
     (λ inner. path_violation setting.profile (has_opaque_path setting.class cut) (is_followed cut) cut.path_text inner
     rule))
     (either (part_violation (query_place cut) cut.query place rule)
@@ -322,7 +322,7 @@ abbrev violation_of : (hosts : HostDecisions) (setting : Setting) (text : List �
     → Option (ViolationOf setting text cut place rule)
 violation_of hosts setting text cut place rule =
     either (start_violation setting text cut place rule)
-    (either (both (started setting text cut) (judged_violation hosts setting cut place rule))
+    (either (both (started setting text cut) (checked_violation hosts setting cut place rule))
     (content_violation setting cut place rule))
 
 -- the decision whether the text, against the base, violates the rule of the profile at the place

@@ -17,22 +17,22 @@ proof_of None found = absurd (false≢true found)
 -- ---- decisions of several parts
 
 -- a decision with the proof that another one found
-abbrev pub after : {A B : Type 0} → Option A → (A → Option B) → Option B
-after None next = None
-after (Some proof) next = next proof
+abbrev pub and_then : {A B : Type 0} → Option A → (A → Option B) → Option B
+and_then None next = None
+and_then (Some proof) next = next proof
 
 -- two parts
 abbrev pub both : {A B : Type 0} → Option A → Option B → Option (A × B)
-both first second = after first (λ a. option_map (λ b. (a, b)) second)
+both first second = and_then first (λ a. option_map (λ b. (a, b)) second)
 
 -- three parts
 abbrev pub all_three : {A B C : Type 0} → Option A → Option B → Option C → Option (A × B × C)
-all_three first second third = after first (λ a. after second (λ b. option_map (λ c. (a, b, c)) third))
+all_three first second third = and_then first (λ a. and_then second (λ b. option_map (λ c. (a, b, c)) third))
 
 -- four parts
 abbrev pub all_four : {A B C D : Type 0} → Option A → Option B → Option C → Option D → Option (A × B × C × D)
 all_four first second third fourth =
-    after first (λ a. after second (λ b. after third (λ c. option_map (λ d. (a, b, c, d)) fourth)))
+    and_then first (λ a. and_then second (λ b. and_then third (λ c. option_map (λ d. (a, b, c, d)) fourth)))
 
 -- one of two parts, the first where both are found
 abbrev pub either : {A B : Type 0} → Option A → Option B → Option (A ⊎ B)
@@ -90,7 +90,7 @@ same_texts [] [] = Some refl
 same_texts [] (b ∷ ys) = None
 same_texts (a ∷ xs) [] = None
 same_texts (a ∷ xs) (b ∷ ys) =
-    after (same_text a b) (λ head. option_map (λ rest. same_parts a b xs ys head rest) (same_texts xs ys))
+    and_then (same_text a b) (λ head. option_map (λ rest. same_parts a b xs ys head rest) (same_texts xs ys))
 
 -- the code point at a place of the text, for a decision on it and on what follows it
 abbrev pub at_place : {V : Type 0} → (text : List ℕ) (place : ℕ)

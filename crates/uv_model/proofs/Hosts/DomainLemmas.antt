@@ -69,7 +69,7 @@ in_lengths : (name : List ℕ) →
 in_lengths [] = refl
 in_lengths (b ∷ name) = rw (at_least_one (length name))
 
--- the lengths are those that UTS #46 verifies, where a full stop at the end may stand
+-- the lengths are those that UTS #46 verifies, where a full stop at the end may be
 pub has_lengths-is : (form : List ℕ) → has_lengths form ≡ verify_dns_length form true
 unfolding verify_dns_length
 has_lengths-is form =

@@ -25,7 +25,7 @@ use Rattle.uv_model.specs.Hosts.Domain.{is_form_code_point, is_digits, parser_fo
 use Rattle.uv_model.specs.Hosts.Domain.{IsWrittenForm}
 use Rattle.uv_model.specs.Hosts.Numbers.{IsIpv4Text}
 use Rattle.uv_model.proofs.Hosts.DomainLemmas.{form_unique, parser_form-is}
-use Rattle.uv_model.proofs.Hosts.LastLabelLemmas.{HasNoStop, last_label-behind}
+use Rattle.uv_model.proofs.Hosts.LastLabelLemmas.{HasNoStop, last_label-after}
 
 -- a digit or a full stop stays as it is in ToASCII
 simple_byte : (b : ℕ) → IsDigitOrDot b → (is_ascii_lowercase b || is_ascii_digit b || is_full_stop b) ≡ true
@@ -86,13 +86,13 @@ digits_alone n fits =
 no_stop-decimal : (n : ℕ) → n < 256 → HasNoStop (decimal n)
 no_stop-decimal n fits = stops_list (decimal n) (decimal_is_IsNumeral n (omega arith)).0.1
 
--- a decimal number behind a full stop ends a text in a number
+-- a decimal number after a full stop ends a text in a number
 pub ends_in_number-decimal : (prefix : List ℕ) (n : ℕ) → n < 256
     → ends_in_number (prefix ++ full_stop ∷ decimal n) ≡ true
 unfolding ends_in_number
 ends_in_number-decimal prefix n fits =
     let (numeral, value) = decimal_is_IsNumeral n (omega arith) in
-    rw (last_label-behind prefix (decimal n) (no_stop-decimal n fits) numeral.0, digits_alone n fits) refl
+    rw (last_label-after prefix (decimal n) (no_stop-decimal n fits) numeral.0, digits_alone n fits) refl
 
 -- an IPv4 text ends in a number
 pub ends_in_number-ipv4 : (text : List ℕ) (value : ℕ) → IsIpv4 text value → ends_in_number text ≡ true

@@ -23,7 +23,7 @@ HasNoStop text = All (λ c. is_full_stop c ≡ false) text
 
 -- ---- a text in parts
 
--- without a full stop the whole text is behind the last one
+-- without a full stop the whole text is after the last one
 pub after_last_none : (label : List ℕ) → HasNoStop label → after_last is_full_stop label ≡ label
 after_last_none label none =
     let each : (k : ℕ) → 0 ≤ k → k < length label → not (is_full_stop (get_or label k 0)) ≡ true =
@@ -32,7 +32,7 @@ after_last_none label none =
     let here : length label - suffix_len (λ b. not (is_full_stop b)) label ≡ 0 = omega (arith, count) in
     ap (λ n. drop n label) here
 
--- behind the last full stop stands what follows it
+-- after the last full stop is what follows it
 pub after_last_stop : (prefix label : List ℕ) → HasNoStop label →
     after_last is_full_stop (prefix ++ full_stop ∷ label) ≡ label
 after_last_stop prefix label none =
@@ -84,10 +84,10 @@ from_end (c ∷ text) =
       | inr (prefix, last, shown) ↦ inr (c ∷ prefix, last, ap (λ rest. c ∷ rest) shown)
     ]
 
--- the label behind the last full stop, where it isn't empty
-pub last_label-behind : (prefix label : List ℕ) → HasNoStop label → 0 < length label →
+-- the label after the last full stop, where it isn't empty
+pub last_label-after : (prefix label : List ℕ) → HasNoStop label → 0 < length label →
     last_label (prefix ++ full_stop ∷ label) ≡ label
-last_label-behind prefix label none some =
+last_label-after prefix label none some =
     elim (from_end label) [
       | inl empty ↦ absurd (omega (arith, ap length empty))
       | inr (others, c, shown) ↦
@@ -262,7 +262,7 @@ without_root-encoded text =
           (at_end prefix c)
     ]
 
--- UTF-8 and what is behind the last full stop
+-- UTF-8 and what is after the last full stop
 after_last-encoded : (text : List ℕ) →
     after_last is_full_stop (encode_utf8_all text) ≡ encode_utf8_all (after_last is_full_stop text)
 unfolding encode_utf8

@@ -29,14 +29,14 @@ use Rattle.uv_model.proofs.Hosts.LastLabelLemmas.{HasNoStop}
 
 -- ---- the text of numbers
 
--- the text of the numbers behind the first, each behind a full stop
-abbrev pub behind_text : List ℕ → List ℕ
-behind_text [] = []
-behind_text (n ∷ rest) = full_stop ∷ (decimal n ++ behind_text rest)
+-- the text of the numbers after the first, each after a full stop
+abbrev pub after_text : List ℕ → List ℕ
+after_text [] = []
+after_text (n ∷ rest) = full_stop ∷ (decimal n ++ after_text rest)
 
 -- numbers with a full stop between each two
 pub numbers_joined : (n : ℕ) (rest : List ℕ)
-    → join_with_byte full_stop (map decimal (n ∷ rest)) ≡ decimal n ++ behind_text rest
+    → join_with_byte full_stop (map decimal (n ∷ rest)) ≡ decimal n ++ after_text rest
 numbers_joined n [] = sym (append-nil (decimal n))
 numbers_joined n (next ∷ rest) = ap (λ xs. decimal n ++ (full_stop ∷ xs)) (numbers_joined next rest)
 
@@ -45,7 +45,7 @@ pub record HasFirstNumber (numbers text : List ℕ) : Type 0 where
   pub first : ℕ
   pub rest : List ℕ
   pub split : numbers ≡ first ∷ rest
-  pub spelled : text ≡ decimal first ++ behind_text rest
+  pub spelled : text ≡ decimal first ++ after_text rest
   pub small : first < 256
   pub fit : AreBytes rest
 
@@ -92,27 +92,27 @@ simple_decimal n small =
     let (numeral, value) = decimal_is_IsNumeral n (omega arith) in
     All-from_get_or IsDigitOrDot (decimal n) 0 (λ k within. inl (digit_at (decimal n) k numeral.1 within))
 
--- and those behind it with full stops too
-simple_behind : (rest : List ℕ) → AreBytes rest → All IsDigitOrDot (behind_text rest)
-simple_behind [] fit = All-nil IsDigitOrDot
-simple_behind (n ∷ rest) fit =
-    All-cons IsDigitOrDot full_stop (decimal n ++ behind_text rest) (inr refl)
-    (All-append IsDigitOrDot (decimal n) (behind_text rest) (simple_decimal n fit.0) (simple_behind rest fit.1))
+-- and those after it with full stops too
+simple_after : (rest : List ℕ) → AreBytes rest → All IsDigitOrDot (after_text rest)
+simple_after [] fit = All-nil IsDigitOrDot
+simple_after (n ∷ rest) fit =
+    All-cons IsDigitOrDot full_stop (decimal n ++ after_text rest) (inr refl)
+    (All-append IsDigitOrDot (decimal n) (after_text rest) (simple_decimal n fit.0) (simple_after rest fit.1))
 
 -- a text of numbers is digits and full stops
 pub simple_numbers : (numbers text : List ℕ) → AreNumbers numbers text → All IsDigitOrDot text
 simple_numbers numbers text are =
     let is = first_number numbers text are in
     rw is.spelled
-    (All-append IsDigitOrDot (decimal is.first) (behind_text is.rest) (simple_decimal is.first is.small)
-    (simple_behind is.rest is.fit))
+    (All-append IsDigitOrDot (decimal is.first) (after_text is.rest) (simple_decimal is.first is.small)
+    (simple_after is.rest is.fit))
 
 -- it isn't empty
 pub numbers_not_empty : (numbers text : List ℕ) → AreNumbers numbers text → text ≢ []
 numbers_not_empty numbers text are nothing =
     let is = first_number numbers text are in
     let (numeral, value) = decimal_is_IsNumeral is.first (let small = is.small in omega (arith, small)) in
-    let lengths = length-append (decimal is.first) (behind_text is.rest) in
+    let lengths = length-append (decimal is.first) (after_text is.rest) in
     omega (arith, ap length (sym nothing ∙ is.spelled), lengths, numeral.0)
 
 -- ---- its last label
@@ -128,25 +128,25 @@ digits_no_stop (c ∷ rest) each =
     let parts = and_parts (is_ascii_digit c) (list_all is_ascii_digit rest) each in
     All-cons (λ b. is_full_stop b ≡ false) c rest (not_stop c parts.0) (digits_no_stop rest parts.1)
 
--- a text behind which numbers follow ends in a number
+-- a text after which numbers follow ends in a number
 ends_in_number-more : (prefix : List ℕ) (n : ℕ) (rest : List ℕ) → n < 256 → AreBytes rest
-    → ends_in_number (prefix ++ full_stop ∷ (decimal n ++ behind_text rest)) ≡ true
+    → ends_in_number (prefix ++ full_stop ∷ (decimal n ++ after_text rest)) ≡ true
 ends_in_number-more prefix n [] small fit =
     ap (λ xs. ends_in_number (prefix ++ full_stop ∷ xs)) (append-nil (decimal n))
     ∙ ends_in_number-decimal prefix n small
 ends_in_number-more prefix n (next ∷ rest) small fit =
-    let behind = full_stop ∷ (decimal next ++ behind_text rest) in
-    ap ends_in_number (sym (append_assoc prefix (full_stop ∷ decimal n) behind))
+    let after = full_stop ∷ (decimal next ++ after_text rest) in
+    ap ends_in_number (sym (append_assoc prefix (full_stop ∷ decimal n) after))
     ∙ ends_in_number-more (prefix ++ full_stop ∷ decimal n) next rest fit.0 fit.1
 
 -- ---- one value
 
--- no digit stands at the text's start
+-- no digit is at the text's start
 abbrev HasNoDigitFirst : List ℕ → Type 0
 HasNoDigitFirst text = 10 ≤ digit_value (get_or text 0 0)
 
 -- what follows a number begins with no digit
-no_digit : (rest : List ℕ) → HasNoDigitFirst (behind_text rest)
+no_digit : (rest : List ℕ) → HasNoDigitFirst (after_text rest)
 no_digit [] = lit≤ tt
 no_digit (n ∷ rest) = lit≤ tt
 
@@ -158,8 +158,8 @@ digits_end [] (y ∷ ys) r s digits digits' none none' same = absurd (omega (ari
 digits_end (x ∷ xs) [] r s digits digits' none none' same = absurd (omega (arith, rw (← same) at none', digits.0))
 digits_end (x ∷ xs) (y ∷ ys) r s digits digits' none none' same =
     let first : x ≡ y = cc in
-    let behind : xs ++ r ≡ ys ++ s = cc in
-    let (others, rest) = digits_end xs ys r s digits.1 digits'.1 none none' behind in
+    let after : xs ++ r ≡ ys ++ s = cc in
+    let (others, rest) = digits_end xs ys r s digits.1 digits'.1 none none' after in
     (cc, rest)
 
 -- a number has one value
@@ -171,24 +171,24 @@ decimal_unique a b small small' same =
 
 -- a number ends where the next begins
 first_unique : (a b : ℕ) (xs ys : List ℕ) → a < 256 → b < 256
-    → decimal a ++ behind_text xs ≡ decimal b ++ behind_text ys → (a ≡ b) × (behind_text xs ≡ behind_text ys)
+    → decimal a ++ after_text xs ≡ decimal b ++ after_text ys → (a ≡ b) × (after_text xs ≡ after_text ys)
 first_unique a b xs ys small small' same =
     let (numeral, value) = decimal_is_IsNumeral a (omega arith) in
     let (numeral', value') = decimal_is_IsNumeral b (omega arith) in
     let (digits, rest) =
-    digits_end (decimal a) (decimal b) (behind_text xs) (behind_text ys) numeral.1 numeral'.1 (no_digit xs)
+    digits_end (decimal a) (decimal b) (after_text xs) (after_text ys) numeral.1 numeral'.1 (no_digit xs)
     (no_digit ys) same in
     (decimal_unique a b small small' digits, rest)
 
--- the numbers behind the first are unique
-behind_unique : (xs ys : List ℕ) → AreBytes xs → AreBytes ys → behind_text xs ≡ behind_text ys → xs ≡ ys
-behind_unique [] [] fit fit' same = refl
-behind_unique [] (y ∷ ys) fit fit' same = absurd cc
-behind_unique (x ∷ xs) [] fit fit' same = absurd cc
-behind_unique (x ∷ xs) (y ∷ ys) fit fit' same =
-    let behind : decimal x ++ behind_text xs ≡ decimal y ++ behind_text ys = cc in
-    let (first, rest) = first_unique x y xs ys fit.0 fit'.0 behind in
-    let others = behind_unique xs ys fit.1 fit'.1 rest in
+-- the numbers after the first are unique
+after_unique : (xs ys : List ℕ) → AreBytes xs → AreBytes ys → after_text xs ≡ after_text ys → xs ≡ ys
+after_unique [] [] fit fit' same = refl
+after_unique [] (y ∷ ys) fit fit' same = absurd cc
+after_unique (x ∷ xs) [] fit fit' same = absurd cc
+after_unique (x ∷ xs) (y ∷ ys) fit fit' same =
+    let after : decimal x ++ after_text xs ≡ decimal y ++ after_text ys = cc in
+    let (first, rest) = first_unique x y xs ys fit.0 fit'.0 after in
+    let others = after_unique xs ys fit.1 fit'.1 rest in
     cc
 
 -- the numbers of a text are unique
@@ -198,7 +198,7 @@ numbers_unique text xs ys are are' =
     let is' = first_number ys text are' in
     let (first, rest) =
     first_unique is.first is'.first is.rest is'.rest is.small is'.small (sym is.spelled ∙ is'.spelled) in
-    let others = behind_unique is.rest is'.rest is.fit is'.fit rest in
+    let others = after_unique is.rest is'.rest is.fit is'.fit rest in
     is.split ∙ (ap (λ n. n ∷ is.rest) first ∙ ap (λ ns. is'.first ∷ ns) others) ∙ sym is'.split
 
 -- so the text has one value

@@ -272,7 +272,7 @@ ipv4_permitted text value (a, b, c, d, is, e) =
 abbrev is_inner : ℕ → Bool
 is_inner c = is_ascii_hexdigit c || ((c == colon) || (c == full_stop))
 
--- a text of such code points behind another
+-- a text of such code points after another
 inner_append : (xs ys : List ℕ) → list_all is_inner xs ≡ true → list_all is_inner ys ≡ true
     → list_all is_inner (xs ++ ys) ≡ true
 inner_append xs ys first second = list_all-append is_inner xs ys ∙ and_from _ _ first second

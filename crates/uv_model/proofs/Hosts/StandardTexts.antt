@@ -15,7 +15,7 @@ use Rattle.uv_model.specs.Parts.{PathRelative, NoPath, Parts}
 use Rattle.uv_model.specs.Setting.{setting_of}
 use Rattle.uv_model.specs.Records.Url.{Url}
 use Rattle.uv_model.specs.Valid.{FitsAuthority, FitsDrive, FitsForm, FitsHostText, IsFileHostText, IsHostText}
-use Rattle.uv_model.specs.Valid.{MayBePathBehind}
+use Rattle.uv_model.specs.Valid.{MayBePathAfter}
 use Rattle.uv_model.specs.Records.WellFormed.{IsUrlDomain, IsUrlHost, IsUrlPath, StandardRecordsAreWide}
 use Rattle.uv_model.specs.declared.path.UrlPath.{UrlPath}
 use Rattle.uv_model.specs.declared.path.UrlPath.TheVariants.{Opaque, Segments}
@@ -40,9 +40,9 @@ wide_file_host text (V6 pieces) is = is
 wide_file_host text (host.Opaque opaque) is = is
 wide_file_host text Empty is = standard_domains_are_wide text _ is
 
--- a path behind an authority
-wide_path : (segments : List (List ℕ)) (text : List ℕ) → MayBePathBehind Standard segments text
-    → MayBePathBehind Wide segments text
+-- a path after an authority
+wide_path : (segments : List (List ℕ)) (text : List ℕ) → MayBePathAfter Standard segments text
+    → MayBePathAfter Wide segments text
 wide_path segments text (inl none) = inl none
 wide_path segments text (inr path) = inr (slashed_absolute segments text path)
 

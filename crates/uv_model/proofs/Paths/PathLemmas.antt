@@ -22,7 +22,7 @@ IsUnits-join (segment ∷ next ∷ rest) each =
     IsUnits-joined slash segment (join_with_byte slash (next ∷ rest)) slash_is_url each.0.units
     (IsUnits-join (next ∷ rest) each.1)
 
--- no `?` stands in segments with `/` between each two
+-- no `?` is in segments with `/` between each two
 pub no_question_mark-join : (segments : List (List ℕ)) → AreSegments segments
     → is_without question_mark (join_with_byte slash segments) ≡ true
 no_question_mark-join [] each = refl

@@ -10,7 +10,7 @@ use Rattle.uv_model.specs.Units.{is_faultless, is_unit_at}
 use Rattle.uv_model.proofs.Texts.MarkLemmas.{is_without-cons, is_without-more}
 use Rattle.uv_model.proofs.Texts.UnitsLemmas.{IsUnits-faultless, IsUnits-nil, is_faultless-units, is_unit_at-mark}
 
--- the first text between slashes: the whole text, or what stands before the first slash
+-- the first text between slashes: the whole text, or what is before the first slash
 pub record SplitsFirst (text : List ℕ) : Type 0 where
   pub first : List ℕ
   pub others : List (List ℕ)

@@ -1,4 +1,4 @@
--- Texts of paths of segments, each behind a `/`.
+-- Texts of paths of segments, each after a `/`.
 use Rattle.std.proofs.Common.{◌≡◌, ◌≢◌, ℕ, ◌+◌, ◌<◌, suc, Bool, true, false, ◌==◌, List, [], ◌∷◌, ◌++◌, All, Option}
 use Rattle.std.proofs.Common.{Some}
 use Rattle.std.proofs.Common.{None, Result, Ok, Err, refl, sym, ap, ◌∙◌, subst, inl, inr, eqb-true, ne_eqb, lit<, arith}
@@ -14,7 +14,7 @@ use Rattle.std.proofs.lemmas.List.Splits.{slice_split_none}
 use Rattle.std.proofs.lemmas.Str.{IsAscii-append, IsAscii-drop, IsAscii-take}
 use Rattle.std.proofs.lemmas.Str.Ascii.{IsAscii-cons, IsAscii-nil}
 use Rattle.uv_model.specs.Ascii.{slash}
-use Rattle.uv_model.specs.Path.{is_without, left_segments, pieces, segments_behind, segments_of, starts_with_slash}
+use Rattle.uv_model.specs.Path.{is_without, left_segments, pieces, segments_after, segments_of, starts_with_slash}
 use Rattle.uv_model.specs.Path.{without_last}
 use Rattle.uv_model.specs.Records.PathText.{IsPathText, IsTextOf, MayBeAsciiText}
 use Rattle.uv_model.specs.Records.Serialize.{serial_segments}
@@ -51,7 +51,7 @@ without_slash (c ∷ rest) none =
 pub pieces-one : (segment : List ℕ) → is_without slash segment ≡ true → pieces segment ≡ segment ∷ []
 pieces-one segment none = slice_split_none (λ c. c == slash) segment (without_slash segment none)
 
--- each behind `/`, they are `/` and the text
+-- each after `/`, they are `/` and the text
 pub pieces-serial : (text : List ℕ) → serial_segments (pieces text) ≡ slash ∷ text
 pieces-serial [] = refl
 pieces-serial (c ∷ rest) = elim (cases_Bool (c == slash)) [
@@ -65,16 +65,16 @@ pieces-serial (c ∷ rest) = elim (cases_Bool (c == slash)) [
         → serial_segments (first ∷ others) ≡ slash ∷ rest
         → serial_segments ((c ∷ first) ∷ others) ≡ slash ∷ (c ∷ rest)
     one_more c first others rest is =
-        let behind : first ++ serial_segments others ≡ rest = cc in
-        ap (λ t. slash ∷ (c ∷ t)) behind
+        let after : first ++ serial_segments others ≡ rest = cc in
+        ap (λ t. slash ∷ (c ∷ t)) after
 
 -- ---- texts of paths
 
 -- the segments of two texts of which the second begins with `/`
-pub segments_behind-append : (text rest : List ℕ)
-    → segments_behind (text ++ (slash ∷ rest)) ≡ segments_behind text ++ pieces rest
-segments_behind-append [] rest = refl
-segments_behind-append (c ∷ text) rest = pieces-append text rest
+pub segments_after-append : (text rest : List ℕ)
+    → segments_after (text ++ (slash ∷ rest)) ≡ segments_after text ++ pieces rest
+segments_after-append [] rest = refl
+segments_after-append (c ∷ text) rest = pieces-append text rest
 
 -- which is a path's text too
 pub path_text-append : (text rest : List ℕ) → IsPathText text → IsAscii rest → IsPathText (text ++ (slash ∷ rest))
@@ -88,8 +88,8 @@ path_text-append text rest is ascii = record {
     starts [] start = refl
     starts (c ∷ more) start = start (λ none. absurd cc)
 
--- a path's text is its segments, each behind a `/`
-pub path_text-written : (text : List ℕ) → IsPathText text → serial_segments (segments_behind text) ≡ text
+-- a path's text is its segments, each after a `/`
+pub path_text-written : (text : List ℕ) → IsPathText text → serial_segments (segments_after text) ≡ text
 path_text-written [] is = refl
 path_text-written (c ∷ rest) is =
     let first : c ≡ slash = eqb-true c slash (is.start (λ none. absurd cc)) in
@@ -103,20 +103,20 @@ without_last-push [] last = refl
 without_last-push (first ∷ []) last = refl
 without_last-push (first ∷ next ∷ rest) last = ap (λ s. first ∷ s) (without_last-push (next ∷ rest) last)
 
--- what stands before the last `/` has the other segments
+-- what is before the last `/` has the other segments
 pub before_last : (text front last : List ℕ) → IsPathText text → text ≡ front ++ (slash ∷ last)
-    → IsAscii front → is_without slash last ≡ true → IsTextOf (without_last (segments_behind text)) front
+    → IsAscii front → is_without slash last ≡ true → IsTextOf (without_last (segments_after text)) front
 before_last text front last is whole ascii none = record {
   path = record {
     ascii = ascii;
     start = λ some. starts front some
         (ap starts_with_slash (sym whole) ∙ is.start (filled front whole));
   };
-  behind =
-      sym (ap (λ t. without_last (segments_behind t)) whole
-      ∙ ap without_last (segments_behind-append front last ∙ ap (λ s. segments_behind front ++ s)
+  after =
+      sym (ap (λ t. without_last (segments_after t)) whole
+      ∙ ap without_last (segments_after-append front last ∙ ap (λ s. segments_after front ++ s)
       (pieces-one last none))
-      ∙ without_last-push (segments_behind front) last);
+      ∙ without_last-push (segments_after front) last);
 }
   where
     starts : (front : List ℕ) → front ≢ [] → starts_with_slash (front ++ (slash ∷ last)) ≡ true
@@ -139,41 +139,41 @@ without_at (c ∷ rest) none =
 
 -- a path's text without a `/` is empty
 pub unslashed_path : (text : List ℕ) → IsPathText text → ((i : ℕ) → i < length text → get_or text i 0 ≢ slash)
-    → IsTextOf (without_last (segments_behind text)) text
-unslashed_path [] is none = record { path = is; behind = refl }
+    → IsTextOf (without_last (segments_after text)) text
+unslashed_path [] is none = record { path = is; after = refl }
 unslashed_path (c ∷ rest) is none =
     absurd (none 0 (omega arith) (eqb-true c slash (is.start (λ empty. absurd cc))))
 
 -- one is cut at its last `/`
 pub cut_path : (text front : List ℕ) (end : ℕ) → IsPathText text → end < length text → get_or text end 0 ≡ slash
     → ((i : ℕ) → end < i → i < length text → get_or text i 0 ≢ slash) → front ≡ take end text
-    → IsTextOf (without_last (segments_behind text)) front
+    → IsTextOf (without_last (segments_after text)) front
 cut_path text front end is inside here later cut =
-    let behind : drop end text ≡ slash ∷ drop (suc end) text
+    let after : drop end text ≡ slash ∷ drop (suc end) text
     = drop-cons text end 0 inside ∙ ap (λ b. b ∷ drop (suc end) text) here in
     let whole : text ≡ take end text ++ (slash ∷ drop (suc end) text)
-    = sym (take-append-drop end text) ∙ ap (λ s. take end text ++ s) behind in
+    = sym (take-append-drop end text) ∙ ap (λ s. take end text ++ s) after in
     let size = length-drop (suc end) text in
     rw cut (before_last text (take end text) (drop (suc end) text) is whole (IsAscii-take text end is.ascii)
     (without_at (drop (suc end) text) (λ i within e.
     later (suc end + i) (omega arith) (omega (arith, size, within, inside))
     (sym (get_or-drop (suc end) text i 0) ∙ e))))
 
--- what stands behind the `/` at its start
-pub behind_start : (text : List ℕ) (rest : Option (Bor (List ℕ))) → IsPathText text
+-- what is after the `/` at its start
+pub after_start : (text : List ℕ) (rest : Option (Bor (List ℕ))) → IsPathText text
     → MatchOption rest ((other : List ℕ) → text ≢ slash ∷ other) (λ r. text ≡ slash ∷ r.now)
-    → left_segments (option_copied rest) ≡ segments_behind text
-behind_start text (Some rest) is whole = rw whole refl
-behind_start [] None is none = refl
-behind_start (c ∷ text) None is none =
+    → left_segments (option_copied rest) ≡ segments_after text
+after_start text (Some rest) is whole = rw whole refl
+after_start [] None is none = refl
+after_start (c ∷ text) None is none =
     absurd (none text (ap (λ x. x ∷ text) (eqb-true c slash (is.start (λ empty. absurd cc)))))
 
 -- which is ASCII
-pub behind_ascii : (text : List ℕ) (rest : Option (Bor (List ℕ))) → IsPathText text
+pub after_ascii : (text : List ℕ) (rest : Option (Bor (List ℕ))) → IsPathText text
     → MatchOption rest ((other : List ℕ) → text ≢ slash ∷ other) (λ r. text ≡ slash ∷ r.now)
     → MayBeAsciiText (option_copied rest)
-behind_ascii text None is none = tt
-behind_ascii text (Some rest) is whole =
+after_ascii text None is none = tt
+after_ascii text (Some rest) is whole =
     let all : IsAscii (slash ∷ rest.now) = subst IsAscii whole is.ascii in
     IsAscii-drop (slash ∷ rest.now) 1 all
 
@@ -195,7 +195,7 @@ unslashed_segments [] some none = absurd cc
 unslashed_segments (c ∷ rest) some none =
     rw (ne_eqb c slash (λ same. none rest (ap (λ x. x ∷ rest) same))) refl
 
--- a `/` and a text behind it are pushed, or the `/` alone
+-- a `/` and a text after it are pushed, or the `/` alone
 pub pushed_path : (done : Bool) (old slashed text new : List ℕ) → IsPathText old → IsAscii text
     → slashed ≡ old ++ (slash ∷ []) → new ≡ (if done then slashed ++ text else slashed) → IsPathText new
 pushed_path true old slashed text new is ascii mark pushed =
@@ -207,8 +207,8 @@ pushed_path false old slashed text new is ascii mark pushed =
 -- and their segments
 pub pushed_segments : {A E : Type 0} (result : Result A E) (old slashed text new : List ℕ)
     → slashed ≡ old ++ (slash ∷ []) → new ≡ (if is_ok result then slashed ++ text else slashed)
-    → OnOk result (segments_behind new ≡ segments_behind old ++ pieces text)
+    → OnOk result (segments_after new ≡ segments_after old ++ pieces text)
 pushed_segments (Err error) old slashed text new mark pushed = tt
 pushed_segments (Ok done) old slashed text new mark pushed =
-    ap segments_behind (pushed ∙ ap (λ t. t ++ text) mark ∙ append_assoc old (slash ∷ []) text)
-    ∙ segments_behind-append old text
+    ap segments_after (pushed ∙ ap (λ t. t ++ text) mark ∙ append_assoc old (slash ∷ []) text)
+    ∙ segments_after-append old text

@@ -51,7 +51,7 @@ spaced_path segments text path = record {
 
 -- ---- units and spaces
 
--- a space or no fault stays one with more text behind it
+-- a space or no fault stays one with more text after it
 pub spaced_ahead : (c : ℕ) (xs ys : List ℕ) → ((c == space) || is_unit_at c xs) ≡ true
     → ((c == space) || is_unit_at c (xs ++ ys)) ≡ true
 spaced_ahead c xs ys is =
@@ -60,14 +60,14 @@ spaced_ahead c xs ys is =
       | inr other ↦ rw other (is_unit_at-ahead c xs ys (rw other at is))
     ]
 
--- one text of units and spaces behind another
+-- one text of units and spaces after another
 spaced_append : (xs ys : List ℕ) → is_spaced xs ≡ true → is_spaced ys ≡ true → is_spaced (xs ++ ys) ≡ true
 spaced_append [] ys first second = second
 spaced_append (c ∷ xs) ys first second =
     let parts = and_parts ((c == space) || is_unit_at c xs) (is_spaced xs) first in
     and_from _ _ (spaced_ahead c xs ys parts.0) (spaced_append xs ys parts.1 second)
 
--- what stands before a space
+-- what is before a space
 spaced_before : (xs : List ℕ) → is_spaced (xs ++ (space ∷ [])) ≡ true → is_spaced xs ≡ true
 spaced_before [] is = refl
 spaced_before (c ∷ xs) is =
@@ -229,12 +229,12 @@ ends_faultless (c ∷ []) is = unit_not_space c [] (and_parts (is_unit_at c []) 
 ends_faultless (c ∷ next ∷ rest) is =
     ends_faultless (next ∷ rest) (and_parts (is_unit_at c (next ∷ rest)) (is_faultless (next ∷ rest)) is).1
 
--- a text ends with a space where what stands behind another does
-pub ends_behind : (xs : List ℕ) (c : ℕ) (rest : List ℕ)
+-- a text ends with a space where what is after another does
+pub ends_after : (xs : List ℕ) (c : ℕ) (rest : List ℕ)
     → ends_with_space (xs ++ (c ∷ rest)) ≡ ends_with_space (c ∷ rest)
-ends_behind [] c rest = refl
-ends_behind (x ∷ []) c rest = refl
-ends_behind (x ∷ next ∷ xs) c rest = ends_behind (next ∷ xs) c rest
+ends_after [] c rest = refl
+ends_after (x ∷ []) c rest = refl
+ends_after (x ∷ next ∷ xs) c rest = ends_after (next ∷ xs) c rest
 
 -- the last code point decides
 pub ends_with_space-last : (text : List ℕ) (last : ℕ) → length text ≡ suc last
@@ -259,7 +259,7 @@ ends_encoded (c ∷ next ∷ rest) is end =
     let parts = and_parts ((c == space) || is_unit_at c (next ∷ rest)) (is_spaced (next ∷ rest)) is in
     let later = ends_encoded (next ∷ rest) parts.1 end in
     let (first, others, shown) = encoded-some next rest in
-    rw shown (ends_behind (encoded_code_point false c) first others ∙ (rw shown at later))
+    rw shown (ends_after (encoded_code_point false c) first others ∙ (rw shown at later))
 
 -- ---- the path
 

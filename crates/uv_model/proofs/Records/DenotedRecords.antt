@@ -147,7 +147,7 @@ pub IsUrlPort-same : (scheme other : List ℕ) (host : Option Host) (port : Opti
 IsUrlPort-same scheme other host None class default is = tt
 IsUrlPort-same scheme other host (Some port) class default is = (rw class is.0, rw default is.1, is.2)
 
--- what stands behind `//`, by the host text
+-- what is after `//`, by the host text
 IsAuthority-has : (profile : Profile) (base : Option Url) (parts : Parts) (text : Option (List ℕ))
     → HasAuthority (setting_of profile base parts.scheme) (record parts { host_text = text })
     → IsAuthority profile (scheme_class (scheme_in base parts)) (scheme_in base parts)
@@ -200,7 +200,7 @@ AreDenoted-scheme_authority profile base parts scheme fits query =
           IsUrlQuery-own base (scheme_class (scheme_in base parts)) SchemeAuthority parts.query query (λ e. absurd cc);
     }
 
--- ---- a path behind a scheme
+-- ---- a path after a scheme
 
 AreDenoted-path : (profile : Profile) (base : Option Url) (parts : Parts) → FitsScheme true parts.scheme
     → FitsForm (setting_of profile base parts.scheme) SchemePath parts
@@ -211,7 +211,7 @@ AreDenoted-path profile base parts scheme fits query =
       scheme = IsUrlScheme-own base parts.scheme scheme;
       host = rw fits.1 tt;
       port = tt;
-      path = IsUrlPath-joined profile class None [] parts.segments fits.2.behind tt fits.2.relative.joins;
+      path = IsUrlPath-joined profile class None [] parts.segments fits.2.after tt fits.2.relative.joins;
       query = IsUrlQuery-own base class SchemePath parts.query query (λ e. absurd cc);
     }
 
@@ -288,7 +288,7 @@ IsUrlPath-absolute profile url parts base path =
     = AreUrlSegments-kept_drive class segments parts.segments
     (AreUrlSegments-base profile class url.host url.path base.path)
     in
-    IsUrlPath-joined profile class url.host (kept_drive class segments parts.segments) parts.segments path.behind start
+    IsUrlPath-joined profile class url.host (kept_drive class segments parts.segments) parts.segments path.after start
     path.relative.joins
 
 -- the path of a path-relative reference

@@ -59,7 +59,7 @@ IsUrlFragment-encoded (Some fragment) units = IsAsciiUnits-encoded false fragmen
 abbrev is_other : ℕ → ℕ → Bool
 is_other mark c = if c == mark then false else true
 
--- `?` stands in no encoding of a text without it
+-- `?` is in no encoding of a text without it
 pub no_question_mark-encoded : (quote : Bool) (text : List ℕ) → is_without question_mark text ≡ true
     → is_without question_mark (encoded quote text) ≡ true
 no_question_mark-encoded quote text = passes-encoded_whole (is_other question_mark) (refl, digit) quote text

@@ -71,7 +71,7 @@ pub encoded-append : (quote : Bool) (xs ys : List ℕ) → encoded quote (xs ++ 
 unfolding encoded
 encoded-append quote xs ys = flat_map-append (encoded_code_point quote) xs ys
 
--- the code point stands in the encoded text
+-- the code point is in the encoded text
 abbrev pub is_kept : Bool → ℕ → Bool
 is_kept quote c = is_ascii c && not (quote && (c == apostrophe))
 
@@ -136,7 +136,7 @@ is_ascii-encoded quote text = passes-encoded is_ascii (refl, ascii_digit) quote 
     each [] = refl
     each (c ∷ rest) = and_from _ _ (one c) (each rest)
 
--- with `quote` no `'` stands in an encoded text
+-- with `quote` no `'` is in an encoded text
 pub no_apostrophe-encoded : (text : List ℕ)
     → list_all (λ c. if c == apostrophe then false else true) (encoded true text) ≡ true
 no_apostrophe-encoded text =

@@ -1,4 +1,4 @@
--- Texts cut at a mark: what stands before the first one and what follows it.
+-- Texts cut at a mark: what is before the first one and what follows it.
 use Rattle.std.proofs.Common.{◌≡◌, ℕ, ◌+◌, suc, true, false, not, ◌==◌, List, [], ◌∷◌, ◌++◌, Option, Some, None, refl}
 use Rattle.std.proofs.Common.{sym, ap, ◌∙◌, inl, inr, arith, append-nil}
 use Rattle.std.specs.Prelude.{if◌then◌else◌}
@@ -6,9 +6,9 @@ use Rattle.std.specs.List.{after_first, position_or_len}
 use Rattle.std.proofs.lemmas.Bool.{false≢true, cases_Bool, and_parts, and_from, and_right, eqb-true, eq-eqb}
 use Rattle.std.proofs.lemmas.List.Folds.{list_all-append}
 use Rattle.std.proofs.lemmas.List.Sums.{take_while-cons}
-use Rattle.uv_model.specs.Parts.{written_behind}
+use Rattle.uv_model.specs.Parts.{written_after}
 use Rattle.uv_model.specs.Path.{is_without}
-use Rattle.uv_model.specs.Cut.{text_before, text_behind}
+use Rattle.uv_model.specs.Cut.{text_after, text_before}
 
 -- a text without a mark, at its first code point
 pub is_without-cons : (mark c : ℕ) (rest : List ℕ) → is_without mark (c ∷ rest) ≡ true
@@ -38,12 +38,12 @@ is_without-parts mark xs ys none =
     and_parts (is_without mark xs) (is_without mark ys)
     (sym (list_all-append (λ c. if c == mark then false else true) xs ys) ∙ none)
 
--- ---- what stands before the first mark
+-- ---- what is before the first mark
 
 text_before-same : (mark c : ℕ) (rest : List ℕ) → (c == mark) ≡ true → text_before mark (c ∷ rest) ≡ []
 text_before-same mark c rest same = take_while-cons (λ x. not (x == mark)) c rest ∙ rw same refl
 
--- another code point than the mark stands before it, with what follows
+-- another code point than the mark is before it, with what follows
 pub text_before-other : (mark c : ℕ) (rest : List ℕ) → (c == mark) ≡ false
     → text_before mark (c ∷ rest) ≡ c ∷ text_before mark rest
 text_before-other mark c rest other = take_while-cons (λ x. not (x == mark)) c rest ∙ rw other refl
@@ -58,7 +58,7 @@ after_first-other mark c rest other =
     let moved : (1 + n) + 1 ≡ suc (n + 1) = omega arith in
     rw (other, moved) refl
 
--- what stands before the first mark is without it
+-- what is before the first mark is without it
 pub is_without-before : (mark : ℕ) (text : List ℕ) → is_without mark (text_before mark text) ≡ true
 is_without-before mark [] = refl
 is_without-before mark (c ∷ rest) = elim (cases_Bool (c == mark)) [
@@ -66,14 +66,14 @@ is_without-before mark (c ∷ rest) = elim (cases_Bool (c == mark)) [
   | inr other ↦ rw (text_before-other mark c rest other) (is_without-more mark c _ other (is_without-before mark rest))
 ]
 
--- a text without the mark stands before it whole
+-- a text without the mark is before it whole
 pub text_before-none : (mark : ℕ) (text : List ℕ) → is_without mark text ≡ true → text_before mark text ≡ text
 text_before-none mark [] none = refl
 text_before-none mark (c ∷ rest) none =
     let parts = is_without-cons mark c rest none in
     text_before-other mark c rest parts.0 ∙ ap (λ xs. c ∷ xs) (text_before-none mark rest parts.1)
 
--- a text before a mark stands before the first one, if it is without it
+-- a text before a mark is before the first one, if it is without it
 pub text_before-mark : (mark : ℕ) (xs ys : List ℕ) → is_without mark xs ≡ true → text_before mark (xs ++ mark ∷ ys) ≡ xs
 text_before-mark mark [] ys none = text_before-same mark mark ys (eq-eqb mark mark refl)
 text_before-mark mark (c ∷ xs) ys none =
@@ -82,7 +82,7 @@ text_before-mark mark (c ∷ xs) ys none =
 
 -- ---- what follows the first mark
 
--- a text behind the first mark
+-- a text after the first mark
 pub after_first-mark : (mark : ℕ) (xs ys : List ℕ) → is_without mark xs ≡ true
     → after_first (λ x. x == mark) (xs ++ mark ∷ ys) ≡ ys
 after_first-mark mark [] ys none = after_first-same mark mark ys (eq-eqb mark mark refl)
@@ -113,19 +113,19 @@ at_first_mark mark (c ∷ rest) some = elim (cases_Bool (c == mark)) [
 
 -- the text before a mark that may be there
 pub before_written : (mark : ℕ) (xs : List ℕ) (rest : Option (List ℕ)) → is_without mark xs ≡ true
-    → text_before mark (xs ++ written_behind mark rest) ≡ xs
+    → text_before mark (xs ++ written_after mark rest) ≡ xs
 before_written mark xs None none = rw (append-nil xs) (text_before-none mark xs none)
 before_written mark xs (Some ys) none = text_before-mark mark xs ys none
 
--- the text behind a mark that may be there
-pub behind_written : (mark : ℕ) (xs : List ℕ) (rest : Option (List ℕ)) → is_without mark xs ≡ true
-    → text_behind mark (xs ++ written_behind mark rest) ≡ rest
-behind_written mark xs None none = rw (append-nil xs, none) refl
-behind_written mark xs (Some ys) none = rw (has_mark mark xs ys) (ap Some (after_first-mark mark xs ys none))
+-- the text after a mark that may be there
+pub after_written : (mark : ℕ) (xs : List ℕ) (rest : Option (List ℕ)) → is_without mark xs ≡ true
+    → text_after mark (xs ++ written_after mark rest) ≡ rest
+after_written mark xs None none = rw (append-nil xs, none) refl
+after_written mark xs (Some ys) none = rw (has_mark mark xs ys) (ap Some (after_first-mark mark xs ys none))
 
--- a text is what stands before the first mark and what may follow it
+-- a text is what is before the first mark and what may follow it
 pub written_mark : (mark : ℕ) (text : List ℕ)
-    → text ≡ text_before mark text ++ written_behind mark (text_behind mark text)
+    → text ≡ text_before mark text ++ written_after mark (text_after mark text)
 written_mark mark text = elim (cases_Bool (is_without mark text)) [
   | inl none ↦ rw (none, text_before-none mark text none) (sym (append-nil text))
   | inr some ↦ rw some (at_first_mark mark text some)

@@ -1,17 +1,17 @@
 -- Units where more text follows them, as the parser machine's states look ahead: what is no fault in a text is none
--- with more behind it, and `#` is a fault wherever it stands.
+-- with more after it, and `#` is a fault wherever it is.
 use Rattle.std.proofs.Common.{◌≡◌, ℕ, true, false, inl, inr, ◌==◌, List, [], ◌∷◌, ◌++◌}
 use Rattle.std.proofs.lemmas.Bool.{false≢true, cases_Bool, eqb-true}
 use Rattle.uv_model.specs.Ascii.{number_sign, percent_sign}
 use Rattle.uv_model.specs.Units.{is_url_code_point, starts_with_two_hex, is_unit_at}
 
--- two hex digits stay with more text behind them
+-- two hex digits stay with more text after them
 two_hex_ahead : (xs ys : List ℕ) → starts_with_two_hex xs ≡ true → starts_with_two_hex (xs ++ ys) ≡ true
 two_hex_ahead [] ys ok = absurd (false≢true ok)
 two_hex_ahead (high ∷ []) ys ok = absurd (false≢true ok)
 two_hex_ahead (high ∷ low ∷ rest) ys ok = ok
 
--- what is no fault in a text is none with more text behind it
+-- what is no fault in a text is none with more text after it
 pub is_unit_at-ahead : (c : ℕ) (xs ys : List ℕ) → is_unit_at c xs ≡ true → is_unit_at c (xs ++ ys) ≡ true
 unfolding is_unit_at
 is_unit_at-ahead c xs ys ok =

@@ -110,15 +110,15 @@ IsUnits-faultless (c ∷ high ∷ []) none =
     ]
 IsUnits-faultless (c ∷ high ∷ low ∷ rest) none =
     let parts = and_parts _ _ none in
-    let behind = and_parts _ _ (and_parts _ _ parts.1).1 in
+    let after = and_parts _ _ (and_parts _ _ parts.1).1 in
     elim (cases_eq c percent_sign) [
-      | inl same ↦ IsUnits-escape c high low rest same parts.0 (IsUnits-faultless rest behind.1)
+      | inl same ↦ IsUnits-escape c high low rest same parts.0 (IsUnits-faultless rest after.1)
       | inr other ↦ IsUnits-url c (high ∷ low ∷ rest) other parts.0 (IsUnits-faultless (high ∷ low ∷ rest) parts.1)
     ]
 
 -- ---- units of texts joined
 
--- units behind units are units
+-- units after units are units
 pub IsUnits-append : (xs ys : List ℕ) → IsUnits xs → IsUnits ys → IsUnits (xs ++ ys)
 IsUnits-append xs ys first second =
     record {
@@ -143,7 +143,7 @@ pub is_unit_at-mark : (mark c : ℕ) (xs ys : List ℕ) → is_ascii_hexdigit ma
 unfolding is_unit_at
 is_unit_at-mark mark c xs ys other = rw (starts_with_two_hex-mark mark xs ys other)
 
--- units before and behind a URL code point are units with it
+-- units before and after a URL code point are units with it
 pub IsUnits-joined : (mark : ℕ) (xs ys : List ℕ) → is_url_code_point mark ≡ true → IsUnits xs → IsUnits ys
     → IsUnits (xs ++ mark ∷ ys)
 IsUnits-joined mark xs ys url first second =
@@ -167,7 +167,7 @@ encode_beyond P high c beyond =
 pub beyond_no_hex : (b : ℕ) → 128 ≤ b → is_ascii_hexdigit b ≡ false
 beyond_no_hex b beyond = grind (arith, nat_tests)
 
--- no two hex digits stand where the first is beyond ASCII
+-- no two hex digits are where the first is beyond ASCII
 no_hex_first : (b : ℕ) (rest : List ℕ) → 128 ≤ b → starts_with_two_hex (b ∷ rest) ≡ false
 no_hex_first b [] beyond = refl
 no_hex_first b (next ∷ rest) beyond = and_left _ _ (beyond_no_hex b beyond)
@@ -188,10 +188,10 @@ starts_with_two_hex-encodes (c ∷ next ∷ rest) =
       | inl small ↦ elim (cases_lt next 128) [
         | inl both ↦ rw (encode_ascii c small, encode_ascii next both)
         | inr large ↦
-            let behind : starts_with_two_hex (c ∷ (encode_utf8 next ++ encode_utf8_all rest)) ≡ false =
+            let after : starts_with_two_hex (c ∷ (encode_utf8 next ++ encode_utf8_all rest)) ≡ false =
             encode_beyond (λ bs. starts_with_two_hex (c ∷ (bs ++ encode_utf8_all rest)) ≡ false)
             (λ b bs high. and_right _ _ (beyond_no_hex b high)) next large in
-            rw (encode_ascii c small) (behind ∙ sym (and_right _ _ (beyond_no_hex next large)))
+            rw (encode_ascii c small) (after ∙ sym (and_right _ _ (beyond_no_hex next large)))
       ]
       | inr large ↦
           let first : starts_with_two_hex (encode_utf8 c ++ (encode_utf8 next ++ encode_utf8_all rest)) ≡ false =

@@ -7,8 +7,8 @@ use Rattle.std.proofs.lemmas.List.Elements.{Contains-append_left, Contains-appen
 use Rattle.std.proofs.lemmas.List.Elements.{Contains-push, Contains-push_cases}
 use Rattle.uv_model.specs.declared.rule.Rule.{Rule}
 use Rattle.uv_model.specs.declared.rule.Refusal.{Refusal}
-use Rattle.uv_model.specs.Violations.AllViolations.{IsOrdered, ListsViolations, StandsBehind, first_refusal}
-use Rattle.uv_model.specs.Violations.Violation.{Behind, refusal_behind}
+use Rattle.uv_model.specs.Violations.AllViolations.{IsOrdered, ListsViolations, StandsAfter, first_refusal}
+use Rattle.uv_model.specs.Violations.Violation.{After, refusal_after}
 use Rattle.uv_model.specs.Violations.Refusal.{IsLeast}
 use Rattle.uv_model.proofs.Violations.LeastLemmas.{Either, Precedes}
 
@@ -21,7 +21,7 @@ contains_none refusal h = let less : h.0 < 0 = h.1 in omega arith
 pub contains_here : (refusal : Refusal) (rest : List Refusal) → Contains (refusal ∷ rest) refusal
 contains_here refusal rest = Contains-append_left (refusal ∷ []) rest refusal (Contains-push [] refusal)
 
--- and those behind it
+-- and those after it
 pub contains_later : (refusal other : Refusal) (rest : List Refusal) → Contains rest other
     → Contains (refusal ∷ rest) other
 contains_later refusal other rest h = Contains-append_right (refusal ∷ []) rest other h
@@ -65,7 +65,7 @@ pub lists_one : (F : ℕ → Rule → Type 0) (refusal : Refusal) → F refusal.
     → ListsViolations F (refusal ∷ [])
 lists_one F refusal stands only = record { each = each; ordered = (ordered, tt) }
   where
-    ordered : (other : Refusal) → Contains [] other → StandsBehind refusal other.place other.rule
+    ordered : (other : Refusal) → Contains [] other → StandsAfter refusal other.place other.rule
     ordered other h = absurd (contains_none other h)
 
     there : (other : Refusal) → Contains (refusal ∷ []) other → F other.place other.rule
@@ -95,9 +95,9 @@ lists_like F G to from list is = record {
   ordered = is.ordered;
 }
 
--- two ordered lists of which the one stands before the other
+-- two ordered lists of which the one is before the other
 ordered_append : (xs ys : List Refusal) → IsOrdered xs → IsOrdered ys
-    → ((x y : Refusal) → Contains xs x → Contains ys y → StandsBehind x y.place y.rule) → IsOrdered (xs ++ ys)
+    → ((x y : Refusal) → Contains xs x → Contains ys y → StandsAfter x y.place y.rule) → IsOrdered (xs ++ ys)
 ordered_append [] ys first second across = second
 ordered_append (x ∷ xs) ys first second across = (
   λ other h. elim (Contains-append_cases xs ys other h) [
@@ -145,7 +145,7 @@ lists_least F (refusal ∷ rest) is = record {
 }
   where
     where_it_stands : (place : ℕ) (rule : Rule) → F place rule
-        → ((refusal.place ≡ place) × (refusal.rule ≡ rule)) ⊎ StandsBehind refusal place rule
+        → ((refusal.place ≡ place) × (refusal.rule ≡ rule)) ⊎ StandsAfter refusal place rule
     where_it_stands place rule h =
         let it = refusal_at place rule in
         elim (contains_cases refusal it rest ((is.each it).1 h)) [
@@ -153,72 +153,72 @@ lists_least F (refusal ∷ rest) is = record {
           | inr later ↦ inr (is.ordered.0 it later)
         ]
 
--- ---- texts that are judged code point by code point
+-- ---- texts that are checked code point by code point
 
 -- a violation is one of a code point and of what follows it, and a code point has one at most
 pub record IsScan (F : List ℕ → ℕ → Rule → Type 0) : Type 0 where
   pub one : (text : List ℕ) (place : ℕ) (rule other : Rule) → F text place rule → F text place other → rule ≡ other
-  pub behind : (prefix : ℕ) (text : List ℕ) (place : ℕ) (rule : Rule) → F text (prefix + place) rule
+  pub after : (prefix : ℕ) (text : List ℕ) (place : ℕ) (rule : Rule) → F text (prefix + place) rule
       → F (drop prefix text) place rule
   pub whole : (prefix : ℕ) (text : List ℕ) (place : ℕ) (rule : Rule) → F (drop prefix text) place rule
       → F text (prefix + place) rule
 
--- the violations are the least one and those of what stands behind its code point
+-- the violations are the least one and those of what is after its code point
 pub lists_scan : (F : List ℕ → ℕ → Rule → Type 0) → IsScan F → (here : ℕ) (text : List ℕ) (refusal : Refusal)
     (list : List Refusal) → IsLeast (F text) (Some refusal)
-    → ListsViolations (Behind (here + (refusal.place + 1)) (F (drop (refusal.place + 1) text))) list
-    → ListsViolations (Behind here (F text)) (refusal_behind here refusal ∷ list)
+    → ListsViolations (After (here + (refusal.place + 1)) (F (drop (refusal.place + 1) text))) list
+    → ListsViolations (After here (F text)) (refusal_after here refusal ∷ list)
 lists_scan F scan here text refusal list least is = record {
   each = λ other. (there other, back other);
   ordered = (λ other h. inl (later other h), is.ordered);
 }
   where
     later : (other : Refusal) → Contains list other → here + refusal.place < other.place
-    later other h = let behind = (is.each other).0 h in omega (arith, behind.moved)
+    later other h = let after = (is.each other).0 h in omega (arith, after.moved)
 
-    there : (other : Refusal) → Contains (refusal_behind here refusal ∷ list) other
-        → Behind here (F text) other.place other.rule
-    there other h = elim (contains_cases (refusal_behind here refusal) other list h) [
+    there : (other : Refusal) → Contains (refusal_after here refusal ∷ list) other
+        → After here (F text) other.place other.rule
+    there other h = elim (contains_cases (refusal_after here refusal) other list h) [
       | inl same ↦
-          subst (λ (r : Refusal). Behind here (F text) r.place r.rule) same
+          subst (λ (r : Refusal). After here (F text) r.place r.rule) same
           (record { inner = refusal.place; moved = refl; holds = least.stands })
       | inr h ↦
-          let behind = (is.each other).0 h in
+          let after = (is.each other).0 h in
           record {
-            inner = (refusal.place + 1) + behind.inner;
-            moved = omega (arith, behind.moved);
-            holds = scan.whole (refusal.place + 1) text behind.inner other.rule behind.holds;
+            inner = (refusal.place + 1) + after.inner;
+            moved = omega (arith, after.moved);
+            holds = scan.whole (refusal.place + 1) text after.inner other.rule after.holds;
           }
     ]
 
-    at_it : (other : Refusal) (h : Behind here (F text) other.place other.rule) → h.inner ≡ refusal.place
-        → Contains (refusal_behind here refusal ∷ list) other
+    at_it : (other : Refusal) (h : After here (F text) other.place other.rule) → h.inner ≡ refusal.place
+        → Contains (refusal_after here refusal ∷ list) other
     at_it other h same =
         let holds = subst (λ (place : ℕ). F text place other.rule) same h.holds in
         let rule : refusal.rule ≡ other.rule = scan.one text refusal.place refusal.rule other.rule least.stands holds in
         let place : here + refusal.place ≡ other.place = omega (arith, h.moved) in
-        subst (λ (r : Refusal). Contains (refusal_behind here refusal ∷ list) r)
-        (same_refusal (refusal_behind here refusal) other place rule)
-        (contains_here (refusal_behind here refusal) list)
+        subst (λ (r : Refusal). Contains (refusal_after here refusal ∷ list) r)
+        (same_refusal (refusal_after here refusal) other place rule)
+        (contains_here (refusal_after here refusal) list)
 
-    behind_it : (other : Refusal) (h : Behind here (F text) other.place other.rule) → refusal.place < h.inner
-        → Contains (refusal_behind here refusal ∷ list) other
-    behind_it other h less =
+    after_it : (other : Refusal) (h : After here (F text) other.place other.rule) → refusal.place < h.inner
+        → Contains (refusal_after here refusal ∷ list) other
+    after_it other h less =
         let inner : h.inner ≡ (refusal.place + 1) + (h.inner - (refusal.place + 1)) = omega arith in
         let holds = subst (λ (place : ℕ). F text place other.rule) inner h.holds in
-        contains_later (refusal_behind here refusal) other list
+        contains_later (refusal_after here refusal) other list
         ((is.each other).1 (record {
           inner = h.inner - (refusal.place + 1);
           moved = omega (arith, h.moved);
-          holds = scan.behind (refusal.place + 1) text (h.inner - (refusal.place + 1)) other.rule holds;
+          holds = scan.after (refusal.place + 1) text (h.inner - (refusal.place + 1)) other.rule holds;
         }))
 
-    back : (other : Refusal) → Behind here (F text) other.place other.rule
-        → Contains (refusal_behind here refusal ∷ list) other
+    back : (other : Refusal) → After here (F text) other.place other.rule
+        → Contains (refusal_after here refusal ∷ list) other
     back other h =
         let first = least.first h.inner other.rule h.holds in
         elim (cases_order h.inner refusal.place) [
           | inl same ↦ at_it other h same
           | inr (inl less) ↦ absurd (omega arith)
-          | inr (inr more) ↦ behind_it other h more
+          | inr (inr more) ↦ after_it other h more
         ]

@@ -187,7 +187,7 @@ empty_opaque_faultless place rule h = (let within = opaque_violation_within [] p
 
 -- ---- ports
 
--- at each place of digits stands a digit
+-- at each place of digits is a digit
 digit_at : (text rest : List ℕ) (place c : ℕ) → list_all is_ascii_digit text ≡ true → drop place text ≡ c ∷ rest
     → is_ascii_digit c ≡ true
 digit_at [] rest zero c each here = absurd cc

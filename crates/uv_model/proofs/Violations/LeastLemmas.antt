@@ -5,18 +5,18 @@ use Rattle.uv_model.specs.declared.rule.Rule.{Rule}
 use Rattle.uv_model.specs.declared.rule.Refusal.{Refusal}
 use Rattle.uv_model.specs.Violations.Refusal.{IsLeast, IsLeastRefusal}
 use Rattle.uv_model.specs.Violations.Rule.{rule_number}
-use Rattle.uv_model.specs.Violations.Violation.{Behind, fault_behind}
+use Rattle.uv_model.specs.Violations.Violation.{After, fault_after}
 
 -- a violation of either kind
 abbrev pub Either : (ℕ → Rule → Type 0) → (ℕ → Rule → Type 0) → ℕ → Rule → Type 0
 Either F G place rule = F place rule ⊎ G place rule
 
--- each violation stands before the place, or no further than it with a number up to `number`
+-- each violation is before the place, or no further than it with a number up to `number`
 pub record Ends (violation : ℕ → Rule → Type 0) (end number : ℕ) : Type 0 where
   pub by : (place : ℕ) (rule : Rule) → violation place rule
       → (place < end) ⊎ ((place ≤ end) × (rule_number rule ≤ number))
 
--- no violation stands before the place, and each has a number from `number` on
+-- no violation is before the place, and each has a number from `number` on
 pub record Begins (violation : ℕ → Rule → Type 0) (start number : ℕ) : Type 0 where
   pub from : (place : ℕ) (rule : Rule) → violation place rule → (start ≤ place) × (number ≤ rule_number rule)
 
@@ -62,7 +62,7 @@ least_first F G refusal before least = record { stands = inl least.stands; first
       | inr (same, number) ↦ omega arith
     ]
 
--- where none of the first kind stands, the least of the second is the least of both
+-- where none of the first kind is, the least of the second is the least of both
 pub least_second : (F G : ℕ → Rule → Type 0) (least : Option Refusal) → IsLeast F None → IsLeast G least
     → IsLeast (Either F G) least
 least_second F G None none other = λ place rule. either place rule
@@ -80,13 +80,13 @@ least_second F G (Some refusal) none is = record { stands = inr is.stands; first
     lowest rule (inl f) = absurd (none refusal.place rule f)
     lowest rule (inr g) = is.lowest rule g
 
--- ---- violations of a part, behind the start of the text
+-- ---- violations of a part, after the start of the text
 
--- the least violation of a part is the least one behind its start
-pub least_behind : (start : ℕ) (F : ℕ → Rule → Type 0) (least : Option Refusal) → IsLeast F least
-    → IsLeast (Behind start F) (fault_behind start least)
-least_behind start F None none = λ place rule h. none h.inner rule h.holds
-least_behind start F (Some refusal) is = record {
+-- the least violation of a part is the least one after its start
+pub least_after : (start : ℕ) (F : ℕ → Rule → Type 0) (least : Option Refusal) → IsLeast F least
+    → IsLeast (After start F) (fault_after start least)
+least_after start F None none = λ place rule h. none h.inner rule h.holds
+least_after start F (Some refusal) is = record {
   stands = record { inner = refusal.place; moved = refl; holds = is.stands };
   first = λ place rule h. (let later = is.first h.inner rule h.holds in omega (arith, h.moved));
   lowest = λ rule h.

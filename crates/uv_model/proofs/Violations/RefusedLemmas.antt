@@ -1,4 +1,4 @@
--- The least violation of a text: the first fault in the order in which the parts are judged.
+-- The least violation of a text: the first fault in the order in which the parts are checked.
 use Rattle.std.proofs.Common.{◌≡◌, ℕ, ◌+◌, ◌<◌, ◌≤◌, ◌⊎◌, Bool, true, false, List, [], ◌∷◌, Option, Some, None}
 use Rattle.std.proofs.Common.{length, inl, inr, arith, subst}
 use Rattle.std.specs.Prelude.{if◌then◌else◌}
@@ -12,19 +12,19 @@ use Rattle.uv_model.specs.Setting.{Setting, setting_of}
 use Rattle.uv_model.specs.Records.Url.{Url}
 use Rattle.uv_model.specs.Cut.{Cut, IsCut, port_place, path_place, query_place, fragment_place}
 use Rattle.uv_model.specs.Cut.{starts_with_two_slashes}
-use Rattle.uv_model.specs.Violations.Violation.{Behind, StartViolation, PortViolation}
+use Rattle.uv_model.specs.Violations.Violation.{After, StartViolation, PortViolation}
 use Rattle.uv_model.specs.Violations.Violation.{PathStartViolation, HostPartViolation, PortPartViolation}
-use Rattle.uv_model.specs.Violations.Violation.{MayBeUnitViolation, JudgedViolation, ContentViolation, IsStarted}
-use Rattle.uv_model.specs.Violations.Violation.{ViolationOf, Violation, slashes_place, fault_behind}
+use Rattle.uv_model.specs.Violations.Violation.{MayBeUnitViolation, CheckedViolation, ContentViolation, IsStarted}
+use Rattle.uv_model.specs.Violations.Violation.{ViolationOf, Violation, fault_after, slashes_place}
 use Rattle.uv_model.proofs.Cuts.CutLemmas.{cut_is_computed}
 use Rattle.uv_model.proofs.Violations.LeastLemmas.{Either, Begins, Precedes, precedes, least_first, least_second}
-use Rattle.uv_model.proofs.Violations.LeastLemmas.{begins_either, begins_earlier, least_behind}
+use Rattle.uv_model.proofs.Violations.LeastLemmas.{begins_either, begins_earlier, least_after}
 use Rattle.uv_model.proofs.Violations.RefusalLemmas.{IsLeast-like}
 use Rattle.uv_model.proofs.Violations.ViolationLemmas.{cut_with, second_slash, host_end, host_before_path}
-use Rattle.uv_model.proofs.Violations.ViolationLemmas.{query_behind_path, fragment_behind_query, host_part_ends}
+use Rattle.uv_model.proofs.Violations.ViolationLemmas.{fragment_after_query, host_part_ends, query_after_path}
 use Rattle.uv_model.proofs.Violations.ViolationLemmas.{port_part_ends, port_part_begins, path_start_ends}
 use Rattle.uv_model.proofs.Violations.ViolationLemmas.{OfPath, path_start_begins, path_held_begins, path_held_ends}
-use Rattle.uv_model.proofs.Violations.ViolationLemmas.{path_held_after_slash, may_be_begins, query_ends, start_ends}
+use Rattle.uv_model.proofs.Violations.ViolationLemmas.{may_be_begins, path_held_after_slash, query_ends, start_ends}
 
 -- ---- the parts, each with all that follow it
 
@@ -46,7 +46,7 @@ FromPath setting cut = Either (OfPath setting cut) (FromQuery cut)
 
 -- the violations of the path's start
 abbrev pub OfPathStart : Setting → Cut → ℕ → Rule → Type 0
-OfPathStart setting cut = Behind (path_place cut) (PathStartViolation setting cut)
+OfPathStart setting cut = After (path_place cut) (PathStartViolation setting cut)
 
 -- those of the path's start and of what follows
 abbrev pub FromPathStart : Setting → Cut → ℕ → Rule → Type 0
@@ -70,8 +70,8 @@ fragment_begins cut start le =
 
 query_begins : (cut : Cut) (start : ℕ) → start ≤ query_place cut → Begins (FromQuery cut) start 13
 query_begins cut start le =
-    let path = query_behind_path cut in
-    let later = fragment_behind_query cut in
+    let path = query_after_path cut in
+    let later = fragment_after_query cut in
     begins_either (OfQuery cut) (FromFragment cut) start 13
     (begins_earlier (OfQuery cut) (query_place cut) 13 start 13 (may_be_begins (query_place cut) cut.query) le
     (omega arith))
@@ -82,7 +82,7 @@ pub one_at_most : (test : Bool) → (if test then 1 else 0) ≤ 1
 one_at_most true = omega arith
 one_at_most false = omega arith
 
--- the second slash of a path stands in its text
+-- the second slash of a path is in its text
 pub second_slash_within : (text : List ℕ) → second_slash text ≤ length text
 second_slash_within [] = omega arith
 second_slash_within (c ∷ []) = omega arith
@@ -94,7 +94,7 @@ path_begins : (setting : Setting) (cut : Cut)
     → Begins (FromPath setting cut) (path_place cut + second_slash cut.path_text) 13
 path_begins setting cut =
     let within = second_slash_within cut.path_text in
-    let query = query_behind_path cut in
+    let query = query_after_path cut in
     begins_either (OfPath setting cut) (FromQuery cut) (path_place cut + second_slash cut.path_text) 13
     (path_held_begins setting cut) (query_begins cut _ (omega arith))
 
@@ -122,7 +122,7 @@ query_first cut =
 -- the path before the query
 pub path_first : (setting : Setting) (cut : Cut) → Precedes (OfPath setting cut) (FromQuery cut)
 path_first setting cut =
-    let query = query_behind_path cut in
+    let query = query_after_path cut in
     precedes (OfPath setting cut) (FromQuery cut) (path_place cut + length cut.path_text) 0 13 (omega arith)
     (path_held_ends setting cut) (query_begins cut _ (omega arith))
 
@@ -149,16 +149,16 @@ host_first setting cut =
 
 -- ---- the violations of the whole text
 
--- no text violates a rule of the start and one of a judged part
+-- no text violates a rule of the start and one of a checked part
 abbrev pub Rest : Setting → List ℕ → Cut → ℕ → Rule → Type 0
 Rest setting text cut place rule =
-    (IsStarted setting text cut × JudgedViolation setting cut place rule) ⊎ ContentViolation setting cut place rule
+    (IsStarted setting text cut × CheckedViolation setting cut place rule) ⊎ ContentViolation setting cut place rule
 
--- what the path, the query and the fragment hold begins no earlier than such a violation stands
+-- what the path, the query and the fragment hold begins no earlier than such a violation is
 held_begin : (setting : Setting) (cut : Cut) → Begins (FromPath setting cut) (slashes_place cut) 13
 held_begin setting cut =
     let few = one_at_most (starts_with_slash cut.path_text) in
-    let query = query_behind_path cut in
+    let query = query_after_path cut in
     begins_either (OfPath setting cut) (FromQuery cut) (slashes_place cut) 13
     (begins_earlier (OfPath setting cut) _ 13 (slashes_place cut) 13 (path_held_after_slash setting cut)
     (omega arith) (omega arith))
@@ -180,7 +180,7 @@ start_first setting text cut = record { order = order }
     order : (place later : ℕ) (rule other : Rule) → StartViolation setting text cut place rule
         → Rest setting text cut later other
         → (place < later) ⊎ ((place ≡ later) × (rule_number rule < rule_number other))
-    order place later rule other start (inl (started, judged)) = absurd (started place rule start)
+    order place later rule other start (inl (started, checked)) = absurd (started place rule start)
     order place later rule other start (inr h) =
         (start_before_held setting text cut).order place later rule other start h
 
@@ -290,18 +290,18 @@ pub host_passes : (setting : Setting) (cut : Cut) (least : Option Refusal)
     → IsLeast (FromPort setting cut) least → IsLeast (FromHost setting cut) least
 host_passes setting cut least = least_second (HostPartViolation setting cut) (FromPort setting cut) least
 
--- ---- from a part judged alone to the part of the text
+-- ---- from a part checked alone to the part of the text
 
 -- without an authority the host has none
 pub none_of_host : (setting : Setting) (cut : Cut) → cut.host_text ≡ None → IsLeast (HostPartViolation setting cut) None
 none_of_host setting cut is = rw is (λ place rule h. h)
 
--- the least violation of the port is its least one behind the host and `:`
+-- the least violation of the port is its least one after the host and `:`
 pub least_of_port : (cut : Cut) (host_text port_text : List ℕ) (least : Option Refusal) → cut.host_text ≡ Some host_text
     → cut.port_text ≡ Some port_text → IsLeast (PortViolation port_text) least
-    → IsLeast (PortPartViolation cut) (fault_behind (port_place host_text cut) least)
+    → IsLeast (PortPartViolation cut) (fault_after (port_place host_text cut) least)
 least_of_port cut host_text port_text least host port found =
-    rw (host, port) (least_behind (port_place host_text cut) (PortViolation port_text) least found)
+    rw (host, port) (least_after (port_place host_text cut) (PortViolation port_text) least found)
 
 -- without a port there is none
 pub none_of_port : (cut : Cut) → cut.port_text ≡ None → IsLeast (PortPartViolation cut) None

@@ -53,39 +53,39 @@ spaces_end c (next ∷ rest) is only =
     spaces_end next rest parts.0 parts.1
 
 -- a space that spaces alone follow is one of the text's end
-last_spaces : (text : List ℕ) (place : ℕ) (after : List ℕ) → drop place text ≡ space ∷ after
-    → only_spaces after ≡ true → ends_with_space text ≡ true
-last_spaces [] zero after here only = absurd cc
-last_spaces [] (suc place) after here only = absurd cc
-last_spaces (c ∷ rest) zero after here only =
+last_spaces : (text : List ℕ) (place : ℕ) (remaining : List ℕ) → drop place text ≡ space ∷ remaining
+    → only_spaces remaining ≡ true → ends_with_space text ≡ true
+last_spaces [] zero remaining here only = absurd cc
+last_spaces [] (suc place) remaining here only = absurd cc
+last_spaces (c ∷ rest) zero remaining here only =
     let same : c ≡ space = cc in
-    let left : rest ≡ after = cc in
+    let left : rest ≡ remaining = cc in
     spaces_end c rest (rw same refl) (ap only_spaces left ∙ only)
-last_spaces (c ∷ []) (suc zero) after here only = absurd cc
-last_spaces (c ∷ []) (suc (suc place)) after here only = absurd cc
-last_spaces (c ∷ next ∷ rest) (suc place) after here only = last_spaces (next ∷ rest) place after here only
+last_spaces (c ∷ []) (suc zero) remaining here only = absurd cc
+last_spaces (c ∷ []) (suc (suc place)) remaining here only = absurd cc
+last_spaces (c ∷ next ∷ rest) (suc place) remaining here only = last_spaces (next ∷ rest) place remaining here only
 
 -- an opaque path that the parser takes has no violation
 pub taken_faultless : (followed : Bool) (text : List ℕ) → IsTakenSpacedPath followed text → (place : ℕ) (rule : Rule)
     → PathUnitViolation Parser true followed text place rule → ⊥
 taken_faultless followed text is place rule (unit, foreign) =
     let (rest, here) = space_at text place rule is.spaced.units unit in
-    foreign (record { rest = rest; here = here; behind = behind rest here })
+    foreign (record { rest = rest; here = here; after = after rest here })
   where
-    behind : (rest : List ℕ) → drop place text ≡ space ∷ rest → followed ≡ false → only_spaces rest ≡ false
-    behind rest here alone =
+    after : (rest : List ℕ) → drop place text ≡ space ∷ rest → followed ≡ false → only_spaces rest ≡ false
+    after rest here alone =
         false_from_ne_true (only_spaces rest)
         (λ only. false≢true (sym (is.end alone) ∙ last_spaces text place rest here only))
 
 -- ---- a path without a violation
 
--- the violations of a path of the parser's profile behind its first code point
+-- the violations of a path of the parser's profile after its first code point
 taken_later : (c : ℕ) (rest : List ℕ) (followed : Bool) (place : ℕ) (rule : Rule)
     → PathUnitViolation Parser true followed rest place rule
     → PathUnitViolation Parser true followed (c ∷ rest) (suc place) rule
 taken_later c rest followed place rule (unit, foreign) = (
   UnitViolation-later c rest place rule unit,
-  λ taken. foreign (record { rest = taken.rest; here = taken.here; behind = taken.behind }),
+  λ taken. foreign (record { rest = taken.rest; here = taken.here; after = taken.after }),
 )
 
 -- an opaque path without a violation is units and spaces
@@ -126,7 +126,7 @@ unspaced_end_without_violation followed (c ∷ []) none alone = elim (cases_Bool
       let is : c ≡ space = eqb-true c space same in
       absurd (none 0 (unit_rule space) (
         rw is (space_violates []),
-        λ taken. let none : taken.rest ≡ [] = cc in false≢true (sym (taken.behind alone) ∙ ap only_spaces none),
+        λ taken. let none : taken.rest ≡ [] = cc in false≢true (sym (taken.after alone) ∙ ap only_spaces none),
       ))
   | inr other ↦ other
 ]

@@ -8,7 +8,7 @@ use Rattle.uv_model.specs.Violations.UnitViolation.{UnitViolation, unit_rule}
 use Rattle.uv_model.specs.Units.{is_url_code_point, starts_with_two_hex, is_unit_at, is_faultless, IsUnits}
 use Rattle.uv_model.proofs.Texts.UnitsLemmas.{is_faultless-units, IsUnits-faultless}
 
--- a fault of a text stands one place later behind one more code point
+-- a fault of a text is one place later after one more code point
 pub UnitViolation-later : (c : ℕ) (rest : List ℕ) (place : ℕ) (rule : Rule) → UnitViolation rest place rule
     → UnitViolation (c ∷ rest) (suc place) rule
 UnitViolation-later c rest place CodePoint h =
@@ -16,7 +16,7 @@ UnitViolation-later c rest place CodePoint h =
 UnitViolation-later c rest place Percent h = record { rest = h.rest; here = h.here; bare = h.bare }
 UnitViolation-later c rest place _ h = absurd h
 
--- a fault behind the first code point stands one place earlier in the text without it
+-- a fault after the first code point is one place earlier in the text without it
 pub UnitViolation-earlier : (c : ℕ) (rest : List ℕ) (place : ℕ) (rule : Rule)
     → UnitViolation (c ∷ rest) (suc place) rule
     → UnitViolation rest place rule
@@ -25,7 +25,7 @@ UnitViolation-earlier c rest place CodePoint h =
 UnitViolation-earlier c rest place Percent h = record { rest = h.rest; here = h.here; bare = h.bare }
 UnitViolation-earlier c rest place _ h = absurd h
 
--- no code point stands in the empty text
+-- no code point is in the empty text
 pub nothing_at : (place c : ℕ) (rest : List ℕ) → drop place [] ≡ c ∷ rest → ⊥
 nothing_at zero c rest h = cc
 nothing_at (suc place) c rest h = cc
@@ -53,12 +53,12 @@ UnitViolation-here c rest fault =
           (record { code_point = c; rest = rest; here = refl; foreign = foreign; no_escape = other })
     ]
 
--- the code point and what follows it where the violation stands at the first place
-pub head_same : (c d : ℕ) (rest behind : List ℕ) → c ∷ rest ≡ d ∷ behind → d ≡ c
-head_same c d rest behind e = cc
+-- the code point and what follows it where the violation is at the first place
+pub head_same : (c d : ℕ) (rest after : List ℕ) → c ∷ rest ≡ d ∷ after → d ≡ c
+head_same c d rest after e = cc
 
-pub tail_same : (c d : ℕ) (rest behind : List ℕ) → c ∷ rest ≡ d ∷ behind → behind ≡ rest
-tail_same c d rest behind e = cc
+pub tail_same : (c d : ℕ) (rest after : List ℕ) → c ∷ rest ≡ d ∷ after → after ≡ rest
+tail_same c d rest after e = cc
 
 -- what a fault of the first code point says
 pub UnitViolation-said : (c : ℕ) (rest : List ℕ) (rule : Rule) → UnitViolation (c ∷ rest) 0 rule

@@ -1,4 +1,4 @@
--- The violations of a text in the order in which its parts are judged: the first fault of a part is the least of all.
+-- The violations of a text in the order in which its parts are checked: the first fault of a part is the least of all.
 use Rattle.std.proofs.Common.{◌≡◌, ◌≢◌, ℕ, zero, suc, ◌+◌, ◌<◌, ◌≤◌, ◌⊎◌, Bool, true, false, ◌==◌, List, [], ◌∷◌}
 use Rattle.std.proofs.Common.{Option, Some, None, length, drop, refl, ap, sym, ◌∙◌, inl, inr, arith, subst}
 use Rattle.std.specs.Prelude.{if◌then◌else◌}
@@ -16,7 +16,7 @@ use Rattle.uv_model.specs.declared.rule.Refusal.{Refusal}
 use Rattle.uv_model.specs.Violations.Refusal.{IsLeast, StandsWithin}
 use Rattle.uv_model.specs.Violations.Rule.{rule_number}
 use Rattle.uv_model.specs.Ascii.{percent_sign, slash, colon, question_mark}
-use Rattle.uv_model.specs.Parts.{written_scheme, written_authority, written_behind}
+use Rattle.uv_model.specs.Parts.{written_scheme, written_authority, written_after}
 use Rattle.uv_model.specs.Path.{starts_with_slash}
 use Rattle.uv_model.specs.Violations.UnitViolation.{UnitViolation}
 use Rattle.uv_model.specs.Violations.OpaqueHostViolation.{OpaqueHostViolation}
@@ -24,7 +24,7 @@ use Rattle.uv_model.specs.Units.{is_url_code_point}
 use Rattle.uv_model.specs.Setting.{Setting}
 use Rattle.uv_model.specs.Cut.{Cut, scheme_end, path_place, query_place, fragment_place, starts_with_two_slashes}
 use Rattle.uv_model.specs.Cut.{ends_at_host, is_followed, written_start, written_middle}
-use Rattle.uv_model.specs.Violations.Violation.{Behind, StartViolation, HostTextViolation, HostContentViolation}
+use Rattle.uv_model.specs.Violations.Violation.{After, StartViolation, HostTextViolation, HostContentViolation}
 use Rattle.uv_model.specs.Violations.Violation.{HostViolation, PortViolation, PathStartViolation, HasEmptyFirst}
 use Rattle.uv_model.specs.Violations.Violation.{HostPartViolation, PortPartViolation, MayBeUnitViolation}
 use Rattle.uv_model.specs.Violations.Violation.{PathContentViolation, has_opaque_path, slashes_place}
@@ -39,14 +39,14 @@ within_text text place c rest here =
     let left = ap length here in
     omega (arith, length-drop {A = ℕ}, left)
 
--- a fault of units stands within the text, by rule 13 or 14
+-- a fault of units is within the text, by rule 13 or 14
 pub unit_violation_bounds : (text : List ℕ) (place : ℕ) (rule : Rule) → UnitViolation text place rule
     → (place < length text) × (13 ≤ rule_number rule)
 unit_violation_bounds text place CodePoint h = (within_text text place h.code_point h.rest h.here, omega arith)
 unit_violation_bounds text place Percent h = (within_text text place percent_sign h.rest h.here, omega arith)
 unit_violation_bounds text place _ h = absurd h
 
--- a fault of an opaque host stands within its text
+-- a fault of an opaque host is within its text
 pub opaque_violation_within : (text : List ℕ) (place : ℕ) (rule : Rule) → OpaqueHostViolation text place rule
     → place < length text
 opaque_violation_within [] place HostIpv6 h = absurd (false≢true h.0.bracket)
@@ -55,7 +55,7 @@ opaque_violation_within text place HostCodePoint h = within_text text place h.1.
 opaque_violation_within text place Percent h = within_text text place percent_sign h.1.rest h.1.here
 opaque_violation_within text place _ h = absurd h
 
--- so the least fault of units stands within the text
+-- so the least fault of units is within the text
 pub least_unit_fault_within : (text : List ℕ) (answer : Option Refusal) → IsLeast (UnitViolation text) answer
     → StandsWithin text answer
 least_unit_fault_within text None least = tt
@@ -84,7 +84,7 @@ host_text_some profile class last [] HostIpv6 h = absurd (false≢true h.bracket
 host_text_some profile class last (c ∷ rest) HostIpv6 h = omega arith
 host_text_some profile class last text _ h = absurd h
 
--- a fault of what a host holds stands within its text
+-- a fault of what a host holds is within its text
 held_host_within : (profile : Profile) (class : Class) (last : Bool) (text : List ℕ) (place : ℕ) (rule : Rule)
     → HostContentViolation profile class last text place rule
     → place < length text
@@ -94,7 +94,7 @@ held_host_within profile File last text place rule (h, at) =
     (let some = host_text_some profile File last text rule h in omega arith)
 held_host_within profile Other last text place rule h = opaque_violation_within text place rule h
 
--- a fault of a host stands within its text, or is that of a missing host
+-- a fault of a host is within its text, or is that of a missing host
 host_violation_ends : (profile : Profile) (class : Class) (last : Bool) (text : List ℕ)
     (port_text : Option (List ℕ)) (path_text : List ℕ) (place : ℕ) (rule : Rule)
     → HostViolation profile class last text port_text path_text place rule
@@ -103,7 +103,7 @@ host_violation_ends profile class last text port_text path_text place HostMissin
 host_violation_ends profile class last text port_text path_text place rule h =
     inl (held_host_within profile class last text place rule h)
 
--- a fault of a port stands within its text, by rule 9 or 10
+-- a fault of a port is within its text, by rule 9 or 10
 port_violation_bounds : (text : List ℕ) (place : ℕ) (rule : Rule) → PortViolation text place rule
     → (place < length text) × (9 ≤ rule_number rule)
 port_violation_bounds text place PortDigit h = (within_text text place h.code_point h.rest h.here, omega arith)
@@ -114,18 +114,18 @@ port_violation_bounds [] place PortRange h = absurd (too_large h.0.large)
 port_violation_bounds (c ∷ rest) place PortRange h = (let at : place ≡ 0 = h.1 in (omega arith, omega arith))
 port_violation_bounds text place _ h = absurd h
 
--- a place more behind an empty first segment
+-- a place more after an empty first segment
 abbrev pub second_slash : List ℕ → ℕ
 second_slash path_text = if starts_with_two_slashes path_text then 1 else 0
 
--- a forbidden empty first segment stands where the path begins with `//`
+-- a forbidden empty first segment is where the path begins with `//`
 empty_first_starts : (profile : Profile) (path_text : List ℕ) → HasEmptyFirst profile path_text
     → starts_with_two_slashes path_text ≡ true
 empty_first_starts Standard path_text empty = empty
 empty_first_starts Wide path_text empty = absurd empty
 empty_first_starts Parser path_text empty = absurd empty
 
--- a fault of a path's start stands no further than that place, by rule 11 or 12
+-- a fault of a path's start is no further than that place, by rule 11 or 12
 path_start_bounds : (setting : Setting) (cut : Cut) (place : ℕ) (rule : Rule)
     → PathStartViolation setting cut place rule
     → (place ≤ second_slash cut.path_text) × (11 ≤ rule_number rule) × (rule_number rule ≤ 12)
@@ -150,12 +150,12 @@ slash_is_unit (c ∷ rest) Percent starts h =
     omega arith
 slash_is_unit (c ∷ rest) _ starts h = absurd h
 
--- the faults of units of a path that begins with `/` stand behind it
-units_behind_slash : (text : List ℕ) (place : ℕ) (rule : Rule) → starts_with_slash text ≡ true
+-- the faults of units of a path that begins with `/` are after it
+units_after_slash : (text : List ℕ) (place : ℕ) (rule : Rule) → starts_with_slash text ≡ true
     → UnitViolation text place rule
     → 1 ≤ place
-units_behind_slash text zero rule starts h = absurd (slash_is_unit text rule starts h)
-units_behind_slash text (suc place) rule starts h = omega arith
+units_after_slash text zero rule starts h = absurd (slash_is_unit text rule starts h)
+units_after_slash text (suc place) rule starts h = omega arith
 
 -- a text that begins with `//` begins with `/`
 two_begin_with_one : (text : List ℕ) → starts_with_two_slashes text ≡ true → starts_with_slash text ≡ true
@@ -163,7 +163,7 @@ two_begin_with_one [] starts = starts
 two_begin_with_one (c ∷ []) starts = absurd (false≢true starts)
 two_begin_with_one (c ∷ d ∷ rest) starts = (and_parts (c == slash) (d == slash) starts).0
 
--- one place for a text that passes, where nothing stands at the first place
+-- one place for a text that passes, where nothing is at the first place
 one_place : (test : Bool) (place : ℕ) → (test ≡ true → 1 ≤ place) → (if test then 1 else 0) ≤ place
 one_place true place some = some refl
 one_place false place some = omega arith
@@ -187,7 +187,7 @@ abbrev pub host_length : Option (List ℕ) → ℕ
 host_length None = 0
 host_length (Some host_text) = 2 + length host_text
 
--- the place behind the host text
+-- the place after the host text
 abbrev pub host_end : Cut → ℕ
 host_end cut = scheme_end cut + host_length cut.host_text
 
@@ -202,18 +202,18 @@ pub host_before_path : (cut : Cut) → host_end cut ≤ path_place cut
 host_before_path cut = omega (arith, authority_length cut.host_text cut.port_text)
 
 -- the query's place by the path's
-pub query_behind_path : (cut : Cut) → query_place cut ≡ path_place cut + length cut.path_text + 1
-query_behind_path cut =
+pub query_after_path : (cut : Cut) → query_place cut ≡ path_place cut + length cut.path_text + 1
+query_after_path cut =
     let first = length-append (written_scheme cut.scheme) (written_middle cut) in
     let second = length-append (written_authority cut.host_text cut.port_text) cut.path_text in
     omega arith
 
 -- the fragment's place by the length of the query
-pub fragment_behind_query : (cut : Cut)
-    → fragment_place cut ≡ path_place cut + length cut.path_text + length (written_behind question_mark cut.query) + 1
-fragment_behind_query cut =
-    let start = query_behind_path cut in
-    let all = length-append (written_start cut) (written_behind question_mark cut.query) in
+pub fragment_after_query : (cut : Cut)
+    → fragment_place cut ≡ path_place cut + length cut.path_text + length (written_after question_mark cut.query) + 1
+fragment_after_query cut =
+    let start = query_after_path cut in
+    let all = length-append (written_start cut) (written_after question_mark cut.query) in
     omega arith
 
 -- the host's violations
@@ -251,7 +251,7 @@ port_part_ends cut = go cut.scheme cut.host_text cut.port_text cut.path_text cut
           inl (omega (arith, h.moved)));
     }
 
--- and they begin behind the host, by rule 9 or 10
+-- and they begin after the host, by rule 9 or 10
 pub port_part_begins : (cut : Cut) → Begins (PortPartViolation cut) (host_end cut) 9
 port_part_begins cut = go cut.scheme cut.host_text cut.port_text cut.path_text cut.query cut.fragment
   where
@@ -268,7 +268,7 @@ port_part_begins cut = go cut.scheme cut.host_text cut.port_text cut.path_text c
 
 -- the violations of the path's start
 pub path_start_ends : (setting : Setting) (cut : Cut)
-    → Ends (Behind (path_place cut) (PathStartViolation setting cut)) (path_place cut + second_slash cut.path_text) 12
+    → Ends (After (path_place cut) (PathStartViolation setting cut)) (path_place cut + second_slash cut.path_text) 12
 path_start_ends setting cut = record {
   by = λ place rule h.
       (let bounds = path_start_bounds setting cut h.inner rule h.holds in inr (omega (arith, h.moved), bounds.2));
@@ -276,14 +276,14 @@ path_start_ends setting cut = record {
 
 -- and they begin with the path, by rule 11 or 12
 pub path_start_begins : (setting : Setting) (cut : Cut)
-    → Begins (Behind (path_place cut) (PathStartViolation setting cut)) (path_place cut) 11
+    → Begins (After (path_place cut) (PathStartViolation setting cut)) (path_place cut) 11
 path_start_begins setting cut = record {
   from = λ place rule h.
       (let bounds = path_start_bounds setting cut h.inner rule h.holds in (omega (arith, h.moved), bounds.1));
 }
 
 -- the violations of units of a text that begins at a place begin there, by rule 13 or 14
-pub held_begins : (start : ℕ) (text : List ℕ) → Begins (Behind start (UnitViolation text)) start 13
+pub held_begins : (start : ℕ) (text : List ℕ) → Begins (After start (UnitViolation text)) start 13
 held_begins start text = record {
   from = λ place rule h.
       (let bounds = unit_violation_bounds text h.inner rule h.holds in (omega (arith, h.moved), bounds.1));
@@ -291,7 +291,7 @@ held_begins start text = record {
 
 -- the violations of a path by what it holds
 abbrev pub OfPath : Setting → Cut → ℕ → Rule → Type 0
-OfPath setting cut = Behind (path_place cut) (PathContentViolation setting cut)
+OfPath setting cut = After (path_place cut) (PathContentViolation setting cut)
 
 -- each is one of units
 held_unit : (setting : Setting) (cut : Cut) (place : ℕ) (rule : Rule) → PathContentViolation setting cut place rule
@@ -308,7 +308,7 @@ path_held_ends setting cut = record {
       inl (omega (arith, h.moved)));
 }
 
--- they stand behind its first `//`
+-- they are after its first `//`
 pub path_held_begins : (setting : Setting) (cut : Cut)
     → Begins (OfPath setting cut) (path_place cut + second_slash cut.path_text) 13
 path_held_begins setting cut = record {
@@ -317,11 +317,11 @@ path_held_begins setting cut = record {
       let unit = held_unit setting cut h.inner rule h.holds in
       let bounds = unit_violation_bounds text h.inner rule unit in
       let later = one_place (starts_with_two_slashes text) h.inner
-      (λ starts. units_behind_slash text h.inner rule (two_begin_with_one text starts) unit) in
+      (λ starts. units_after_slash text h.inner rule (two_begin_with_one text starts) unit) in
       (omega (arith, h.moved), bounds.1));
 }
 
--- and behind its first `/`
+-- and after its first `/`
 pub path_held_after_slash : (setting : Setting) (cut : Cut)
     → Begins (OfPath setting cut) (path_place cut + (if starts_with_slash cut.path_text then 1 else 0)) 13
 path_held_after_slash setting cut = record {
@@ -330,7 +330,7 @@ path_held_after_slash setting cut = record {
       let unit = held_unit setting cut h.inner rule h.holds in
       let bounds = unit_violation_bounds text h.inner rule unit in
       let later
-      = one_place (starts_with_slash text) h.inner (λ starts. units_behind_slash text h.inner rule starts unit) in
+      = one_place (starts_with_slash text) h.inner (λ starts. units_after_slash text h.inner rule starts unit) in
       (omega (arith, h.moved), bounds.1));
 }
 

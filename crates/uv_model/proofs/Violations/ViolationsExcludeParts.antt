@@ -19,7 +19,7 @@ use Rattle.uv_model.specs.Records.Url.{Url}
 use Rattle.uv_model.specs.Parts.{Form, SchemeAuthority, SchemePath, SchemeOpaque, Authority, PathAbsolute}
 use Rattle.uv_model.specs.Parts.{PathRelative, NoPath, Parts, has_scheme, written}
 use Rattle.uv_model.specs.Setting.{Setting, setting_of}
-use Rattle.uv_model.specs.Valid.{Valid, MayBePathBehind, MayBePortText, MayBeUnits, FitsAuthority, FitsHostText}
+use Rattle.uv_model.specs.Valid.{Valid, MayBePathAfter, MayBePortText, MayBeUnits, FitsAuthority, FitsHostText}
 use Rattle.uv_model.specs.Valid.{FitsForm, FitsScheme, FitsBase, FitsDrive, HasNoAuthority, IsPathAlone}
 use Rattle.uv_model.specs.Valid.{IsWithoutDrive}
 use Rattle.uv_model.specs.Cut.{Cut, texts_of, class_in, starts_with_two_slashes, query_place, fragment_place}
@@ -35,7 +35,7 @@ use Rattle.uv_model.proofs.Texts.UnitsLemmas.{IsUnits-nil, IsUnits-unit}
 use Rattle.uv_model.proofs.Violations.UnitViolationLemmas.{no_violation-units}
 use Rattle.uv_model.proofs.Violations.SpacedPathLemmas.{path_violation-unit, taken_faultless}
 use Rattle.uv_model.proofs.Paths.PathLemmas.{IsUnits-join}
-use Rattle.uv_model.proofs.Paths.SlashedPaths.{slashed_absolute, slashed_behind}
+use Rattle.uv_model.proofs.Paths.SlashedPaths.{slashed_absolute, slashed_after}
 use Rattle.uv_model.proofs.Cuts.ValidCutLemmas.{absolute_without_two_slashes, without_slash_without_two, valid_texts}
 use Rattle.uv_model.proofs.Violations.ViolationLemmas.{cut_with}
 use Rattle.uv_model.proofs.Violations.RefusedLemmas.{none_of_host, none_of_port}
@@ -86,9 +86,9 @@ host_there Parser text path_text some lacks = lacks
 path_alone_there : (profile : Profile) (segments : List (List ℕ)) (text path_text : List ℕ)
     → IsPathAlone profile segments path_text → LacksFileHost profile text path_text → ⊥
 path_alone_there Standard segments text path_text path (nothing, bare) =
-    false≢true (sym bare ∙ slashed_start segments path_text (slashed_behind Standard segments path_text path))
+    false≢true (sym bare ∙ slashed_start segments path_text (slashed_after Standard segments path_text path))
 path_alone_there Wide segments text path_text path (nothing, bare) =
-    false≢true (sym bare ∙ slashed_start segments path_text (slashed_behind Wide segments path_text path))
+    false≢true (sym bare ∙ slashed_start segments path_text (slashed_after Wide segments path_text path))
 path_alone_there Parser segments text path_text path lacks = lacks
 
 -- what fits the class has no violation of the host
@@ -131,24 +131,24 @@ authority_port File setting text parts is = rw is.0 tt
 authority_port Other setting text parts (inl (host, port), given, path) = port
 authority_port Other setting text parts (inr (nothing, valued, no_port), given, path) = rw no_port tt
 
--- a path without a host before it is one behind an authority, where there is one
-path_alone_behind : (profile : Profile) (segments : List (List ℕ)) (text : List ℕ)
-    → IsPathAlone profile segments text → MayBePathBehind profile segments text
-path_alone_behind Standard segments text path = inr path
-path_alone_behind Wide segments text path = inr path
-path_alone_behind Parser segments text path = path
+-- a path without a host before it is one after an authority, where there is one
+path_alone_after : (profile : Profile) (segments : List (List ℕ)) (text : List ℕ)
+    → IsPathAlone profile segments text → MayBePathAfter profile segments text
+path_alone_after Standard segments text path = inr path
+path_alone_after Wide segments text path = inr path
+path_alone_after Parser segments text path = path
 
 -- the path is a valid one
 authority_path : (class : Class) (setting : Setting) (text : List ℕ) (parts : Parts)
     → FitsAuthority class setting text parts
-    → MayBePathBehind setting.profile parts.segments parts.path_text
+    → MayBePathAfter setting.profile parts.segments parts.path_text
 authority_path SpecialNotFile setting text parts is = is.path
 authority_path File setting text parts (no_port, absent, inl named) = named.path
 authority_path File setting text parts (no_port, absent, inr (nothing, valued, path)) =
-    path_alone_behind setting.profile parts.segments parts.path_text path
+    path_alone_after setting.profile parts.segments parts.path_text path
 authority_path Other setting text parts is = is.2
 
--- a path with a drive letter stands behind no host
+-- a path with a drive letter is after no host
 authority_drive : (class : Class) (setting : Setting) (text : List ℕ) (parts : Parts)
     → FitsAuthority class setting text parts
     → class ≡ File → text ≢ [] → IsWithoutDrive setting.profile parts.path_text
@@ -160,7 +160,7 @@ authority_drive Other setting text parts is class some = absurd cc
 
 -- ---- paths
 
--- a text that doesn't begin with `/` doesn't begin with a drive letter behind one
+-- a text that doesn't begin with `/` doesn't begin with a drive letter after one
 slash_before_drive : (text : List ℕ) → starts_with_slash text ≡ false → starts_with_drive_segment text ≡ false
 slash_before_drive [] none = refl
 slash_before_drive (c ∷ []) none = refl
@@ -172,8 +172,8 @@ slash_before_drive (c ∷ d ∷ e ∷ f ∷ rest) none = rw none refl
 slashed_units : (segments : List (List ℕ)) (text : List ℕ) → IsPathSlashed segments text → IsUnits text
 unfolding is_url_code_point
 slashed_units segments text is =
-    let behind : IsUnits is.behind = rw is.joins.joined (IsUnits-join segments is.joins.each) in
-    rw is.slashed (IsUnits-unit (slash ∷ []) is.behind refl behind)
+    let after : IsUnits is.after = rw is.joins.joined (IsUnits-join segments is.joins.each) in
+    rw is.slashed (IsUnits-unit (slash ∷ []) is.after refl after)
 
 absolute_units : (segments : List (List ℕ)) (text : List ℕ) → IsPathAbsolute segments text → IsUnits text
 absolute_units segments text is = slashed_units segments text (slashed_absolute segments text is)
@@ -181,19 +181,19 @@ absolute_units segments text is = slashed_units segments text (slashed_absolute 
 relative_units : (segments : List (List ℕ)) (text : List ℕ) → IsPathRelative segments text → IsUnits text
 relative_units segments text is = rw is.joins.joined (IsUnits-join segments is.joins.each)
 
-behind_units : (profile : Profile) (segments : List (List ℕ)) (text : List ℕ)
-    → MayBePathBehind profile segments text → IsUnits text
-behind_units profile segments text (inl (nothing, none)) = rw nothing IsUnits-nil
-behind_units profile segments text (inr is) = slashed_units segments text (slashed_behind profile segments text is)
+after_units : (profile : Profile) (segments : List (List ℕ)) (text : List ℕ)
+    → MayBePathAfter profile segments text → IsUnits text
+after_units profile segments text (inl (nothing, none)) = rw nothing IsUnits-nil
+after_units profile segments text (inr is) = slashed_units segments text (slashed_after profile segments text is)
 
--- a path behind an authority has no empty first segment that the profile forbids
-behind_start : (profile : Profile) (segments : List (List ℕ)) (text : List ℕ)
-    → MayBePathBehind profile segments text → HasEmptyFirst profile text → ⊥
-behind_start Standard segments text (inl (nothing, none)) empty = false≢true (rw nothing at empty)
-behind_start Standard segments text (inr is) empty =
+-- a path after an authority has no empty first segment that the profile forbids
+after_start : (profile : Profile) (segments : List (List ℕ)) (text : List ℕ)
+    → MayBePathAfter profile segments text → HasEmptyFirst profile text → ⊥
+after_start Standard segments text (inl (nothing, none)) empty = false≢true (rw nothing at empty)
+after_start Standard segments text (inr is) empty =
     false≢true (sym (absolute_without_two_slashes segments text is) ∙ empty)
-behind_start Wide segments text is empty = empty
-behind_start Parser segments text is empty = empty
+after_start Wide segments text is empty = empty
+after_start Parser segments text is empty = empty
 
 -- nor has one that doesn't begin with `//`
 pub one_slash_start : (profile : Profile) (text : List ℕ) → starts_with_two_slashes text ≡ false
@@ -215,7 +215,7 @@ without_drive Standard text bare = bare
 without_drive Wide text bare = bare
 without_drive Parser text bare = tt
 
--- ---- the parts judged where no rule of the start is violated
+-- ---- the parts checked where no rule of the start is violated
 
 -- with an authority, whose host text is there
 host_part_faultless : (setting : Setting) (parts : Parts) (host_text : Option (List ℕ))
@@ -248,23 +248,23 @@ authority_port_fits setting parts (Some text) is = authority_port setting.class 
 
 authority_path_fits : (setting : Setting) (parts : Parts) (host_text : Option (List ℕ))
     → FitsHostText setting parts host_text
-    → MayBePathBehind setting.profile parts.segments parts.path_text
+    → MayBePathAfter setting.profile parts.segments parts.path_text
 authority_path_fits setting parts None is = absurd is
 authority_path_fits setting parts (Some text) is = authority_path setting.class setting text parts is
 
-path_start_behind : (setting : Setting) (parts : Parts) (host_text : Option (List ℕ))
+path_start_after : (setting : Setting) (parts : Parts) (host_text : Option (List ℕ))
     → FitsHostText setting parts host_text
     → (place : ℕ) (rule : Rule)
     → PathStartViolation setting
     (cut_with parts.scheme host_text parts.port_text parts.path_text parts.query parts.fragment) place rule
     → ⊥
-path_start_behind setting parts None is place rule h = is
-path_start_behind setting parts (Some text) is place FirstSegmentEmpty (empty, at) =
-    behind_start setting.profile parts.segments parts.path_text (authority_path_fits setting parts (Some text) is) empty
-path_start_behind setting parts (Some text) is place DriveAfterHost (class, some, drive, at) =
+path_start_after setting parts None is place rule h = is
+path_start_after setting parts (Some text) is place FirstSegmentEmpty (empty, at) =
+    after_start setting.profile parts.segments parts.path_text (authority_path_fits setting parts (Some text) is) empty
+path_start_after setting parts (Some text) is place DriveAfterHost (class, some, drive, at) =
     no_drive setting.profile parts.path_text
     (authority_drive setting.class setting text parts is class some) drive
-path_start_behind setting parts (Some text) is place _ h = h
+path_start_after setting parts (Some text) is place _ h = h
 
 -- without an authority
 path_start_alone : (setting : Setting) (cut : Cut) → cut.host_text ≡ None
@@ -279,7 +279,7 @@ path_start_alone setting cut none start bare place DriveAfterHost (class, some, 
     no_drive setting.profile cut.path_text (bare class host) drive
 path_start_alone setting cut none start bare place _ h = h
 
--- what is judged has no violation
+-- what is checked has no violation
 pub record IsFaultless (setting : Setting) (parts : Parts) : Type 0 where
   pub host : (place : ℕ) (rule : Rule) → HostPartViolation setting (texts_of parts) place rule → ⊥
   pub port : (place : ℕ) (rule : Rule) → PortPartViolation (texts_of parts) place rule → ⊥
@@ -299,10 +299,10 @@ faultless_with : (setting : Setting) (parts : Parts) → FitsHostText setting pa
 faultless_with setting parts is = record {
   host = host_part_faultless setting parts parts.host_text is;
   port = port_part_faultless (texts_of parts) (authority_port_fits setting parts parts.host_text is);
-  start = path_start_behind setting parts parts.host_text is;
+  start = path_start_after setting parts parts.host_text is;
   path =
       units_faultless setting (texts_of parts)
-      (behind_units setting.profile parts.segments parts.path_text
+      (after_units setting.profile parts.segments parts.path_text
       (authority_path_fits setting parts parts.host_text is));
 }
 
@@ -449,7 +449,7 @@ pub class_with_scheme : (base : Option Url) (scheme : Option (List ℕ)) → IsS
 class_with_scheme base None some = absurd (false≢true some)
 class_with_scheme base (Some scheme) some = refl
 
--- a scheme other than of class Other stands before an authority
+-- a scheme other than of class Other is before an authority
 slashes_needed : (setting : Setting) (form : Form) (parts : Parts) → FitsForm setting form parts
     → FitsScheme (has_scheme form) parts.scheme → IsSome parts.scheme → setting.class ≢ Other
     → parts.host_text ≡ None → ⊥

@@ -5,7 +5,7 @@ use Rattle.std.specs.Prelude.{List, [], length, take, drop, slice_index, codes, 
 use Rattle.std.specs.Prelude.{Some, IsSome}
 use Rattle.std.specs.Prelude.{if◌then◌else◌}
 use Rattle.std.specs.Int.{is_in_range}
-use Rattle.std.specs.List.{list_all, list_any, starts_with, after_last}
+use Rattle.std.specs.List.{after_last, list_all, list_any, starts_with}
 use Rattle.std.specs.Str.{is_utf8}
 use Rattle.std.specs.Char.{is_ascii, is_ascii_alphanumeric, is_ascii_digit, is_ascii_lowercase, is_ascii_hexdigit}
 use Rattle.idna.specs.declared.deny_list.TheConstants.AsciiDenyList.{STD3, EMPTY}

@@ -36,7 +36,7 @@ pub record IgnoresTheBase (text : List ℕ) : Type 0 where
       (profile : Profile) (base other : Option Url) (place : ℕ) (rule : Rule)
       → Violation profile base text place rule → Violation profile other text place rule
 
--- a text with a scheme is judged without looking at the base
+-- a text with a scheme is checked without looking at the base
 abbrev pub TextsWithASchemeIgnoreTheBase : Type 0
 TextsWithASchemeIgnoreTheBase = (text : List ℕ) → starts_with_scheme text ≡ true → IgnoresTheBase text
 
@@ -52,8 +52,8 @@ PartsAreUnique =
     (profile : Profile) (base : Option Url) (text : List ℕ) (p q : Parts)
     → Valid profile base text p → Valid profile base text q → p ≡ q
 
--- the text has a `[` behind which no bracket follows
-pub record EndsBehindOpenBracket (text : List ℕ) : Type 0 where
+-- the text has a `[` after which no bracket follows
+pub record EndsAfterOpenBracket (text : List ℕ) : Type 0 where
   pub before : List ℕ
   pub inner : List ℕ
   pub spelled : text ≡ before ++ left_bracket ∷ inner
@@ -61,6 +61,6 @@ pub record EndsBehindOpenBracket (text : List ℕ) : Type 0 where
   pub none_closes : is_without right_bracket inner ≡ true
 
 -- a place is within brackets exactly where the nearest bracket before it is `[`, so that the port of an authority
--- stands behind its first `:` of which that isn't so
+-- is after its first `:` of which that isn't so
 abbrev pub NearestBracketsDecide : Type 0
-NearestBracketsDecide = (text : List ℕ) → (ends_within text ≡ true) ↔ EndsBehindOpenBracket text
+NearestBracketsDecide = (text : List ℕ) → (ends_within text ≡ true) ↔ EndsAfterOpenBracket text

@@ -55,7 +55,7 @@ abbrev pub listed_segments : UrlPath → List (List ℕ)
 listed_segments (Segments list) = list
 listed_segments (Opaque text) = []
 
--- the path behind an authority: a URL of class SpecialNotFile or File has one segment at least
+-- the path after an authority: a URL of class SpecialNotFile or File has one segment at least
 abbrev pub authority_path : Class → List (List ℕ) → List (List ℕ)
 authority_path Other [] = []
 authority_path class [] = [] ∷ []
@@ -67,7 +67,7 @@ kept_drive File (drive ∷ others) (first ∷ rest) =
     if is_normalized_drive_letter drive && not (is_drive_letter first) then drive ∷ [] else []
 kept_drive _ _ _ = []
 
--- a query or a fragment stands behind the path
+-- a query or a fragment is after the path
 abbrev pub has_tail : Parts → Bool
 has_tail parts = is_some parts.query || is_some parts.fragment
 

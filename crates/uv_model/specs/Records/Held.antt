@@ -1,4 +1,4 @@
--- Texts that stand in a value or in an allocation.
+-- Texts that are in a value or in an allocation.
 use Rattle.std.specs.Prelude.{ℕ, List, string_bytes}
 use Rattle.uv_model.specs.declared.held.Held.{Held}
 use Rattle.uv_model.specs.declared.held.Held.TheVariants.{Short, Long}

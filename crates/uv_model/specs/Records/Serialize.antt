@@ -5,7 +5,7 @@ use Rattle.uv_model.specs.declared.host.Host.TheVariants as host
 use Rattle.uv_model.specs.declared.path.UrlPath.{UrlPath}
 use Rattle.uv_model.specs.declared.path.UrlPath.TheVariants.{Opaque, Segments}
 use Rattle.uv_model.specs.Ascii.{slash, colon, question_mark, number_sign}
-use Rattle.uv_model.specs.Parts.{written_behind}
+use Rattle.uv_model.specs.Parts.{written_after}
 use Rattle.uv_model.specs.Records.Url.{Url}
 use Rattle.std.specs.Net.Text.{hex_groups_text}
 
@@ -27,17 +27,17 @@ serial_host (host.V6 pieces) = serial_ipv6 pieces
 serial_host (host.Opaque text) = text
 serial_host host.Empty = []
 
--- the port behind `:`
+-- the port after `:`
 abbrev pub serial_port : Option ℕ → List ℕ
 serial_port None = []
 serial_port (Some port) = colon ∷ decimal port
 
--- each segment behind `/`
+-- each segment after `/`
 abbrev pub serial_segments : List (List ℕ) → List ℕ
 serial_segments [] = []
 serial_segments (segment ∷ rest) = slash ∷ (segment ++ serial_segments rest)
 
--- what stands between the scheme's `:` and the path: `//` with host and port, or `/.` before a path that would begin
+-- what is between the scheme's `:` and the path: `//` with host and port, or `/.` before a path that would begin
 -- with `//`
 abbrev pub serial_authority : Option Host → Option ℕ → UrlPath → List ℕ
 serial_authority (Some value) port path = codes "//" ++ serial_host value ++ serial_port port
@@ -53,4 +53,4 @@ serial_path (Segments list) = serial_segments list
 unfoldable pub serial : Url → List ℕ
 serial url =
     url.scheme ++ (colon ∷ (serial_authority url.host url.port url.path ++ (serial_path url.path
-    ++ (written_behind question_mark url.query ++ written_behind number_sign url.fragment))))
+    ++ (written_after question_mark url.query ++ written_after number_sign url.fragment))))

@@ -90,7 +90,7 @@ takes_port _ None = false
 takes_port _ (Some host.Empty) = false
 takes_port _ (Some _) = true
 
--- no port, or one of 16 bits behind a host that isn't the scheme's default
+-- no port, or one of 16 bits after a host that isn't the scheme's default
 abbrev pub IsUrlPort : List ℕ → Option Host → Option ℕ → Type 0
 IsUrlPort scheme host None = Unit {0}
 IsUrlPort scheme host (Some port) =
@@ -125,7 +125,7 @@ abbrev pub AreUrlSegments : List (List ℕ) → Type 0
 AreUrlSegments [] = Unit {0}
 AreUrlSegments (segment ∷ rest) = IsUrlSegment segment × AreUrlSegments rest
 
--- the path may be empty in class Other behind a host alone
+-- the path may be empty in class Other after a host alone
 abbrev pub may_be_empty : Class → Option Host → Bool
 may_be_empty Other (Some host) = true
 may_be_empty _ _ = false

@@ -12,16 +12,16 @@ use Rattle.uv_model.specs.Violations.Rule.{rule_number}
 use Rattle.uv_model.specs.Records.Url.{Url}
 use Rattle.uv_model.specs.Valid.{Valid}
 
--- the violation stands behind the refusal: at a later place, or there under a rule with a larger number
-abbrev pub StandsBehind : Refusal → ℕ → Rule → Type 0
-StandsBehind refusal place rule =
+-- the violation is after the refusal: at a later place, or there under a rule with a larger number
+abbrev pub StandsAfter : Refusal → ℕ → Rule → Type 0
+StandsAfter refusal place rule =
     (refusal.place < place) ⊎ ((refusal.place ≡ place) × (rule_number refusal.rule < rule_number rule))
 
--- each refusal of the list stands behind all before it
+-- each refusal of the list is after all before it
 abbrev pub IsOrdered : List Refusal → Type 0
 IsOrdered [] = Unit {0}
 IsOrdered (refusal ∷ rest) =
-    ((other : Refusal) → Contains rest other → StandsBehind refusal other.place other.rule) × IsOrdered rest
+    ((other : Refusal) → Contains rest other → StandsAfter refusal other.place other.rule) × IsOrdered rest
 
 -- the list has exactly these violations, each once, in their order
 pub record ListsViolations (violation : ℕ → Rule → Type 0) (refusals : List Refusal) : Type 0 where

@@ -13,7 +13,7 @@ pub record IsBadIpv6 (text : List ℕ) : Type 0 where
   pub bracket : starts_with_bracket text ≡ true
   pub no_value : (pieces : List ℕ) → ¬ (IsBracketedIpv6 text pieces)
 
--- at the place stands a forbidden host code point, or one that is neither a URL code point nor `%`
+-- at the place is a forbidden host code point, or one that is neither a URL code point nor `%`
 pub record HasForeignHostCodePoint (text : List ℕ) (place : ℕ) : Type 0 where
   pub code_point : ℕ
   pub rest : List ℕ

@@ -7,13 +7,13 @@ use Rattle.uv_model.specs.declared.rule.Rule.TheVariants.{CodePoint, Percent}
 use Rattle.uv_model.specs.Ascii.{percent_sign, space}
 use Rattle.uv_model.specs.Units.{is_url_code_point, starts_with_two_hex}
 
--- at the place stands `%`, and two hex digits don't follow it
+-- at the place is `%`, and two hex digits don't follow it
 pub record HasBarePercent (text : List ℕ) (place : ℕ) : Type 0 where
   pub rest : List ℕ
   pub here : drop place text ≡ percent_sign ∷ rest
   pub bare : starts_with_two_hex rest ≡ false
 
--- at the place stands neither a URL code point nor `%`
+-- at the place is neither a URL code point nor `%`
 pub record HasForeignCodePoint (text : List ℕ) (place : ℕ) : Type 0 where
   pub code_point : ℕ
   pub rest : List ℕ
@@ -38,7 +38,7 @@ only_spaces (c ∷ rest) = (c == space) && only_spaces rest
 pub record IsTakenSpace (followed : Bool) (text : List ℕ) (place : ℕ) : Type 0 where
   pub rest : List ℕ
   pub here : drop place text ≡ space ∷ rest
-  pub behind : followed ≡ false → only_spaces rest ≡ false
+  pub after : followed ≡ false → only_spaces rest ≡ false
 
 -- the rules that a path can violate by what it holds: by the parser's profile an opaque one may hold spaces
 abbrev pub PathUnitViolation : Profile → Bool → Bool → List ℕ → ℕ → Rule → Type 0

@@ -44,11 +44,11 @@ HasOpaquePath (Some base) = is_opaque base.path ≡ true
 abbrev pub LacksSlashes : Setting → Cut → Type 0
 LacksSlashes setting cut = IsSome cut.scheme × (setting.class ≢ Other) × (cut.host_text ≡ None)
 
--- the first of the two code points behind a scheme and `:` that isn't `/`, or the text's end
+-- the first of the two code points after a scheme and `:` that isn't `/`, or the text's end
 abbrev pub slashes_place : Cut → ℕ
 slashes_place cut = scheme_end cut + (if starts_with_slash cut.path_text then 1 else 0)
 
--- the rules under which no host, port and path start is judged
+-- the rules under which no host, port and path start is checked
 abbrev pub StartViolation : Setting → List ℕ → Cut → ℕ → Rule → Type 0
 StartViolation setting text cut place NoScheme = (cut.scheme ≡ None) × (setting.base ≡ None) × (place ≡ 0)
 StartViolation setting text cut place OpaqueBase =
@@ -110,7 +110,7 @@ HostViolation profile class last host_text port_text path_text place rule =
 
 -- ---- the port; places count from its first code point
 
--- at the place stands a code point that isn't a digit
+-- at the place is a code point that isn't a digit
 pub record HasForeignDigit (text : List ℕ) (place : ℕ) : Type 0 where
   pub code_point : ℕ
   pub rest : List ℕ
@@ -157,20 +157,20 @@ PathStartViolation setting cut place _ = ⊥
 
 -- ---- the whole text
 
--- the violations of a part that begins behind so many code points
-pub record Behind (start : ℕ) (violation : ℕ → Rule → Type 0) (place : ℕ) (rule : Rule) : Type 0 where
+-- the violations of a part that begins after so many code points
+pub record After (start : ℕ) (violation : ℕ → Rule → Type 0) (place : ℕ) (rule : Rule) : Type 0 where
   pub inner : ℕ
   pub moved : place ≡ start + inner
   pub holds : violation inner rule
 
--- the refusal of a part that begins behind so many code points
-abbrev pub refusal_behind : ℕ → Refusal → Refusal
-refusal_behind start refusal = record { place = start + refusal.place; rule = refusal.rule }
+-- the refusal of a part that begins after so many code points
+abbrev pub refusal_after : ℕ → Refusal → Refusal
+refusal_after start refusal = record { place = start + refusal.place; rule = refusal.rule }
 
 -- the fault of such a part, if there is one
-abbrev pub fault_behind : ℕ → Option Refusal → Option Refusal
-fault_behind start None = None
-fault_behind start (Some refusal) = Some (refusal_behind start refusal)
+abbrev pub fault_after : ℕ → Option Refusal → Option Refusal
+fault_after start None = None
+fault_after start (Some refusal) = Some (refusal_after start refusal)
 
 -- the first fault, or else the second
 abbrev pub fault_or : Option Refusal → Option Refusal → Option Refusal
@@ -184,7 +184,7 @@ HostPartViolation setting cut place rule = of_host cut.host_text
     of_host : Option (List ℕ) → Type 0
     of_host None = ⊥
     of_host (Some host_text) =
-        Behind (host_place cut)
+        After (host_place cut)
         (HostViolation setting.profile setting.class (ends_at_host cut) host_text cut.port_text cut.path_text) place
         rule
 
@@ -193,21 +193,21 @@ abbrev pub PortPartViolation : Cut → ℕ → Rule → Type 0
 PortPartViolation cut place rule = of_port cut.host_text cut.port_text
   where
     of_port : Option (List ℕ) → Option (List ℕ) → Type 0
-    of_port (Some host_text) (Some port_text) = Behind (port_place host_text cut) (PortViolation port_text) place rule
+    of_port (Some host_text) (Some port_text) = After (port_place host_text cut) (PortViolation port_text) place rule
     of_port _ _ = ⊥
 
--- the violations of the parts that are judged where no rule of the start is violated
-abbrev pub JudgedViolation : Setting → Cut → ℕ → Rule → Type 0
-JudgedViolation setting cut place rule =
+-- the violations of the parts that are checked where no rule of the start is violated
+abbrev pub CheckedViolation : Setting → Cut → ℕ → Rule → Type 0
+CheckedViolation setting cut place rule =
     HostPartViolation setting cut place rule ⊎ (PortPartViolation cut place rule
-    ⊎ Behind (path_place cut) (PathStartViolation setting cut) place rule)
+    ⊎ After (path_place cut) (PathStartViolation setting cut) place rule)
 
 -- the violations of a text that may be absent, by what it holds
 abbrev pub MayBeUnitViolation : ℕ → Option (List ℕ) → ℕ → Rule → Type 0
 MayBeUnitViolation start None place rule = ⊥
-MayBeUnitViolation start (Some text) place rule = Behind start (UnitViolation text) place rule
+MayBeUnitViolation start (Some text) place rule = After start (UnitViolation text) place rule
 
--- the path is opaque: behind a scheme of class Other without an authority, and it doesn't begin with `/`
+-- the path is opaque: after a scheme of class Other without an authority, and it doesn't begin with `/`
 abbrev pub has_opaque_path : Class → Cut → Bool
 has_opaque_path Other cut =
     is_some cut.scheme && not (is_some cut.host_text || starts_with_slash cut.path_text)
@@ -221,7 +221,7 @@ PathContentViolation setting cut place rule =
 -- the violations of the path, the query and the fragment by what they hold
 abbrev pub ContentViolation : Setting → Cut → ℕ → Rule → Type 0
 ContentViolation setting cut place rule =
-    Behind (path_place cut) (PathContentViolation setting cut) place rule
+    After (path_place cut) (PathContentViolation setting cut) place rule
     ⊎ (MayBeUnitViolation (query_place cut) cut.query place rule
     ⊎ MayBeUnitViolation (fragment_place cut) cut.fragment place rule)
 
@@ -233,7 +233,7 @@ IsStarted setting text cut = (place : ℕ) (rule : Rule) → ¬ (StartViolation 
 abbrev pub ViolationOf : Setting → List ℕ → Cut → ℕ → Rule → Type 0
 ViolationOf setting text cut place rule =
     StartViolation setting text cut place rule
-    ⊎ ((IsStarted setting text cut × JudgedViolation setting cut place rule) ⊎ ContentViolation setting cut place rule)
+    ⊎ ((IsStarted setting text cut × CheckedViolation setting cut place rule) ⊎ ContentViolation setting cut place rule)
 
 -- the text, against the base, violates the rule of the profile at the place
 unfoldable pub Violation : Profile → Option Url → List ℕ → ℕ → Rule → Type 0

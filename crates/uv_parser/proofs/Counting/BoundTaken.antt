@@ -14,7 +14,7 @@ use Rattle.uv_parser.specs.Machine.{with_scheme, AuthorityState, HostState, Path
 use Rattle.uv_parser.specs.Machine.{SchemeStartState}
 use Rattle.uv_parser.specs.Rows.References.{root_base}
 use Rattle.uv_parser.specs.Run.{Outcome, first_outcome, run, run_from, settle}
-use Rattle.uv_model.specs.Removed.{first_removed, removed_behind}
+use Rattle.uv_model.specs.Removed.{first_removed, removed_after}
 use Rattle.uv_parser.specs.Laws.StepCounts.{BoundIsTaken, IsEnded}
 use Rattle.uv_model.specs.Records.Url.{Url}
 use Rattle.uv_parser.proofs.Loops.AuthorityLoops.{authority_back, drop_many, is_authority_letter, port_row_end}
@@ -38,7 +38,7 @@ authority more = 0x68 ∷ colon ∷ zeros more
 abbrev schemed : Variables
 schemed = with_scheme (codes "http") empty_variables
 
--- the variables behind the host
+-- the variables after the host
 abbrev hosted : Variables
 hosted = with_host (Some (Domain (codes "h"))) schemed
 
@@ -83,7 +83,7 @@ to_port : (more : ℕ) → Runs more (at HostState 2 schemed) 2 (at PortState 4 
 unfolding parser
 to_port more = refl
 
--- the variables behind the port
+-- the variables after the port
 abbrev last_variables : ℕ → Variables
 last_variables more = emptied (with_port (port_in (codes "http") (zeros more)) hosted)
 
@@ -99,15 +99,15 @@ to_path more =
     let text = long_text more in
     let read = with_more (zeros more) hosted in
     let small : nat_lt 65535 (digits_value 10 read.buffer) ≡ false = rw (zeros_are_zero more) refl in
-    let behind : drop (end_place more) text ≡ [] = drop_many text 4 (zeros more) [] (sym (append-nil (zeros more))) in
+    let after : drop (end_place more) text ≡ [] = drop_many text 4 (zeros more) [] (sym (append-nil (zeros more))) in
     let last = last_variables more in
     leads_then base text _ _ _ (length (zeros more)) 2
     (port_steps base text (zeros more) [] 4 hosted (sym (append-nil (zeros more))) (zeros_are_digits more))
     (leads_step base text (record { state = PortState; pointer = end_place more; variables = read }) 1 _ _
-    (step_at base text PortState (end_place more) read [] behind
+    (step_at base text PortState (end_place more) read [] after
     ∙ ap (settle (end_place more) []) (port_row_end read end tt small))
     (leads_step base text (record { state = PathStartState; pointer = end_place more; variables = last }) 0 _ _
-    (step_at base text PathStartState (end_place more) last [] behind)
+    (step_at base text PathStartState (end_place more) last [] after)
     (leads_none base text (at PathState (end_place more) last))))
 
 -- one step before the bound the run is in the path state
@@ -125,7 +125,7 @@ to_the_end more =
     (leads_then base text _ _ _ _ _ (to_host more) (leads_then base text _ _ _ 2 _ (to_port more) (to_path more))))
 
 -- no zero is removed
-no_zero_removed : (place more : ℕ) → removed_behind place (zeros more) ≡ None
+no_zero_removed : (place more : ℕ) → removed_after place (zeros more) ≡ None
 no_zero_removed place zero = refl
 no_zero_removed place (suc zero) = refl
 no_zero_removed place (suc (suc more)) = no_zero_removed (place + 1) (suc more)

@@ -18,7 +18,7 @@ use Rattle.uv_parser.proofs.Counting.StepsFewer.{turn_fewer}
 use Rattle.uv_parser.proofs.Running.Steps.{EndsAs, Ending, HasEnded, drop_one, leads_done, leads_ended, leads_stopped}
 use Rattle.uv_parser.proofs.Running.Steps.{run_in_parts}
 
--- behind the step from the first place so many steps come at most
+-- after the step from the first place so many steps come at most
 start_leaves : (text : List ℕ) → later_at_start text 0 text < least_step_bound text
 start_leaves [] = omega arith
 start_leaves (c ∷ rest) = elim (cases_Bool (is_ascii_alphabetic c)) [
@@ -38,23 +38,23 @@ start_leaves (c ∷ rest) = elim (cases_Bool (is_ascii_alphabetic c)) [
     ]
 
 module _ (base : Option Url) (text : List ℕ) where
-  -- behind a row that leaves fewer steps the run ends, where it does from each machine with so few
-  ends_behind : (k p : ℕ) (rest : List ℕ) (most : ℕ) (t : Turn) → drop p text ≡ rest → most ≤ k
+  -- after a row that leaves fewer steps the run ends, where it does from each machine with so few
+  ends_after : (k p : ℕ) (rest : List ℕ) (most : ℕ) (t : Turn) → drop p text ≡ rest → most ≤ k
       → LeavesFewer text rest most t
       → ((m : Machine) → later text m.state (length m.variables.buffer) (drop m.pointer text) < k
       → IsEnded (run_from base text (Going m) k))
       → IsEnded (run_from base text (settle p rest t) k)
-  ends_behind k p rest most stop e few leaves ends = rw (leads_stopped base text p k) tt
-  ends_behind k p rest most (again s v) e few leaves ends =
+  ends_after k p rest most stop e few leaves ends = rw (leads_stopped base text p k) tt
+  ends_after k p rest most (again s v) e few leaves ends =
       ends (record { state = s; pointer = p; variables = v }) (rw e (omega (arith, few, leaves)))
-  ends_behind k p rest most (from_place q s v) e few leaves ends =
+  ends_after k p rest most (from_place q s v) e few leaves ends =
       ends (record { state = s; pointer = q; variables = v }) (omega (arith, few, leaves))
-  ends_behind k p [] most (onward s v) e few leaves ends = rw (leads_done base text v.url k) tt
-  ends_behind k p (c ∷ rest) most (onward s v) e few leaves ends =
+  ends_after k p [] most (onward s v) e few leaves ends = rw (leads_done base text v.url k) tt
+  ends_after k p (c ∷ rest) most (onward s v) e few leaves ends =
       ends (record { state = s; pointer = p + 1; variables = v })
       (rw (drop_one text p c rest e) (omega (arith, few, leaves)))
 
-  -- a machine behind whose next step fewer steps than these are to come has ended after so many
+  -- a machine after whose next step fewer steps than these are to come has ended after so many
   ends_within : (k : ℕ) (m : Machine) → later text m.state (length m.variables.buffer) (drop m.pointer text) < k
       → IsEnded (run_from base text (Going m) k)
   unfolding run_from step
@@ -64,7 +64,7 @@ module _ (base : Option Url) (text : List ℕ) where
       none less = omega (arith, less)
   ends_within (suc k) m few =
       let rest = drop m.pointer text in
-      ends_behind k m.pointer rest (later text m.state (length m.variables.buffer) rest)
+      ends_after k m.pointer rest (later text m.state (length m.variables.buffer) rest)
       (turn base m.state m.pointer m.variables rest) refl (omega (arith, few))
       (turn_fewer text base m.state m.pointer m.variables rest refl).fewer
       (λ next less. ends_within k next less)

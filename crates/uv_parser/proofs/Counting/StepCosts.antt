@@ -21,18 +21,18 @@ use Rattle.uv_parser.specs.Machine.{begins_two_slashes, put, with_parsed}
 abbrev pub by_slash : List ℕ → ℕ → ℕ → ℕ
 by_slash rest slashed other = if begins slash rest then slashed else other
 
--- behind a step from the no scheme state, with a buffer of this length
+-- after a step from the no scheme state, with a buffer of this length
 abbrev pub later_without_scheme : ℕ → List ℕ → ℕ
 later_without_scheme buffered rest = by_slash rest (2 * length rest + buffered + 3) (length rest + 3)
 
--- behind a step from the scheme start state
+-- after a step from the scheme start state
 abbrev pub later_at_start : List ℕ → ℕ → List ℕ → ℕ
 later_at_start text buffered [] = later_without_scheme buffered [] + 1
 later_at_start text buffered (c ∷ rest) =
     if is_ascii_alphabetic c then length (c ∷ rest) + later_without_scheme 0 text + 1
     else later_without_scheme buffered (c ∷ rest) + 1
 
--- so many steps at most come behind the next one, in a run on the text, from a state with a buffer of this length, with
+-- so many steps at most come after the next one, in a run on the text, from a state with a buffer of this length, with
 -- this rest
 abbrev pub later : List ℕ → State → ℕ → List ℕ → ℕ
 later text SchemeStartState buffered rest = later_at_start text buffered rest
@@ -120,7 +120,7 @@ two_slashes_are_two (c ∷ rest) is = omega (arith, slash_is_some rest (and_part
 pub zero_not_suc : (n : ℕ) → 0 ≡ suc n → ⊥
 zero_not_suc n e = omega (arith, e)
 
--- the rest from a place on is as long as the text behind it
+-- the rest from a place on is as long as the text after it
 pub rest_length : (text : List ℕ) (p : ℕ) (rest : List ℕ) → drop p text ≡ rest → length rest ≡ length text - p
 rest_length text p rest e = sym (ap length e) ∙ length-drop p text
 

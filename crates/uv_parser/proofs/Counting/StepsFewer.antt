@@ -238,7 +238,7 @@ module _ (text : List ℕ) where
         (stays text PathState _ (omega arith))))
   ]
 
-  -- what the two states behind the no scheme state leave
+  -- what the two states after the no scheme state leave
   no_scheme_leaves : (buffered : ℕ) (rest : List ℕ)
       → (length rest + 2 < later_without_scheme buffered rest)
       × (later text RelativeState buffered rest < later_without_scheme buffered rest)
@@ -261,14 +261,14 @@ module _ (text : List ℕ) where
 
   -- ---- the scheme
 
-  -- behind a step of the no scheme state so many steps may come at least
+  -- after a step of the no scheme state so many steps may come at least
   without_scheme_leaves : (rest : List ℕ) → length rest + 3 ≤ later_without_scheme 0 rest
   without_scheme_leaves rest = elim (cases_Bool (begins slash rest)) [
     | inl is ↦ rw is (omega arith)
     | inr other ↦ rw other (omega arith)
   ]
 
-  -- behind the `:` of a scheme
+  -- after the `:` of a scheme
   after_scheme_fewer : (base : Option Url) (class : Class) (p : ℕ) (v : Variables) (c : ℕ) (rest : List ℕ)
       → drop p text ≡ c ∷ rest → length v.buffer ≡ 0
       → Fewer text (c ∷ rest) (length (c ∷ rest) + later_without_scheme 0 text + 1) (after_scheme base class p v rest)

@@ -11,7 +11,7 @@ use Rattle.uv_model.specs.declared.scheme.Class.TheVariants.{SpecialNotFile, Fil
 use Rattle.uv_model.specs.Ascii.{slash, colon, backslash, question_mark}
 use Rattle.uv_model.specs.Cut.{IsHostCut, texts_of}
 use Rattle.uv_parser.specs.Machine.{Variables, begins, is_special, at_pointer, emptied, with_brackets}
-use Rattle.uv_model.specs.Parts.{Form, Parts, written_behind}
+use Rattle.uv_model.specs.Parts.{Form, Parts, written_after}
 use Rattle.uv_parser.specs.Laws.OtherHosts.{own_value}
 use Rattle.uv_model.specs.Path.{MayBePathSlashed, is_without, starts_with_slash}
 use Rattle.uv_model.specs.Scheme.{default_port, scheme_class}
@@ -26,7 +26,7 @@ use Rattle.uv_parser.proofs.Running.KeptTexts.{IsKept}
 use Rattle.uv_parser.proofs.Running.StoppedHosts.{IsHostKept, file_unstopped, host_is_kept, special_unstopped}
 use Rattle.uv_parser.specs.Laws.OtherHosts.{IsValidOtherHost}
 use Rattle.uv_parser.proofs.HostParsing.OtherHosts.{silent_other}
-use Rattle.uv_parser.proofs.Loops.AuthorityStarts.{file_variables, variables_behind_slashes, state_behind_slashes}
+use Rattle.uv_parser.proofs.Loops.AuthorityStarts.{file_variables, state_after_slashes, variables_after_slashes}
 use Rattle.uv_parser.proofs.Loops.AuthorityLoops.{IsDelimiter, is_authority_letter}
 use Rattle.uv_parser.proofs.Decided.DecidedAuthority.{IsHostTaken, IsUnended, authority_decided, letters_no_at_sign}
 use Rattle.uv_parser.proofs.Decided.DecidedAuthority.{letters_no_backslash}
@@ -34,7 +34,7 @@ use Rattle.uv_parser.proofs.Decided.DecidedFile.{FileHostFits, file_host_decided
 use Rattle.uv_parser.proofs.Decided.DecidedPath.{AreFine, FreeOfMarks, path_start_decided}
 use Rattle.uv_model.proofs.Texts.MarkLemmas.{is_without-cons}
 use Rattle.uv_model.proofs.Paths.PathPieces.{joins_pieces}
-use Rattle.uv_model.specs.Path.{pieces, segments_behind}
+use Rattle.uv_model.specs.Path.{pieces, segments_after}
 use Rattle.uv_parser.proofs.Running.RunsStopped.{RunStops}
 use Rattle.uv_parser.proofs.Running.Steps.{Stops, ends_again, stops_here}
 use Rattle.uv_parser.proofs.Loops.Tails.{tail}
@@ -44,7 +44,7 @@ use Rattle.uv_parser.proofs.HostParsing.SpecialHosts.{host_from_parser}
 abbrev pub SilentOrStops : Option Url → List ℕ → Type 0
 SilentOrStops base text = ((parts : Parts) × Valid Parser base text parts) ⊎ RunStops base text
 
--- a path that is empty or begins with `/` begins with a delimiter, also with a tail behind it
+-- a path that is empty or begins with `/` begins with a delimiter, also with a tail after it
 pub delimits_path : (path : List ℕ) (query fragment : Option (List ℕ)) → (path ≢ [] → starts_with_slash path ≡ true)
     → IsDelimiter (at_pointer (path ++ tail query fragment))
 delimits_path [] (Some text) fragment start = tt
@@ -54,14 +54,14 @@ delimits_path (c ∷ path) query fragment start =
     let is : c ≡ slash = eqb-true c slash (start (λ same. cc)) in
     rw is tt
 
--- a path behind an authority is empty, or `/` and its segments
+-- a path after an authority is empty, or `/` and its segments
 pub slashed_path : (path : List ℕ) → is_faultless path ≡ true → is_without question_mark path ≡ true
-    → (path ≢ [] → starts_with_slash path ≡ true) → MayBePathSlashed (segments_behind path) path
+    → (path ≢ [] → starts_with_slash path ≡ true) → MayBePathSlashed (segments_after path) path
 slashed_path [] units none start = inl (refl, refl)
 slashed_path (c ∷ rest) units none start =
     let is : c ≡ slash = eqb-true c slash (start (λ same. cc)) in
     inr (record {
-      behind = rest;
+      after = rest;
       slashed = ap (λ x. x ∷ rest) is;
       joins = joins_pieces rest (and_parts (is_unit_at c rest) (is_faultless rest) units).1
           (is_without-cons question_mark c rest none).1;
@@ -86,7 +86,7 @@ authority_parts form given host_text port_text path query fragment value port = 
   port_text = port_text;
   port = port;
   path_text = path;
-  segments = segments_behind path;
+  segments = segments_after path;
   query = query;
   fragment = fragment;
 }
@@ -96,14 +96,14 @@ authority_parts form given host_text port_text path query fragment value port = 
 module _ (base : Option Url) (text : List ℕ) (form : Form) (given : Option (List ℕ)) (scheme : List ℕ) (v : Variables)
     (same : scheme_class v.url.scheme ≡ scheme_class scheme)
     (host_text : List ℕ) (port_text : Option (List ℕ)) (path : List ℕ) (query fragment : Option (List ℕ))
-    (unended : IsUnended (host_text ++ written_behind colon port_text))
+    (unended : IsUnended (host_text ++ written_after colon port_text))
     (cut : IsHostCut (scheme_class scheme) host_text port_text)
     (slashed : path ≢ [] → starts_with_slash path ≡ true)
     (free : FreeOfMarks path query)
-    (kept : IsKept ((host_text ++ written_behind colon port_text) ++ (path ++ tail query fragment)))
+    (kept : IsKept ((host_text ++ written_after colon port_text) ++ (path ++ tail query fragment)))
     (start : (class : Class) → scheme_class scheme ≡ class
-    → Stops base (state_behind_slashes class) (variables_behind_slashes class (with_brackets false (emptied v)))
-    ((host_text ++ written_behind colon port_text) ++ (path ++ tail query fragment))
+    → Stops base (state_after_slashes class) (variables_after_slashes class (with_brackets false (emptied v)))
+    ((host_text ++ written_after colon port_text) ++ (path ++ tail query fragment))
     → RunStops base text)
     (silent : (value : Option Host) (port : Option ℕ)
     → FitsAuthority (scheme_class scheme) (setting_of Parser base (Some scheme)) host_text
@@ -119,13 +119,13 @@ module _ (base : Option Url) (text : List ℕ) (form : Form) (given : Option (Li
   -- no code point of the host is removed
   host_kept : IsHostKept last host_text
   host_kept =
-      let behind = path ++ tail query fragment in
+      let after = path ++ tail query fragment in
       host_is_kept
       (texts_of (authority_parts form given host_text port_text path query fragment None None)) host_text
-      (subst IsKept (append_assoc host_text (written_behind colon port_text) behind) kept)
+      (subst IsKept (append_assoc host_text (written_after colon port_text) after) kept)
 
-  -- the path behind the authority
-  path_fits : AreFine path query fragment → MayBePathSlashed (segments_behind path) path
+  -- the path after the authority
+  path_fits : AreFine path query fragment → MayBePathSlashed (segments_after path) path
   path_fits fine = slashed_path path fine.0 free.question_mark slashed
 
   -- ---- by the class
@@ -160,7 +160,7 @@ module _ (base : Option Url) (text : List ℕ) (form : Form) (given : Option (Li
   -- class SpecialNotFile
   special_decided : scheme_class scheme ≡ SpecialNotFile → SilentOrStops base text
   special_decided special =
-      let authority = host_text ++ written_behind colon port_text in
+      let authority = host_text ++ written_after colon port_text in
       let rest = authority ++ (path ++ tail query fragment) in
       let host_cut : IsHostCut SpecialNotFile host_text port_text
       = subst (λ (k : Class). IsHostCut k host_text port_text) special cut in
@@ -180,7 +180,7 @@ module _ (base : Option Url) (text : List ℕ) (form : Form) (given : Option (Li
   -- class Other
   other_decided : scheme_class scheme ≡ Other → SilentOrStops base text
   other_decided other =
-      let authority = host_text ++ written_behind colon port_text in
+      let authority = host_text ++ written_after colon port_text in
       let host_cut : IsHostCut Other host_text port_text
       = subst (λ (k : Class). IsHostCut k host_text port_text) other cut in
       let class : is_special v.url.scheme ≡ false = rw (same, other) refl in
@@ -210,8 +210,8 @@ module _ (base : Option Url) (text : List ℕ) (form : Form) (given : Option (Li
   file_decided : scheme_class scheme ≡ File → SilentOrStops base text
   file_decided file =
       let no_port : port_text ≡ None = subst (λ (k : Class). IsHostCut k host_text port_text) file cut in
-      let alone : host_text ++ written_behind colon port_text ≡ host_text
-      = ap (λ o. host_text ++ written_behind colon o) no_port ∙ append-nil host_text in
+      let alone : host_text ++ written_after colon port_text ≡ host_text
+      = ap (λ o. host_text ++ written_after colon o) no_port ∙ append-nil host_text in
       let rest = path ++ tail query fragment in
       elim (file_host_decided base (AreFine path query fragment) host_text rest (file_variables host.Empty)
       (subst IsUnended alone unended) (delimits_path path query fragment slashed)

@@ -1,9 +1,9 @@
--- A text with a scheme as its cut writes it: the scheme, `:`, the authority and the path, and behind them the tail; and
+-- A text with a scheme as its cut writes it: the scheme, `:`, the authority and the path, and after them the tail; and
 -- the marks that its parts don't hold.
 use Rattle.std.proofs.Common.{◌≡◌, ℕ, true, List, [], ◌∷◌, ◌++◌, Option, Some, None, ◌∙◌, append_assoc}
 use Rattle.uv_model.specs.Ascii.{colon, question_mark, number_sign}
 use Rattle.uv_model.specs.Cut.{Cut, IsCut, written_start, written_middle}
-use Rattle.uv_model.specs.Parts.{written_authority, written_behind, written_scheme}
+use Rattle.uv_model.specs.Parts.{written_after, written_authority, written_scheme}
 use Rattle.uv_model.specs.Path.{is_without}
 use Rattle.uv_model.specs.Records.Url.{Url}
 use Rattle.uv_model.proofs.Violations.ViolationLemmas.{cut_with}
@@ -19,7 +19,7 @@ pub record HasMarks (authority path : List ℕ) (query_text : Option (List ℕ))
   pub path_number_sign : is_without number_sign path ≡ true
   pub query : MayBeWithoutNumberSign query_text
 
-query_marks : (query : Option (List ℕ)) → is_without number_sign (written_behind question_mark query) ≡ true
+query_marks : (query : Option (List ℕ)) → is_without number_sign (written_after question_mark query) ≡ true
     → MayBeWithoutNumberSign query
 query_marks None without = tt
 query_marks (Some query) without = (is_without-parts number_sign (question_mark ∷ []) query without).1
@@ -34,7 +34,7 @@ module _ (base : Option Url) (text : List ℕ) (scheme host_text port_text : Opt
     pub marks : HasMarks (written_authority host_text port_text) path query
     unfolding cut
     marks =
-        let prefix = is_without-parts number_sign (written_start cut) (written_behind question_mark query) is.prefix in
+        let prefix = is_without-parts number_sign (written_start cut) (written_after question_mark query) is.prefix in
         let number = is_without-parts number_sign (written_scheme scheme) (written_middle cut) prefix.0 in
         let question = is_without-parts question_mark (written_scheme scheme) (written_middle cut) is.start in
         let numbers = is_without-parts number_sign (written_authority host_text port_text) path number.1 in

@@ -15,7 +15,7 @@ use Rattle.uv_parser.specs.Machine.{Variables, AtPointer, end, slash_mark, query
 use Rattle.uv_parser.specs.Machine.{at_pointer, turn, stop, AuthorityState, HostState, PortState, PathStartState}
 use Rattle.uv_parser.specs.Machine.{emptied, host_at, is_special, port_at, port_in, with_brackets, with_host, with_more}
 use Rattle.uv_parser.specs.Machine.{with_port}
-use Rattle.uv_model.specs.Parts.{written_behind}
+use Rattle.uv_model.specs.Parts.{written_after}
 use Rattle.uv_model.specs.Path.{is_without}
 use Rattle.uv_model.specs.Records.Url.{Url}
 use Rattle.uv_model.specs.Valid.{IsPortText, MayBePortText}
@@ -36,9 +36,9 @@ pub record IsUnended (text : List ℕ) : Type 0 where
   pub no_number_sign : is_without number_sign text ≡ true
 
 -- its first code point is no such mark, and the rest holds none
-pub unended_behind : (c : ℕ) (cs : List ℕ) → IsUnended (c ∷ cs)
+pub unended_after : (c : ℕ) (cs : List ℕ) → IsUnended (c ∷ cs)
     → ((c == slash) ≡ false) × ((c == question_mark) ≡ false) × ((c == number_sign) ≡ false) × IsUnended cs
-unended_behind c cs is =
+unended_after c cs is =
     let a = is_without-cons slash c cs is.no_slash in
     let b = is_without-cons question_mark c cs is.no_question_mark in
     let d = is_without-cons number_sign c cs is.no_number_sign in
@@ -115,7 +115,7 @@ module _ (base : Option Url) where
       → Stops base PortState v (cs ++ rest)
   port_stops [] rest v foreign is = absurd (true≢false foreign)
   port_stops (c ∷ cs) rest v foreign is =
-      let (a, b, d, later) = unended_behind c cs is in
+      let (a, b, d, later) = unended_after c cs is in
       elim (cases_Bool (is_ascii_digit c)) [
         | inl digit ↦
             ends_step base (λ p. port_row_on base c (cs ++ rest) v p digit)
@@ -221,7 +221,7 @@ module _ (base : Option Url) where
       → Stops base AuthorityState v (cs ++ rest)
   authority_stops special [] rest v class fault is = absurd (true≢false fault)
   authority_stops special (c ∷ cs) rest v class fault is =
-      let (a, b, d, later) = unended_behind c cs is in
+      let (a, b, d, later) = unended_after c cs is in
       elim (cases_Bool (is_authority_letter special c)) [
         | inl fine ↦
             ends_step base (λ p. authority_row_on base special c (cs ++ rest) v p class fine)
@@ -235,19 +235,19 @@ module _ (base : Option Url) where
   -- from the host on, with a port or without one
   host_decided : (A : Type 0) (special : Bool) (host : List ℕ) (port : Option (List ℕ)) (rest : List ℕ)
       (v : Variables) → is_special v.url.scheme ≡ special → EndsAtPort host port
-      → IsUnended (host ++ written_behind colon port) → is_read_as_host special false host ≡ true
+      → IsUnended (host ++ written_after colon port) → is_read_as_host special false host ≡ true
       → IsDelimiter (at_pointer rest)
       → ((g : Variables) → g.url.scheme ≡ v.url.scheme → A ⊎ Stops base PathStartState g rest)
       → (IsHostTaken special host port × A)
-      ⊎ Stops base HostState (with_brackets false (emptied v)) ((host ++ written_behind colon port) ++ rest)
+      ⊎ Stops base HostState (with_brackets false (emptied v)) ((host ++ written_after colon port) ++ rest)
   host_decided A special host None rest v class ends is read delimited next =
       elim (host_alone A special host rest v class read delimited next) [
         | inl fine ↦ inl fine
         | inr stops ↦ inr (rw append-nil stops)
       ]
   host_decided A special host (Some port) rest v class ends is read delimited next =
-      let behind = unended_port host port is in
-      elim (host_before_port A special host port rest v class read (ends.ends refl) behind delimited next) [
+      let after = unended_port host port is in
+      elim (host_before_port A special host port rest v class read (ends.ends refl) after delimited next) [
         | inl fine ↦ inl fine
         | inr stops ↦ inr
             (rw (append_assoc host (colon ∷ port) rest)
@@ -257,17 +257,17 @@ module _ (base : Option Url) where
   -- from the authority on
   pub authority_decided : (A : Type 0) (special : Bool) (host : List ℕ) (port : Option (List ℕ)) (rest : List ℕ)
       (v : Variables) → is_special v.url.scheme ≡ special → EndsAtPort host port
-      → IsUnended (host ++ written_behind colon port) → IsDelimiter (at_pointer rest)
+      → IsUnended (host ++ written_after colon port) → IsDelimiter (at_pointer rest)
       → ((g : Variables) → g.url.scheme ≡ v.url.scheme → A ⊎ Stops base PathStartState g rest)
       → ((list_all (is_authority_letter special) host ≡ true) × IsHostTaken special host port × A)
-      ⊎ Stops base AuthorityState (with_brackets false (emptied v)) ((host ++ written_behind colon port) ++ rest)
+      ⊎ Stops base AuthorityState (with_brackets false (emptied v)) ((host ++ written_after colon port) ++ rest)
   authority_decided A special host port rest v class ends is delimited next =
-      let authority = host ++ written_behind colon port in
+      let authority = host ++ written_after colon port in
       elim (cases_Bool (list_all (is_authority_letter special) authority)) [
         | inl letters ↦
             let split = and_parts (list_all (is_authority_letter special) host)
-            (list_all (is_authority_letter special) (written_behind colon port))
-            (sym (list_all-append (is_authority_letter special) host (written_behind colon port)) ∙ letters) in
+            (list_all (is_authority_letter special) (written_after colon port))
+            (sym (list_all-append (is_authority_letter special) host (written_after colon port)) ∙ letters) in
             let read = reads_from special false host port (ends_from_start host port ends) split.0 in
             elim (host_decided A special host port rest v class ends is read delimited next) [
               | inl fine ↦ inl (split.0, fine.0, fine.1)

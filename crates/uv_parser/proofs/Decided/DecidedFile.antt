@@ -15,7 +15,7 @@ use Rattle.uv_model.proofs.Hosts.FileHosts.{file_host_fits}
 use Rattle.uv_model.specs.Path.{is_drive_letter, is_without}
 use Rattle.uv_model.specs.Records.Url.{Url}
 use Rattle.uv_parser.proofs.Loops.AuthorityLoops.{IsDelimiter}
-use Rattle.uv_parser.proofs.Decided.DecidedAuthority.{IsUnended, host_cases, unended_behind}
+use Rattle.uv_parser.proofs.Decided.DecidedAuthority.{IsUnended, host_cases, unended_after}
 use Rattle.uv_parser.proofs.Loops.FileHosts.{file_host_law, file_host_row}
 use Rattle.uv_parser.proofs.HostParsing.HostParserLemmas.{has_some}
 use Rattle.uv_parser.proofs.Running.Steps.{Stops, ends_again, ends_after, stops_here, ends_step}
@@ -23,7 +23,7 @@ use Rattle.uv_parser.proofs.HostParsing.SpecialHosts.{host_from_parser}
 
 -- ---- rows
 
--- the file host state stops behind a drive letter
+-- the file host state stops after a drive letter
 drive_row : (v : Variables) (s : AtPointer) → IsDelimiter s → is_drive_letter v.buffer ≡ true → file_host_at v s ≡ stop
 drive_row v end is drive = rw drive refl
 drive_row v slash_mark is drive = rw drive refl
@@ -31,7 +31,7 @@ drive_row v query_mark is drive = rw drive refl
 drive_row v fragment_mark is drive = rw drive refl
 drive_row v (another c) is drive = absurd is
 
--- and behind a text of which the host parser makes nothing
+-- and after a text of which the host parser makes nothing
 none_row : (v : Variables) (s : AtPointer) → IsDelimiter s → is_drive_letter v.buffer ≡ false
     → (length v.buffer == 0) ≡ false
     → parse_host true v.buffer ≡ None → file_host_at v s ≡ stop
@@ -41,7 +41,7 @@ none_row v query_mark is drive some none = rw (drive, some, none) refl
 none_row v fragment_mark is drive some none = rw (drive, some, none) refl
 none_row v (another c) is drive some none = absurd is
 
--- behind no text the host is the empty one
+-- after no text the host is the empty one
 empty_row : (v : Variables) (s : AtPointer) → IsDelimiter s
     → file_host_at (emptied v) s ≡ again PathStartState (with_host (Some host.Empty) (emptied v))
 empty_row v end is = refl
@@ -88,7 +88,7 @@ module _ (base : Option Url) where
       → Stops base FileHostState v (cs ++ rest)
   file_host_stops [] rest v has is = absurd (true≢false has)
   file_host_stops (c ∷ cs) rest v has is =
-      let (a, b, d, later) = unended_behind c cs is in
+      let (a, b, d, later) = unended_after c cs is in
       elim (cases_Bool (c == backslash)) [
         | inl here ↦ stops_here base (λ p. row_stop c (cs ++ rest) v p a b d here)
         | inr other ↦
@@ -96,7 +96,7 @@ module _ (base : Option Url) where
             (file_host_stops cs rest _ (rw other at has) later)
       ]
 
-  -- where no `\` stands in the host
+  -- where no `\` is in the host
   named_host_decided : (A : Type 0) (c : ℕ) (cs rest : List ℕ) (v : Variables) → IsUnended (c ∷ cs)
       → IsDelimiter (at_pointer rest)
       → ((g : Variables) → g.url.scheme ≡ v.url.scheme → A ⊎ Stops base PathStartState g rest)

@@ -21,13 +21,13 @@ use Rattle.std.proofs.Common.{◌||◌, sym, subst, append_assoc, append-nil}
 use Rattle.std.specs.Prelude.{is_some}
 use Rattle.std.proofs.lemmas.Bool.{true≢false}
 use Rattle.uv_model.proofs.Cuts.ValidCutLemmas.{written_as_cut}
-use Rattle.uv_parser.proofs.Running.KeptTexts.{IsKept, ends_without_space, kept_behind, text_is_kept}
+use Rattle.uv_parser.proofs.Running.KeptTexts.{IsKept, ends_without_space, kept_after, text_is_kept}
 use Rattle.uv_model.proofs.Violations.ViolationLemmas.{cut_with}
 use Rattle.uv_parser.proofs.Decided.CutTexts.{HasMarks, marks, scheme_text}
 use Rattle.uv_parser.proofs.Loops.Looping.{opaque_path_law}
 use Rattle.uv_parser.proofs.Running.RunsStopped.{RunStops, place_cases, removed_stops, scheme_stops}
 use Rattle.uv_parser.proofs.Loops.SchemeStretch.{scheme_variables, colon_row}
-use Rattle.uv_parser.proofs.Running.Steps.{Stops, ends_step, ends_after}
+use Rattle.uv_parser.proofs.Running.Steps.{Stops, ends_after, ends_step}
 use Rattle.uv_parser.proofs.Loops.StoppingLoops.{opaque_path_stops}
 use Rattle.uv_parser.proofs.Loops.Tails.{tail, no_slash_before_tail}
 use Rattle.uv_parser.proofs.Decided.TailsDecided.{PassesToTail, no_hex_tail, tail_decided}
@@ -47,11 +47,11 @@ opaque_parts scheme port_text path query fragment = record {
   fragment = fragment;
 }
 
--- the variables when the opaque path begins, and the variables behind it
+-- the variables when the opaque path begins, and the variables after it
 abbrev path_begun : List ℕ → Variables
 path_begun scheme = with_path (Opaque []) (scheme_variables scheme)
 
--- the variables behind the opaque path
+-- the variables after the opaque path
 abbrev path_variables : List ℕ → List ℕ → List ℕ → Variables
 path_variables scheme path rest =
     with_path (Opaque (encoded false (end_escaped (begins_tail rest) path))) (scheme_variables scheme)
@@ -59,14 +59,14 @@ path_variables scheme path rest =
 module _ (base : Option Url) (scheme path : List ℕ) (query fragment : Option (List ℕ))
     (other : scheme_class scheme ≡ Other) (start : starts_with_slash path ≡ false)
     (have : HasMarks [] path query) where
-  abbrev behind_path : Variables
-  behind_path = path_variables scheme path (tail query fragment)
+  abbrev after_path : Variables
+  after_path = path_variables scheme path (tail query fragment)
 
-  opaque_passes : PassesToTail base OpaquePathState behind_path
+  opaque_passes : PassesToTail base OpaquePathState after_path
   opaque_passes =
       record {
-        query_variables = behind_path;
-        fragment_variables = behind_path;
+        query_variables = after_path;
+        fragment_variables = after_path;
         at_query = λ p rest. refl;
         at_fragment = λ p rest. refl;
       }
@@ -76,7 +76,7 @@ module _ (base : Option Url) (scheme path : List ℕ) (query fragment : Option (
       ⊎ Stops base OpaquePathState (path_begun scheme) (path ++ tail query fragment)
   path_decided =
       elim (cases_Bool (is_spaced path)) [
-        | inl units ↦ elim (tail_decided base OpaquePathState behind_path query fragment opaque_passes have.query) [
+        | inl units ↦ elim (tail_decided base OpaquePathState after_path query fragment opaque_passes have.query) [
           | inl both ↦ inl (units, both.0, both.1)
           | inr stops ↦ inr
               (ends_after base
@@ -108,9 +108,9 @@ path_ends : (text scheme path : List ℕ) (query fragment : Option (List ℕ)) �
 path_ends text scheme path (Some query) fragment kept whole followed = absurd (true≢false followed)
 path_ends text scheme path None (Some fragment) kept whole followed = absurd (true≢false followed)
 path_ends text scheme path None None kept whole followed =
-    let behind : IsKept (scheme ++ colon ∷ (path ++ [])) = subst IsKept whole kept in
-    let alone = kept_behind (scheme ++ colon ∷ []) (path ++ [])
-    (subst IsKept (sym (append_assoc scheme (colon ∷ []) (path ++ []))) behind) in
+    let after : IsKept (scheme ++ colon ∷ (path ++ [])) = subst IsKept whole kept in
+    let alone = kept_after (scheme ++ colon ∷ []) (path ++ [])
+    (subst IsKept (sym (append_assoc scheme (colon ∷ []) (path ++ []))) after) in
     ends_without_space path (rw append-nil at alone.end)
 
 -- the text is one on which the parser is silent, with these parts, or its run stops

@@ -1,4 +1,4 @@
--- A path of segments, with the query and the fragment behind it: all of it is units, or the parser machine stops.
+-- A path of segments, with the query and the fragment after it: all of it is units, or the parser machine stops.
 use Rattle.std.proofs.Common.{◌≡◌, ◌≢◌, ℕ, true, false, ◌==◌, ◌⊎◌, List, [], ◌∷◌, ◌++◌, Option, refl, inl, inr}
 use Rattle.std.proofs.Common.{eqb-true}
 use Rattle.std.proofs.lemmas.Bool.{and_parts, cases_Bool}
@@ -113,9 +113,9 @@ module _ (base : Option Url) where
       let is : c ≡ slash = eqb-true c slash (start (λ same. cc)) in
       let question = is_without-cons question_mark c path free.question_mark in
       let number = is_without-cons number_sign c path free.number_sign in
-      let behind : FreeOfMarks path query
+      let after : FreeOfMarks path query
       = record { question_mark = question.1; number_sign = number.1; query = free.query } in
-      elim (path_decided path query fragment v behind) [
+      elim (path_decided path query fragment v after) [
         | inl fine ↦ inl (rw is (faultless_slash path fine.0), fine.1, fine.2)
         | inr stops ↦ inr (rw is (ends_step base (λ p. refl) stops))
       ]

@@ -10,14 +10,14 @@ use Rattle.uv_parser.specs.Machine.{again, FileSlashState, FileState, NoSchemeSt
 use Rattle.uv_parser.specs.Machine.{RelativeState, empty_variables, is_file, with_base, with_base_host, with_file_base}
 use Rattle.uv_parser.specs.Machine.{with_kept_drive, list_in, with_host, with_query, shortened}
 use Rattle.uv_model.specs.Parts.{Authority, PathAbsolute, PathRelative, NoPath}
-use Rattle.uv_model.specs.Parts.{written_behind}
+use Rattle.uv_model.specs.Parts.{written_after}
 use Rattle.uv_model.specs.Path.{starts_with_slash}
 use Rattle.uv_model.specs.Removed.{first_removed}
 use Rattle.uv_model.specs.Records.Url.{Url, is_opaque}
 use Rattle.uv_model.specs.Valid.{Valid}
 use Rattle.uv_model.specs.declared.profile.Profile.TheVariants.{Parser}
 use Rattle.uv_model.proofs.Cuts.ValidCutLemmas.{written_as_cut}
-use Rattle.uv_parser.proofs.Running.KeptTexts.{IsKept, kept_behind, text_is_kept}
+use Rattle.uv_parser.proofs.Running.KeptTexts.{IsKept, kept_after, text_is_kept}
 use Rattle.uv_model.proofs.Violations.ViolationLemmas.{cut_with}
 use Rattle.uv_parser.proofs.Decided.ReferenceTexts.{free, opaque_base, reference_parts, reference_stops, reference_text}
 use Rattle.uv_parser.proofs.Decided.CutTexts.{HasMarks, marks}
@@ -51,24 +51,24 @@ module _ (url : Url) (text : List ℕ) (port_text : Option (List ℕ)) (query fr
   }
 
   -- `/` and a path
-  absolute_silent : (behind : List ℕ)
-      → IsCut (Some url) text (cut_with None None port_text (slash ∷ behind) query fragment)
-      → starts_with_slash behind ≡ false → AreFine behind query fragment
+  absolute_silent : (after : List ℕ)
+      → IsCut (Some url) text (cut_with None None port_text (slash ∷ after) query fragment)
+      → starts_with_slash after ≡ false → AreFine after query fragment
       → Valid Parser (Some url) text
-      (reference_parts PathAbsolute None None port_text None (slash ∷ behind) (pieces behind) query fragment)
-  absolute_silent behind is start fine =
-      let have = marks (Some url) text None None port_text (slash ∷ behind) query fragment is in
-      let question = is_without-cons question_mark slash behind have.path_question_mark in
+      (reference_parts PathAbsolute None None port_text None (slash ∷ after) (pieces after) query fragment)
+  absolute_silent after is start fine =
+      let have = marks (Some url) text None None port_text (slash ∷ after) query fragment is in
+      let question = is_without-cons question_mark slash after have.path_question_mark in
       record {
         whole = is.whole
             ∙ sym (written_as_cut
-            (reference_parts PathAbsolute None None port_text None (slash ∷ behind) (pieces behind) query fragment));
+            (reference_parts PathAbsolute None None port_text None (slash ∷ after) (pieces after) query fragment));
         cut = is;
         scheme = refl;
         against = inr (inl not_opaque);
         form = (
           record { host_text = refl; host = refl; port_text = is.authority.0; port = refl },
-          record { behind = behind; slashed = refl; relative = path_relative behind fine.0 question.1 start },
+          record { after = after; slashed = refl; relative = path_relative after fine.0 question.1 start },
           λ file some. tt,
         );
         query = fine.1;
@@ -106,9 +106,9 @@ module _ (url : Url) (text : List ℕ) (port_text : Option (List ℕ)) (query fr
 
   -- from this state on `/` and a path are fine, or stop the run
   abbrev DecidesAbsolute : State → Variables → Type 0
-  DecidesAbsolute s v = (behind : List ℕ) → starts_with_slash behind ≡ false → FreeOfMarks behind query
-      → AreFine behind query fragment
-      ⊎ Stops (Some url) s v (slash ∷ (behind ++ tail query fragment))
+  DecidesAbsolute s v = (after : List ℕ) → starts_with_slash after ≡ false → FreeOfMarks after query
+      → AreFine after query fragment
+      ⊎ Stops (Some url) s v (slash ∷ (after ++ tail query fragment))
 
   -- and so another path
   abbrev DecidesRelative : State → Variables → Type 0
@@ -181,7 +181,7 @@ module _ (url : Url) (text : List ℕ) (port_text : Option (List ℕ)) (query fr
             (ends_again (Some url) (λ p. row ((c ∷ path) ++ tail query fragment) p) stops))
       ]
 
-  -- the three forms, by how the run from behind the no scheme state goes
+  -- the three forms, by how the run from after the no scheme state goes
   path_forms : (s : State) (v : Variables) → GoesOn s v → PassesToTail (Some url) s v → DecidesAbsolute s v
       → DecidesRelative s v
       → (path : List ℕ) → IsCut (Some url) text (cut_with None None port_text path query fragment)
@@ -204,14 +204,14 @@ module _ (url : Url) (text : List ℕ) (port_text : Option (List ℕ)) (query fr
         at_query = λ p rest. refl;
         at_fragment = λ p rest. refl;
       })
-      (λ behind start free. absolute behind start free) (λ c rest a b d free. relative c rest a b d free) path is
+      (λ after start free. absolute after start free) (λ c rest a b d free. relative c rest a b d free) path is
     where
-      absolute : (behind : List ℕ) → starts_with_slash behind ≡ false → FreeOfMarks behind query
-          → AreFine behind query fragment
-          ⊎ Stops (Some url) RelativeState empty_variables (slash ∷ (behind ++ tail query fragment))
-      absolute behind start free =
-          let no_slash = no_slash_before_tail behind query fragment start in
-          elim (path_decided (Some url) behind query fragment (with_base_host url (base_variables url)) free) [
+      absolute : (after : List ℕ) → starts_with_slash after ≡ false → FreeOfMarks after query
+          → AreFine after query fragment
+          ⊎ Stops (Some url) RelativeState empty_variables (slash ∷ (after ++ tail query fragment))
+      absolute after start free =
+          let no_slash = no_slash_before_tail after query fragment start in
+          elim (path_decided (Some url) after query fragment (with_base_host url (base_variables url)) free) [
             | inl fine ↦ inl fine
             | inr stops ↦ inr
                 (ends_step (Some url) {s₁ = RelativeSlashState} {v₁ = base_variables url} (λ p. refl)
@@ -239,15 +239,15 @@ module _ (url : Url) (text : List ℕ) (port_text : Option (List ℕ)) (query fr
         at_query = λ p rest. rw file refl;
         at_fragment = λ p rest. rw file refl;
       })
-      (λ behind start free. absolute behind start free) (λ c rest a b d free. relative c rest a b d free) path is
+      (λ after start free. absolute after start free) (λ c rest a b d free. relative c rest a b d free) path is
     where
-      absolute : (behind : List ℕ) → starts_with_slash behind ≡ false → FreeOfMarks behind query
-          → AreFine behind query fragment
-          ⊎ Stops (Some url) FileState empty_variables (slash ∷ (behind ++ tail query fragment))
-      absolute behind start free =
-          let rest = behind ++ tail query fragment in
-          let no_slash = no_slash_before_tail behind query fragment start in
-          elim (path_decided (Some url) behind query fragment
+      absolute : (after : List ℕ) → starts_with_slash after ≡ false → FreeOfMarks after query
+          → AreFine after query fragment
+          ⊎ Stops (Some url) FileState empty_variables (slash ∷ (after ++ tail query fragment))
+      absolute after start free =
+          let rest = after ++ tail query fragment in
+          let no_slash = no_slash_before_tail after query fragment start in
+          elim (path_decided (Some url) after query fragment
           (with_kept_drive (list_in url.path) rest (with_host url.host (file_variables host.Empty))) free) [
             | inl fine ↦ inl fine
             | inr stops ↦ inr
@@ -282,21 +282,21 @@ module _ (url : Url) (text host_text : List ℕ) (port_text : Option (List ℕ))
     (query fragment : Option (List ℕ))
     (is : IsCut (Some url) text (cut_with None (Some host_text) port_text path query fragment))
     (kept : first_removed text ≡ None) (not_opaque : is_opaque url.path ≡ false) where
-  have_behind : HasMarks (slash ∷ slash ∷ (host_text ++ written_behind colon port_text)) path query
-  have_behind = marks (Some url) text None (Some host_text) port_text path query fragment is
+  have_after : HasMarks (slash ∷ slash ∷ (host_text ++ written_after colon port_text)) path query
+  have_after = marks (Some url) text None (Some host_text) port_text path query fragment is
 
   -- the whole text
   reference_whole : text
-      ≡ slash ∷ slash ∷ ((host_text ++ written_behind colon port_text) ++ (path ++ tail query fragment))
+      ≡ slash ∷ slash ∷ ((host_text ++ written_after colon port_text) ++ (path ++ tail query fragment))
   reference_whole =
       reference_text url text (Some host_text) port_text path query fragment is kept
       ∙ ap (λ xs. slash ∷ slash ∷ xs)
-      (append_assoc (host_text ++ written_behind colon port_text) path (tail query fragment))
+      (append_assoc (host_text ++ written_after colon port_text) path (tail query fragment))
 
   -- where it stops from the no scheme state on, it stops
   reference_authority_stops :
       Stops (Some url) NoSchemeState empty_variables
-      (slash ∷ slash ∷ ((host_text ++ written_behind colon port_text) ++ (path ++ tail query fragment)))
+      (slash ∷ slash ∷ ((host_text ++ written_after colon port_text) ++ (path ++ tail query fragment)))
       → RunStops (Some url) text
   reference_authority_stops stops =
       reference_stops url text (Some host_text) port_text path query fragment is kept _ reference_whole stops
@@ -308,12 +308,12 @@ module _ (url : Url) (text host_text : List ℕ) (port_text : Option (List ℕ))
       host_text port_text path query fragment
       (record {
         no_slash = is.authority.0;
-        no_question_mark = have_behind.authority_question_mark;
-        no_number_sign = have_behind.authority_number_sign;
+        no_question_mark = have_after.authority_question_mark;
+        no_number_sign = have_after.authority_number_sign;
       })
       is.authority.2 is.authority.1
       (free url text (Some host_text) port_text path query fragment is kept)
-      (kept_behind (slash ∷ slash ∷ []) _ (subst IsKept reference_whole (text_is_kept text kept)))
+      (kept_after (slash ∷ slash ∷ []) _ (subst IsKept reference_whole (text_is_kept text kept)))
       (λ class is_class stops. reference_authority_stops (base_starts url _ class not_opaque is_class stops))
       (λ value port fits fine. record {
         whole = is.whole ∙ sym (written_as_cut

@@ -9,7 +9,7 @@ use Rattle.uv_model.specs.Cut.{IsCut, starts_with_two_slashes}
 use Rattle.uv_parser.specs.Machine.{begins, begins_two_slashes, has_same_scheme, PathOrAuthorityState, SchemeState}
 use Rattle.uv_parser.specs.Machine.{SpecialAuthoritySlashesState, SpecialRelativeOrAuthorityState, empty_variables}
 use Rattle.uv_parser.specs.Machine.{with_more}
-use Rattle.uv_model.specs.Parts.{Parts, SchemeAuthority, SchemePath, written_behind}
+use Rattle.uv_model.specs.Parts.{Parts, SchemeAuthority, SchemePath, written_after}
 use Rattle.uv_model.specs.Path.{is_without, starts_with_slash}
 use Rattle.uv_model.specs.Removed.{first_removed}
 use Rattle.uv_model.specs.Scheme.{lowercase, scheme_class}
@@ -18,7 +18,7 @@ use Rattle.uv_model.specs.Valid.{FitsBase, Valid}
 use Rattle.uv_model.specs.declared.profile.Profile.TheVariants.{Parser}
 use Rattle.std.proofs.Common.{sym, subst}
 use Rattle.uv_model.proofs.Cuts.ValidCutLemmas.{written_as_cut}
-use Rattle.uv_parser.proofs.Running.KeptTexts.{IsKept, kept_behind, text_is_kept}
+use Rattle.uv_parser.proofs.Running.KeptTexts.{IsKept, kept_after, text_is_kept}
 use Rattle.uv_model.proofs.Violations.ViolationLemmas.{cut_with}
 use Rattle.uv_parser.proofs.Decided.CutTexts.{HasMarks, marks, scheme_text}
 use Rattle.uv_parser.proofs.Decided.AuthorityTexts.{SilentOrStops, authority_parts, authority_silent_or_stops}
@@ -43,13 +43,13 @@ no_slash_in_tail (Some text) fragment = refl
 no_slash_in_tail None (Some text) = refl
 no_slash_in_tail None None = refl
 
--- behind `/`, where no `//` begins, no slash follows
-pub one_slash : (behind : List ℕ) → starts_with_two_slashes (slash ∷ behind) ≡ false
-    → starts_with_slash behind ≡ false
+-- after `/`, where no `//` begins, no slash follows
+pub one_slash : (after : List ℕ) → starts_with_two_slashes (slash ∷ after) ≡ false
+    → starts_with_slash after ≡ false
 one_slash [] none = refl
 one_slash (c ∷ rest) none = none
 
--- without `//` at its start a path has none with a tail behind it
+-- without `//` at its start a path has none with a tail after it
 pub no_two_before_tail : (path : List ℕ) (query fragment : Option (List ℕ)) → starts_with_two_slashes path ≡ false
     → begins_two_slashes (path ++ tail query fragment) ≡ false
 no_two_before_tail [] (Some text) fragment none = refl
@@ -91,26 +91,26 @@ module _ (base : Option Url) (text scheme host_text : List ℕ) (port_text : Opt
   against None value port = refl
   against (Some url) value port = inl refl
 
-  have : HasMarks (slash ∷ slash ∷ (host_text ++ written_behind colon port_text)) path query
+  have : HasMarks (slash ∷ slash ∷ (host_text ++ written_after colon port_text)) path query
   have = marks base text (Some scheme) (Some host_text) port_text path query fragment is
 
   -- the whole text
   whole_text : text
       ≡ scheme ++ colon ∷ slash ∷ slash
-      ∷ ((host_text ++ written_behind colon port_text) ++ (path ++ tail query fragment))
+      ∷ ((host_text ++ written_after colon port_text) ++ (path ++ tail query fragment))
   whole_text =
       scheme_text base text scheme (Some host_text) port_text path query fragment is
       ∙ ap (λ xs. scheme ++ colon ∷ slash ∷ slash ∷ xs)
-      (append_assoc (host_text ++ written_behind colon port_text) path (tail query fragment))
+      (append_assoc (host_text ++ written_after colon port_text) path (tail query fragment))
 
   -- where it stops from the scheme's `:` on, it stops
   authority_stops_text :
       Stops base SchemeState (with_more (lowercase scheme) empty_variables)
-      (colon ∷ slash ∷ slash ∷ ((host_text ++ written_behind colon port_text) ++ (path ++ tail query fragment)))
+      (colon ∷ slash ∷ slash ∷ ((host_text ++ written_after colon port_text) ++ (path ++ tail query fragment)))
       → RunStops base text
   authority_stops_text stops =
       scheme_stops base text scheme
-      (slash ∷ slash ∷ ((host_text ++ written_behind colon port_text) ++ (path ++ tail query fragment))) kept is.scheme
+      (slash ∷ slash ∷ ((host_text ++ written_after colon port_text) ++ (path ++ tail query fragment))) kept is.scheme
       whole_text stops
 
   -- with an authority
@@ -125,7 +125,7 @@ module _ (base : Option Url) (text scheme host_text : List ℕ) (port_text : Opt
       })
       is.authority.2 is.authority.1
       (record { question_mark = have.path_question_mark; number_sign = have.path_number_sign; query = have.query })
-      (kept_behind (scheme ++ colon ∷ slash ∷ slash ∷ []) _
+      (kept_after (scheme ++ colon ∷ slash ∷ slash ∷ []) _
       (subst IsKept (whole_text ∙ sym (append_assoc scheme (colon ∷ slash ∷ slash ∷ []) _)) (text_is_kept text kept)))
       (λ class is_class stops. authority_stops_text (scheme_starts base scheme _ class is_class stops))
       (λ value port fits fine. record {
@@ -143,7 +143,7 @@ module _ (base : Option Url) (text scheme host_text : List ℕ) (port_text : Opt
 
 -- the parts of a text with a path of segments
 abbrev path_parts : List ℕ → Option (List ℕ) → List ℕ → List ℕ → Option (List ℕ) → Option (List ℕ) → Parts
-path_parts scheme port_text path behind query fragment = record {
+path_parts scheme port_text path after query fragment = record {
   form = SchemePath;
   scheme = Some scheme;
   host_text = None;
@@ -151,7 +151,7 @@ path_parts scheme port_text path behind query fragment = record {
   port_text = port_text;
   port = None;
   path_text = path;
-  segments = pieces behind;
+  segments = pieces after;
   query = query;
   fragment = fragment;
 }
@@ -178,48 +178,48 @@ module _ (base : Option Url) (text scheme : List ℕ) (port_text : Option (List 
       (no_two_before_tail path query fragment is.authority.1)))
 
   -- `/` and a path whose code points are fine is silent
-  with_path_silent : (behind : List ℕ) → path ≡ slash ∷ behind → scheme_class scheme ≡ Other
-      → starts_with_slash behind ≡ false → is_without question_mark behind ≡ true → AreFine behind query fragment
-      → Valid Parser base text (path_parts scheme port_text path behind query fragment)
-  with_path_silent behind slashed other start none fine = record {
-    whole = is.whole ∙ sym (written_as_cut (path_parts scheme port_text path behind query fragment));
+  with_path_silent : (after : List ℕ) → path ≡ slash ∷ after → scheme_class scheme ≡ Other
+      → starts_with_slash after ≡ false → is_without question_mark after ≡ true → AreFine after query fragment
+      → Valid Parser base text (path_parts scheme port_text path after query fragment)
+  with_path_silent after slashed other start none fine = record {
+    whole = is.whole ∙ sym (written_as_cut (path_parts scheme port_text path after query fragment));
     cut = is;
     scheme = is.scheme;
-    against = fits_base base behind;
+    against = fits_base base after;
     form = (
       record { host_text = refl; host = refl; port_text = is.authority.0; port = refl },
       other,
-      record { behind = behind; slashed = slashed; relative = path_relative behind fine.0 none start },
+      record { after = after; slashed = slashed; relative = path_relative after fine.0 none start },
     );
     query = fine.1;
     fragment = fine.2;
   }
     where
-      fits_base : (base : Option Url) (behind : List ℕ)
-          → FitsBase base (path_parts scheme port_text path behind query fragment)
-      fits_base None behind = refl
-      fits_base (Some url) behind = inl refl
+      fits_base : (base : Option Url) (after : List ℕ)
+          → FitsBase base (path_parts scheme port_text path after query fragment)
+      fits_base None after = refl
+      fits_base (Some url) after = inl refl
 
   -- `/` and a path
-  with_path : (behind : List ℕ) → path ≡ slash ∷ behind → scheme_class scheme ≡ Other → SilentOrStops base text
-  with_path behind slashed other =
-      let start : starts_with_slash behind ≡ false
-      = one_slash behind (rw slashed at is.authority.1) in
-      let question = is_without-cons question_mark slash behind (rw slashed at have_alone.path_question_mark) in
-      let number = is_without-cons number_sign slash behind (rw slashed at have_alone.path_number_sign) in
-      let free : FreeOfMarks behind query
+  with_path : (after : List ℕ) → path ≡ slash ∷ after → scheme_class scheme ≡ Other → SilentOrStops base text
+  with_path after slashed other =
+      let start : starts_with_slash after ≡ false
+      = one_slash after (rw slashed at is.authority.1) in
+      let question = is_without-cons question_mark slash after (rw slashed at have_alone.path_question_mark) in
+      let number = is_without-cons number_sign slash after (rw slashed at have_alone.path_number_sign) in
+      let free : FreeOfMarks after query
       = record { question_mark = question.1; number_sign = number.1; query = have_alone.query } in
-      let no_slash = no_slash_before_tail behind query fragment start in
-      elim (path_decided base behind query fragment (scheme_variables scheme) free) [
+      let no_slash = no_slash_before_tail after query fragment start in
+      elim (path_decided base after query fragment (scheme_variables scheme) free) [
         | inl fine ↦ inl (
-          path_parts scheme port_text path behind query fragment,
-          with_path_silent behind slashed other start question.1 fine,
+          path_parts scheme port_text path after query fragment,
+          with_path_silent after slashed other start question.1 fine,
         )
         | inr stops ↦ inr
-            (scheme_stops base text scheme (slash ∷ (behind ++ tail query fragment)) kept is.scheme
+            (scheme_stops base text scheme (slash ∷ (after ++ tail query fragment)) kept is.scheme
             (alone_text ∙ ap (λ xs. scheme ++ colon ∷ (xs ++ tail query fragment)) slashed)
             (ends_past_two base {s₁ = PathOrAuthorityState} {v₁ = scheme_variables scheme}
-            (λ p. colon_row base scheme (slash ∷ (behind ++ tail query fragment)) p ∙ rw other refl)
+            (λ p. colon_row base scheme (slash ∷ (after ++ tail query fragment)) p ∙ rw other refl)
             (ends_again base (λ p. rw no_slash refl) stops)))
       ]
 
@@ -235,9 +235,9 @@ module _ (base : Option Url) (text scheme : List ℕ) (port_text : Option (List 
             | inl found ↦ inl (opaque_parts scheme port_text path query fragment, found)
             | inr stops ↦ inr stops
           ]
-      by_path (c ∷ behind) e =
+      by_path (c ∷ after) e =
           elim (cases_Bool (c == slash)) [
-            | inl same ↦ with_path behind (e ∙ ap (λ x. x ∷ behind) (eqb-true c slash same)) other
+            | inl same ↦ with_path after (e ∙ ap (λ x. x ∷ after) (eqb-true c slash same)) other
             | inr differs ↦
                 elim (opaque_silent_or_stops base text scheme port_text path query fragment is other
                 (ap starts_with_slash e ∙ differs)) [

@@ -1,9 +1,9 @@
--- Behind a path a run of the parser machine ends or stops: it stops exactly where the query or the fragment has a
+-- After a path a run of the parser machine ends or stops: it stops exactly where the query or the fragment has a
 -- fault.
 use Rattle.std.proofs.Common.{◌≡◌, ℕ, true, ◌⊎◌, List, [], ◌∷◌, ◌++◌, Option, Some, None, refl, inl, inr, append-nil}
 use Rattle.std.proofs.lemmas.Bool.{cases_Bool}
 use Rattle.uv_model.specs.Ascii.{question_mark, number_sign}
-use Rattle.uv_model.specs.Parts.{written_behind}
+use Rattle.uv_model.specs.Parts.{written_after}
 use Rattle.uv_model.specs.Path.{is_without}
 use Rattle.uv_model.specs.Units.{is_faultless}
 use Rattle.uv_model.specs.Records.Url.{Url}
@@ -11,7 +11,7 @@ use Rattle.uv_model.specs.Valid.{MayBeUnits}
 use Rattle.uv_parser.specs.Machine.{State, Variables, turn, to_query, to_fragment, QueryState, FragmentState}
 use Rattle.uv_parser.specs.Machine.{with_query, with_fragment, with_more, query_ended}
 use Rattle.uv_parser.proofs.Loops.Looping.{query_law}
-use Rattle.uv_parser.proofs.Running.Steps.{Stops, ends_step, ends_after}
+use Rattle.uv_parser.proofs.Running.Steps.{Stops, ends_after, ends_step}
 use Rattle.uv_parser.proofs.Loops.StoppingLoops.{no_hex_first, query_stops, fragment_stops}
 use Rattle.uv_parser.proofs.Loops.Tails.{tail}
 use Rattle.uv_model.proofs.Texts.UnitsLemmas.{IsUnits-faultless}
@@ -57,18 +57,18 @@ module _ (base : Option Url) where
   tail_decided s v (Some query) fragment passes without =
       elim (query_decided query fragment (with_query (Some []) passes.query_variables) without) [
         | inl both ↦ inl both
-        | inr stops ↦ inr (ends_step base (λ p. passes.at_query p (query ++ written_behind number_sign fragment)) stops)
+        | inr stops ↦ inr (ends_step base (λ p. passes.at_query p (query ++ written_after number_sign fragment)) stops)
       ]
     where
-      first_mark : (fragment : Option (List ℕ)) → no_hex_first (written_behind number_sign fragment) ≡ true
+      first_mark : (fragment : Option (List ℕ)) → no_hex_first (written_after number_sign fragment) ≡ true
       first_mark None = refl
       first_mark (Some text) = refl
 
-      behind_query : (query : List ℕ) (fragment : Option (List ℕ)) (v : Variables) → is_faultless query ≡ true
+      after_query : (query : List ℕ) (fragment : Option (List ℕ)) (v : Variables) → is_faultless query ≡ true
           → (MayBeUnits (Some query) × MayBeUnits fragment)
-          ⊎ Stops base QueryState v (query ++ written_behind number_sign fragment)
-      behind_query query None v units = inl (IsUnits-faultless query units, tt)
-      behind_query query (Some fragment) v units =
+          ⊎ Stops base QueryState v (query ++ written_after number_sign fragment)
+      after_query query None v units = inl (IsUnits-faultless query units, tt)
+      after_query query (Some fragment) v units =
           elim (fragment_decided fragment (with_fragment (Some []) (query_ended (with_more query v)))) [
             | inl is ↦ inl (IsUnits-faultless query units, is)
             | inr stops ↦ inr
@@ -79,10 +79,10 @@ module _ (base : Option Url) where
       query_decided : (query : List ℕ) (fragment : Option (List ℕ)) (v : Variables)
           → is_without number_sign query ≡ true
           → (MayBeUnits (Some query) × MayBeUnits fragment)
-          ⊎ Stops base QueryState v (query ++ written_behind number_sign fragment)
+          ⊎ Stops base QueryState v (query ++ written_after number_sign fragment)
       query_decided query fragment v without =
           elim (cases_Bool (is_faultless query)) [
-            | inl units ↦ behind_query query fragment v units
+            | inl units ↦ after_query query fragment v units
             | inr fault ↦ inr
-                (query_stops base query (written_behind number_sign fragment) v fault without (first_mark fragment))
+                (query_stops base query (written_after number_sign fragment) v fault without (first_mark fragment))
           ]

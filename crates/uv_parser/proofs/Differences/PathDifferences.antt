@@ -14,7 +14,7 @@ use Rattle.uv_model.specs.Path.{MayBePathSlashed, starts_with_slash}
 use Rattle.uv_model.specs.Setting.{setting_of}
 use Rattle.uv_model.specs.Records.Url.{Url}
 use Rattle.uv_model.specs.Valid.{FitsAuthority, FitsForm, FitsHostText}
-use Rattle.uv_model.specs.Valid.{MayBePathBehind}
+use Rattle.uv_model.specs.Valid.{MayBePathAfter}
 use Rattle.uv_model.specs.Ascii.{space}
 use Rattle.uv_model.specs.Path.{IsPathAbsolute, IsTakenSpacedPath, is_without}
 use Rattle.uv_model.specs.Setting.{Setting}
@@ -32,33 +32,33 @@ use Rattle.uv_model.proofs.Texts.MarkLemmas.{is_without-more}
 
 -- a path that is `/` and any segments is a path-absolute string, or begins with `//`
 pub slashed_cases : (segments : List (List ℕ)) (text : List ℕ) → MayBePathSlashed segments text
-    → MayBePathBehind Standard segments text ⊎ (starts_with_two_slashes text ≡ true)
+    → MayBePathAfter Standard segments text ⊎ (starts_with_two_slashes text ≡ true)
 slashed_cases segments text (inl none) = inl (inl none)
 slashed_cases segments text (inr is) =
-    elim (cases_Bool (starts_with_slash is.behind)) [
-      | inl starts ↦ inr (rw is.slashed (two_slashes is.behind starts))
+    elim (cases_Bool (starts_with_slash is.after)) [
+      | inl starts ↦ inr (rw is.slashed (two_slashes is.after starts))
       | inr start ↦
           inl (inr (record {
-            behind = is.behind;
+            after = is.after;
             slashed = is.slashed;
             relative = record { joins = is.joins; start = start };
           }))
     ]
   where
-    two_slashes : (behind : List ℕ) → starts_with_slash behind ≡ true → starts_with_two_slashes (slash ∷ behind) ≡ true
+    two_slashes : (after : List ℕ) → starts_with_slash after ≡ true → starts_with_two_slashes (slash ∷ after) ≡ true
     two_slashes [] starts = absurd (false≢true starts)
     two_slashes (c ∷ rest) starts = starts
 
--- the path behind `//`
-pub path_behind : (class : Class) (setting : Setting) (host_text : List ℕ) (parts : Parts)
+-- the path after `//`
+pub path_after : (class : Class) (setting : Setting) (host_text : List ℕ) (parts : Parts)
     → FitsAuthority class setting host_text parts → MayBePathSlashed parts.segments parts.path_text
-path_behind SpecialNotFile setting host_text parts fits =
+path_after SpecialNotFile setting host_text parts fits =
     slashed_or_none setting.profile parts.segments parts.path_text fits.path
-path_behind File setting host_text parts (no_text, none, inl fits) =
+path_after File setting host_text parts (no_text, none, inl fits) =
     slashed_or_none setting.profile parts.segments parts.path_text fits.path
-path_behind File setting host_text parts (no_text, none, inr (empty, valued, path)) =
+path_after File setting host_text parts (no_text, none, inr (empty, valued, path)) =
     alone_or_none setting.profile parts.segments parts.path_text path
-path_behind Other setting host_text parts (host_and_port, port, path) =
+path_after Other setting host_text parts (host_and_port, port, path) =
     slashed_or_none setting.profile parts.segments parts.path_text path
 
 -- an opaque path of the parser's profile is that of a valid text, or it has a space
@@ -81,26 +81,26 @@ no_space_in (c ∷ rest) units =
     let parts = and_parts (is_unit_at c rest) (is_faultless rest) units in
     is_without-more space c rest (unit_not_space c rest parts.0) (no_space_in rest parts.1)
 
--- behind an authority
-no_space_behind : (segments : List (List ℕ)) (text : List ℕ) → MayBePathSlashed segments text
+-- after an authority
+no_space_after : (segments : List (List ℕ)) (text : List ℕ) → MayBePathSlashed segments text
     → is_without space text ≡ true
-no_space_behind segments text (inl (nothing, none)) = rw nothing refl
-no_space_behind segments text (inr path) =
-    rw path.slashed (no_space_in path.behind (faultless_joined segments path.behind path.joins))
+no_space_after segments text (inl (nothing, none)) = rw nothing refl
+no_space_after segments text (inr path) =
+    rw path.slashed (no_space_in path.after (faultless_joined segments path.after path.joins))
 
 -- in a path-absolute string
 no_space_absolute : (segments : List (List ℕ)) (text : List ℕ) → IsPathAbsolute segments text
     → is_without space text ≡ true
 no_space_absolute segments text path =
-    rw path.slashed (no_space_in path.behind (faultless_path segments path.behind path.relative))
+    rw path.slashed (no_space_in path.after (faultless_path segments path.after path.relative))
 
 -- with an authority
 no_space_host : (base : Option Url) (parts : Parts) (host_text : Option (List ℕ))
     → FitsHostText (setting_of Standard base parts.scheme) parts host_text → is_without space parts.path_text ≡ true
 no_space_host base parts None fits = absurd fits
 no_space_host base parts (Some host_text) fits =
-    no_space_behind parts.segments parts.path_text
-    (path_behind (class_in base parts.scheme) (setting_of Standard base parts.scheme) host_text parts fits)
+    no_space_after parts.segments parts.path_text
+    (path_after (class_in base parts.scheme) (setting_of Standard base parts.scheme) host_text parts fits)
 
 -- by the form
 pub no_space : (base : Option Url) (form : Form) (parts : Parts)

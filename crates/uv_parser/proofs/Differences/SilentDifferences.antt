@@ -15,12 +15,12 @@ use Rattle.uv_model.specs.Parts.{Form, SchemeAuthority, SchemePath, SchemeOpaque
 use Rattle.uv_model.specs.Parts.{NoPath, Parts, has_scheme}
 use Rattle.uv_model.specs.Path.{starts_with_drive_segment}
 use Rattle.uv_model.specs.Scheme.{scheme_class}
-use Rattle.uv_parser.specs.Laws.Differences.{Differs, HasDriveBehindHost, HasEmptyAuthority, HasForeignHost}
+use Rattle.uv_parser.specs.Laws.Differences.{Differs, HasDriveAfterHost, HasEmptyAuthority, HasForeignHost}
 use Rattle.uv_parser.specs.Laws.Differences.{SilentTextsAreValidOrDiffer}
 use Rattle.uv_model.specs.Setting.{setting_of}
 use Rattle.uv_model.specs.Records.Url.{Url}
 use Rattle.uv_model.specs.Valid.{FitsAuthority, FitsDrive, FitsForm, FitsHostText, FitsScheme, IsFileHostText}
-use Rattle.uv_model.specs.Valid.{IsHostText, MayBePathBehind, Valid}
+use Rattle.uv_model.specs.Valid.{IsHostText, MayBePathAfter, Valid}
 use Rattle.uv_model.proofs.Hosts.FileHosts.{file_host_fits}
 use Rattle.uv_model.proofs.Violations.FaultlessHosts.{file_host_is_host, host_not_empty}
 use Rattle.uv_model.proofs.Violations.ViolationsExcludeParts.{faultless_form}
@@ -32,7 +32,7 @@ use Rattle.uv_model.proofs.Hosts.HostUniqueness.{one_host}
 use Rattle.uv_model.specs.Path.{pieces}
 use Rattle.uv_parser.proofs.HostParsing.SpecialHosts.{host_by_parser, host_of_file}
 use Rattle.uv_parser.proofs.Silence.ValidSilent.{valid_by_parser}
-use Rattle.uv_parser.proofs.Differences.PathDifferences.{no_space, opaque_or_spaced, path_behind, slashed_cases}
+use Rattle.uv_parser.proofs.Differences.PathDifferences.{no_space, opaque_or_spaced, path_after, slashed_cases}
 use Rattle.uv_parser.proofs.Differences.HostDifferences.{host_not_differs, host_or_differs}
 
 -- ---- from the parser's profile to the standard one
@@ -49,7 +49,7 @@ special_not_other class special other = absurd cc
 file_or_differs : (base : Option Url) (host_text : List ℕ) (parts : Parts)
     → class_in base parts.scheme ≡ File → parts.host_text ≡ Some host_text
     → (parts.port_text ≡ None) × (parts.port ≡ None) → HasFileHost Parser host_text parts
-    → MayBePathBehind Standard parts.segments parts.path_text
+    → MayBePathAfter Standard parts.segments parts.path_text
     → FitsAuthority File (setting_of Standard base parts.scheme) host_text parts ⊎ Differs base parts
 file_or_differs base host_text parts class given no_port is path =
     let (value, taken, made) = host_of_file host_text is.value is.host in
@@ -91,7 +91,7 @@ file_or_differs base host_text parts class given no_port is path =
 authority_or_differs : (base : Option Url) (class : Class) (host_text : List ℕ) (parts : Parts)
     → class_in base parts.scheme ≡ class → parts.host_text ≡ Some host_text
     → FitsAuthority class (setting_of Parser base parts.scheme) host_text parts
-    → MayBePathBehind Standard parts.segments parts.path_text
+    → MayBePathAfter Standard parts.segments parts.path_text
     → FitsAuthority class (setting_of Standard base parts.scheme) host_text parts ⊎ Differs base parts
 authority_or_differs base SpecialNotFile host_text parts class given is path =
     elim (host_or_differs host_text is.value is.host) [
@@ -118,7 +118,7 @@ authority_or_differs base File host_text parts class given (no_text, none, inl i
 authority_or_differs base File host_text parts class given (no_text, none, inr (empty, valued, alone)) path =
     by_path path
   where
-    by_path : MayBePathBehind Standard parts.segments parts.path_text
+    by_path : MayBePathAfter Standard parts.segments parts.path_text
         → FitsAuthority File (setting_of Standard base parts.scheme) host_text parts ⊎ Differs base parts
     by_path (inl (nothing, no_segment)) = inr (inr (inr (inr (inl (class, given ∙ ap Some empty, nothing)))))
     by_path (inr absolute) = inl (no_text, none, inr (empty, valued, absolute))
@@ -133,12 +133,12 @@ host_text_or_differs base parts None given fits = absurd fits
 host_text_or_differs base parts (Some host_text) given fits =
     let class = class_in base parts.scheme in
     elim (slashed_cases parts.segments parts.path_text
-    (path_behind class (setting_of Parser base parts.scheme) host_text parts fits)) [
+    (path_after class (setting_of Parser base parts.scheme) host_text parts fits)) [
       | inl absolute ↦ authority_or_differs base class host_text parts refl given fits absolute
       | inr starts ↦ inr (inr (inl (rw given refl, starts)))
     ]
 
--- ---- a drive letter behind the base's host
+-- ---- a drive letter after the base's host
 
 -- a host that is there is empty, or not
 empty_cases : (value : Option Host) → (value ≡ Some host.Empty) ⊎ (value ≢ Some host.Empty)
@@ -157,7 +157,7 @@ file_cases Other = inr (λ e. absurd cc)
 
 -- a path-absolute reference has no drive letter that its base forbids, or it has one
 drive_or_differs : (base : Option Url) (parts : Parts) → parts.scheme ≡ None → parts.host_text ≡ None
-    → FitsDrive Standard base parts.path_text ⊎ HasDriveBehindHost base parts
+    → FitsDrive Standard base parts.path_text ⊎ HasDriveAfterHost base parts
 drive_or_differs None parts named none = inl tt
 drive_or_differs (Some url) parts named none =
     elim (cases_Bool (starts_with_drive_segment parts.path_text)) [
@@ -266,7 +266,7 @@ no_foreign_host base text parts valid foreign =
       | inr nothing ↦ host_not_empty Parser foreign.text foreign.host foreign.taken nothing
     ]
 
--- nor an empty authority of class File with nothing behind it
+-- nor an empty authority of class File with nothing after it
 no_empty_authority : (base : Option Url) (text : List ℕ) (parts : Parts) → Valid Standard base text parts
     → ¬ (HasEmptyAuthority base parts)
 no_empty_authority base text parts valid (class, given, bare) =

@@ -15,7 +15,7 @@ use Rattle.uv_model.specs.Records.Denote.{authority_host}
 use Rattle.uv_model.specs.Encoding.{encoded}
 use Rattle.uv_parser.specs.HostParser.{parse_host}
 use Rattle.uv_parser.specs.Machine.{is_special}
-use Rattle.uv_model.specs.Parts.{Form, Parts, SchemeAuthority, has_scheme, written_authority, written_behind}
+use Rattle.uv_model.specs.Parts.{Form, Parts, SchemeAuthority, has_scheme, written_after, written_authority}
 use Rattle.uv_parser.specs.Laws.OtherHosts.{own_value}
 use Rattle.uv_model.specs.Path.{is_without}
 use Rattle.uv_model.specs.Scheme.{is_scheme, lowercase, scheme_class}
@@ -107,10 +107,10 @@ is_named_by base text parts class scheme is has of_class same =
     fits in
     let have = marks base text parts.scheme parts.host_text parts.port_text parts.path_text parts.query parts.fragment
     is.cut in
-    let question : is_without question_mark (host_text ++ written_behind colon parts.port_text) ≡ true
+    let question : is_without question_mark (host_text ++ written_after colon parts.port_text) ≡ true
     = subst (λ (o : Option (List ℕ)). is_without question_mark (written_authority o parts.port_text) ≡ true) given
     have.authority_question_mark in
-    let number : is_without number_sign (host_text ++ written_behind colon parts.port_text) ≡ true
+    let number : is_without number_sign (host_text ++ written_after colon parts.port_text) ≡ true
     = subst (λ (o : Option (List ℕ)). is_without number_sign (written_authority o parts.port_text) ≡ true) given
     have.authority_number_sign in
     let cut : IsAuthorityCut (class_in base parts.scheme) (Some host_text) parts.port_text parts.path_text
@@ -123,9 +123,9 @@ is_named_by base text parts class scheme is has of_class same =
         fits =
             subst (λ (k : Class). FitsAuthority k (setting_of Parser base (Some scheme)) host_text parts) is_class fits;
         host_cut = subst (λ (k : Class). IsHostCut k host_text parts.port_text) of_class cut.2;
-        no_slash = (is_without-parts slash host_text (written_behind colon parts.port_text) cut.0).0;
-        no_question_mark = (is_without-parts question_mark host_text (written_behind colon parts.port_text) question).0;
-        no_number_sign = (is_without-parts number_sign host_text (written_behind colon parts.port_text) number).0;
+        no_slash = (is_without-parts slash host_text (written_after colon parts.port_text) cut.0).0;
+        no_question_mark = (is_without-parts question_mark host_text (written_after colon parts.port_text) question).0;
+        no_number_sign = (is_without-parts number_sign host_text (written_after colon parts.port_text) number).0;
       },
     )
 
@@ -143,7 +143,7 @@ is_named base text parts class is form of_class =
 
 -- ---- class SpecialNotFile
 
--- a port's `:` stands outside brackets
+-- a port's `:` is outside brackets
 closed_before : (text : List ℕ) (port : Option (List ℕ)) → EndsAtPort text port → (length text == 0) ≡ false
     → (port ≡ None) ⊎ (((length text == 0) ≡ false) × (is_within_at_end false text ≡ false))
 closed_before text None ends some = inl refl
@@ -229,7 +229,7 @@ other_valued parts host_text host.Empty given parsed e = rw e refl
 other_valued parts host_text (host.Opaque other) given parsed e =
     rw (e, given) (ap (λ t. Some (host.Opaque t)) (opaque_encoded host_text other parsed))
 
--- an empty host has no port behind it, and a port's `:` stands outside brackets
+-- an empty host has no port after it, and a port's `:` is outside brackets
 other_some : (text : List ℕ) (port : Option (List ℕ)) → EndsAtPort text port → (text ≡ [] → port ≡ None)
     → (port ≡ None) ⊎ (((length text == 0) ≡ false) × (is_within_at_end false text ≡ false))
 other_some text None ends alone = inl refl

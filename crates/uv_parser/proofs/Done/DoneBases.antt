@@ -9,14 +9,14 @@ use Rattle.uv_model.specs.declared.path.UrlPath.TheVariants.{Segments}
 use Rattle.uv_model.specs.Ascii.{slash, backslash, colon}
 use Rattle.uv_model.specs.Records.Denote.{authority_path}
 use Rattle.uv_parser.specs.Machine.{State, begins, AuthorityState, NoSchemeState, empty_variables, with_scheme}
-use Rattle.uv_model.specs.Parts.{Parts, Authority, written_behind, written_authority}
+use Rattle.uv_model.specs.Parts.{Parts, Authority, written_after, written_authority}
 use Rattle.uv_model.specs.Scheme.{default_port, lowercase, scheme_class}
 use Rattle.uv_parser.specs.Laws.Silence.{RunsSilently}
 use Rattle.uv_model.specs.Records.Url.{Url, is_opaque}
 use Rattle.uv_model.specs.Setting.{scheme_or}
 use Rattle.uv_model.specs.Valid.{port_given, scheme_in, Valid}
 use Rattle.uv_parser.proofs.Loops.AuthorityStarts.{base_starts}
-use Rattle.uv_parser.proofs.Loops.AuthorityEnds.{Behind, authority_ends, hosted}
+use Rattle.uv_parser.proofs.Loops.AuthorityEnds.{After, authority_ends, hosted}
 use Rattle.uv_parser.proofs.Decided.CutTexts.{cut_text}
 use Rattle.uv_parser.proofs.Done.Decided.{fits_form}
 use Rattle.uv_parser.proofs.Done.DoneAuthority.{is_named_by, other_has, special_has, special_letters}
@@ -46,11 +46,11 @@ module _ (url : Url) (text : List ℕ) (parts : Parts) (is : Valid Parser (Some 
   -- the whole run
   authority_reference : (host_text : List ℕ) (value : Host) → parts.form ≡ Authority
       → parts.host_text ≡ Some host_text → HasParsed parts url.scheme host_text value
-      → Starts (host_text ++ written_behind colon parts.port_text) → RunsSilently (Some url) text parts
+      → Starts (host_text ++ written_after colon parts.port_text) → RunsSilently (Some url) text parts
   unfolding rest Starts
   authority_reference host_text value form given has start =
-      let authority = host_text ++ written_behind colon parts.port_text in
-      let behind : Behind parts.segments parts.path_text parts.query parts.fragment
+      let authority = host_text ++ written_after colon parts.port_text in
+      let after : After parts.segments parts.path_text parts.query parts.fragment
       = record { path = has.path; query = is.query; fragment = is.fragment } in
       let spelled : text ≡ (written_authority (Some host_text) parts.port_text ++ parts.path_text)
       ++ tail parts.query parts.fragment
@@ -74,7 +74,7 @@ module _ (url : Url) (text : List ℕ) (parts : Parts) (is : Valid Parser (Some 
             refl;
       })
       (start _
-      (authority_ends (Some url) url.scheme value parts.segments parts.path_text parts.query parts.fragment behind
+      (authority_ends (Some url) url.scheme value parts.segments parts.path_text parts.query parts.fragment after
       host_text parts.port_text has.parsed))
 
   -- the variables with the base's scheme
@@ -107,10 +107,10 @@ module _ (url : Url) (text : List ℕ) (parts : Parts) (is : Valid Parser (Some 
       let (host_text, named) = is_named_by (Some url) text parts SpecialNotFile url.scheme is
       (fits_form (Some url) text parts Authority is form) of_class (ap (scheme_or (Some url)) none) in
       let has = special_has (Some url) parts url.scheme host_text named in
-      let rest = (host_text ++ written_behind colon parts.port_text)
+      let rest = (host_text ++ written_after colon parts.port_text)
       ++ (parts.path_text ++ tail parts.query parts.fragment) in
       let none : (begins slash rest || begins backslash rest) ≡ false
-      = no_slash_before host_text (written_behind colon parts.port_text)
+      = no_slash_before host_text (written_after colon parts.port_text)
       (parts.path_text ++ tail parts.query parts.fragment)
       (special_letters (Some url) parts url.scheme host_text named)
       (special_some url.scheme host_text named.fits.value (is_special_scheme url.scheme special) has.parsed.parsed) in

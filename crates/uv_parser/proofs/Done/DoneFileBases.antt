@@ -13,7 +13,7 @@ use Rattle.uv_model.specs.Records.Denote.{authority_path, quotes, listed_segment
 use Rattle.uv_parser.specs.Machine.{starts_with_drive_letter, turn, again, FileState, NoSchemeState, PathState}
 use Rattle.uv_parser.specs.Machine.{empty_variables, is_file, is_special, list_in, shortened, with_file_base}
 use Rattle.uv_parser.specs.Machine.{with_query}
-use Rattle.uv_model.specs.Parts.{Parts, Authority, NoPath, PathRelative, written_authority, written_behind}
+use Rattle.uv_model.specs.Parts.{Parts, Authority, NoPath, PathRelative, written_after, written_authority}
 use Rattle.uv_model.specs.Path.{is_without, shorten, starts_with_slash, walk}
 use Rattle.uv_model.specs.Scheme.{scheme_class}
 use Rattle.uv_parser.specs.Laws.Silence.{RunsSilently}
@@ -54,8 +54,8 @@ no_drive_letter (c ∷ m ∷ rest) query fragment some units free =
         | inl is ↦ absurd (true≢false (rw (letter, is) at free))
         | inr not_colon ↦ elim (cases_Bool (m == vertical_bar)) [
           | inl bar ↦
-              let behind = (and_parts (is_unit_at c (m ∷ rest)) (is_faultless (m ∷ rest)) units).1 in
-              let here : is_unit_at m rest ≡ true = (and_parts (is_unit_at m rest) (is_faultless rest) behind).0 in
+              let after = (and_parts (is_unit_at c (m ∷ rest)) (is_faultless (m ∷ rest)) units).1 in
+              let here : is_unit_at m rest ≡ true = (and_parts (is_unit_at m rest) (is_faultless rest) after).0 in
               absurd (false≢true (rw (eqb-true m vertical_bar bar) at here))
           | inr not_bar ↦ rw (letter, not_colon, not_bar) refl
         ]
@@ -151,11 +151,11 @@ module _ (url : Url) (text : List ℕ) (parts : Parts) (is : Valid Parser (Some 
       = rw (none, given) at
       (cut_text (Some url) text parts.scheme parts.host_text parts.port_text parts.path_text parts.query parts.fragment
       is.cut) in
-      let alone : host_text ++ written_behind colon parts.port_text ≡ host_text
-      = ap (λ o. host_text ++ written_behind colon o) has.no_port_text ∙ append-nil host_text in
+      let alone : host_text ++ written_after colon parts.port_text ≡ host_text
+      = ap (λ o. host_text ++ written_after colon o) has.no_port_text ∙ append-nil host_text in
       let whole : text ≡ slash ∷ slash ∷ (host_text ++ rest)
       = spelled ∙ ap (λ xs. slash ∷ slash ∷ xs)
-      (append_assoc (host_text ++ written_behind colon parts.port_text) parts.path_text
+      (append_assoc (host_text ++ written_after colon parts.port_text) parts.path_text
       (tail parts.query parts.fragment)
       ∙ ap (λ xs. xs ++ rest) alone) in
       let v = walking (authority_path (scheme_class (codes "file")) parts.segments) (file_variables value) in

@@ -34,7 +34,7 @@ use Rattle.uv_parser.proofs.Running.Steps.{Ends, done_with, ends_again, ends_ste
 use Rattle.uv_parser.proofs.Loops.Tails.{no_slash_before_tail, query_given, tail, tail_ends, with_tail}
 use Rattle.uv_model.specs.declared.profile.Profile.TheVariants.{Parser}
 
--- The variables behind the path have the denoted scheme, host, port, path and query.
+-- The variables after the path have the denoted scheme, host, port, path and query.
 pub record HoldsReference (url : Url) (parts : Parts) (form : Form) (v : Variables) : Type 0 where
   pub scheme : v.url.scheme ≡ url.scheme
   pub host : v.url.host ≡ denoted_host (Some url) form parts
@@ -57,7 +57,7 @@ abbrev query_kept : Url → Form → Option (List ℕ)
 query_kept url NoPath = url.query
 query_kept url _ = None
 
--- the query behind a path is the one that is denoted
+-- the query after a path is the one that is denoted
 pub reference_query : (url : Url) (class : Class) (form : Form) (query : Option (List ℕ)) (v : Variables)
     → is_special v.url.scheme ≡ quotes class → v.url.query ≡ query_kept url form
     → query_given query v ≡ denoted_query (Some url) class form query
@@ -90,7 +90,7 @@ path_text url text parts is none no_host =
     (cut_text (Some url) text parts.scheme parts.host_text parts.port_text parts.path_text parts.query parts.fragment
     is.cut)
 
--- the segments of a path, to begin with behind others
+-- the segments of a path, to begin with after others
 pub walk_ends : (base : Option Url) (query fragment : Option (List ℕ)) → MayBeUnits query → MayBeUnits fragment
     → (path segments : List (List ℕ)) (text : List ℕ) (v : Variables) → JoinsTo segments text
     → Ends base PathState (walking path v) (text ++ tail query fragment)
@@ -159,13 +159,13 @@ module _ (url : Url) (text : List ℕ) (parts : Parts) (is : Valid Parser (Some 
   absolute_done form =
       let fits = fits_form (Some url) text parts PathAbsolute is form in
       let path = fits.1 in
-      let rest = path.behind ++ tail parts.query parts.fragment in
+      let rest = path.after ++ tail parts.query parts.fragment in
       let whole : text ≡ slash ∷ rest
       = path_text url text parts is none fits.0.host_text
       ∙ ap (λ xs. xs ++ tail parts.query parts.fragment) path.slashed in
       let v = with_base_host url begun in
       let walked = walk (scheme_class url.scheme) [] parts.segments in
-      let no_slash = no_slash_before_tail path.behind parts.query parts.fragment path.relative.start in
+      let no_slash = no_slash_before_tail path.after parts.query parts.fragment path.relative.start in
       reference_runs url text (slash ∷ rest) parts PathAbsolute (walking walked v)
       whole is form none
       (record {
@@ -180,7 +180,7 @@ module _ (url : Url) (text : List ℕ) (parts : Parts) (is : Valid Parser (Some 
       (ends_again (Some url) (λ p. start_row (slash ∷ rest) p)
       (ends_step (Some url) {s₁ = RelativeSlashState} {v₁ = begun} (λ p. refl)
       (ends_again (Some url) (λ p. rw no_slash refl)
-      (walk_ends (Some url) parts.query parts.fragment is.query is.fragment [] parts.segments path.behind v
+      (walk_ends (Some url) parts.query parts.fragment is.query is.fragment [] parts.segments path.after v
       path.relative.joins))))
 
   -- another path

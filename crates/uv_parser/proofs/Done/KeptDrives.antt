@@ -160,14 +160,14 @@ file_absolute_done url text parts is not_opaque file class none name no_port for
     let fits = fits_form (Some url) text parts PathAbsolute is form in
     let path = fits.1 in
     let joins = path.relative.joins in
-    let rest = path.behind ++ tail parts.query parts.fragment in
+    let rest = path.after ++ tail parts.query parts.fragment in
     let whole : text ≡ slash ∷ rest
     = path_text url text parts is none fits.0.host_text
     ∙ ap (λ xs. xs ++ tail parts.query parts.fragment) path.slashed in
     let segment : IsSegment joins.first = (rw joins.some at joins.each).0 in
-    let same = drive_first path.behind joins.first parts.segments joins.others parts.query parts.fragment joins.joined
+    let same = drive_first path.after joins.first parts.segments joins.others parts.query parts.fragment joins.joined
     joins.some segment in
-    let no_slash = no_slash_before_tail path.behind parts.query parts.fragment path.relative.start in
+    let no_slash = no_slash_before_tail path.after parts.query parts.fragment path.relative.start in
     let v = host_variables url.host in
     let kept = kept_drive File (list_in url.path) (joins.first ∷ joins.others) in
     let walked = walk (scheme_class (codes "file")) kept parts.segments in
@@ -190,4 +190,4 @@ file_absolute_done url text parts is not_opaque file class none name no_port for
     (ends_again (Some url) {s₁ = FileState} {v₁ = empty_variables} (λ p. rw (not_opaque, file) refl)
     (ends_step (Some url) {s₁ = FileSlashState} {v₁ = file_variables host.Empty} (λ p. refl)
     (ends_again (Some url) begun
-    (walk_ends (Some url) parts.query parts.fragment is.query is.fragment kept parts.segments path.behind v joins))))
+    (walk_ends (Some url) parts.query parts.fragment is.query is.fragment kept parts.segments path.after v joins))))

@@ -5,10 +5,10 @@ use Rattle.std.specs.Prelude.{option_map}
 use Rattle.std.proofs.lemmas.Option.{none-some, same_Some, option_and_then_some}
 use Rattle.uv_model.specs.Ascii.{full_stop}
 use Rattle.uv_model.specs.Hosts.Numbers.{AreBytes, AreNumbers, IsNumbersText, numbers_value}
-use Rattle.uv_parser.specs.Ipv4Parser.{Ipv4ParserTakesNumbers, parse_ipv4, read_behind, read_numbers}
+use Rattle.uv_parser.specs.Ipv4Parser.{Ipv4ParserTakesNumbers, parse_ipv4, read_after, read_numbers}
 use Rattle.uv_parser.specs.Ipv6Parser.{read_digits}
 use Rattle.uv_parser.proofs.HostParsing.Ipv4ParserLemmas.{numbers_parsed}
-use Rattle.uv_model.proofs.Hosts.NumberLemmas.{behind_text, numbers_joined}
+use Rattle.uv_model.proofs.Hosts.NumberLemmas.{after_text, numbers_joined}
 use Rattle.uv_parser.proofs.HostParsing.Ipv6ReadersTaken.{fails_where_false, number_taken}
 
 -- a function of a value that may be absent
@@ -17,33 +17,33 @@ pub mapped : {A B : Type 0} → (f : A → B) (o : Option A) (y : B) → option_
 mapped f None y e = absurd (none-some y e)
 mapped f (Some x) y e = (x, refl, same_Some (f x) y e)
 
--- numbers behind the first, at most so many
-record TakesBehind (left : ℕ) (text numbers : List ℕ) : Type 0 where
+-- numbers after the first, at most so many
+record TakesAfter (left : ℕ) (text numbers : List ℕ) : Type 0 where
   few : length numbers ≤ left
   fit : AreBytes numbers
-  spelled : text ≡ behind_text numbers
+  spelled : text ≡ after_text numbers
 
--- behind the last number the text is at its end
-none_behind : (left : ℕ) (numbers : List ℕ) → [] ≡ numbers → TakesBehind left [] numbers
-none_behind left numbers same =
-    subst (λ (ns : List ℕ). TakesBehind left [] ns) same (record { few = omega arith; fit = tt; spelled = refl })
+-- after the last number the text is at its end
+none_after : (left : ℕ) (numbers : List ℕ) → [] ≡ numbers → TakesAfter left [] numbers
+none_after left numbers same =
+    subst (λ (ns : List ℕ). TakesAfter left [] ns) same (record { few = omega arith; fit = tt; spelled = refl })
 
--- what is read behind the first number
-behind_taken : (left : ℕ) (text numbers : List ℕ) → read_behind left text ≡ Some numbers
-    → TakesBehind left text numbers
-unfolding read_behind
-behind_taken zero [] numbers e = none_behind zero numbers (same_Some [] numbers e)
-behind_taken (suc left) [] numbers e = none_behind (suc left) numbers (same_Some [] numbers e)
-behind_taken zero (c ∷ text) numbers e = absurd (none-some numbers e)
-behind_taken (suc left) (c ∷ text) numbers e =
+-- what is read after the first number
+after_taken : (left : ℕ) (text numbers : List ℕ) → read_after left text ≡ Some numbers
+    → TakesAfter left text numbers
+unfolding read_after
+after_taken zero [] numbers e = none_after zero numbers (same_Some [] numbers e)
+after_taken (suc left) [] numbers e = none_after (suc left) numbers (same_Some [] numbers e)
+after_taken zero (c ∷ text) numbers e = absurd (none-some numbers e)
+after_taken (suc left) (c ∷ text) numbers e =
     let dot = fails_where_false (c == full_stop) e in
     option_and_then_some _ (read_digits None text) numbers dot.1
     (λ (n, rest) number further.
     let is = number_taken text n rest number in
-    let (others, read, same) = mapped (λ (ns : List ℕ). n ∷ ns) (read_behind left rest) numbers further in
-    let later = behind_taken left rest others read in
+    let (others, read, same) = mapped (λ (ns : List ℕ). n ∷ ns) (read_after left rest) numbers further in
+    let later = after_taken left rest others read in
     let few : length (n ∷ others) ≤ suc left = let fewer = later.few in omega (arith, fewer) in
-    subst (λ (ns : List ℕ). TakesBehind (suc left) (c ∷ text) ns) same
+    subst (λ (ns : List ℕ). TakesAfter (suc left) (c ∷ text) ns) same
     (record {
       few = few;
       fit = (is.1, later.fit);
@@ -58,8 +58,8 @@ numbers_taken text numbers e =
     option_and_then_some _ (read_digits None text) numbers e
     (λ (n, rest) number further.
     let is = number_taken text n rest number in
-    let (others, read, same) = mapped (λ (ns : List ℕ). n ∷ ns) (read_behind 3 rest) numbers further in
-    let later = behind_taken 3 rest others read in
+    let (others, read, same) = mapped (λ (ns : List ℕ). n ∷ ns) (read_after 3 rest) numbers further in
+    let later = after_taken 3 rest others read in
     let few : length (n ∷ others) ≤ 4 = let fewer = later.few in omega (arith, fewer) in
     let some : 1 ≤ length (n ∷ others) = omega arith in
     subst (λ (ns : List ℕ). AreNumbers ns text) same

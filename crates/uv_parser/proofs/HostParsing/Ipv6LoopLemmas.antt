@@ -80,7 +80,7 @@ low_byte done i u v at room =
     let small : length done < 8 = omega arith in
     rw (at, get_again 8 done u small) (set_again 8 done u (u * 256 + v) small)
 
--- the last three numbers, each behind a full stop
+-- the last three numbers, each after a full stop
 abbrev dotted_rest : ℕ → ℕ → ℕ → List ℕ
 dotted_rest b c d = full_stop ∷ (decimal b ++ (full_stop ∷ (decimal c ++ (full_stop ∷ decimal d))))
 

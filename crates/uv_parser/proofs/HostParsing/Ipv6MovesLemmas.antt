@@ -1,9 +1,9 @@
--- Where the IPv6 parser moves the pieces behind `::`, for each of the 36 pairs of lengths.
+-- Where the IPv6 parser moves the pieces after `::`, for each of the 36 pairs of lengths.
 use Rattle.std.proofs.Common.{◌≡◌, ℕ, ◌+◌, ◌-◌, ◌<◌, List, [], ◌∷◌, ◌++◌, length, refl, arith}
 use Rattle.std.specs.Prelude.{replicate}
 use Rattle.uv_parser.specs.Ipv6Parser.{move}
 
--- the pieces behind `::` go to the end, and the zeros before them
+-- the pieces after `::` go to the end, and the zeros before them
 abbrev pub Moved : List ℕ → List ℕ → Type 0
 Moved head tail =
     move (length tail) 7 (length head + 1) (head ++ (0 ∷ tail) ++ replicate (7 - length head - length tail) 0)

@@ -53,7 +53,7 @@ pad_full zero (x ∷ xs) e = absurd (omega arith)
 pad_full (suc n) [] e = absurd (omega arith)
 pad_full (suc n) (x ∷ xs) e = ap (λ ys. x ∷ ys) (pad_full n xs (omega arith))
 
--- the zeros stand behind the written pieces
+-- the zeros are after the written pieces
 pub pad_append : (n : ℕ) (xs : List ℕ) → length xs ≤ n → pad n xs ≡ xs ++ replicate (n - length xs) 0
 pad_append zero [] h = refl
 pad_append zero (x ∷ xs) h = absurd (omega arith)

@@ -60,7 +60,7 @@ hex_taken (suc most) value count (c ∷ text) = elim (cases_Bool (is_digit c 16)
 
 -- ---- a decimal number
 
--- one digit more behind a number other than 0
+-- one digit more after a number other than 0
 decimal_more : (m d : ℕ) → 0 < m → d < 10 → m * 10 + d < 256 → decimal (m * 10 + d) ≡ decimal m ++ (48 + d) ∷ []
 decimal_more m d some digit small =
     let whole : (m * 10 + d) / 10 ≡ m = div-mul-add m 10 d digit in
@@ -71,7 +71,7 @@ decimal_more m d some digit small =
 digit_is : (c : ℕ) → is_digit c 10 ≡ true → (digit_value c < 10) × (48 + digit_value c ≡ c)
 digit_is c is = (grind (arith, nat_tests), grind (arith, nat_tests))
 
--- The digits behind a number that are taken into one of 255 at most, before the rest.
+-- The digits after a number that are taken into one of 255 at most, before the rest.
 record TakesDigits (m : ℕ) (text : List ℕ) (n : ℕ) (rest : List ℕ) : Type 0 where
   digits : List ℕ
   split : text ≡ digits ++ rest
@@ -84,15 +84,15 @@ no_digit_taken : (m : ℕ) (text : List ℕ) (n : ℕ) (rest : List ℕ) → m <
 no_digit_taken m text n rest small e =
     let pair : (m, text) ≡ (n, rest) = same_Some _ _ e in
     let number : m ≡ n = ap (λ (r : ℕ × List ℕ). r.0) pair in
-    let behind : text ≡ rest = ap (λ (r : ℕ × List ℕ). r.1) pair in
+    let after : text ≡ rest = ap (λ (r : ℕ × List ℕ). r.1) pair in
     record {
       digits = [];
-      split = behind;
+      split = after;
       shortest = ap (λ k. decimal k) (sym number) ∙ sym (append-nil (decimal m));
       small = subst (λ (k : ℕ). k < 256) number small;
     }
 
--- digits behind a number
+-- digits after a number
 digits_taken : (m : ℕ) (text : List ℕ) (n : ℕ) (rest : List ℕ) → m < 256 → read_digits (Some m) text ≡ Some (n, rest)
     → TakesDigits m text n rest
 unfolding read_digits
@@ -151,11 +151,11 @@ number_taken (c ∷ text) n rest e = elim (cases_Bool (is_digit c 10)) [
 
 -- ---- an IPv4 address
 
--- what stands before a number
+-- what is before a number
 abbrev lead : ℕ → List ℕ
 lead seen = if seen == 0 then [] else codes "."
 
--- one number of an address, and how the reader goes on behind it
+-- one number of an address, and how the reader goes on after it
 record TakesNumber (turns seen i : ℕ) (text : List ℕ) (r : List ℕ × ℕ) : Type 0 where
   number : ℕ
   rest : List ℕ
@@ -164,7 +164,7 @@ record TakesNumber (turns seen i : ℕ) (text : List ℕ) (r : List ℕ × ℕ) 
   pieces : List ℕ
   further : read_dotted turns (seen + 1) pieces (if seen == 1 || seen == 3 then i + 1 else i) rest ≡ Some r
 
--- what stands before a number is read
+-- what is before a number is read
 dot_taken : (seen c : ℕ) (text prefix : List ℕ) → after_dot seen c text ≡ Some prefix → c ∷ text ≡ lead seen ++ prefix
 dot_taken seen c text prefix e = elim (cases_Bool (seen == 0)) [
   | inl first ↦ rw first (same_Some _ _ (rw first at e))
@@ -192,7 +192,7 @@ turn_taken turns seen pieces i (c ∷ text) r few e =
       further = further;
     }))
 
--- behind four numbers the text is at its end
+-- after four numbers the text is at its end
 four_taken : (pieces : List ℕ) (i : ℕ) (text : List ℕ) (r : List ℕ × ℕ) → read_dotted 0 4 pieces i text ≡ Some r
     → (text ≡ []) × (r.1 ≡ i)
 unfolding read_dotted
@@ -208,7 +208,7 @@ pub record TakesFour (i : ℕ) (text : List ℕ) (r : List ℕ × ℕ) : Type 0 
   pub numbers : IsFourNumbers a b c d text
   pub two_more : r.1 ≡ i + 2
 
--- four numbers, each but the first behind a full stop, up to the end
+-- four numbers, each but the first after a full stop, up to the end
 pub four_spelled : (a b c d : ℕ) (text first second third fourth : List ℕ) → text ≡ decimal a ++ first
     → first ≡ codes "." ++ (decimal b ++ second) → second ≡ codes "." ++ (decimal c ++ third)
     → third ≡ codes "." ++ (decimal d ++ fourth) → fourth ≡ []

@@ -40,11 +40,11 @@ record TakesSide (i : ℕ) (compress : Option ℕ) (text : List ℕ) (r : Given)
   same : r.2 ≡ compress
   room : i + length pieces ≤ 8
 
--- behind groups that a `:` follows
-side_behind : (turns i : ℕ) (compress : Option ℕ) (text : List ℕ) (r : Given)
+-- after groups that a `:` follows
+side_after : (turns i : ℕ) (compress : Option ℕ) (text : List ℕ) (r : Given)
     → (is : TakesGroup turns i compress text r) → TakesSide (i + 1) compress is.others r
     → TakesSide i compress text r
-side_behind turns i compress text r is more = record {
+side_after turns i compress text r is more = record {
   pieces = digits_value 16 is.digits ∷ more.pieces;
   side = inr (group_before true is.digits is.others text (digits_value 16 is.digits) more.pieces is.split is.group
       (list_of_side true is.others more.pieces more.side is.some));
@@ -98,7 +98,7 @@ no_turn : (pieces : List ℕ) (i : ℕ) (compress : Option ℕ) (c : ℕ) (text 
 unfolding main_loop
 no_turn pieces i compress c text r e = none-some r e
 
--- behind `::` the loop takes one side
+-- after `::` the loop takes one side
 side_taken : (turns : ℕ) (pieces : List ℕ) (i k : ℕ) (text : List ℕ) (r : Given) → i ≤ 8
     → main_loop turns pieces i (Some k) text ≡ Some r → TakesSide i (Some k) text r
 side_taken turns pieces i k [] r room e = empty_side turns pieces i (Some k) r room e
@@ -111,38 +111,38 @@ side_taken (suc turns) pieces i k (c ∷ text) r room e =
       | inr (inl dotted) ↦ dotted_side i (Some k) (c ∷ text) r dotted
       | inr (inr (inl last)) ↦ last_side i (Some k) (c ∷ text) r below last
       | inr (inr (inr group)) ↦
-          side_behind turns i (Some k) (c ∷ text) r group
+          side_after turns i (Some k) (c ∷ text) r group
           (side_taken turns group.pieces (i + 1) k group.others r (omega (arith, below)) group.further)
     ]
 
--- `::` at once, and a side behind it
+-- `::` at once, and a side after it
 record TakesMarked (i : ℕ) (text : List ℕ) (r : Given) : Type 0 where
-  behind : List ℕ
-  split : text ≡ colon ∷ behind
-  right : TakesSide (i + 1) (Some (i + 1)) behind r
+  after : List ℕ
+  split : text ≡ colon ∷ after
+  right : TakesSide (i + 1) (Some (i + 1)) after r
 
--- groups, `::` and a side behind it
+-- groups, `::` and a side after it
 record TakesElided (i : ℕ) (text : List ℕ) (r : Given) : Type 0 where
   left_text : List ℕ
   left : List ℕ
-  behind : List ℕ
-  split : text ≡ left_text ++ colon ∷ colon ∷ behind
+  after : List ℕ
+  split : text ≡ left_text ++ colon ∷ colon ∷ after
   groups : IsGroupList false left_text left
-  right : TakesSide (i + length left + 1) (Some (i + length left + 1)) behind r
+  right : TakesSide (i + length left + 1) (Some (i + length left + 1)) after r
 
--- what the loop takes where no `::` stands before
+-- what the loop takes where no `::` is before
 abbrev Taken : ℕ → List ℕ → Given → Type 0
 Taken i text r = TakesSide i None text r ⊎ (TakesMarked i text r ⊎ TakesElided i text r)
 
 -- a group with its `:` before what the loop takes
 group_then : (turns i : ℕ) (text : List ℕ) (r : Given) → (is : TakesGroup turns i None text r)
     → Taken (i + 1) is.others r → Taken i text r
-group_then turns i text r is (inl side) = inl (side_behind turns i None text r is side)
+group_then turns i text r is (inl side) = inl (side_after turns i None text r is side)
 group_then turns i text r is (inr (inl marked)) =
     inr (inr (record {
       left_text = is.digits;
       left = digits_value 16 is.digits ∷ [];
-      behind = marked.behind;
+      after = marked.after;
       split = is.split ∙ ap (λ cs. is.digits ++ colon ∷ cs) marked.split;
       groups = is.group;
       right = marked.right;
@@ -150,20 +150,20 @@ group_then turns i text r is (inr (inl marked)) =
 group_then turns i text r is (inr (inr elided)) =
     let left = elided.left in
     let place : i + 1 + length left + 1 ≡ i + suc (length left) + 1 = omega arith in
-    let shown : text ≡ (is.digits ++ colon ∷ elided.left_text) ++ colon ∷ colon ∷ elided.behind
+    let shown : text ≡ (is.digits ++ colon ∷ elided.left_text) ++ colon ∷ colon ∷ elided.after
     = is.split ∙ (ap (λ cs. is.digits ++ colon ∷ cs) elided.split
-    ∙ sym (append_assoc is.digits (colon ∷ elided.left_text) (colon ∷ colon ∷ elided.behind))) in
+    ∙ sym (append_assoc is.digits (colon ∷ elided.left_text) (colon ∷ colon ∷ elided.after))) in
     inr (inr (record {
       left_text = is.digits ++ colon ∷ elided.left_text;
       left = digits_value 16 is.digits ∷ left;
-      behind = elided.behind;
+      after = elided.after;
       split = shown;
       groups = group_before false is.digits elided.left_text (is.digits ++ colon ∷ elided.left_text)
           (digits_value 16 is.digits) left refl is.group elided.groups;
-      right = subst (λ (k : ℕ). TakesSide k (Some k) elided.behind r) place elided.right;
+      right = subst (λ (k : ℕ). TakesSide k (Some k) elided.after r) place elided.right;
     }))
 
--- where no `::` stands before, the loop takes the whole text, or two sides of `::`
+-- where no `::` is before, the loop takes the whole text, or two sides of `::`
 loop_taken : (turns : ℕ) (pieces : List ℕ) (i : ℕ) (text : List ℕ) (r : Given) → i ≤ 8
     → main_loop turns pieces i None text ≡ Some r → Taken i text r
 loop_taken turns pieces i [] r room e = inl (empty_side turns pieces i None r room e)
@@ -174,7 +174,7 @@ loop_taken (suc turns) pieces i (c ∷ text) r room e =
     elim turn.1 [
       | inl mark ↦
           inr (inl (record {
-            behind = text;
+            after = text;
             split = ap (λ d. d ∷ text) mark.is_colon;
             right = side_taken turns mark.pieces (i + 1) (i + 1) text r (omega (arith, below)) mark.further;
           }))
@@ -234,7 +234,7 @@ begins_unmarked turns zeros text pieces r other e finished =
       | inr (inl marked) ↦
           absurd (true≢false (sym (ap (λ cs. slice_index cs 0 == colon) marked.split) ∙ other))
       | inr (inr elided) ↦
-          compressed text elided.left_text elided.behind elided.left elided.right.pieces elided.split
+          compressed text elided.left_text elided.after elided.left elided.right.pieces elided.split
           (inr elided.groups) elided.right.side (omega (arith, elided.right.room))
     ]
   where

@@ -43,7 +43,7 @@ pub record TakesLast (i : ℕ) (compress : Option ℕ) (text : List ℕ) (r : Gi
   pub place : r.1 ≡ i + 1
   pub same : r.2 ≡ compress
 
--- a group, a `:` and something behind it
+-- a group, a `:` and something after it
 pub record TakesGroup (turns i : ℕ) (compress : Option ℕ) (text : List ℕ) (r : Given) : Type 0 where
   pub digits : List ℕ
   pub others : List ℕ
@@ -110,7 +110,7 @@ last_turn turns set i compress c text r hex e =
       same = given.1;
     }
 
--- a group before a `:`, behind which something stands
+-- a group before a `:`, after which something is
 group_turn : (turns : ℕ) (set : List ℕ) (i : ℕ) (compress : Option ℕ) (c : ℕ) (text others : List ℕ) (r : Given)
     → TakesHex 4 (c ∷ text) (colon ∷ others) → (c == colon) ≡ false → 0 < length others
     → main_loop turns set (i + 1) compress others ≡ Some r → TakesGroup turns i compress (c ∷ text) r
@@ -130,7 +130,7 @@ group_turn turns set i compress c text others r hex other some e = record {
         absurd (true≢false (sym (ap (λ d. d == colon) first) ∙ other))
     nonempty (d ∷ digits) same = omega arith
 
--- behind the digits of a group
+-- after the digits of a group
 digits_turn : (turns : ℕ) (pieces set : List ℕ) (i : ℕ) (compress : Option ℕ) (c : ℕ) (text : List ℕ) (r : Given)
     (count : ℕ) (rest : List ℕ) → TakesHex 4 (c ∷ text) rest → (c == colon) ≡ false
     → (if slice_index rest 0 == full_stop
@@ -164,7 +164,7 @@ digits_turn turns pieces set i compress c text r count (d ∷ rest) hex other e 
     nonempty [] some = absurd (false≢true some)
     nonempty (c ∷ rest) some = omega arith
 
--- a `:` where no group stands
+-- a `:` where no group is
 mark_turn : (turns : ℕ) (pieces : List ℕ) (i : ℕ) (compress : Option ℕ) (c : ℕ) (text : List ℕ) (r : Given)
     → (c == colon) ≡ true
     → (if is_some compress then None else main_loop turns pieces (i + 1) (Some (i + 1)) text) ≡ Some r

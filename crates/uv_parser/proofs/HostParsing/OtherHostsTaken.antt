@@ -38,7 +38,7 @@ bracket_is_some : (text : List ℕ) → (slice_index text (length text - 1) == r
 bracket_is_some [] is = absurd (false≢true is)
 bracket_is_some (c ∷ text) is = omega arith
 
--- behind `[` an IPv6 text and `]` are taken
+-- after `[` an IPv6 text and `]` are taken
 pub bracketed_taken : (inner : List ℕ) (value : Host) → parse_bracketed inner ≡ Some value
     → (pieces : List ℕ) × IsBracketedIpv6 (left_bracket ∷ inner) pieces × (value ≡ V6 pieces)
 bracketed_taken inner value e =

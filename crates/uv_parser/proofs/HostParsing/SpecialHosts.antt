@@ -124,8 +124,8 @@ host_from_parser (c ∷ rest) value e =
     elim (cases_Bool (c == left_bracket)) [
       | inl same ↦ bracketed_host c rest value same (rw same at e)
       | inr plain ↦
-          let behind : Option (List ℕ) = option_and_then parser_form (percent_decoded (c ∷ rest)) in
-          option_and_then_some host_of_form behind value (rw plain at e)
+          let after : Option (List ℕ) = option_and_then parser_form (percent_decoded (c ∷ rest)) in
+          option_and_then_some host_of_form after value (rw plain at e)
           (λ form given made. option_and_then_some parser_form (percent_decoded (c ∷ rest)) form given
           (λ decoded read formed.
           form_taken (c ∷ rest) decoded form value plain (decoded_taken (c ∷ rest) decoded read) formed made))

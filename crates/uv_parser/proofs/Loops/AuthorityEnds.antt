@@ -13,7 +13,7 @@ use Rattle.uv_model.specs.declared.host.Host.{Host}
 use Rattle.uv_model.specs.Ascii.{colon}
 use Rattle.uv_model.specs.Records.Denote.{authority_path}
 use Rattle.uv_parser.specs.HostParser.{parse_host}
-use Rattle.uv_model.specs.Parts.{written_behind}
+use Rattle.uv_model.specs.Parts.{written_after}
 use Rattle.uv_model.specs.Scheme.{default_port, lowercase, scheme_class}
 use Rattle.uv_model.specs.Records.Url.{Url}
 use Rattle.uv_model.specs.Cut.{is_within_at_end}
@@ -31,18 +31,18 @@ use Rattle.uv_parser.proofs.Running.Steps.{Ends, Reaches, ends_after, ends_again
 use Rattle.uv_parser.proofs.Loops.Tails.{tail, with_tail}
 use Rattle.uv_parser.proofs.Running.RunsStopped.{place_cases}
 
--- the variables behind the authority
+-- the variables after the authority
 abbrev pub hosted : List ℕ → Host → Option ℕ → Variables
 hosted scheme value port = with_port port (with_host (Some value) (scheme_variables scheme))
 
--- a path behind an authority, or what follows where there is none, begins with a delimiter
+-- a path after an authority, or what follows where there is none, begins with a delimiter
 pub delimits : (segments : List (List ℕ)) (path : List ℕ) (query fragment : Option (List ℕ))
     → MayBePathSlashed segments path
     → IsDelimiter (at_pointer (path ++ tail query fragment))
 delimits segments path (Some query) fragment (inl none) = rw none.0 tt
 delimits segments path None (Some fragment) (inl none) = rw none.0 tt
 delimits segments path None None (inl none) = rw none.0 tt
-delimits segments path query fragment (inr behind) = rw behind.slashed tt
+delimits segments path query fragment (inr after) = rw after.slashed tt
 
 -- the port that the machine gives is the one that is denoted
 port_is_given : (scheme text : List ℕ) → port_in (lowercase scheme) text ≡ port_given (default_port scheme) (Some text)
@@ -56,7 +56,7 @@ port_is_given scheme (digit ∷ rest) =
 -- a host and a port are read as an authority
 pub authority_letters : (special : Bool) (host : List ℕ) (port : Option (List ℕ)) → IsRead special host
     → MayBePortText port
-    → list_all (is_authority_letter special) (host ++ written_behind colon port) ≡ true
+    → list_all (is_authority_letter special) (host ++ written_after colon port) ≡ true
 authority_letters special host None read fits = rw (append-nil host) read.letters
 authority_letters special host (Some port) read fits =
     list_all-append (is_authority_letter special) host (colon ∷ port)
@@ -68,8 +68,8 @@ authority_letters special host (Some port) read fits =
         let parts = and_parts (is_ascii_digit c) (list_all is_ascii_digit rest) is in
         and_from _ _ (digit_letter special c parts.0) (digits rest parts.1)
 
--- What is behind the authority: a path of segments or none, a query and a fragment.
-pub record Behind (segments : List (List ℕ)) (path_text : List ℕ)
+-- What is after the authority: a path of segments or none, a query and a fragment.
+pub record After (segments : List (List ℕ)) (path_text : List ℕ)
     (query_text fragment_text : Option (List ℕ)) : Type 0 where
   pub path : MayBePathSlashed segments path_text
   pub query : MayBeUnits query_text
@@ -84,7 +84,7 @@ pub record IsParsed (scheme host : List ℕ) (port_text : Option (List ℕ)) (va
   pub some : (port_text ≡ None) ⊎ (((length host == 0) ≡ false) × (is_within_at_end false host ≡ false))
   pub port : MayBePortText port_text
 
--- the URL at the end of a text with this authority and what is behind it
+-- the URL at the end of a text with this authority and what is after it
 abbrev pub authority_url : List ℕ → Host → Option ℕ → List (List ℕ) → Option (List ℕ) → Option (List ℕ) → Url
 authority_url scheme value port segments query fragment =
     with_tail query fragment
@@ -97,12 +97,12 @@ same_tail within None fragment v = refl
 same_tail within (Some text) fragment v = refl
 
 module _ (base : Option Url) (scheme : List ℕ) (value : Host) (segments : List (List ℕ)) (path : List ℕ)
-    (query fragment : Option (List ℕ)) (behind : Behind segments path query fragment) where
+    (query fragment : Option (List ℕ)) (after : After segments path query fragment) where
   -- what follows the authority
   rest : List ℕ
   rest = path ++ tail query fragment
 
-  -- from behind the authority to the end
+  -- from after the authority to the end
   rest_ends : (within : Bool) (port : Option ℕ)
       → Ends base PathStartState (with_brackets within (hosted scheme value port)) rest
       (authority_url scheme value port segments query fragment)
@@ -113,8 +113,8 @@ module _ (base : Option Url) (scheme : List ℕ) (value : Host) (segments : List
       fragment) u)
       (same_tail within query fragment
       (walking (authority_path (scheme_class (lowercase scheme)) segments) (hosted scheme value port)))
-      (path_start_ends base query fragment behind.query behind.fragment segments path
-      (with_brackets within (hosted scheme value port)) behind.path)
+      (path_start_ends base query fragment after.query after.fragment segments path
+      (with_brackets within (hosted scheme value port)) after.path)
 
   -- from the port to the end
   port_ends : (port : List ℕ) → MayBePortText (Some port)
@@ -126,13 +126,13 @@ module _ (base : Option Url) (scheme : List ℕ) (value : Host) (segments : List
       let variables = with_more port (with_host (Some value) (scheme_variables scheme)) in
       ends_after base (port_law base port rest (with_host (Some value) (scheme_variables scheme)) fits.digits)
       (ends_again base
-      (λ p. port_row_end variables (at_pointer rest) (delimits segments path query fragment behind.path) small
+      (λ p. port_row_end variables (at_pointer rest) (delimits segments path query fragment after.path) small
       ∙ ap (λ o. again PathStartState (hosted scheme value o)) (port_is_given scheme port))
       (rest_ends false (port_given (default_port scheme) (Some port))))
 
   -- from the host to the end
   host_ends : (host : List ℕ) (port : Option (List ℕ)) → IsParsed scheme host port value
-      → Ends base HostState (scheme_variables scheme) (host ++ (written_behind colon port ++ rest))
+      → Ends base HostState (scheme_variables scheme) (host ++ (written_after colon port ++ rest))
       (authority_url scheme value (port_given (default_port scheme) port) segments query fragment)
   unfolding rest
   host_ends host None is =
@@ -141,7 +141,7 @@ module _ (base : Option Url) (scheme : List ℕ) (value : Host) (segments : List
       is.read.read)
       (ends_again base
       (λ p. host_row_end value (with_more host (with_brackets within (scheme_variables scheme))) (at_pointer rest)
-      (delimits segments path query fragment behind.path) is.stands is.parsed)
+      (delimits segments path query fragment after.path) is.stands is.parsed)
       (rest_ends within None))
   host_ends host (Some port) is =
       let some : ((length host == 0) ≡ false) × (is_within_at_end false host ≡ false)
@@ -158,13 +158,13 @@ module _ (base : Option Url) (scheme : List ℕ) (value : Host) (segments : List
   -- from the start of the authority to the end
   pub authority_ends : (host : List ℕ) (port : Option (List ℕ)) → IsParsed scheme host port value
       → Ends base AuthorityState (scheme_variables scheme)
-      ((host ++ written_behind colon port) ++ (path ++ tail query fragment))
+      ((host ++ written_after colon port) ++ (path ++ tail query fragment))
       (authority_url scheme value (port_given (default_port scheme) port) segments query fragment)
   unfolding rest
   authority_ends host port is =
       ends_after base
-      (authority_law base (is_special (lowercase scheme)) (host ++ written_behind colon port) rest
+      (authority_law base (is_special (lowercase scheme)) (host ++ written_after colon port) rest
       (scheme_variables scheme)
       refl (authority_letters (is_special (lowercase scheme)) host port is.read is.port) (delimits segments path query
-      fragment behind.path))
-      (rw (append_assoc host (written_behind colon port) rest) (host_ends host port is))
+      fragment after.path))
+      (rw (append_assoc host (written_after colon port) rest) (host_ends host port is))

@@ -40,16 +40,16 @@ pub record Letter (special : Bool) (c : ℕ) : Type 0 where
 -- a code point of an authority is none of these
 pub letter : (special : Bool) (c : ℕ) → is_authority_letter special c ≡ true → Letter special c
 letter special c is =
-    let behind_slash = and_parts (not (c == slash)) _ is in
-    let behind_mark = and_parts (not (c == question_mark)) _ behind_slash.1 in
-    let behind_sign = and_parts (not (c == number_sign)) _ behind_mark.1 in
-    let behind_at = and_parts (not (c == at_sign)) (not ((c == backslash) && special)) behind_sign.1 in
+    let after_slash = and_parts (not (c == slash)) _ is in
+    let after_mark = and_parts (not (c == question_mark)) _ after_slash.1 in
+    let after_sign = and_parts (not (c == number_sign)) _ after_mark.1 in
+    let after_at = and_parts (not (c == at_sign)) (not ((c == backslash) && special)) after_sign.1 in
     record {
-      no_slash = not-true _ behind_slash.0;
-      no_question_mark = not-true _ behind_mark.0;
-      no_number_sign = not-true _ behind_sign.0;
-      no_at_sign = not-true _ behind_at.0;
-      no_backslash = not-true _ behind_at.1;
+      no_slash = not-true _ after_slash.0;
+      no_question_mark = not-true _ after_mark.0;
+      no_number_sign = not-true _ after_sign.0;
+      no_at_sign = not-true _ after_at.0;
+      no_backslash = not-true _ after_at.1;
     }
 
 -- the rest begins with a delimiter, of which one is the end
@@ -57,7 +57,7 @@ abbrev pub IsDelimiter : AtPointer → Type 0
 IsDelimiter (another c) = ⊥
 IsDelimiter _ = Unit {0}
 
--- the rest from behind a stretch on
+-- the rest from after a stretch on
 pub drop_many : (text : List ℕ) (p : ℕ) (cs rest : List ℕ) → drop p text ≡ cs ++ rest → drop (p + length cs) text ≡ rest
 drop_many text p cs rest e =
     sym (drop-drop (length cs) p text) ∙ (ap (λ r. drop (length cs) r) e ∙ drop-append_seam cs rest)
@@ -136,7 +136,7 @@ pub record IsRead (special : Bool) (text : List ℕ) : Type 0 where
   pub letters : list_all (is_authority_letter special) text ≡ true
   pub read : is_read_as_host special false text ≡ true
 
--- a bracket sets or clears the flag as it stands within brackets or not
+-- a bracket sets or clears the flag as it is within brackets or not
 pub bracketed_is : (within : Bool) (c : ℕ) (v : Variables)
     → bracketed c (with_brackets within v) ≡ with_brackets (is_within within c) v
 bracketed_is within c v =
@@ -219,7 +219,7 @@ port_steps base text (c ∷ cs) rest p v e is =
     ∙ ap (settle p (c ∷ (cs ++ rest))) (port_row_on base c (cs ++ rest) v p parts.0) in
     rw (← place, ← append_assoc v.buffer (c ∷ []) cs) (leads_step base text _ (length cs) _ _ one later)
 
--- and so the run is led behind them
+-- and so the run is led after them
 pub port_law : (base : Option Url) (cs rest : List ℕ) (v : Variables) → list_all is_ascii_digit cs ≡ true
     → Reaches base PortState v (cs ++ rest) PortState (with_more cs v) rest
 port_law base cs rest v is = record {

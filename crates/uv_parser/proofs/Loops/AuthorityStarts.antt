@@ -18,19 +18,19 @@ use Rattle.uv_parser.proofs.Loops.SchemeStretch.{colon_row, scheme_variables}
 use Rattle.uv_parser.proofs.Running.Steps.{Ending, EndsAs, ends_again, ends_past_two, ends_step}
 
 -- the state in which a run reads what follows `//`
-abbrev pub state_behind_slashes : Class → State
-state_behind_slashes SpecialNotFile = SpecialAuthorityIgnoreSlashesState
-state_behind_slashes File = FileHostState
-state_behind_slashes Other = AuthorityState
+abbrev pub state_after_slashes : Class → State
+state_after_slashes SpecialNotFile = SpecialAuthorityIgnoreSlashesState
+state_after_slashes File = FileHostState
+state_after_slashes Other = AuthorityState
 
--- the variables behind the scheme of a file URL, with this host
+-- the variables after the scheme of a file URL, with this host
 abbrev pub file_variables : Host → Variables
 file_variables value = with_host (Some value) (with_scheme (codes "file") empty_variables)
 
--- the variables there, by those behind the scheme
-abbrev pub variables_behind_slashes : Class → Variables → Variables
-variables_behind_slashes File v = file_variables host.Empty
-variables_behind_slashes class v = v
+-- the variables there, by those after the scheme
+abbrev pub variables_after_slashes : Class → Variables → Variables
+variables_after_slashes File v = file_variables host.Empty
+variables_after_slashes class v = v
 
 -- the variables with the base's scheme
 abbrev pub base_variables : Url → Variables
@@ -39,7 +39,7 @@ base_variables url = with_scheme url.scheme empty_variables
 -- with a scheme
 pub scheme_starts : (base : Option Url) (scheme rest : List ℕ) (class : Class) {ending : Ending}
     → scheme_class scheme ≡ class
-    → EndsAs base (state_behind_slashes class) (variables_behind_slashes class (scheme_variables scheme)) rest ending
+    → EndsAs base (state_after_slashes class) (variables_after_slashes class (scheme_variables scheme)) rest ending
     → EndsAs base SchemeState (with_more (lowercase scheme) empty_variables) (colon ∷ slash ∷ slash ∷ rest)
     ending
 scheme_starts base scheme rest SpecialNotFile special ends =
@@ -66,7 +66,7 @@ scheme_starts base scheme rest Other other ends =
 -- without one, against a base with a path of segments
 pub base_starts : (url : Url) (rest : List ℕ) (class : Class) {ending : Ending}
     → is_opaque url.path ≡ false → scheme_class url.scheme ≡ class
-    → EndsAs (Some url) (state_behind_slashes class) (variables_behind_slashes class (base_variables url)) rest ending
+    → EndsAs (Some url) (state_after_slashes class) (variables_after_slashes class (base_variables url)) rest ending
     → EndsAs (Some url) NoSchemeState empty_variables (slash ∷ slash ∷ rest) ending
 base_starts url rest SpecialNotFile not_opaque special ends =
     let plain : is_file url.scheme ≡ false = rw special refl in

@@ -1,4 +1,4 @@
--- Laws of the parser machine's loops over a scheme, an opaque path, a query and a fragment: it is led behind what the
+-- Laws of the parser machine's loops over a scheme, an opaque path, a query and a fragment: it is led after what the
 -- state reads, whatever the variables are before it and whatever text follows it.
 use Rattle.std.proofs.Common.{◌≡◌, ℕ, Bool, true, false, ◌&&◌, ◌||◌, ◌==◌, List, [], ◌∷◌, ◌++◌, codes, Option, Some}
 use Rattle.std.proofs.Common.{refl, ap, ◌∙◌, append_assoc, append-nil, eqb-true, inl, inr}

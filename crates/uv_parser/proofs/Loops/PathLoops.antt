@@ -1,4 +1,4 @@
--- Laws of the parser machine over a path of segments: each segment is walked as the denotation walks it, and behind the
+-- Laws of the parser machine over a path of segments: each segment is walked as the denotation walks it, and after the
 -- path a run ends through the query and the fragment.
 use Rattle.std.proofs.Common.{◌≡◌, ℕ, Bool, true, false, not, ◌==◌, List, [], ◌∷◌, ◌++◌, Option, refl, ap, inl, inr}
 use Rattle.std.proofs.Common.{append_assoc, append-nil}
@@ -80,7 +80,7 @@ module _ (base : Option Url) where
   abbrev segment_variables : List (List ℕ) → List ℕ → Variables → Variables
   segment_variables path segment v = with_more (encoded false segment) (walking path v)
 
-  -- the last segment, and behind it the tail
+  -- the last segment, and after it the tail
   last_segment_turns : (path : List (List ℕ)) (segment : List ℕ) (v : Variables)
       → TurnsToTail base PathState (segment_variables path segment v)
       (walking (walk_one (scheme_class v.url.scheme) true path segment) v)
@@ -90,7 +90,7 @@ module _ (base : Option Url) where
     at_fragment = λ p rest. ap (λ g. to_fragment g) (segment_walked false path segment v);
   }
 
-  -- one segment or more, and behind them the tail
+  -- one segment or more, and after them the tail
   pub path_ends : (first : List ℕ) (others path : List (List ℕ)) (query fragment : Option (List ℕ)) (v : Variables)
       → AreSegments (first ∷ others) → MayBeUnits query → MayBeUnits fragment
       → Ends base PathState (walking path v) (join_with_byte slash (first ∷ others) ++ tail query fragment)

@@ -32,7 +32,7 @@ empty_walk class = refl
 empty_segment : AreSegments ([] ∷ [])
 empty_segment = (record { units = IsUnits-nil; no_slash = refl; no_question_mark = refl }, tt)
 
--- with segments the path behind an authority is their walk
+-- with segments the path after an authority is their walk
 some_walk : (class : Class) (first : List ℕ) (others : List (List ℕ))
     → authority_path class (first ∷ others) ≡ walk class [] (first ∷ others)
 some_walk SpecialNotFile first others = refl
@@ -58,7 +58,7 @@ module _ (base : Option Url) (query fragment : Option (List ℕ)) (query_units :
       (with_tail query fragment (walking (walk (scheme_class v.url.scheme) [] segments) v))
   relative_ends segments text v path = joins_ends segments text v path.joins
 
-  -- `/` and segments behind an authority
+  -- `/` and segments after an authority
   slashed_ends : (segments : List (List ℕ)) (text : List ℕ) (v : Variables) → IsPathSlashed segments text
       → Ends base PathStartState (walking [] v) (text ++ tail query fragment)
       (with_tail query fragment (walking (authority_path (scheme_class v.url.scheme) segments) v))
@@ -67,7 +67,7 @@ module _ (base : Option Url) (query fragment : Option (List ℕ)) (query_units :
       let same : authority_path (scheme_class v.url.scheme) segments ≡ walk (scheme_class v.url.scheme) [] segments
       = rw joins.some (some_walk (scheme_class v.url.scheme) joins.first joins.others) in
       rw (path.slashed, same)
-      (ends_step base (λ p. refl) (joins_ends segments path.behind v path.joins))
+      (ends_step base (λ p. refl) (joins_ends segments path.after v path.joins))
 
   -- a special URL has one empty segment where no path is there
   empty_segment_ends : (v : Variables)
@@ -81,7 +81,7 @@ module _ (base : Option Url) (query fragment : Option (List ℕ)) (query_units :
       (path_ends base [] [] [] query fragment v empty_segment query_units fragment_units) in
       ends_again base row ends
 
-  -- no path at all behind an authority
+  -- no path at all after an authority
   no_path_ends : (class : Class) (v : Variables) → scheme_class v.url.scheme ≡ class
       → Ends base PathStartState (walking [] v) (tail query fragment)
       (with_tail query fragment (walking (authority_path class []) v))
@@ -97,7 +97,7 @@ module _ (base : Option Url) (query fragment : Option (List ℕ)) (query_units :
         at_fragment = λ p rest. rw of_class refl;
       }) query_units fragment_units
 
-  -- `/` and segments or nothing behind an authority
+  -- `/` and segments or nothing after an authority
   pub path_start_ends : (segments : List (List ℕ)) (text : List ℕ) (v : Variables) → MayBePathSlashed segments text
       → Ends base PathStartState (walking [] v) (text ++ tail query fragment)
       (with_tail query fragment (walking (authority_path (scheme_class v.url.scheme) segments) v))

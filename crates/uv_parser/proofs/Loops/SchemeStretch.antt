@@ -8,7 +8,7 @@ use Rattle.uv_model.specs.Scheme.{is_scheme, is_scheme_code_point, lowercase, sc
 use Rattle.uv_model.specs.Records.Url.{Url}
 use Rattle.uv_model.specs.Valid.{FitsScheme}
 use Rattle.uv_parser.specs.Machine.{Variables, turn, SchemeStartState, SchemeState, put, with_more, with_scheme}
-use Rattle.uv_parser.specs.Machine.{empty_variables, after_scheme}
+use Rattle.uv_parser.specs.Machine.{after_scheme, empty_variables}
 use Rattle.uv_model.proofs.SchemeLemmas.{scheme_class-lowercase}
 use Rattle.uv_parser.proofs.Running.Steps.{Reaches, onward_then}
 use Rattle.uv_parser.proofs.Loops.Looping.{scheme_law}
@@ -19,7 +19,7 @@ pub scheme_there : (scheme : Option (List ℕ)) → FitsScheme true scheme
 scheme_there (Some name) fits = (name, refl, fits)
 scheme_there None fits = absurd fits
 
--- the variables behind the `:` of a scheme
+-- the variables after the `:` of a scheme
 abbrev pub scheme_variables : List ℕ → Variables
 scheme_variables scheme = with_scheme (lowercase scheme) empty_variables
 

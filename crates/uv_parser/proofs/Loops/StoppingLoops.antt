@@ -128,7 +128,7 @@ module _ (base : Option Url) where
   path_row_fault c rest v p mark fault =
       simp (fault_no_slash c rest fault, fault_no_question_mark c rest fault, mark, fault) refl
 
-  -- a path with a fault stops, in whichever segment the fault stands
+  -- a path with a fault stops, in whichever segment the fault is
   pub path_stops : (cs rest : List ℕ) (v : Variables) → is_faultless cs ≡ false
       → is_without question_mark cs ≡ true → is_without number_sign cs ≡ true
       → no_hex_first rest ≡ true → Stops base PathState v (cs ++ rest)

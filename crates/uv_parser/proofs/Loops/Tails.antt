@@ -1,9 +1,9 @@
--- How a run of the parser machine ends behind a path: at the end of the text, or through a query, a fragment, or both.
+-- How a run of the parser machine ends after a path: at the end of the text, or through a query, a fragment, or both.
 use Rattle.std.proofs.Common.{◌≡◌, ℕ, false, List, [], ◌∷◌, ◌++◌, Option, Some, None, refl, append-nil}
 use Rattle.std.specs.Prelude.{◌||◌, is_some, option_map}
 use Rattle.uv_model.specs.Ascii.{slash, question_mark, number_sign}
 use Rattle.uv_model.specs.Encoding.{encoded}
-use Rattle.uv_model.specs.Parts.{written_behind}
+use Rattle.uv_model.specs.Parts.{written_after}
 use Rattle.uv_model.specs.Path.{starts_with_slash}
 use Rattle.uv_model.specs.Units.{IsUnits}
 use Rattle.uv_model.specs.Records.Url.{Url}
@@ -11,13 +11,13 @@ use Rattle.uv_model.specs.Valid.{MayBeUnits}
 use Rattle.uv_parser.specs.Machine.{State, Variables, turn, onward, to_query, to_fragment, QueryState, FragmentState}
 use Rattle.uv_parser.specs.Machine.{emptied, with_query, with_fragment, with_more, query_ended, is_special, begins}
 use Rattle.uv_parser.specs.Machine.{begins_tail}
-use Rattle.uv_parser.proofs.Running.Steps.{Ends, ends_onward, ends_step, ends_after}
+use Rattle.uv_parser.proofs.Running.Steps.{Ends, ends_after, ends_onward, ends_step}
 use Rattle.uv_model.proofs.Texts.UnitsLemmas.{is_faultless-units}
 use Rattle.uv_parser.proofs.Loops.Looping.{query_law, fragment_law}
 
--- the query and the fragment of a text, each behind its mark
+-- the query and the fragment of a text, each after its mark
 abbrev pub tail : Option (List ℕ) → Option (List ℕ) → List ℕ
-tail query fragment = written_behind question_mark query ++ written_behind number_sign fragment
+tail query fragment = written_after question_mark query ++ written_after number_sign fragment
 
 -- the variables with no buffer and no fragment
 abbrev pub bare : Variables → Variables
@@ -48,9 +48,9 @@ module _ (base : Option Url) where
       rw append-nil at
       (ends_after base (fragment_law base cs [] [] v (is_faultless-units cs units)) (ends_onward base (λ p. refl)))
 
-  -- a query that has begun ends the run at its end, or at that of a fragment behind it
+  -- a query that has begun ends the run at its end, or at that of a fragment after it
   pub query_ends : (cs : List ℕ) (fragment : Option (List ℕ)) (v : Variables) → IsUnits cs → MayBeUnits fragment
-      → Ends base QueryState (with_query (Some []) (bare v)) (cs ++ written_behind number_sign fragment)
+      → Ends base QueryState (with_query (Some []) (bare v)) (cs ++ written_after number_sign fragment)
       (with_tail (Some cs) fragment v)
   query_ends cs None v units fragment_units =
       ends_after base (query_law base cs [] (with_query (Some []) (bare v)) (is_faultless-units cs units))
@@ -61,7 +61,7 @@ module _ (base : Option Url) where
       (ends_step base (λ p. refl)
       (fragment_ends fragment (query_ended (with_more cs (with_query (Some []) (bare v)))) fragment_units))
 
-  -- behind a path the query and the fragment, where there are any, end the run
+  -- after a path the query and the fragment, where there are any, end the run
   pub tail_ends : (s : State) (v v₁ : Variables) (query fragment : Option (List ℕ))
       → TurnsToTail base s v v₁ → MayBeUnits query → MayBeUnits fragment
       → Ends base s v (tail query fragment) (with_tail query fragment v₁)
@@ -69,7 +69,7 @@ module _ (base : Option Url) where
   tail_ends s v v₁ None (Some fragment) turns query_units fragment_units =
       ends_step base (λ p. turns.at_fragment p fragment) (fragment_ends fragment (bare v₁) fragment_units)
   tail_ends s v v₁ (Some query) fragment turns query_units fragment_units =
-      ends_step base (λ p. turns.at_query p (query ++ written_behind number_sign fragment))
+      ends_step base (λ p. turns.at_query p (query ++ written_after number_sign fragment))
       (query_ends query fragment v₁ query_units fragment_units)
 
 -- `?` or `#` begins a tail where there is a query or a fragment
@@ -79,7 +79,7 @@ tail_begins (Some query) fragment = refl
 tail_begins None (Some fragment) = refl
 tail_begins None None = refl
 
--- a tail doesn't begin with `/`, and so neither does a path that doesn't, with a tail behind it
+-- a tail doesn't begin with `/`, and so neither does a path that doesn't, with a tail after it
 pub no_slash_before_tail : (path : List ℕ) (query fragment : Option (List ℕ)) → starts_with_slash path ≡ false
     → begins slash (path ++ tail query fragment) ≡ false
 no_slash_before_tail (c ∷ rest) query fragment start = start

@@ -13,7 +13,7 @@ use Rattle.uv_model.specs.declared.path.UrlPath.TheVariants.{Segments}
 use Rattle.uv_model.specs.Ascii.{slash, colon}
 use Rattle.uv_model.specs.Cut.{IsHostCut}
 use Rattle.uv_model.specs.Records.Denote.{authority_host, authority_path, denote}
-use Rattle.uv_model.specs.Parts.{Parts, SchemeAuthority, written, written_behind}
+use Rattle.uv_model.specs.Parts.{Parts, SchemeAuthority, written, written_after}
 use Rattle.uv_parser.specs.Laws.OtherHosts.{own_value}
 use Rattle.uv_model.specs.Scheme.{default_port, scheme_class}
 use Rattle.uv_model.specs.Records.Serialize.{serial, serial_host, serial_port, serial_segments}
@@ -34,16 +34,16 @@ use Rattle.uv_parser.proofs.RoundTrip.SerializedTexts.{port_given-decimal, port_
 use Rattle.uv_parser.proofs.RoundTrip.SerializedTexts.{serial_segments-joined, walk-kept}
 use Rattle.uv_parser.proofs.Silence.SilentAuthority.{written_with_authority}
 use Rattle.uv_parser.proofs.Loops.Tails.{tail}
-use Rattle.uv_model.proofs.Cuts.ValidCutLemmas.{authority_fits, cut_of_parts, path_behind}
+use Rattle.uv_model.proofs.Cuts.ValidCutLemmas.{authority_fits, cut_of_parts, path_after}
 
 -- ---- the path
 
--- the path behind an authority, with its segments
+-- the path after an authority, with its segments
 path_slashed : (segments : List (List ℕ)) → AreUrlSegments segments
     → MayBePathSlashed segments (serial_segments segments)
 path_slashed [] are = inl (refl, refl)
 path_slashed (segment ∷ rest) are = inr (record {
-  behind = join_with_byte slash (segment ∷ rest);
+  after = join_with_byte slash (segment ∷ rest);
   slashed = serial_segments-joined segment rest;
   joins = record {
     first = segment;
@@ -89,7 +89,7 @@ port_fits scheme value (Some port) is = record {
 }
 
 -- what is written for it
-port_written : (port : Option ℕ) → written_behind colon (option_map decimal port) ≡ serial_port port
+port_written : (port : Option ℕ) → written_after colon (option_map decimal port) ≡ serial_port port
 port_written None = refl
 port_written (Some port) = refl
 
@@ -119,7 +119,7 @@ empty_text (host.V6 pieces) is nothing = absurd cc
 empty_text (host.Opaque text) is nothing = absurd (let some = is.host.some in cc)
 empty_text host.Empty is nothing = refl
 
--- no port stands behind it
+-- no port is after it
 alone : (value : Host) (port : Option ℕ) → IsUrlHost Parser Other (Some value)
     → (port ≡ None) ⊎ (takes_port Other (Some value) ≡ true) → serial_host value ≡ []
     → option_map decimal port ≡ None
@@ -149,7 +149,7 @@ own_special (host.V6 pieces) is = refl
 own_special (host.Opaque text) is = absurd is
 own_special host.Empty is = absurd is
 
--- a host of class Other is an opaque-host string or an IPv6 text in brackets, or nothing behind which no port stands
+-- a host of class Other is an opaque-host string or an IPv6 text in brackets, or nothing after which no port is
 other_text : (value : Host) (port : Option (List ℕ)) → IsUrlHost Parser Other (Some value)
     → (serial_host value ≡ [] → port ≡ None) → MayBePortText port
     → (IsOpaqueHostText (serial_host value) (own_value value) × MayBePortText port)
@@ -254,7 +254,7 @@ module _ (scheme : List ℕ) (value : Host) (port : Option ℕ) (segments : List
         cut_of_parts None (written parts) parts true refl is.spelled (λ none. absurd (false≢true (sym none)))
         (authority_fits (scheme_class scheme) (serial_host value) (option_map decimal port) (serial_segments segments)
         word fits.text (host_cut (scheme_class scheme) value port word fits.taken)
-        (path_behind segments (serial_segments segments) slashed))
+        (path_after segments (serial_segments segments) slashed))
         (query_units (scheme_class scheme) query query_is);
     scheme = is.spelled;
     against = refl;

@@ -102,8 +102,8 @@ no_drive : (form : List ℕ) → list_all (is_form_code_point Parser) form ≡ t
 no_drive [] is = refl
 no_drive (c ∷ []) is = refl
 no_drive (c ∷ mark ∷ []) is =
-    let behind = (and_parts (is_form_code_point Parser c) (list_all (is_form_code_point Parser) (mark ∷ [])) is).1 in
-    and_right (is_ascii_alphabetic c) _ (no_drive_mark mark (and_parts (is_form_code_point Parser mark) true behind).0)
+    let after = (and_parts (is_form_code_point Parser c) (list_all (is_form_code_point Parser) (mark ∷ [])) is).1 in
+    and_right (is_ascii_alphabetic c) _ (no_drive_mark mark (and_parts (is_form_code_point Parser mark) true after).0)
 no_drive (c ∷ mark ∷ next ∷ rest) is = refl
 
 -- the parser doesn't stop at a domain

@@ -72,12 +72,12 @@ denoted_query-own class form None none is = none
 
 -- ---- without a host
 
--- the text of a URL without a host, with the path as it is written behind the scheme's `:`
-text_alone : (scheme behind : List ℕ) (path : UrlPath) (query fragment : Option (List ℕ))
-    → serial_authority None None path ++ serial_path path ≡ behind
-    → serial (url_of scheme None None path query fragment) ≡ scheme ++ colon ∷ (behind ++ tail query fragment)
+-- the text of a URL without a host, with the path as it is written after the scheme's `:`
+text_alone : (scheme after : List ℕ) (path : UrlPath) (query fragment : Option (List ℕ))
+    → serial_authority None None path ++ serial_path path ≡ after
+    → serial (url_of scheme None None path query fragment) ≡ scheme ++ colon ∷ (after ++ tail query fragment)
 unfolding serial
-text_alone scheme behind path query fragment is =
+text_alone scheme after path query fragment is =
     ap (λ xs. scheme ++ colon ∷ xs)
     (sym (append_assoc (serial_authority None None path) (serial_path path) (tail query fragment))
     ∙ ap (λ xs. xs ++ tail query fragment) is)
@@ -166,7 +166,7 @@ module _ (scheme : List ℕ) (query fragment : Option (List ℕ)) (is : IsUrlSch
 
 -- ---- a path of segments
 
--- the segments as they are written: behind `.`, where the first is empty and not the last
+-- the segments as they are written: after `.`, where the first is empty and not the last
 abbrev shown : List (List ℕ) → List (List ℕ)
 shown ([] ∷ next ∷ rest) = codes "." ∷ [] ∷ next ∷ rest
 shown segments = segments
@@ -208,7 +208,7 @@ absolute : (segment : List ℕ) (rest : List (List ℕ)) → AreSegments (segmen
     → starts_with_slash (join_with_byte slash (segment ∷ rest)) ≡ false
     → IsPathAbsolute (segment ∷ rest) (serial_segments (segment ∷ rest))
 absolute segment rest each start = record {
-  behind = join_with_byte slash (segment ∷ rest);
+  after = join_with_byte slash (segment ∷ rest);
   slashed = serial_segments-joined segment rest;
   relative = record {
     joins = record { first = segment; others = rest; some = refl; each = each; joined = refl };

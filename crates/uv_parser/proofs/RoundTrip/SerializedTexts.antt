@@ -89,7 +89,7 @@ pub AreSegments-url : (segments : List (List ℕ)) → AreUrlSegments segments �
 AreSegments-url [] are = tt
 AreSegments-url (segment ∷ rest) are = (are.0.units, AreSegments-url rest are.1)
 
--- each behind `/`, they are `/` and the segments with `/` between each two
+-- each after `/`, they are `/` and the segments with `/` between each two
 pub serial_segments-joined : (segment : List ℕ) (rest : List (List ℕ))
     → serial_segments (segment ∷ rest) ≡ slash ∷ join_with_byte slash (segment ∷ rest)
 serial_segments-joined segment [] = ap (λ xs. slash ∷ xs) (append-nil segment)

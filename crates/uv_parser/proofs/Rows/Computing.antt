@@ -10,7 +10,7 @@ use Rattle.uv_model.specs.Records.Denote.{denote}
 use Rattle.uv_model.specs.Hosts.Domain.{ends_in_number, has_permitted, parser_form}
 use Rattle.uv_model.specs.Encoding.{encoded}
 use Rattle.uv_parser.specs.HostParser.{parse_domain, parse_host}
-use Rattle.uv_parser.specs.Ipv4Parser.{parse_ipv4, read_behind, read_numbers}
+use Rattle.uv_parser.specs.Ipv4Parser.{parse_ipv4, read_after, read_numbers}
 use Rattle.uv_parser.specs.Ipv6Parser.{main_loop, move, parse_ipv6, read_digits, read_dotted, read_hex}
 use Rattle.uv_model.specs.Parts.{written}
 use Rattle.uv_model.specs.Path.{is_double_dot, is_single_dot, walk}
@@ -23,7 +23,7 @@ use Rattle.uv_model.specs.Units.{is_unit_at, is_url_code_point}
 -- `unfolding parser` lets `refl` compute `run`, `serial` and `denote`, and the decisions on `Valid` and `Violation`
 unfoldable pub parser : Unit {0}
 unfolding idna chars is_utf8 digits hex hex_groups_text percent_decode percent_encode_byte denote ends_in_number
-    parser_form encoded parse_domain parse_host parse_ipv4 read_behind read_numbers main_loop move parse_ipv6
+    parser_form encoded parse_domain parse_host parse_ipv4 read_after read_numbers main_loop move parse_ipv6
     read_digits read_dotted read_hex is_double_dot is_single_dot walk first_removed run run_from step default_port
     scheme_class serial serial_host is_unit_at is_url_code_point written cut_of has_permitted to_ascii
 parser = tt

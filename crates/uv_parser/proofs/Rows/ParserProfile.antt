@@ -11,7 +11,7 @@ use Rattle.uv_model.specs.Records.Serialize.{serial}
 use Rattle.uv_model.specs.Records.WellFormed.{MayBeWellFormed, WellFormed}
 use Rattle.uv_model.proofs.Records.DenotedRecords.{denoted_records_are_well_formed}
 use Rattle.uv_parser.specs.Rows.{Row, AllHold, Answer, answer_of, done, goes_on, has_stopped, is_done}
-use Rattle.uv_parser.specs.Rows.ParserProfile.{AreJudged, IsJudgedTable, Judges, ParserProfileRows, domain_rows}
+use Rattle.uv_parser.specs.Rows.ParserProfile.{AreChecked, Checks, IsCheckedTable, ParserProfileRows, domain_rows}
 use Rattle.uv_parser.specs.Rows.ParserProfile.{drive_rows, fewer_rows, file_references, file_rows, host_rows}
 use Rattle.uv_parser.specs.Rows.ParserProfile.{number_rows}
 use Rattle.uv_parser.specs.Rows.ParserProfile.{opaque_references, other_references, plain_rows, refused_domains}
@@ -46,14 +46,14 @@ stopped_not_going : (outcome : Outcome) (place : ℕ) → outcome ≡ Stopped pl
 stopped_not_going outcome place stops e = (let answer = sym (ap answer_of stops) ∙ e in cc)
 
 -- one row
-judged_by : (row : Row) (answer : Answer) → IsDecided row.base row.text
-    → answer_of (run row.base row.text (step_bound row.text)) ≡ answer → Judges row answer
-judged_by row (is_done url text) decided e =
+checked_by : (row : Row) (answer : Answer) → IsDecided row.base row.text
+    → answer_of (run row.base row.text (step_bound row.text)) ≡ answer → Checks row answer
+checked_by row (is_done url text) decided e =
     decided.only url (done_is (run row.base row.text (step_bound row.text)) url text e)
-judged_by row (has_stopped place) decided e =
+checked_by row (has_stopped place) decided e =
     λ parts valid. not_stopped (run row.base row.text (step_bound row.text)) (denote row.base parts) place
     (decided.silent parts valid) e
-judged_by row goes_on decided e =
+checked_by row goes_on decided e =
     elim decided.ended [
       | inl (parts, valid) ↦
           not_going (run row.base row.text (step_bound row.text)) (denote row.base parts) (decided.silent parts valid) e
@@ -70,20 +70,20 @@ abbrev goes_up : Row → Bool
 goes_up row = row.steps == step_bound row.text
 
 -- each row
-all_judged : (rows : List Row) → AllHold rows → AreWellBased rows → list_all goes_up rows ≡ true → AreJudged rows
-all_judged [] hold well up = tt
-all_judged (row ∷ rows) hold well up =
+all_checked : (rows : List Row) → AllHold rows → AreWellBased rows → list_all goes_up rows ≡ true → AreChecked rows
+all_checked [] hold well up = tt
+all_checked (row ∷ rows) hold well up =
     let each = and_parts (goes_up row) (list_all goes_up rows) up in
     let steps : row.steps ≡ step_bound row.text = eqb-true row.steps (step_bound row.text) each.0 in
     let holds : answer_of (run row.base row.text (step_bound row.text)) ≡ row.answer
     = sym (ap (λ n. answer_of (run row.base row.text n)) steps) ∙ hold.0 in (
-      judged_by row row.answer (texts_are_decided row.base row.text well.0) holds,
-      all_judged rows hold.1 well.1 each.1,
+      checked_by row row.answer (texts_are_decided row.base row.text well.0) holds,
+      all_checked rows hold.1 well.1 each.1,
     )
 
 -- a table
-judged : (rows : List Row) → AllHold rows → AreWellBased rows → list_all goes_up rows ≡ true → IsJudgedTable rows
-judged rows hold well up = (hold, all_judged rows hold well up)
+checked : (rows : List Row) → AllHold rows → AreWellBased rows → list_all goes_up rows ≡ true → IsCheckedTable rows
+checked rows hold well up = (hold, all_checked rows hold well up)
 
 -- a table without bases
 well_alone : (rows : List Row) → list_all (λ row. not (is_some row.base)) rows ≡ true → AreWellBased rows
@@ -96,10 +96,10 @@ well_alone (row ∷ rows) none =
     one None none = tt
     one (Some url) none = absurd (false≢true none)
 
--- so such a table is judged
+-- so such a table is checked
 alone : (rows : List Row) → AllHold rows → list_all (λ row. not (is_some row.base)) rows ≡ true
-    → list_all goes_up rows ≡ true → IsJudgedTable rows
-alone rows hold none up = judged rows hold (well_alone rows none) up
+    → list_all goes_up rows ≡ true → IsCheckedTable rows
+alone rows hold none up = checked rows hold (well_alone rows none) up
 
 -- ---- the bases
 
@@ -144,15 +144,15 @@ spaced_well = own_run spaced_base (serial spaced_base) refl
 pub parser_profile_rows_hold : ParserProfileRows
 unfolding parser
 parser_profile_rows_hold = record {
-  files = judged file_rows (all_hold file_rows refl)
+  files = checked file_rows (all_hold file_rows refl)
       (tt, (tt, (drive_well, tt))) refl;
   hosts = alone host_rows (all_hold host_rows refl) refl refl;
   domains = alone domain_rows (all_hold domain_rows refl) refl refl;
   mapped_numbers = alone number_rows (all_hold number_rows refl) refl refl;
   fewer_numbers = alone fewer_rows (all_hold fewer_rows refl) refl refl;
-  segments = judged segment_rows (all_hold segment_rows refl)
+  segments = checked segment_rows (all_hold segment_rows refl)
       (tt, (tt, (tt, (tt, (tt, (tt, (root_well, tt))))))) refl;
-  drives = judged drive_rows (all_hold drive_rows refl)
+  drives = checked drive_rows (all_hold drive_rows refl)
       (tt, (tt, (file_host_well, tt))) refl;
   spaces = alone space_rows (all_hold space_rows refl) refl refl;
   plain_hosts = alone plain_rows (all_hold plain_rows refl) refl refl;
@@ -160,12 +160,12 @@ parser_profile_rows_hold = record {
   no_domains = alone refused_domains (all_hold refused_domains refl) refl refl;
   marks = alone refused_marks (all_hold refused_marks refl) refl refl;
   no_spaces = alone refused_spaces (all_hold refused_spaces refl) refl refl;
-  special_base = judged special_references (all_hold special_references refl)
+  special_base = checked special_references (all_hold special_references refl)
       (root_well, (root_well, tt)) refl;
-  file_base = judged file_references (all_hold file_references refl)
+  file_base = checked file_references (all_hold file_references refl)
       (drive_well, (drive_well, (file_host_well, (file_host_well, tt)))) refl;
-  other_base = judged other_references (all_hold other_references refl)
+  other_base = checked other_references (all_hold other_references refl)
       (other_well, (other_well, tt)) refl;
-  opaque_base = judged opaque_references (all_hold opaque_references refl)
+  opaque_base = checked opaque_references (all_hold opaque_references refl)
       (urn_well, (urn_well, (spaced_well, (spaced_well, tt)))) refl;
 }

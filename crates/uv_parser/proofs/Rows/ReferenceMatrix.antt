@@ -31,8 +31,8 @@ violate_all base rule (text ∷ texts) found =
 refused_pairs : RefusedPairs
 unfolding parser
 refused_pairs = record {
-  drive_behind_host = violation_row _ _ _ _ _ refl;
-  drive_behind_host_and_drive = violation_row _ _ _ _ _ refl;
+  drive_after_host = violation_row _ _ _ _ _ refl;
+  drive_after_host_and_drive = violation_row _ _ _ _ _ refl;
   opaque_path = violate_all urn_base OpaqueBase other_texts refl;
   opaque_path_and_query = violate_all opaque_base OpaqueBase other_texts refl;
 }

@@ -23,7 +23,7 @@ use Rattle.uv_model.proofs.Deciding.Decisions.{same_text}
 use Rattle.uv_model.proofs.Deciding.DecidedViolations.{has_host}
 use Rattle.uv_parser.specs.HostParser.{parse_host}
 use Rattle.uv_parser.specs.Ipv4Parser.{read_numbers}
-use Rattle.uv_parser.specs.Laws.Differences.{Differs, HasDriveBehindHost, HasEmptyAuthority, HasEmptyFirstSegment}
+use Rattle.uv_parser.specs.Laws.Differences.{Differs, HasDriveAfterHost, HasEmptyAuthority, HasEmptyFirstSegment}
 use Rattle.uv_parser.specs.Laws.Differences.{HasForeignHost, HasSpaceInPath, HostDiffers}
 use Rattle.uv_parser.specs.Rows.{Answer, Row, AllHold, answer_of, computed, goes_on, has_stopped, is_done}
 use Rattle.uv_parser.specs.Rows.ParserProfile.{file_rows, host_rows, domain_rows, number_rows, segment_rows}
@@ -118,14 +118,14 @@ EmptyFirst base cut = IsSome cut.host_text × (starts_with_two_slashes cut.path_
 abbrev empty_first : (base : Option Url) (cut : Cut) → Option (EmptyFirst base cut)
 empty_first base cut = both (is_true (is_some cut.host_text)) (is_true (starts_with_two_slashes cut.path_text))
 
--- a drive letter behind a host
-abbrev DriveBehindHost : Option Url → Cut → Type 0
-DriveBehindHost base cut =
+-- a drive letter after a host
+abbrev DriveAfterHost : Option Url → Cut → Type 0
+DriveAfterHost base cut =
     (class_in base cut.scheme ≡ File) × HasHost base cut.scheme cut.host_text
     × (starts_with_drive_segment cut.path_text ≡ true)
 
-abbrev drive_behind_host : (base : Option Url) (cut : Cut) → Option (DriveBehindHost base cut)
-drive_behind_host base cut =
+abbrev drive_after_host : (base : Option Url) (cut : Cut) → Option (DriveAfterHost base cut)
+drive_after_host base cut =
     all_three (is_file_class (class_in base cut.scheme)) (has_host base cut.scheme cut.host_text)
     (is_true (starts_with_drive_segment cut.path_text))
 
@@ -204,8 +204,8 @@ silent_difference_rows_hold =
       mapped_address = hosts_differ number_rows runs.mapped_numbers.0 refl;
       empty_first_segment = all_differ (λ base. HasEmptyFirstSegment) EmptyFirst (λ base parts is. (is, inr (inl is)))
           segment_rows runs.segments.0 (proof_of (all_found EmptyFirst empty_first segment_rows) refl);
-      drive_behind_host = all_differ HasDriveBehindHost DriveBehindHost (λ base parts is. (is, inr (inr (inl is))))
-          drive_rows runs.drives.0 (proof_of (all_found DriveBehindHost drive_behind_host drive_rows) refl);
+      drive_after_host = all_differ HasDriveAfterHost DriveAfterHost (λ base parts is. (is, inr (inr (inl is))))
+          drive_rows runs.drives.0 (proof_of (all_found DriveAfterHost drive_after_host drive_rows) refl);
       fewer_numbers = hosts_differ fewer_rows runs.fewer_numbers.0 refl;
       space_in_path = all_differ (λ base. HasSpaceInPath) SpaceInPath (λ base parts is. (is, inr (inr (inr (inr is)))))
           space_rows runs.spaces.0 (proof_of (all_found SpaceInPath space_in_path space_rows) refl);

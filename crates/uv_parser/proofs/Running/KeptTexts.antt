@@ -11,7 +11,7 @@ use Rattle.std.proofs.lemmas.Option.{none-some}
 use Rattle.uv_model.specs.Ascii.{space}
 use Rattle.uv_model.specs.Hosts.StoppedHost.{ends_with_control}
 use Rattle.uv_model.specs.Path.{ends_with_space, is_spaced}
-use Rattle.uv_model.specs.Removed.{are_controls, first_removed, is_tab_or_newline, removed_behind}
+use Rattle.uv_model.specs.Removed.{are_controls, first_removed, is_tab_or_newline, removed_after}
 use Rattle.uv_model.specs.Units.{is_unit_at}
 use Rattle.uv_parser.proofs.Running.Unremoved.{is_unremoved, unremoved_unit_at}
 
@@ -31,15 +31,15 @@ starts_with_control (c ∷ rest) = nat_le c 0x20
 
 -- ---- what the test says
 
--- behind the first place
-behind_is_kept : (p : ℕ) (text : List ℕ) → removed_behind p text ≡ None → IsKept text
-behind_is_kept p [] kept = record { untabbed = refl; end = refl }
-behind_is_kept p (c ∷ rest) kept =
+-- after the first place
+after_is_kept : (p : ℕ) (text : List ℕ) → removed_after p text ≡ None → IsKept text
+after_is_kept p [] kept = record { untabbed = refl; end = refl }
+after_is_kept p (c ∷ rest) kept =
     elim (cases_Bool (is_tab_or_newline c || (nat_le c 0x20 && are_controls rest))) [
       | inl removed ↦ absurd (none-some p (sym (rw removed at kept)))
       | inr stays ↦
           let (tab, control) = or_parts (is_tab_or_newline c) (nat_le c 0x20 && are_controls rest) stays in
-          let later = behind_is_kept (p + 1) rest (rw stays at kept) in
+          let later = after_is_kept (p + 1) rest (rw stays at kept) in
           record { untabbed = or_from _ _ tab later.untabbed; end = ends rest control later.end }
     ]
   where
@@ -57,7 +57,7 @@ text_is_kept (c ∷ rest) kept =
       | inl removed ↦ absurd (none-some 0 (sym (rw removed at kept)))
       | inr stays ↦
           let (tab, control) = or_parts (is_tab_or_newline c) (nat_le c 0x20) stays in
-          let later = behind_is_kept 1 rest (rw stays at kept) in
+          let later = after_is_kept 1 rest (rw stays at kept) in
           record { untabbed = or_from _ _ tab later.untabbed; end = ends rest control later.end }
     ]
   where
@@ -79,14 +79,14 @@ later_end : (c : ℕ) (rest : List ℕ) → ends_with_control (c ∷ rest) ≡ f
 later_end c [] end = refl
 later_end c (next ∷ rest) end = end
 
--- behind the first place
-behind_passes : (p : ℕ) (text : List ℕ) → IsKept text → removed_behind p text ≡ None
-behind_passes p [] is = refl
-behind_passes p (c ∷ rest) is =
+-- after the first place
+after_passes : (p : ℕ) (text : List ℕ) → IsKept text → removed_after p text ≡ None
+after_passes p [] is = refl
+after_passes p (c ∷ rest) is =
     let parts = or_parts (is_tab_or_newline c) (list_any is_tab_or_newline rest) is.untabbed in
     let stays : (is_tab_or_newline c || (nat_le c 0x20 && are_controls rest)) ≡ false
     = or_from _ _ parts.0 (not_controls c rest is.end) in
-    rw stays (behind_passes (p + 1) rest (record { untabbed = parts.1; end = later_end c rest is.end }))
+    rw stays (after_passes (p + 1) rest (record { untabbed = parts.1; end = later_end c rest is.end }))
 
 -- the whole text
 pub kept_passes : (text : List ℕ) → starts_with_control text ≡ false → IsKept text → first_removed text ≡ None
@@ -95,9 +95,9 @@ kept_passes [] start is = refl
 kept_passes (c ∷ rest) start is =
     let parts = or_parts (is_tab_or_newline c) (list_any is_tab_or_newline rest) is.untabbed in
     let stays : (is_tab_or_newline c || nat_le c 0x20) ≡ false = or_from _ _ parts.0 start in
-    rw stays (behind_passes 1 rest (record { untabbed = parts.1; end = later_end c rest is.end }))
+    rw stays (after_passes 1 rest (record { untabbed = parts.1; end = later_end c rest is.end }))
 
--- ---- one text behind another
+-- ---- one text after another
 
 -- without a tab or a newline are both or neither
 pub untabbed_append : (xs ys : List ℕ) → IsUntabbed xs → IsUntabbed ys → IsUntabbed (xs ++ ys)
@@ -115,11 +115,11 @@ untabbed_parts (c ∷ xs) ys is =
     (or_from _ _ parts.0 later.0, later.1)
 
 -- a text ends as its second part does, where that isn't empty
-control_behind : (xs : List ℕ) (c : ℕ) (ys : List ℕ)
+control_after : (xs : List ℕ) (c : ℕ) (ys : List ℕ)
     → ends_with_control (xs ++ (c ∷ ys)) ≡ ends_with_control (c ∷ ys)
-control_behind [] c ys = refl
-control_behind (x ∷ []) c ys = refl
-control_behind (x ∷ next ∷ xs) c ys = control_behind (next ∷ xs) c ys
+control_after [] c ys = refl
+control_after (x ∷ []) c ys = refl
+control_after (x ∷ next ∷ xs) c ys = control_after (next ∷ xs) c ys
 
 -- a text is kept where its parts are; the first may end with a control or a space where something follows
 pub kept_append : (xs ys : List ℕ) → IsUntabbed xs → IsKept ys → (ys ≡ [] → ends_with_control xs ≡ false)
@@ -130,16 +130,16 @@ kept_append xs ys first second alone =
     ends : (ys : List ℕ) → ends_with_control ys ≡ false → (ys ≡ [] → ends_with_control xs ≡ false)
         → ends_with_control (xs ++ ys) ≡ false
     ends [] end alone = rw (append-nil xs) (alone refl)
-    ends (c ∷ ys) end alone = control_behind xs c ys ∙ end
+    ends (c ∷ ys) end alone = control_after xs c ys ∙ end
 
--- what stands behind another part is kept where the whole is
-pub kept_behind : (xs ys : List ℕ) → IsKept (xs ++ ys) → IsKept ys
-kept_behind xs ys is =
+-- what is after another part is kept where the whole is
+pub kept_after : (xs ys : List ℕ) → IsKept (xs ++ ys) → IsKept ys
+kept_after xs ys is =
     record { untabbed = (untabbed_parts xs ys is.untabbed).1; end = ends ys is.end }
   where
     ends : (ys : List ℕ) → ends_with_control (xs ++ ys) ≡ false → ends_with_control ys ≡ false
     ends [] end = refl
-    ends (c ∷ ys) end = sym (control_behind xs c ys) ∙ end
+    ends (c ∷ ys) end = sym (control_after xs c ys) ∙ end
 
 -- and so is what nothing follows
 pub kept_before : (xs ys : List ℕ) → IsKept (xs ++ ys) → ys ≡ [] → IsKept xs
@@ -196,8 +196,8 @@ spaced_ends (c ∷ []) is end =
     let here : is_unit_at c [] ≡ true = rw end at (and_parts ((c == space) || is_unit_at c []) true is).0 in
     above_no_control c (unremoved_unit_at c [] here)
 spaced_ends (c ∷ next ∷ rest) is end =
-    let behind = (and_parts ((c == space) || is_unit_at c (next ∷ rest)) (is_spaced (next ∷ rest)) is).1 in
-    spaced_ends (next ∷ rest) behind end
+    let after = (and_parts ((c == space) || is_unit_at c (next ∷ rest)) (is_spaced (next ∷ rest)) is).1 in
+    spaced_ends (next ∷ rest) after end
 
 -- a space is such a code point
 control_no_space : (c : ℕ) → nat_le c 0x20 ≡ false → (c == space) ≡ false

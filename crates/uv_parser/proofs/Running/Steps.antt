@@ -14,7 +14,7 @@ at s p v = Going (record { state = s; pointer = p; variables = v })
 pub drop_one : (text : List ℕ) (p c : ℕ) (rest : List ℕ) → drop p text ≡ c ∷ rest → drop (p + 1) text ≡ rest
 drop_one text p c rest e = sym (drop-drop 1 p text) ∙ ap (λ r. drop 1 r) e
 
--- the rest from the place behind the next on
+-- the rest from the place after the next on
 pub drop_two : (text : List ℕ) (p c d : ℕ) (rest : List ℕ) → drop p text ≡ c ∷ d ∷ rest → drop (p + 2) text ≡ rest
 drop_two text p c d rest e = sym (drop-drop 2 p text) ∙ ap (λ r. drop 2 r) e
 
@@ -157,21 +157,21 @@ module _ (base : Option Url) where
         );
   }
 
-  -- a step past one code point, and behind it the end
+  -- a step past one code point, and after it the end
   pub ends_step : {s : State} {v : Variables} {c : ℕ} {rest : List ℕ} {s₁ : State} {v₁ : Variables} {ending : Ending}
       → ((p : ℕ) → turn base s p v (c ∷ rest) ≡ onward s₁ v₁)
       → EndsAs base s₁ v₁ rest ending → EndsAs base s v (c ∷ rest) ending
   ends_step {s} {v} {c} {rest} {s₁} {v₁} {ending} row last =
       ends_next (λ text p e. rw (row p) (last.goes text (p + 1) (drop_one text p c rest e)))
 
-  -- a step that stays at its place, and behind it the end
+  -- a step that stays at its place, and after it the end
   pub ends_again : {s : State} {v : Variables} {rest : List ℕ} {s₁ : State} {v₁ : Variables} {ending : Ending}
       → ((p : ℕ) → turn base s p v rest ≡ again s₁ v₁)
       → EndsAs base s₁ v₁ rest ending → EndsAs base s v rest ending
   ends_again {s} {v} {rest} {s₁} {v₁} {ending} row last =
       ends_next (λ text p e. rw (row p) (last.goes text p e))
 
-  -- a step past two code points, and behind it the end
+  -- a step past two code points, and after it the end
   pub ends_past_two : {s : State} {v : Variables} {c d : ℕ} {rest : List ℕ} {s₁ : State} {v₁ : Variables}
       {ending : Ending}
       → ((p : ℕ) → turn base s p v (c ∷ d ∷ rest) ≡ from_place (p + 2) s₁ v₁)
@@ -179,7 +179,7 @@ module _ (base : Option Url) where
   ends_past_two {s} {v} {c} {d} {rest} {s₁} {v₁} {ending} row last =
       ends_next (λ text p e. rw (row p) (last.goes text (p + 2) (drop_two text p c d rest e)))
 
-  -- a law, and behind it the end
+  -- a law, and after it the end
   pub ends_after : {s : State} {v : Variables} {before : List ℕ} {s₁ : State} {v₁ : Variables} {after : List ℕ}
       {ending : Ending}
       → Reaches base s v before s₁ v₁ after → EndsAs base s₁ v₁ after ending → EndsAs base s v before ending

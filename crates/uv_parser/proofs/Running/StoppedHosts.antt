@@ -12,7 +12,7 @@ use Rattle.uv_model.specs.declared.scheme.Class.TheVariants.{SpecialNotFile, Fil
 use Rattle.uv_model.specs.Ascii.{at_sign, backslash, colon}
 use Rattle.uv_model.specs.Cut.{Cut, ends_at_host}
 use Rattle.uv_model.specs.Hosts.StoppedHost.{ends_with_control, has_stop, is_stopped, is_stopping}
-use Rattle.uv_model.specs.Parts.{written_behind}
+use Rattle.uv_model.specs.Parts.{written_after}
 use Rattle.uv_model.specs.Path.{is_drive_letter, is_without}
 use Rattle.uv_model.specs.Removed.{is_tab_or_newline}
 use Rattle.uv_model.proofs.Texts.MarkLemmas.{is_without-cons, is_without-more}
@@ -126,13 +126,13 @@ pub record IsHostKept (last : Bool) (text : List ℕ) : Type 0 where
   pub end : last ≡ true → ends_with_control text ≡ false
 
 -- where the text ends at the host, nothing follows it
-nothing_behind : (cut : Cut) → ends_at_host cut ≡ true
-    → written_behind colon cut.port_text ++ (cut.path_text ++ tail cut.query cut.fragment) ≡ []
-nothing_behind cut alone = by_parts cut.port_text cut.path_text cut.query cut.fragment alone
+nothing_after : (cut : Cut) → ends_at_host cut ≡ true
+    → written_after colon cut.port_text ++ (cut.path_text ++ tail cut.query cut.fragment) ≡ []
+nothing_after cut alone = by_parts cut.port_text cut.path_text cut.query cut.fragment alone
   where
     by_parts : (port : Option (List ℕ)) (path : List ℕ) (query fragment : Option (List ℕ))
         → ((length path == 0) && not (is_some port || (is_some query || is_some fragment))) ≡ true
-        → written_behind colon port ++ (path ++ tail query fragment) ≡ []
+        → written_after colon port ++ (path ++ tail query fragment) ≡ []
     by_parts port (c ∷ path) query fragment alone =
         let some : (length (c ∷ path) == 0) ≡ false
         = ne_eqb (length (c ∷ path)) 0 (λ same. omega (arith, same)) in
@@ -144,12 +144,12 @@ nothing_behind cut alone = by_parts cut.port_text cut.path_text cut.query cut.fr
 
 -- and where nothing follows it, the text ends at it
 pub ends_where_nothing_follows : (cut : Cut)
-    → written_behind colon cut.port_text ++ (cut.path_text ++ tail cut.query cut.fragment) ≡ []
+    → written_after colon cut.port_text ++ (cut.path_text ++ tail cut.query cut.fragment) ≡ []
     → ends_at_host cut ≡ true
 ends_where_nothing_follows cut nothing = by_parts cut.port_text cut.path_text cut.query cut.fragment nothing
   where
     by_parts : (port : Option (List ℕ)) (path : List ℕ) (query fragment : Option (List ℕ))
-        → written_behind colon port ++ (path ++ tail query fragment) ≡ []
+        → written_after colon port ++ (path ++ tail query fragment) ≡ []
         → ((length path == 0) && not (is_some port || (is_some query || is_some fragment))) ≡ true
     by_parts (Some port) path query fragment nothing = absurd cc
     by_parts None (c ∷ path) query fragment nothing = absurd cc
@@ -159,13 +159,13 @@ ends_where_nothing_follows cut nothing = by_parts cut.port_text cut.path_text cu
 
 -- so is a host with what follows it, where that is kept
 pub host_is_kept : (cut : Cut) (host : List ℕ)
-    → IsKept (host ++ (written_behind colon cut.port_text ++ (cut.path_text ++ tail cut.query cut.fragment)))
+    → IsKept (host ++ (written_after colon cut.port_text ++ (cut.path_text ++ tail cut.query cut.fragment)))
     → IsHostKept (ends_at_host cut) host
 host_is_kept cut host is =
-    let behind = written_behind colon cut.port_text ++ (cut.path_text ++ tail cut.query cut.fragment) in
+    let after = written_after colon cut.port_text ++ (cut.path_text ++ tail cut.query cut.fragment) in
     record {
-      untabbed = (untabbed_parts host behind is.untabbed).0;
-      end = λ alone. (kept_before host behind is (nothing_behind cut alone)).end;
+      untabbed = (untabbed_parts host after is.untabbed).0;
+      end = λ alone. (kept_before host after is (nothing_after cut alone)).end;
     }
 
 -- the machine doesn't stop at the host of a special URL

@@ -1,5 +1,5 @@
 -- Code points above U+0020, which the parser never removes before its first step: those of a scheme, of units, and of a
--- query and a fragment behind their marks.
+-- query and a fragment after their marks.
 use Rattle.std.proofs.Common.{◌≡◌, ℕ, Bool, true, ◌==◌, List, [], ◌∷◌, ◌++◌, Option, Some, None, inl, inr}
 use Rattle.std.proofs.Common.{refl, ◌∙◌, arith}
 use Rattle.std.specs.Prelude.{nat_lt}
@@ -9,7 +9,7 @@ use Rattle.std.proofs.lemmas.Bool.{cases_Bool, and_parts, and_from, eqb-true}
 use Rattle.std.proofs.lemmas.Bool.Decides.{nat_tests}
 use Rattle.std.proofs.lemmas.List.Folds.{list_all-append}
 use Rattle.uv_model.specs.Ascii.{percent_sign, question_mark, number_sign}
-use Rattle.uv_model.specs.Parts.{written_behind}
+use Rattle.uv_model.specs.Parts.{written_after}
 use Rattle.uv_model.specs.Scheme.{is_scheme, is_scheme_code_point}
 use Rattle.uv_model.specs.Units.{is_url_code_point, is_unit_at, is_faultless}
 use Rattle.uv_model.specs.Valid.{MayBeUnits}
@@ -59,14 +59,14 @@ unremoved_scheme (c ∷ rest) ok =
     let parts = and_parts (is_ascii_alphabetic c) (list_all is_scheme_code_point rest) ok in
     and_from _ _ (unremoved_letter c parts.0) (unremoved_scheme_rest rest parts.1)
 
--- one text behind another
+-- one text after another
 pub unremoved_append : (xs ys : List ℕ) → list_all is_unremoved xs ≡ true → list_all is_unremoved ys ≡ true
     → list_all is_unremoved (xs ++ ys) ≡ true
 unremoved_append xs ys first second = list_all-append is_unremoved xs ys ∙ and_from _ _ first second
 
--- a query and a fragment, each behind its mark
+-- a query and a fragment, each after its mark
 pub unremoved_tail : (query fragment : Option (List ℕ)) → MayBeUnits query → MayBeUnits fragment
-    → list_all is_unremoved (written_behind question_mark query ++ written_behind number_sign fragment) ≡ true
+    → list_all is_unremoved (written_after question_mark query ++ written_after number_sign fragment) ≡ true
 unremoved_tail None None query_units fragment_units = refl
 unremoved_tail None (Some fragment) query_units fragment_units =
     unremoved_faultless fragment (is_faultless-units fragment fragment_units)

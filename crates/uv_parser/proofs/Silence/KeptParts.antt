@@ -18,7 +18,7 @@ use Rattle.uv_model.specs.Ascii.{colon, slash}
 use Rattle.uv_model.specs.Cut.{ends_at_host, texts_of}
 use Rattle.uv_model.specs.Hosts.StoppedHost.{ends_with_control}
 use Rattle.uv_model.specs.Parts.{Form, SchemeAuthority, SchemePath, SchemeOpaque, Authority, PathAbsolute, PathRelative}
-use Rattle.uv_model.specs.Parts.{NoPath, Parts, has_scheme, written, written_authority, written_behind, written_scheme}
+use Rattle.uv_model.specs.Parts.{NoPath, Parts, has_scheme, written, written_after, written_authority, written_scheme}
 use Rattle.uv_model.specs.Path.{IsPathAbsolute, IsPathRelative, MayBePathSlashed}
 use Rattle.uv_model.specs.Records.Url.{Url}
 use Rattle.uv_model.specs.Removed.{first_removed}
@@ -45,9 +45,9 @@ unremoved_digits (c ∷ rest) is =
     unremoved_digit : (c : ℕ) → is_ascii_digit c ≡ true → is_unremoved c ≡ true
     unremoved_digit c is = grind (arith, nat_tests)
 
--- nor is a port behind its `:`
+-- nor is a port after its `:`
 unremoved_port : (port : Option (List ℕ)) → MayBePortText port
-    → list_all is_unremoved (written_behind colon port) ≡ true
+    → list_all is_unremoved (written_after colon port) ≡ true
 unremoved_port None fits = refl
 unremoved_port (Some port) fits = unremoved_digits port fits.digits
 
@@ -59,21 +59,21 @@ unremoved_relative segments text path = unremoved_faultless text (faultless_path
 -- of one that begins with `/`
 unremoved_absolute : (segments : List (List ℕ)) (text : List ℕ) → IsPathAbsolute segments text
     → list_all is_unremoved text ≡ true
-unremoved_absolute segments text path = rw path.slashed (unremoved_relative segments path.behind path.relative)
+unremoved_absolute segments text path = rw path.slashed (unremoved_relative segments path.after path.relative)
 
--- and of one behind an authority
+-- and of one after an authority
 unremoved_path : (segments : List (List ℕ)) (text : List ℕ) → MayBePathSlashed segments text
     → list_all is_unremoved text ≡ true
 unremoved_path segments text (inl none) = rw none.0 refl
 unremoved_path segments text (inr path) =
-    rw path.slashed (unremoved_faultless path.behind (faultless_joined segments path.behind path.joins))
+    rw path.slashed (unremoved_faultless path.after (faultless_joined segments path.after path.joins))
 
 -- ---- hosts
 
--- What the conditions on an authority say: its host is kept, and the code points behind the host stay anywhere.
+-- What the conditions on an authority say: its host is kept, and the code points after the host stay anywhere.
 record AuthorityIsKept (host_text : List ℕ) (parts : Parts) : Type 0 where
   host : IsHostKept (ends_at_host (texts_of parts)) host_text
-  port : list_all is_unremoved (written_behind colon parts.port_text) ≡ true
+  port : list_all is_unremoved (written_after colon parts.port_text) ≡ true
   path : list_all is_unremoved parts.path_text ≡ true
 
 -- a host of which each code point stays anywhere
@@ -126,9 +126,9 @@ authority_is_kept Other base scheme host_text parts (inr (empty, valued, no_text
   path = unremoved_path parts.segments parts.path_text path;
 }
 
--- ---- what stands behind the scheme
+-- ---- what is after the scheme
 
--- what stands behind the scheme
+-- what is after the scheme
 abbrev middle : Parts → List ℕ
 middle parts =
     written_authority parts.host_text parts.port_text ++ (parts.path_text ++ tail parts.query parts.fragment)
@@ -151,12 +151,12 @@ with_host : (base : Option Url) (parts : Parts) (host_text : Option (List ℕ))
 with_host base parts None is above = absurd is
 with_host base parts (Some host) is above =
     let fits = authority_is_kept _ base parts.scheme host parts is in
-    let port = written_behind colon parts.port_text in
+    let port = written_after colon parts.port_text in
     let path = parts.path_text ++ tail parts.query parts.fragment in
-    let behind = above_is_kept (port ++ path) (unremoved_append port path fits.port
+    let after = above_is_kept (port ++ path) (unremoved_append port path fits.port
     (unremoved_append parts.path_text (tail parts.query parts.fragment) fits.path above)) in
     let kept : IsKept (slash ∷ slash ∷ (host ++ (port ++ path)))
-    = kept_append (slash ∷ slash ∷ host) (port ++ path) fits.host.untabbed behind
+    = kept_append (slash ∷ slash ∷ host) (port ++ path) fits.host.untabbed after
     (λ nothing. slashed host (fits.host.end (ends_where_nothing_follows (texts_of parts) nothing))) in
     record { kept = rw (append_assoc host port path) kept; start = λ none. refl }
   where
@@ -206,13 +206,13 @@ by_form base NoPath parts named (none, nothing, empty) above = without_host part
 
 -- ---- the whole text
 
--- behind a scheme
-behind_scheme : (scheme : Option (List ℕ)) (has : Bool) (text : List ℕ) → FitsScheme has scheme → IsKept text
+-- after a scheme
+after_scheme : (scheme : Option (List ℕ)) (has : Bool) (text : List ℕ) → FitsScheme has scheme → IsKept text
     → (scheme ≡ None → starts_with_control text ≡ false) → first_removed (written_scheme scheme ++ text) ≡ None
-behind_scheme None has text named kept start = kept_passes text (start refl) kept
-behind_scheme (Some scheme) false text named kept start = absurd cc
-behind_scheme (Some []) true text named kept start = absurd (false≢true named)
-behind_scheme (Some (c ∷ scheme)) true text named kept start =
+after_scheme None has text named kept start = kept_passes text (start refl) kept
+after_scheme (Some scheme) false text named kept start = absurd cc
+after_scheme (Some []) true text named kept start = absurd (false≢true named)
+after_scheme (Some (c ∷ scheme)) true text named kept start =
     let name = c ∷ scheme in
     let above = unremoved_append name (colon ∷ []) (unremoved_scheme name named) refl in
     let before = above_is_kept (name ++ colon ∷ []) above in
@@ -226,4 +226,4 @@ unfolding written
 parser_valid_is_kept base text parts valid =
     let above = unremoved_tail parts.query parts.fragment valid.query valid.fragment in
     let is = by_form base parts.form parts valid.scheme valid.form above in
-    rw valid.whole (behind_scheme parts.scheme (has_scheme parts.form) (middle parts) valid.scheme is.kept is.start)
+    rw valid.whole (after_scheme parts.scheme (has_scheme parts.form) (middle parts) valid.scheme is.kept is.start)

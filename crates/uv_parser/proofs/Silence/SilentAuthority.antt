@@ -13,20 +13,20 @@ use Rattle.uv_model.specs.declared.path.UrlPath.TheVariants.{Segments}
 use Rattle.uv_model.specs.Ascii.{slash, backslash, colon}
 use Rattle.uv_model.specs.Records.Denote.{authority_host, authority_path}
 use Rattle.uv_parser.specs.Machine.{begins, AuthorityState, SchemeState, empty_variables, is_special, with_more}
-use Rattle.uv_model.specs.Parts.{Parts, SchemeAuthority, written, written_behind}
+use Rattle.uv_model.specs.Parts.{Parts, SchemeAuthority, written, written_after}
 use Rattle.uv_model.specs.Removed.{first_removed}
 use Rattle.uv_model.specs.Scheme.{default_port, is_scheme, lowercase, scheme_class}
 use Rattle.uv_parser.specs.Laws.Silence.{RunsSilently}
 use Rattle.uv_model.specs.Records.Url.{Url}
 use Rattle.uv_model.specs.Valid.{MayBeUnits, port_given}
-use Rattle.uv_parser.proofs.Loops.AuthorityEnds.{Behind, IsParsed, authority_ends, authority_url, hosted}
+use Rattle.uv_parser.proofs.Loops.AuthorityEnds.{After, IsParsed, authority_ends, authority_url, hosted}
 use Rattle.uv_parser.proofs.Loops.AuthorityStarts.{scheme_starts}
 use Rattle.uv_parser.proofs.Loops.AuthorityLoops.{is_authority_letter}
 use Rattle.uv_parser.proofs.HostParsing.HostParserLemmas.{parsed_some}
 use Rattle.uv_parser.proofs.Loops.PathLoops.{walking}
 use Rattle.uv_model.proofs.SchemeLemmas.{scheme_class-lowercase}
 use Rattle.uv_parser.proofs.Loops.SchemeStretch.{scheme_variables}
-use Rattle.uv_parser.proofs.Silence.SilentSchemes.{EndsBehindScheme, HoldsDenoted, denoted_from_variables, runs_kept}
+use Rattle.uv_parser.proofs.Silence.SilentSchemes.{EndsAfterScheme, HoldsDenoted, denoted_from_variables, runs_kept}
 use Rattle.uv_parser.proofs.Running.Steps.{Ends, ends_again}
 use Rattle.uv_parser.proofs.Loops.Tails.{tail}
 
@@ -34,11 +34,11 @@ use Rattle.uv_parser.proofs.Loops.Tails.{tail}
 pub written_with_authority : (parts : Parts) (scheme host_text : List ℕ) → parts.scheme ≡ Some scheme
     → parts.host_text ≡ Some host_text
     → written parts
-    ≡ scheme ++ colon ∷ ((slash ∷ slash ∷ ((host_text ++ written_behind colon parts.port_text) ++ parts.path_text))
+    ≡ scheme ++ colon ∷ ((slash ∷ slash ∷ ((host_text ++ written_after colon parts.port_text) ++ parts.path_text))
     ++ tail parts.query parts.fragment)
 unfolding written
 written_with_authority parts scheme host_text named given =
-    let authority = host_text ++ written_behind colon parts.port_text in
+    let authority = host_text ++ written_after colon parts.port_text in
     rw (named, given)
     (append_assoc scheme (colon ∷ [])
     (slash ∷ slash ∷ (authority ++ (parts.path_text ++ tail parts.query parts.fragment)))
@@ -72,7 +72,7 @@ pub record HasParsed (parts : Parts) (scheme host_text : List ℕ) (value : Host
 module _ (base : Option Url) (parts : Parts) (scheme host_text : List ℕ) (value : Host) where
   -- the text from the authority on
   authority : List ℕ
-  authority = host_text ++ written_behind colon parts.port_text
+  authority = host_text ++ written_after colon parts.port_text
 
   -- where the authority ends the run with a URL, so does what begins at the scheme's `:`
   pub StartsAuthority : Type 0
@@ -83,7 +83,7 @@ module _ (base : Option Url) (parts : Parts) (scheme host_text : List ℕ) (valu
       → Ends base SchemeState (with_more (lowercase scheme) empty_variables)
       (colon ∷ slash ∷ slash ∷ (authority ++ (parts.path_text ++ tail parts.query parts.fragment))) url
 
-  -- the variables behind the path are what is denoted
+  -- the variables after the path are what is denoted
   authority_denoted : HasParsed parts scheme host_text value
       → HoldsDenoted base parts SchemeAuthority scheme
       (walking (authority_path (scheme_class (lowercase scheme)) parts.segments)
@@ -104,16 +104,16 @@ module _ (base : Option Url) (parts : Parts) (scheme host_text : List ℕ) (valu
       → StartsAuthority → RunsSilently base text parts
   unfolding authority StartsAuthority
   authority_runs text spelled query fragment kept form is named given has start =
-      let behind : Behind parts.segments parts.path_text parts.query parts.fragment
+      let onward : After parts.segments parts.path_text parts.query parts.fragment
       = record { path = has.path; query = query; fragment = fragment } in
       let whole = append_assoc authority parts.path_text (tail parts.query parts.fragment) in
-      let after : EndsBehindScheme base parts scheme (slash ∷ slash ∷ (authority ++ parts.path_text))
+      let after : EndsAfterScheme base parts scheme (slash ∷ slash ∷ (authority ++ parts.path_text))
       = record {
         url = authority_url scheme value (port_given (default_port scheme) parts.port_text) parts.segments parts.query
             parts.fragment;
         named = is;
         ends = rw whole (start _
-            (authority_ends base scheme value parts.segments parts.path_text parts.query parts.fragment behind
+            (authority_ends base scheme value parts.segments parts.path_text parts.query parts.fragment onward
             host_text parts.port_text has.parsed));
         denoted = denoted_from_variables base parts SchemeAuthority scheme _ refl form named (authority_denoted has);
       } in
@@ -134,7 +134,7 @@ module _ (base : Option Url) (parts : Parts) (scheme host_text : List ℕ) (valu
   special_starts special letters some url ends =
       let rest = authority ++ (parts.path_text ++ tail parts.query parts.fragment) in
       let none : (begins slash rest || begins backslash rest) ≡ false
-      = no_slash_before host_text (written_behind colon parts.port_text)
+      = no_slash_before host_text (written_after colon parts.port_text)
       (parts.path_text ++ tail parts.query parts.fragment) letters some in
       scheme_starts base scheme rest SpecialNotFile special (ends_again base (λ p. rw none refl) ends)
 

@@ -10,7 +10,7 @@ use Rattle.uv_model.specs.Ascii.{slash, colon}
 use Rattle.uv_model.specs.Records.Denote.{authority_path}
 use Rattle.uv_parser.specs.Machine.{AtPointer, end, slash_mark, query_mark, fragment_mark, another, at_pointer, again}
 use Rattle.uv_parser.specs.Machine.{FileHostState, PathStartState, file_host_at, with_more}
-use Rattle.uv_model.specs.Parts.{Parts, SchemeAuthority, written, written_behind}
+use Rattle.uv_model.specs.Parts.{Parts, SchemeAuthority, written, written_after}
 use Rattle.uv_model.specs.Removed.{first_removed}
 use Rattle.uv_model.specs.Scheme.{is_scheme, scheme_class}
 use Rattle.uv_parser.specs.Laws.Silence.{RunsSilently}
@@ -24,7 +24,7 @@ use Rattle.uv_parser.proofs.HostParsing.HostParserLemmas.{parsed_some}
 use Rattle.uv_parser.proofs.Loops.PathLoops.{walking}
 use Rattle.uv_parser.proofs.Loops.PathStarts.{path_start_ends}
 use Rattle.uv_parser.proofs.Silence.SilentAuthority.{valued_some, written_with_authority}
-use Rattle.uv_parser.proofs.Silence.SilentSchemes.{EndsBehindScheme, HoldsDenoted, denoted_from_variables, runs_kept}
+use Rattle.uv_parser.proofs.Silence.SilentSchemes.{EndsAfterScheme, HoldsDenoted, denoted_from_variables, runs_kept}
 use Rattle.uv_parser.proofs.Running.Steps.{Ends, ends_after, ends_again}
 use Rattle.uv_parser.proofs.Loops.Tails.{tail, with_tail}
 
@@ -45,7 +45,7 @@ empty_host_row (another c) is = absurd is
 module _ (base : Option Url) (segments : List (List ℕ)) (path : List ℕ) (query fragment : Option (List ℕ))
     (segmented : MayBePathSlashed segments path) (query_units : MayBeUnits query)
     (fragment_units : MayBeUnits fragment) where
-  -- from behind the host to the end
+  -- from after the host to the end
   file_path_ends : (value : Host)
       → Ends base PathStartState (file_variables value) (path ++ tail query fragment)
       (file_url value segments query fragment)
@@ -84,7 +84,7 @@ pub record FileHostEnds (base : Option Url) (parts : Parts) (text : List ℕ) (v
       parts.fragment))
       (file_url value parts.segments parts.query parts.fragment)
 
--- the variables behind the path are what is denoted
+-- the variables after the path are what is denoted
 file_denoted : (base : Option Url) (parts : Parts) (scheme text : List ℕ) (value : Host) → scheme_class scheme ≡ File
     → FileHostEnds base parts text value
     → HoldsDenoted base parts SchemeAuthority scheme
@@ -104,8 +104,8 @@ written_file : (parts : Parts) (scheme text : List ℕ) → parts.scheme ≡ Som
     → written parts ≡ scheme ++ colon ∷ ((slash ∷ slash ∷ (text ++ parts.path_text)) ++ tail parts.query parts.fragment)
 written_file parts scheme text named given none =
     let wrote = written_with_authority parts scheme text named given in
-    let plain : text ++ written_behind colon parts.port_text ≡ text
-    = ap (λ o. text ++ written_behind colon o) none ∙ append-nil text in
+    let plain : text ++ written_after colon parts.port_text ≡ text
+    = ap (λ o. text ++ written_after colon o) none ∙ append-nil text in
     wrote ∙ ap
     (λ xs. scheme ++ colon ∷ ((slash ∷ slash ∷ (xs ++ parts.path_text)) ++ tail parts.query parts.fragment)) plain
 
@@ -118,7 +118,7 @@ pub file_runs : (base : Option Url) (text : List ℕ) (parts : Parts) (scheme ho
 file_runs base text parts scheme host_text value spelled query fragment kept form is named given class has =
     let rest = host_text ++ parts.path_text in
     let whole = append_assoc host_text parts.path_text (tail parts.query parts.fragment) in
-    let after : EndsBehindScheme base parts scheme (slash ∷ slash ∷ rest)
+    let after : EndsAfterScheme base parts scheme (slash ∷ slash ∷ rest)
     = record {
       url = file_url value parts.segments parts.query parts.fragment;
       named = is;

@@ -14,23 +14,23 @@ use Rattle.uv_model.specs.Records.Url.{Url}
 use Rattle.uv_model.specs.Valid.{FitsScheme, MayBeUnits, Valid, FitsForm}
 use Rattle.uv_parser.proofs.Loops.Looping.{opaque_path_law}
 use Rattle.uv_parser.proofs.Loops.SchemeStretch.{scheme_variables, colon_row, scheme_there}
-use Rattle.uv_parser.proofs.Silence.SilentSchemes.{EndsBehindScheme, HoldsDenoted, denoted_from_variables, runs_kept}
+use Rattle.uv_parser.proofs.Silence.SilentSchemes.{EndsAfterScheme, HoldsDenoted, denoted_from_variables, runs_kept}
 use Rattle.uv_parser.proofs.Silence.SilentSchemes.{written_without_authority}
 use Rattle.uv_parser.proofs.Silence.KeptParts.{parser_valid_is_kept}
 use Rattle.uv_model.specs.Path.{IsSpacedPath}
-use Rattle.uv_parser.proofs.Running.Steps.{Ends, ends_step, ends_after}
+use Rattle.uv_parser.proofs.Running.Steps.{Ends, ends_after, ends_step}
 use Rattle.uv_parser.proofs.Loops.Tails.{tail, with_tail, TurnsToTail, tail_begins, tail_ends}
 use Rattle.uv_parser.proofs.Loops.Tails.{no_slash_before_tail}
 use Rattle.uv_model.specs.declared.profile.Profile.TheVariants.{Parser}
 use Rattle.uv_model.specs.Setting.{setting_of}
 
--- the variables behind the path, where the flag says that a query or a fragment follows
+-- the variables after the path, where the flag says that a query or a fragment follows
 abbrev path_variables : Bool → List ℕ → List ℕ → Variables
 path_variables followed scheme path =
     with_path (Opaque (encoded false (end_escaped followed path))) (scheme_variables scheme)
 
 module _ (base : Option Url) where
-  -- behind the path the tail ends the run
+  -- after the path the tail ends the run
   opaque_tail : (followed : Bool) (scheme path : List ℕ)
       → TurnsToTail base OpaquePathState (path_variables followed scheme path) (path_variables followed scheme path)
   opaque_tail followed scheme path =
@@ -50,7 +50,7 @@ module _ (base : Option Url) where
       (tail_ends base OpaquePathState _ _ query fragment
       (opaque_tail (is_some query || is_some fragment) scheme path) query_units fragment_units))
 
-  -- the variables behind the path are what is denoted
+  -- the variables after the path are what is denoted
   opaque_denoted : (scheme : List ℕ) (parts : Parts)
       → HoldsDenoted base parts SchemeOpaque scheme (path_variables (has_tail parts) scheme parts.path_text)
   opaque_denoted scheme parts = record { scheme = refl; host = refl; port = refl; path = refl; query = refl }
@@ -65,7 +65,7 @@ opaque_done base text parts silent form =
     let fits : FitsForm (setting_of Parser base parts.scheme) SchemeOpaque parts = subst P form silent.form in
     let (scheme, named, is) = scheme_there parts.scheme (subst Q form silent.scheme) in
     let other : scheme_class scheme ≡ Other = rw named at fits.1 in
-    let behind : EndsBehindScheme base parts scheme parts.path_text
+    let after : EndsAfterScheme base parts scheme parts.path_text
     = record {
       url = with_tail parts.query parts.fragment (path_variables (has_tail parts) scheme parts.path_text);
       named = is;
@@ -75,6 +75,6 @@ opaque_done base text parts silent form =
       denoted =
           denoted_from_variables base parts SchemeOpaque scheme _ refl form named (opaque_denoted base scheme parts);
     } in
-    runs_kept base text parts scheme parts.path_text behind
+    runs_kept base text parts scheme parts.path_text after
     (parser_valid_is_kept base text parts silent)
     (silent.whole ∙ written_without_authority parts scheme named fits.0.host_text)

@@ -25,8 +25,8 @@ use Rattle.uv_parser.proofs.Loops.SchemeStretch.{scheme_stretch}
 use Rattle.uv_parser.proofs.Running.Steps.{Ends, done_with, ends_after}
 use Rattle.uv_parser.proofs.Loops.Tails.{tail, query_given, with_tail}
 
--- What stands behind the scheme's `:` ends the run with the denoted URL.
-pub record EndsBehindScheme (base : Option Url) (parts : Parts) (scheme middle : List ℕ) : Type 0 where
+-- What is after the scheme's `:` ends the run with the denoted URL.
+pub record EndsAfterScheme (base : Option Url) (parts : Parts) (scheme middle : List ℕ) : Type 0 where
   pub url : Url
   pub named : is_scheme scheme ≡ true
   pub ends : Ends base SchemeState (with_more (lowercase scheme) empty_variables)
@@ -35,13 +35,13 @@ pub record EndsBehindScheme (base : Option Url) (parts : Parts) (scheme middle :
 
 -- the whole run of a text without a code point that is removed
 pub runs_kept : (base : Option Url) (text : List ℕ) (parts : Parts) (scheme middle : List ℕ)
-    → EndsBehindScheme base parts scheme middle → first_removed text ≡ None
+    → EndsAfterScheme base parts scheme middle → first_removed text ≡ None
     → text ≡ scheme ++ colon ∷ (middle ++ tail parts.query parts.fragment) → RunsSilently base text parts
-runs_kept base text parts scheme middle behind kept whole =
+runs_kept base text parts scheme middle after kept whole =
     let rest = middle ++ tail parts.query parts.fragment in
-    rw (whole, ← behind.denoted)
-    (starts_ended base (scheme ++ colon ∷ rest) (done_with behind.url) (rw whole at kept)
-    (ends_after base (scheme_stretch base scheme (colon ∷ rest) behind.named) behind.ends))
+    rw (whole, ← after.denoted)
+    (starts_ended base (scheme ++ colon ∷ rest) (done_with after.url) (rw whole at kept)
+    (ends_after base (scheme_stretch base scheme (colon ∷ rest) after.named) after.ends))
 
 -- ---- the URL
 
@@ -66,7 +66,7 @@ query_denoted base class PathAbsolute None v has special none = absurd (false≢
 query_denoted base class PathRelative None v has special none = absurd (false≢true has)
 query_denoted base class NoPath None v has special none = absurd (false≢true has)
 
--- The variables behind the path have the denoted scheme, host, port and path, and no query.
+-- The variables after the path have the denoted scheme, host, port and path, and no query.
 pub record HoldsDenoted (base : Option Url) (parts : Parts) (form : Form) (name : List ℕ) (v : Variables) : Type 0 where
   pub scheme : v.url.scheme ≡ lowercase name
   pub host : v.url.host ≡ denoted_host base form parts

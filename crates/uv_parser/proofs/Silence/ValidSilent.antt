@@ -26,7 +26,7 @@ pub valid_runs_silently : ValidTextsRunSilently
 valid_runs_silently profile base text parts well valid =
     (texts_are_decided base text well).silent parts (valid_by_parser profile base text parts valid)
 
--- a text with a scheme is judged alone, so that the base needn't be well formed
+-- a text with a scheme is checked alone, so that the base needn't be well formed
 pub scheme_runs_silently : (profile : Profile) (base : Option Url) (text : List ℕ) (parts : Parts)
     → Valid profile base text parts
     → has_scheme parts.form ≡ true → RunsSilently base text parts

@@ -56,14 +56,14 @@ pub record HasForeignHost (base : Option Url) (parts : Parts) : Type 0 where
 
 -- ---- the path
 
--- behind an authority the path begins with an empty segment, so with `//` (section 4.3, path-absolute-URL string)
+-- after an authority the path begins with an empty segment, so with `//` (section 4.3, path-absolute-URL string)
 abbrev pub HasEmptyFirstSegment : Parts → Type 0
 HasEmptyFirstSegment parts = IsSome parts.host_text × (starts_with_two_slashes parts.path_text ≡ true)
 
--- a file URL's path begins with a drive letter behind a host: the text's, or without a scheme and an authority the
+-- a file URL's path begins with a drive letter after a host: the text's, or without a scheme and an authority the
 -- base's (section 4.3, path-absolute-non-Windows-file-URL string)
-abbrev pub HasDriveBehindHost : Option Url → Parts → Type 0
-HasDriveBehindHost base parts =
+abbrev pub HasDriveAfterHost : Option Url → Parts → Type 0
+HasDriveAfterHost base parts =
     (class_in base parts.scheme ≡ File) × HasHost base parts.scheme parts.host_text
     × (starts_with_drive_segment parts.path_text ≡ true)
 
@@ -84,7 +84,7 @@ abbrev pub Differs : Option Url → Parts → Type 0
 Differs base parts =
     HasForeignHost base parts
     ⊎ (HasEmptyFirstSegment parts
-    ⊎ (HasDriveBehindHost base parts ⊎ (HasEmptyAuthority base parts ⊎ HasSpaceInPath parts)))
+    ⊎ (HasDriveAfterHost base parts ⊎ (HasEmptyAuthority base parts ⊎ HasSpaceInPath parts)))
 
 -- A text on which the parser is silent is valid with the same parts, or it has a difference, and then it has no valid
 -- parts.

@@ -76,7 +76,7 @@ ipv6_rows =
     (listed "http" (ipv6 (0 ∷ 0 ∷ 0 ∷ 0 ∷ 0 ∷ 0 ∷ 15 ∷ 43981 ∷ [])) None ("" ∷ [])) "http://[::f:abcd]/"
     ∷ []
 
--- the IPv6 parser fails, so the machine stops behind `]`
+-- the IPv6 parser fails, so the machine stops after `]`
 abbrev pub ipv6_fault_rows : List Row
 ipv6_fault_rows =
     stops "http://[1:2:3:4:5:6:7:8::]/" 26

@@ -2,7 +2,7 @@
 use Rattle.std.specs.Prelude.{List, [], ◌∷◌}
 use Rattle.uv_parser.specs.Rows.{Row, AllHold, done, stops, in_steps, unfinished, opaque, with_query, with_fragment}
 
--- a scheme that isn't special, and no `/` behind it
+-- a scheme that isn't special, and no `/` after it
 abbrev pub opaque_rows : List Row
 opaque_rows =
     done "urn:isbn:0451450523" (opaque "urn" "isbn:0451450523") "urn:isbn:0451450523"
@@ -74,7 +74,7 @@ unit_rows =
     ∷ stops "urn:%4g" 4
     ∷ []
 
--- Before the first step: a C0 control or a space at either end, and a tab, LF or CR wherever it stands.
+-- Before the first step: a C0 control or a space at either end, and a tab, LF or CR wherever it is.
 abbrev pub removed_rows : List Row
 removed_rows =
     stops "" 0

@@ -1,4 +1,4 @@
--- Runs on texts with a scheme that isn't special and a `/` behind it, without a base (URL Standard, sections 4.3, 4.4).
+-- Runs on texts with a scheme that isn't special and a `/` after it, without a base (URL Standard, sections 4.3, 4.4).
 use Rattle.std.specs.Prelude.{List, [], ◌∷◌, Some, None}
 use Rattle.uv_parser.specs.Rows.{Row, AllHold, done, stops, listed, with_query, with_fragment, ipv6, opaque_host}
 use Rattle.uv_parser.specs.Rows.{empty_host}

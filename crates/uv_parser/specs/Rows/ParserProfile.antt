@@ -12,7 +12,7 @@ use Rattle.uv_parser.specs.Rows.References.{drive_base, file_host_base, other_ba
 
 -- ---- what the profile takes beyond the standard one
 
--- an empty authority of a file URL with no `/` behind it
+-- an empty authority of a file URL with no `/` after it
 abbrev pub file_rows : List Row
 file_rows =
     done "file://" (listed "file" empty_host None ("" ∷ [])) "file:///"
@@ -61,7 +61,7 @@ fewer_rows =
     ∷ done "file://127.1/x" (listed "file" (ipv4 0x7F000001) None ("x" ∷ [])) "file://127.0.0.1/x"
     ∷ []
 
--- an empty first segment behind an authority
+-- an empty first segment after an authority
 abbrev pub segment_rows : List Row
 segment_rows =
     done "http://h//a" (listed "http" (domain "h") None ("" ∷ "a" ∷ [])) "http://h//a"
@@ -74,7 +74,7 @@ segment_rows =
     ∷ against root_base (done "//h//a" (listed "http" (domain "h") None ("" ∷ "a" ∷ [])) "http://h//a")
     ∷ []
 
--- a drive letter behind a host, the text's or the base's
+-- a drive letter after a host, the text's or the base's
 abbrev pub drive_rows : List Row
 drive_rows =
     done "file://h/C:/x" (listed "file" (domain "h") None ("C:" ∷ "x" ∷ [])) "file://h/C:/x"
@@ -117,7 +117,7 @@ refused_numbers =
     ∷ stops "http://0x1/" 10
     ∷ []
 
--- hosts of which no domain is made: an escaped `/`, an escape that is no UTF-8, no Punycode behind `xn--`, and U+00AD
+-- hosts of which no domain is made: an escaped `/`, an escape that is no UTF-8, no Punycode after `xn--`, and U+00AD
 -- alone, of which nothing is left
 abbrev pub refused_domains : List Row
 refused_domains =
@@ -128,7 +128,7 @@ refused_domains =
     ∷ stops "http:///" 7
     ∷ []
 
--- hosts at which the parser stops before it reads them: what stands before `@` would be credentials, `\` would end the
+-- hosts at which the parser stops before it reads them: what is before `@` would be credentials, `\` would end the
 -- host, and a drive letter would begin the path
 abbrev pub refused_marks : List Row
 refused_marks =
@@ -191,37 +191,37 @@ opaque_references =
 
 -- The row's text is valid by the parser's profile, with parts that denote the URL of the row's answer; or, where the
 -- run stops, it has no valid parts.
-abbrev pub Judges : Row → Answer → Type 0
-Judges row (is_done url text) =
+abbrev pub Checks : Row → Answer → Type 0
+Checks row (is_done url text) =
     (parts : Parts) × Valid Parser row.base row.text parts × (url ≡ denote row.base parts)
-Judges row (has_stopped place) = (parts : Parts) → ¬ (Valid Parser row.base row.text parts)
-Judges row goes_on = ⊥
+Checks row (has_stopped place) = (parts : Parts) → ¬ (Valid Parser row.base row.text parts)
+Checks row goes_on = ⊥
 
 -- so each row of the table
-abbrev pub AreJudged : List Row → Type 0
-AreJudged [] = Unit {0}
-AreJudged (row ∷ rows) = Judges row row.answer × AreJudged rows
+abbrev pub AreChecked : List Row → Type 0
+AreChecked [] = Unit {0}
+AreChecked (row ∷ rows) = Checks row row.answer × AreChecked rows
 
--- each run gives its answer, and the profile judges as it does
-abbrev pub IsJudgedTable : List Row → Type 0
-IsJudgedTable rows = AllHold rows × AreJudged rows
+-- each run gives its answer, and the profile checks as it does
+abbrev pub IsCheckedTable : List Row → Type 0
+IsCheckedTable rows = AllHold rows × AreChecked rows
 
 -- each table
 pub record ParserProfileRows : Type 0 where
-  pub files : IsJudgedTable file_rows
-  pub hosts : IsJudgedTable host_rows
-  pub domains : IsJudgedTable domain_rows
-  pub mapped_numbers : IsJudgedTable number_rows
-  pub fewer_numbers : IsJudgedTable fewer_rows
-  pub segments : IsJudgedTable segment_rows
-  pub drives : IsJudgedTable drive_rows
-  pub spaces : IsJudgedTable space_rows
-  pub plain_hosts : IsJudgedTable plain_rows
-  pub no_numbers : IsJudgedTable refused_numbers
-  pub no_domains : IsJudgedTable refused_domains
-  pub marks : IsJudgedTable refused_marks
-  pub no_spaces : IsJudgedTable refused_spaces
-  pub special_base : IsJudgedTable special_references
-  pub file_base : IsJudgedTable file_references
-  pub other_base : IsJudgedTable other_references
-  pub opaque_base : IsJudgedTable opaque_references
+  pub files : IsCheckedTable file_rows
+  pub hosts : IsCheckedTable host_rows
+  pub domains : IsCheckedTable domain_rows
+  pub mapped_numbers : IsCheckedTable number_rows
+  pub fewer_numbers : IsCheckedTable fewer_rows
+  pub segments : IsCheckedTable segment_rows
+  pub drives : IsCheckedTable drive_rows
+  pub spaces : IsCheckedTable space_rows
+  pub plain_hosts : IsCheckedTable plain_rows
+  pub no_numbers : IsCheckedTable refused_numbers
+  pub no_domains : IsCheckedTable refused_domains
+  pub marks : IsCheckedTable refused_marks
+  pub no_spaces : IsCheckedTable refused_spaces
+  pub special_base : IsCheckedTable special_references
+  pub file_base : IsCheckedTable file_references
+  pub other_base : IsCheckedTable other_references
+  pub opaque_base : IsCheckedTable opaque_references

@@ -42,7 +42,7 @@ http_parts domain path_text segments = parts_of (codes "http") domain (host.Doma
 abbrev pub file_parts : List ℕ → List (List ℕ) → Parts
 file_parts path_text segments = parts_of (codes "file") [] host.Empty path_text segments
 
--- paths with an empty first segment behind an authority
+-- paths with an empty first segment after an authority
 pub record WidePathRows : Type 0 where
   pub empty_first :
       IsWide (codes "http://h//a") (http_parts (codes "h") (codes "//a") ([] ∷ codes "a" ∷ [])) (codes "http://h//a")

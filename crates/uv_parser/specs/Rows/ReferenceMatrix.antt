@@ -136,7 +136,7 @@ file_host_rows =
     ∷ against file_host_base (done "./a:b" (file_on (domain "h") ("a:b" ∷ [])) "file://h/a:b")
     ∷ []
 
--- against `file://h/x/../C:/d`: the drive letter stays behind the host; on `/C:/x` the machine is done, although the
+-- against `file://h/x/../C:/d`: the drive letter stays after the host; on `/C:/x` the machine is done, although the
 -- checker refuses it (drive-after-host)
 abbrev pub host_drive_rows : List Row
 host_drive_rows =
@@ -251,8 +251,8 @@ other_texts =
 
 -- A drive letter may not follow the host of a file base, and only a fragment may follow an opaque path.
 pub record RefusedPairs : Type 0 where
-  pub drive_behind_host : Violation Standard (Some file_host_base) (codes "/C:/x") 0 DriveAfterHost
-  pub drive_behind_host_and_drive : Violation Standard (Some host_drive_base) (codes "/C:/x") 0 DriveAfterHost
+  pub drive_after_host : Violation Standard (Some file_host_base) (codes "/C:/x") 0 DriveAfterHost
+  pub drive_after_host_and_drive : Violation Standard (Some host_drive_base) (codes "/C:/x") 0 DriveAfterHost
   pub opaque_path : AllViolate urn_base OpaqueBase other_texts
   pub opaque_path_and_query : AllViolate opaque_base OpaqueBase other_texts
 

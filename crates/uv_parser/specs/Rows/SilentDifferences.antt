@@ -6,7 +6,7 @@ use Rattle.uv_model.specs.Parts.{Parts}
 use Rattle.uv_parser.specs.Rows.{Row}
 use Rattle.uv_parser.specs.Rows.ParserProfile.{file_rows, host_rows, domain_rows, number_rows, segment_rows}
 use Rattle.uv_parser.specs.Rows.ParserProfile.{drive_rows, fewer_rows, space_rows}
-use Rattle.uv_parser.specs.Laws.Differences.{HasDriveBehindHost, HasEmptyAuthority, HasEmptyFirstSegment}
+use Rattle.uv_parser.specs.Laws.Differences.{HasDriveAfterHost, HasEmptyAuthority, HasEmptyFirstSegment}
 use Rattle.uv_parser.specs.Laws.Differences.{HasForeignHost, HasSpaceInPath}
 use Rattle.uv_model.specs.Records.Url.{Url}
 use Rattle.uv_model.specs.Valid.{Valid}
@@ -30,6 +30,6 @@ pub record SilentDifferenceRows : Type 0 where
   pub strict_or_lengths : AllDiffer HasForeignHost domain_rows
   pub mapped_address : AllDiffer HasForeignHost number_rows
   pub empty_first_segment : AllDiffer (λ base. HasEmptyFirstSegment) segment_rows
-  pub drive_behind_host : AllDiffer HasDriveBehindHost drive_rows
+  pub drive_after_host : AllDiffer HasDriveAfterHost drive_rows
   pub fewer_numbers : AllDiffer HasForeignHost fewer_rows
   pub space_in_path : AllDiffer (λ base. HasSpaceInPath) space_rows

@@ -2,7 +2,7 @@
 use Rattle.std.specs.Prelude.{List, [], ◌∷◌, Some, None}
 use Rattle.uv_parser.specs.Rows.{Row, AllHold, done, stops, in_steps, listed, with_query, with_fragment, domain, ipv6}
 
--- the scheme, `//` and what may not stand there
+-- the scheme, `//` and what may not be there
 abbrev pub scheme_rows : List Row
 scheme_rows =
     stops "http" 0

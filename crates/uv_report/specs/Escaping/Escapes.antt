@@ -1,4 +1,4 @@
--- What stands in a text in place of the code points that may not stand there as they are.
+-- What is in a text in place of the code points that may not be there as they are.
 use Rattle.std.specs.Prelude.{ℕ, Bool, ◌||◌, ◌==◌, List, [], ◌∷◌, codes, encode_utf8, if◌then◌else◌}
 use Rattle.std.specs.Int.{is_in_range}
 use Rattle.std.specs.List.{flat_map}
@@ -44,7 +44,7 @@ in_property c = if c == 0x3A then codes "%3A" else if c == 0x2C then codes "%2C"
 
 -- ---- in an attribute of XML 1.0 between `"` (sections 2.2, 2.4 and 3.3.3)
 
--- a code point that XML 1.0 doesn't allow, behind the tab and the line ends, which it does
+-- a code point that XML 1.0 doesn't allow, after the tab and the line ends, which it does
 abbrev pub is_no_xml : ℕ → Bool
 is_no_xml c = is_in_range 0 0x1F c || ((c == 0xFFFE) || (c == 0xFFFF))
 
@@ -70,7 +70,7 @@ escape Message c = in_message c
 escape Property c = in_property c
 escape Attribute c = in_attribute c
 
--- a text, each of its code points as it may stand
+-- a text, each of its code points as it may be
 unfoldable pub escaped : Escapes → List ℕ → List ℕ
 escaped escapes text = flat_map (escape escapes) (chars text)
 

@@ -1,4 +1,4 @@
--- Printable ASCII, which stands on a terminal as it is.
+-- Printable ASCII, which is on a terminal as it is.
 use Rattle.std.specs.Prelude.{ℕ, Bool}
 use Rattle.std.specs.Int.{is_in_range}
 

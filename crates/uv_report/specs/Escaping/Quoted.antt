@@ -7,6 +7,6 @@ use Rattle.serde_json.specs.Written.{compact_text}
 abbrev pub quoted : List ℕ → List ℕ
 quoted text = compact_text (string text)
 
--- a byte that stands in it as it is: no control, quotation mark or backslash
+-- a byte that is in it as it is: no control, quotation mark or backslash
 abbrev pub is_plain : ℕ → Bool
 is_plain byte = not (nat_lt byte 32) && (not (byte == 34) && not (byte == 92))

@@ -9,7 +9,7 @@ use Rattle.percent_encoding.specs.Percent.{percent_encode_byte}
 abbrev pub is_unreserved : ℕ → Bool
 is_unreserved b = is_ascii_alphanumeric b || ((b == 0x2D) || ((b == 0x2E) || ((b == 0x5F) || (b == 0x7E))))
 
--- A byte of a name that stands as it is: an unreserved character, or the `/` between two segments. All others are
+-- A byte of a name that is as it is: an unreserved character, or the `/` between two segments. All others are
 -- escaped, so that none ends the path (`?` and `#`), begins an escape (`%`) or ends a scheme (`:`).
 abbrev pub stays : ℕ → Bool
 stays b = is_unreserved b || (b == 0x2F)
@@ -23,13 +23,13 @@ unfoldable pub uri_part : List ℕ → List ℕ
 uri_part name = flat_map uri_byte name
 
 -- what follows the `/` that a name begins with
-abbrev pub behind_slash : List ℕ → Option (List ℕ)
-behind_slash [] = None
-behind_slash (b ∷ rest) = if b == 0x2F then Some rest else None
+abbrev pub after_slash : List ℕ → Option (List ℕ)
+after_slash [] = None
+after_slash (b ∷ rest) = if b == 0x2F then Some rest else None
 
 -- what follows the `//` that a name begins with
-abbrev pub behind_slashes : List ℕ → Option (List ℕ)
-behind_slashes name = option_and_then behind_slash (behind_slash name)
+abbrev pub after_slashes : List ℕ → Option (List ℕ)
+after_slashes name = option_and_then after_slash (after_slash name)
 
 -- the path of a name, and what follows the `//` that it begins with
 abbrev pub path_of : List ℕ → Option (List ℕ) → List ℕ
@@ -39,4 +39,4 @@ path_of name (Some rest) = codes "/%2F" ++ uri_part rest
 -- The path of a name. A reference that begins with `//` names a host (section 4.2), so the second `/` of such a name is
 -- escaped.
 unfoldable pub uri_path : List ℕ → List ℕ
-uri_path name = path_of name (behind_slashes name)
+uri_path name = path_of name (after_slashes name)

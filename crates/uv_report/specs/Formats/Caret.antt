@@ -1,5 +1,5 @@
 -- A diagnostic with the line that it is about, a caret below the place, and what to write in place of the line. Of a
--- line that isn't judged and of which no text is carried, as of one that is too long, the diagnostic stands alone.
+-- line that isn't checked and of which no text is carried, as of one that is too long, the diagnostic is alone.
 use Rattle.std.specs.Prelude.{ℕ, Bool, true, false, not, ◌==◌, List, [], ◌++◌, codes, if◌then◌else◌, length, replicate}
 use Rattle.std.specs.Prelude.{take, Option, Some, None}
 use Rattle.std.specs.List.{flat_map}
@@ -18,11 +18,11 @@ use Rattle.uv_report.specs.LineViolation.{violation_place}
 use Rattle.uv_report.specs.Formats.Gnu.{gnu_text}
 use Rattle.uv_report.specs.Places.Window.{window, window_place}
 
--- what stands below a code point: a tab below a tab, else spaces
+-- what is below a code point: a tab below a tab, else spaces
 abbrev pub below : ℕ → List ℕ
 below c = if c == 9 then codes "\t" else replicate (shown_width c) 32
 
--- what stands below a text
+-- what is below a text
 abbrev pub padding : List ℕ → List ℕ
 padding text = flat_map below text
 
@@ -44,13 +44,13 @@ abbrev pub shown_lines : LineViolation → List ℕ → List ℕ
 shown_lines violation line =
     if shows_line violation line then window_lines line (violation_place violation) else []
 
--- how a mended text is named that isn't offered, by how it stands to the refused one
+-- how a mended text is named that isn't offered, by how it is to the refused one
 abbrev pub named_as : MendKind → List ℕ
 named_as Same = codes "note: the same URL, written validly, is "
 named_as Escaped = codes "note: the same text, percent-encoded, is "
 named_as Changed = codes "note: a valid URL string that is near it is "
 
--- what stands before a mended text, which is offered or isn't
+-- what is before a mended text, which is offered or isn't
 abbrev pub help_words : Bool → MendKind → List ℕ
 help_words true kind = codes "help: write "
 help_words false kind = named_as kind

@@ -1,4 +1,4 @@
--- What tells one diagnostic from another, in any run: by what is wrong with which text, or also by where that stands.
+-- What tells one diagnostic from another, in any run: by what is wrong with which text, or also by where that is.
 use Rattle.std.specs.Prelude.{ℕ, List, ◌++◌, codes, decimal}
 use Rattle.hex.specs.Hex.{encode_lower}
 use Rattle.sha2.specs.Sha256.{sha256}
@@ -19,7 +19,7 @@ text_key violation text =
     violation_name violation ++ (codes "\n" ++ (decimal (violation_place violation) ++ (codes "\n"
     ++ carried text (violation_place violation))))
 
--- the fingerprint of what is wrong with a text, wherever that stands
+-- the fingerprint of what is wrong with a text, wherever that is
 abbrev pub text_fingerprint : LineViolation → List ℕ → List ℕ
 text_fingerprint violation text = digest (text_key violation text)
 

@@ -40,6 +40,6 @@ issue_value diagnostic =
 unfoldable pub issue_text : Diagnostic → List ℕ
 issue_text diagnostic = compact_text (issue_value diagnostic)
 
--- this behind a comma where it isn't the first, and a line feed
+-- this after a comma where it isn't the first, and a line feed
 unfoldable pub gitlab_text : Bool → Diagnostic → List ℕ
 gitlab_text is_first diagnostic = separator is_first ++ (issue_text diagnostic ++ codes "\n")

@@ -23,7 +23,7 @@ plain_members diagnostic =
     (member (codes "text") (string (carried diagnostic.text.now (violation_place diagnostic.violation)))
     no_members))))))
 
--- these, and in their order how a mended text stands to the refused one, the mended text, which is whole, and whether
+-- these, and in their order how a mended text is to the refused one, the mended text, which is whole, and whether
 -- it
 -- is offered
 abbrev pub mended_members : Diagnostic → Mended → Members
@@ -41,22 +41,22 @@ json_members diagnostic (Some mended) = mended_members diagnostic mended
 abbrev pub json_value : Diagnostic → Data
 json_value diagnostic = object (json_members diagnostic diagnostic.mended)
 
--- the member that says whether the link is cut, behind its comma, up to the name of the file
+-- the member that says whether the link is cut, after its comma, up to the name of the file
 abbrev pub cut_member : Bool → List ℕ
 cut_member cut = (codes ",\"cut\":" ++ compact_text (boolean cut)) ++ codes ",\"file\":"
 
--- the member of how a mended text stands to the refused one, behind its comma, where there is a mended text, up to the
+-- the member of how a mended text is to the refused one, after its comma, where there is a mended text, up to the
 -- number of the line
 abbrev pub line_member : Option Mended → List ℕ
 line_member None = codes ",\"line\":"
 line_member (Some mended) = (codes ",\"kind\":" ++ quoted (kind_name mended.kind)) ++ codes ",\"line\":"
 
--- the member of the mended text, behind its comma, where there is one
+-- the member of the mended text, after its comma, where there is one
 abbrev pub mended_member : Option Mended → List ℕ
 mended_member None = []
 mended_member (Some mended) = codes ",\"mended\":" ++ quoted mended.text.now
 
--- the member of whether it is offered in place of a text, behind its comma, where there is one
+-- the member of whether it is offered in place of a text, after its comma, where there is one
 abbrev pub offered_member : List ℕ → Option Mended → List ℕ
 offered_member text None = []
 offered_member text (Some mended) =

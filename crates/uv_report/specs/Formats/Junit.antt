@@ -1,4 +1,4 @@
--- A diagnostic as a failed test of a document of JUnit, in XML 1.0, and the tests that stand round it.
+-- A diagnostic as a failed test of a document of JUnit, in XML 1.0, and the tests that are round it.
 use Rattle.std.specs.Prelude.{ℕ, List, ◌++◌, codes, decimal}
 use Rattle.uv_model.specs.declared.profile.Profile.{Profile}
 use Rattle.uv_report.specs.declared.completion.Completion.{Completion}

@@ -26,7 +26,7 @@ position_value line column =
     object (member (codes "column") (number (unsigned column))
     (member (codes "line") (number (unsigned line)) no_members))
 
--- what stands in a line from a column on, up to the one behind it
+-- what is in a line from a column on, up to the one after it
 abbrev pub range_value : ℕ → ℕ → ℕ → Data
 range_value line start end =
     object (member (codes "end") (position_value line end)
@@ -44,7 +44,7 @@ location_value diagnostic =
     object (member (codes "path") (string diagnostic.file.now)
     (member (codes "range") (range_value diagnostic.line diagnostic.column diagnostic.end) no_members))
 
--- a mended text in place of all of the text, which stands in the line with this number
+-- a mended text in place of all of the text, which is in the line with this number
 abbrev pub suggestion_value : ℕ → Mended → Data
 suggestion_value line mended =
     object (member (codes "range") (range_value line mended.start mended.end)
@@ -71,11 +71,11 @@ rdjson_value diagnostic = rdjson_with diagnostic (offered_in diagnostic.text.now
 unfoldable pub object_text : Diagnostic → List ℕ
 object_text diagnostic = compact_text (rdjson_value diagnostic)
 
--- the text with this mended text, behind a comma where it isn't the first, and a line feed
+-- the text with this mended text, after a comma where it isn't the first, and a line feed
 abbrev pub rdjson_line : Bool → Diagnostic → Option Mended → List ℕ
 rdjson_line is_first diagnostic mended =
     separator is_first ++ (compact_text (rdjson_with diagnostic mended) ++ codes "\n")
 
--- this behind a comma where it isn't the first, and a line feed
+-- this after a comma where it isn't the first, and a line feed
 unfoldable pub rdjson_text : Bool → Diagnostic → List ℕ
 rdjson_text is_first diagnostic = separator is_first ++ (object_text diagnostic ++ codes "\n")

@@ -33,7 +33,7 @@ message text = object (member (codes "text") (string text) no_members)
 
 -- ---- the rules (section 3.49)
 
--- where what it asks stands in the URL Standard
+-- where what it asks is in the URL Standard
 abbrev pub section_value : LineViolation → Data
 section_value violation = object (member (codes "section") (string (violation_uri violation)) no_members)
 
@@ -51,7 +51,7 @@ rule_value violation =
 unfoldable pub rule_text : LineViolation → List ℕ
 rule_text violation = compact_text (rule_value violation)
 
--- a rule of valid URL strings behind a comma
+-- a rule of valid URL strings after a comma
 unfoldable pub next_rule : Rule → List ℕ
 next_rule rule = codes "," ++ rule_text (Refused (record { place = 0; rule = rule }))
 
@@ -133,7 +133,7 @@ physical_value diagnostic =
 abbrev pub location_value : Diagnostic → Data
 location_value diagnostic = object (member (codes "physicalLocation") (physical_value diagnostic) no_members)
 
--- What tells a result from another in a later run too, wherever it stands then (section 3.27.17). The number behind the
+-- What tells a result from another in a later run too, wherever it is then (section 3.27.17). The number after the
 -- name rises where it is made in another way.
 abbrev pub fingerprints_value : LineViolation → List ℕ → Data
 fingerprints_value violation text =
@@ -153,13 +153,13 @@ link_value diagnostic =
 
 -- ---- the fix of a result (sections 3.55 to 3.57)
 
--- what it does, by how the mended text stands to the refused one
+-- what it does, by how the mended text is to the refused one
 abbrev pub fix_sentence : MendKind → List ℕ
 fix_sentence Same = codes "write the same URL as a valid URL string"
 fix_sentence Escaped = codes "percent-encode what is not allowed in a URL string"
 fix_sentence Changed = codes "write a valid URL string, which may be another URL"
 
--- where the replaced text stands: all of it, in the line with this number
+-- where the replaced text is: all of it, in the line with this number
 abbrev pub deleted_region_value : ℕ → Mended → Data
 deleted_region_value line mended =
     object (member (codes "endColumn") (number (unsigned mended.end))
@@ -201,13 +201,13 @@ result_with diagnostic mended =
     (member (codes "ruleId") (string (violation_name diagnostic.violation))
     (member (codes "ruleIndex") (number (unsigned (violation_index diagnostic.violation))) no_members))))))))
 
--- what the text of a result begins with: a fix, and a comma behind it, where there is a mended text
+-- what the text of a result begins with: a fix, and a comma after it, where there is a mended text
 abbrev pub result_begin : Diagnostic → Option Mended → List ℕ
 result_begin diagnostic None = codes "{"
 result_begin diagnostic (Some mended) =
     codes "{\"fixes\":[" ++ (compact_text (fix_value diagnostic mended) ++ codes "],")
 
--- what stands behind that up to the path of the file's name, which no byte of is escaped by JSON
+-- what is after that up to the path of the file's name, which no byte of is escaped by JSON
 abbrev pub location_begin : List ℕ
 location_begin = codes "\"level\":\"error\",\"locations\":[{\"physicalLocation\":{\"artifactLocation\":{\"uri\":\""
 

@@ -46,9 +46,9 @@ point_width Bytes column c = length (encode_utf8 c)
 point_width Utf16 column c = utf16_units c
 point_width Screen column c = screen_width column c
 
--- the column behind a code point in this one; the greatest number of 64 bits stands for each column beyond it
-abbrev pub column_behind : Columns → ℕ → ℕ → ℕ
-column_behind columns column c = min (column + point_width columns column c) (2 ^ 64 - 1)
+-- the column after a code point in this one; the greatest number of 64 bits stands for each column beyond it
+abbrev pub column_after : Columns → ℕ → ℕ → ℕ
+column_after columns column c = min (column + point_width columns column c) (2 ^ 64 - 1)
 
 -- ---- the column of a place
 

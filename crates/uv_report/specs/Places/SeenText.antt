@@ -10,7 +10,7 @@ use Rattle.uv_report.specs.Sentences.Ipv6.{has_bare_ipv6}
 use Rattle.uv_report.specs.Sentences.Message.{has_credentials}
 use Rattle.uv_report.specs.Places.Window.{is_cut, is_longer}
 
--- what stands from the place on is that of the text
+-- what is from the place on is that of the text
 pub record IsSpot (text : List ℕ) (spot : Spot) : Type 0 where
   pub rest : chars spot.rest.now ≡ drop spot.place (chars text)
 

@@ -7,7 +7,7 @@ use Rattle.std.specs.Str.{chars}
 abbrev pub is_longer : ℕ → List ℕ → Bool
 is_longer most line = nat_lt most (length (chars line))
 
--- a line has more code points than so many behind a start
+-- a line has more code points than so many after a start
 abbrev pub has_more : ℕ → List ℕ → ℕ → Bool
 has_more most line start = nat_lt most (length (drop start (chars line)))
 
@@ -20,7 +20,7 @@ cut_mark false = []
 unfoldable pub window_points : List ℕ → ℕ → List ℕ
 window_points line start = flat_map encode_utf8 (take 198 (drop start (chars line)))
 
--- these, with `…` on each side where more of the line stands
+-- these, with `…` on each side where more of the line is
 unfoldable pub cut_out : List ℕ → ℕ → List ℕ
 cut_out line start =
     cut_mark (nat_lt 0 start) ++ (window_points line start ++ cut_mark (has_more 198 line start))
@@ -30,7 +30,7 @@ cut_out line start =
 unfoldable pub window : List ℕ → ℕ → List ℕ
 window line place = if is_longer 200 line then cut_out line (place - 99) else line
 
--- Where the place stands in what is shown. Before a place that is further on, `…` and 99 code points stand.
+-- Where the place is in what is shown. Before a place that is further on, `…` and 99 code points are.
 abbrev pub window_place : List ℕ → ℕ → ℕ
 window_place line place = if is_longer 200 line then min place 100 else place
 

@@ -1,4 +1,4 @@
--- What each rule of valid URL strings asks (URL Standard, sections 3.4 and 4.3), where it stands, and an example.
+-- What each rule of valid URL strings asks (URL Standard, sections 3.4 and 4.3), where it is, and an example.
 use Rattle.std.specs.Prelude.{ℕ, List, codes, Option, Some, None}
 use Rattle.uv_model.specs.declared.rule.Rule.{Rule}
 use Rattle.uv_model.specs.declared.rule.Rule.TheVariants.{NoScheme, OpaqueBase, TwoSlashes, HostMissing, HostDomain}

@@ -1,10 +1,10 @@
--- Where the pages of the project stand, and which of them is about what is wrong with a line.
+-- Where the pages of the project are, and which of them is about what is wrong with a line.
 use Rattle.std.specs.Prelude.{ℕ, List, ◌++◌, codes}
 use Rattle.uv_model.specs.Violations.Rule.{rule_name}
 use Rattle.uv_report.specs.declared.line_violation.LineViolation.{LineViolation}
 use Rattle.uv_report.specs.declared.line_violation.LineViolation.TheVariants.{Refused}
 
--- The address of the site, without a `/` behind it. No site is there yet: `.example` is a name that nobody has (RFC
+-- The address of the site, without a `/` after it. No site is there yet: `.example` is a name that nobody has (RFC
 -- 2606, section 2).
 abbrev pub address : List ℕ
 address = codes "https://yuccaeave.example/urlcheck"

@@ -1,10 +1,10 @@
--- What JSON and SARIF say of the rule of a violation, with what stands round it.
+-- What JSON and SARIF say of the rule of a violation, with what is round it.
 use Rattle.std.specs.Prelude.{ℕ, List, ◌++◌, codes, decimal}
 use Rattle.uv_report.specs.declared.line_violation.LineViolation.{LineViolation}
 use Rattle.uv_report.specs.LineViolation.{violation_index, violation_name}
 use Rattle.uv_report.specs.Escaping.Quoted.{quoted}
 
--- the member with a name in an object of JSON, behind its comma, up to the text of the link
+-- the member with a name in an object of JSON, after its comma, up to the text of the link
 abbrev pub member_of : List ℕ → List ℕ
 member_of name = (codes ",\"rule\":" ++ quoted name) ++ codes ",\"text\":"
 
@@ -12,7 +12,7 @@ member_of name = (codes ",\"rule\":" ++ quoted name) ++ codes ",\"text\":"
 abbrev pub rule_member : LineViolation → List ℕ
 rule_member violation = member_of (violation_name violation)
 
--- the end of a result of SARIF behind the text of the link
+-- the end of a result of SARIF after the text of the link
 abbrev pub end_of : List ℕ → ℕ → List ℕ
 end_of name index =
     (codes "},\"ruleId\":" ++ quoted name) ++ ((codes ",\"ruleIndex\":" ++ decimal index) ++ codes "}")

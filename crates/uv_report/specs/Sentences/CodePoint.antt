@@ -96,7 +96,7 @@ is_invisible c =
     || (is_in_range 0x200B 0x200D c || (is_in_range 0x2060 0x206F c || (is_in_range 0xFFF9 0xFFFB c
     || is_in_range 0xE0001 0xE007F c)))))
 
--- nothing is seen of it where it stands alone: it isn't shown as it is, or is a tab, a space or invisible
+-- nothing is seen of it where it is alone: it isn't shown as it is, or is a tab, a space or invisible
 abbrev pub is_unseen : ℕ → Bool
 is_unseen c = is_hidden c || ((c == 9) || (is_space c || is_invisible c))
 
@@ -106,7 +106,7 @@ is_unseen c = is_hidden c || ((c == 9) || (is_space c || is_invisible c))
 abbrev pub hex_number : ℕ → List ℕ
 hex_number c = padded_integral (format_spec 32 0 4 4 (2 ^ 64 - 1)) false [] (digits 16 true c)
 
--- what stands behind the number of a code point beyond ASCII: the label of a noncharacter, nothing where nothing is
+-- what is after the number of a code point beyond ASCII: the label of a noncharacter, nothing where nothing is
 -- seen of the code point, and else the code point as it is
 abbrev pub glyph : ℕ → List ℕ
 glyph c =

@@ -34,7 +34,7 @@ host_text line place = before_first (ends_host (is_file_link line)) (encode_utf8
 -- ---- its code points
 
 -- A host with this byte has no form by the profile, whatever else it has: an ASCII code point that isn't permitted. By
--- the parser's profile a host may be percent-encoded, so that `%` may stand in it.
+-- the parser's profile a host may be percent-encoded, so that `%` may be in it.
 abbrev pub is_foreign : Profile → ℕ → Bool
 is_foreign Parser c = not ((c == percent_sign) || is_permitted Parser c)
 is_foreign profile c = not (is_permitted profile c)
@@ -94,7 +94,7 @@ profile_note Standard c =
 profile_note Wide c = taken_note (not (is_foreign Parser c)) Parser
 profile_note Parser c = []
 
--- behind that it is not allowed in a domain, of a code point that is foreign by this profile: of the one that begins a
+-- after that it is not allowed in a domain, of a code point that is foreign by this profile: of the one that begins a
 -- port elsewhere, and else which profile takes it
 unfoldable pub foreign_note : Profile → ℕ → List ℕ
 foreign_note profile c = if c == colon then codes ": a file URL has no port" else profile_note profile c
@@ -112,7 +112,7 @@ host_sentence profile host None = labels_sentence (label_fault profile host)
 unfoldable pub domain_sentence : Profile → List ℕ → List ℕ
 domain_sentence profile host = host_sentence profile host (find (is_foreign profile) host)
 
--- of the host at a place of a line: of a drive letter where that of a `file` link would stand, else of the domain
+-- of the host at a place of a line: of a drive letter where that of a `file` link would be, else of the domain
 abbrev pub host_message : Profile → List ℕ → ℕ → List ℕ
 host_message profile line place =
     if is_file_link line && is_drive_letter (host_text line place) then drive_sentence

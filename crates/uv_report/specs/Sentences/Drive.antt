@@ -1,4 +1,4 @@
--- Drive letters of `file` links that stand in the place of a host, or are written with `|` (URL Standard, sections 4.2
+-- Drive letters of `file` links that are in the place of a host, or are written with `|` (URL Standard, sections 4.2
 -- and 4.3).
 use Rattle.std.specs.Prelude.{ℕ, Bool, false, ◌&&◌, ◌==◌, List, [], ◌∷◌, codes, if◌then◌else◌}
 use Rattle.std.specs.Char.{is_ascii_alphabetic}
@@ -8,7 +8,7 @@ use Rattle.uv_model.specs.Ascii.{colon, slash, vertical_bar}
 use Rattle.uv_model.specs.Scheme.{lowercase}
 use Rattle.uv_report.specs.Sentences.Ipv6.{before_end}
 
--- what stands before the first `:` is `file` in any case
+-- what is before the first `:` is `file` in any case
 abbrev pub is_file_link : List ℕ → Bool
 is_file_link line = bytes_eq (lowercase (chars (before_first (λ b. b == colon) line))) (codes "file")
 
@@ -22,7 +22,7 @@ abbrev pub is_barred_drive : List ℕ → Bool
 is_barred_drive (letter ∷ mark ∷ []) = is_ascii_alphabetic letter && (mark == vertical_bar)
 is_barred_drive _ = false
 
--- the text is a `file` link whose first segment, behind at most three slashes, is such a drive letter
+-- the text is a `file` link whose first segment, after at most three slashes, is such a drive letter
 abbrev pub has_barred_drive : List ℕ → Bool
 has_barred_drive text =
     is_file_link text

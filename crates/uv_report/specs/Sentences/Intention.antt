@@ -19,7 +19,7 @@ use Rattle.uv_report.specs.Sentences.Drive.{has_barred_drive, without_slash}
 
 -- ---- a template
 
--- a piece stands in a text
+-- a piece is in a text
 abbrev pub has_piece : List ℕ → List ℕ → Bool
 has_piece piece [] = starts_with nat_eq [] piece
 has_piece piece (b ∷ rest) = starts_with nat_eq (b ∷ rest) piece || has_piece piece rest
@@ -63,13 +63,13 @@ abbrev pub starts_with_slashes : List ℕ → Bool
 starts_with_slashes (first ∷ second ∷ rest) = (first == slash) && (second == slash)
 starts_with_slashes _ = false
 
--- it begins with such a scheme and `://`, or with the `//` alone behind it
+-- it begins with such a scheme and `://`, or with the `//` alone after it
 abbrev pub begins_link : List ℕ → Bool
 begins_link text =
     (is_link_scheme (before_first (λ b. b == colon) text) && starts_with_slashes (after_first (λ b. b == colon) text))
     || (is_link_scheme (before_first (λ b. b == slash) text) && starts_with_slash (after_first (λ b. b == slash) text))
 
--- behind such a scheme, its `:` and up to two slashes it begins so anew
+-- after such a scheme, its `:` and up to two slashes it begins so anew
 abbrev pub has_two_schemes : List ℕ → Bool
 has_two_schemes text =
     is_link_scheme (before_first (λ b. b == colon) text)
@@ -86,7 +86,7 @@ shown_intention text =
     else if has_two_schemes text then Some TwoSchemes
     else None
 
--- `/.` stands before `//` in the mended text alone: a path that began with `//` is kept so, which two joined texts may
+-- `/.` is before `//` in the mended text alone: a path that began with `//` is kept so, which two joined texts may
 -- have made
 abbrev pub joins_slashes : List ℕ → List ℕ → Bool
 joins_slashes text mended = has_piece (codes "/.//") mended && not (has_piece (codes "/.//") text)
@@ -104,7 +104,7 @@ intention text mended = intention_beside (shown_intention text) text mended
 abbrev pub is_offered : List ℕ → List ℕ → Bool
 is_offered text mended = is_none (intention text mended)
 
--- ---- what is said of it, behind what is wrong
+-- ---- what is said of it, after what is wrong
 
 -- of an intention
 abbrev pub intention_note : Intention → List ℕ

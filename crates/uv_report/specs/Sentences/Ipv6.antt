@@ -1,4 +1,4 @@
--- An IPv6 address that stands in an authority without brackets, or in them with a zone (URL Standard, sections 3.4, 3.5
+-- An IPv6 address that is in an authority without brackets, or in them with a zone (URL Standard, sections 3.4, 3.5
 -- and 4.4; RFC 6874).
 use Rattle.std.specs.Prelude.{ℕ, Bool, false, ◌&&◌, ◌||◌, ◌==◌, List, [], ◌∷◌, is_some}
 use Rattle.std.specs.List.{after_first, before_first, list_any}
@@ -10,11 +10,11 @@ use Rattle.uv_model.specs.Hosts.Address.{IsIpv6}
 abbrev pub ends_authority : ℕ → Bool
 ends_authority c = (c == slash) || ((c == question_mark) || (c == number_sign))
 
--- what stands before the authority's end
+-- what is before the authority's end
 abbrev pub before_end : List ℕ → List ℕ
 before_end text = before_first ends_authority text
 
--- the authority of a text that has one: no `/` stands in a scheme, so that the first two are those before it
+-- the authority of a text that has one: no `/` is in a scheme, so that the first two are those before it
 abbrev pub authority_text : List ℕ → List ℕ
 authority_text line = before_end (after_first (λ b. b == slash) (after_first (λ b. b == slash) line))
 
@@ -30,15 +30,15 @@ is_ipv6 text = is_some (whole_value (read_ipv6 text))
 abbrev pub has_bare_ipv6 : List ℕ → Bool
 has_bare_ipv6 line = is_ipv6 (authority_text line)
 
--- a `%` stands in the text, and before the first one an IPv6 text
+-- a `%` is in the text, and before the first one an IPv6 text
 abbrev pub is_zoned : List ℕ → Bool
 is_zoned text = list_any (λ b. b == percent_sign) text && is_ipv6 (before_first (λ b. b == percent_sign) text)
 
--- the text begins with `[`, and so behind it
+-- the text begins with `[`, and so after it
 abbrev pub is_zoned_host : List ℕ → Bool
 is_zoned_host [] = false
 is_zoned_host (b ∷ rest) = (b == left_bracket) && is_zoned rest
 
--- the authority of a text is an IPv6 text in brackets with a zone behind it
+-- the authority of a text is an IPv6 text in brackets with a zone after it
 abbrev pub has_zone : List ℕ → Bool
 has_zone line = is_zoned_host (authority_text line)

@@ -104,7 +104,7 @@ refusal_sentence profile line refusal =
 abbrev pub refusal_message : Profile → List ℕ → Refusal → List ℕ
 refusal_message profile line refusal = refusal_sentence profile line refusal ++ meant_note line refusal.rule
 
--- what is reported of a line that is judged by a profile
+-- what is reported of a line that is checked by a profile
 abbrev pub message : Profile → List ℕ → LineViolation → List ℕ
 message profile line (Refused refusal) = refusal_message profile line refusal
 message profile line (NotUtf8 place) = violation_sentence (NotUtf8 place)

@@ -1,4 +1,4 @@
--- What is said of a text that has no scheme and no base: what stands before the scheme, or what is likely missing (URL
+-- What is said of a text that has no scheme and no base: what is before the scheme, or what is likely missing (URL
 -- Standard, section 4.3: a scheme begins with an ASCII letter).
 use Rattle.std.specs.Prelude.{ℕ, Bool, true, false, not, ◌&&◌, ◌||◌, ◌==◌, List, [], ◌∷◌, ◌++◌, codes, drop, find}
 use Rattle.std.specs.Prelude.{if◌then◌else◌, Option, Some, None, slice_get}
@@ -14,7 +14,7 @@ use Rattle.uv_report.specs.Sentences.CodePoint.{is_unseen, point_text}
 use Rattle.uv_report.specs.Sentences.Intention.{is_link_scheme, starts_with_slashes}
 use Rattle.uv_report.specs.Sentences.Ipv6.{before_end}
 
--- ---- what stands before a scheme
+-- ---- what is before a scheme
 
 -- a quotation mark, an apostrophe, a backtick or a bracket, in which links are put: `"`, `'`, `(`, `<`, `[`, U+0060,
 -- U+00AB, U+2018 and U+201C
@@ -23,12 +23,12 @@ opens_quotation c =
     (c == 0x22) || ((c == 0x27) || ((c == 0x28) || ((c == 0x3C) || ((c == 0x5B) || ((c == 0x60) || ((c == 0xAB)
     || ((c == 0x2018) || (c == 0x201C))))))))
 
--- an ASCII letter stands there
+-- an ASCII letter is there
 abbrev pub is_letter : Option ℕ → Bool
 is_letter (Some c) = is_ascii_alphabetic c
 is_letter None = false
 
--- a `:` stands there
+-- a `:` is there
 abbrev pub is_colon : Option ℕ → Bool
 is_colon (Some c) = c == colon
 is_colon None = false
@@ -37,11 +37,11 @@ is_colon None = false
 abbrev pub scheme_end : List ℕ → ℕ → Option ℕ
 scheme_end line place = find (λ c. not (is_scheme_code_point c)) (drop place (chars line))
 
--- a scheme and its `:` stand at a place
+-- a scheme and its `:` are at a place
 abbrev pub has_scheme_at : List ℕ → ℕ → Bool
 has_scheme_at line place = is_letter (slice_get (chars line) place) && is_colon (scheme_end line place)
 
--- a code point stands before the scheme, if it is the first one: nothing is seen of it, or it opens a quotation, and a
+-- a code point is before the scheme, if it is the first one: nothing is seen of it, or it opens a quotation, and a
 -- scheme follows
 abbrev pub is_stray : List ℕ → ℕ → Bool
 is_stray line c = is_unseen c || (opens_quotation c && has_scheme_at line 1)
@@ -66,7 +66,7 @@ begins_as_host (b ∷ rest) = is_ascii_alphanumeric b
 abbrev pub is_like_host : List ℕ → Bool
 is_like_host text = begins_as_host text && (list_all is_host_byte text && list_any (λ b. b == full_stop) text)
 
--- what is said behind that there is no scheme and no base: where a `:` is missing; where the text begins with `//`;
+-- what is said after that there is no scheme and no base: where a `:` is missing; where the text begins with `//`;
 -- where it begins with what looks like a domain
 unfoldable pub missing_note : List ℕ → List ℕ
 missing_note line =

@@ -1,4 +1,4 @@
-//! Texts in which some code points may not stand as they are.
+//! Texts in which some code points may not be as they are.
 ghost use Rattle.std.specs.Prelude.{◌≡◌, ◌++◌, OnOk, string_bytes, encode_utf8, unwrap_or};
 ghost use Rattle.std.specs.Option.{option_copied};
 ghost use Rattle.uv_report.specs.Escaping.Escapes as spec;
@@ -7,7 +7,7 @@ ghost use Rattle.uv_report.specs.Escaping.Escapes.{escape, escaped, shown_text};
 use crate::escaping::printable::is_printable_text;
 use std::alloc::AllocError;
 
-/// Which code points may not stand as they are, and what stands in their place.
+/// Which code points may not be as they are, and what is in their place.
 #[derive(Clone, Copy)]
 pub(crate) enum Escapes {
     /// On a terminal: controls but the tab, and what turns the direction of a text or ends a line.
@@ -47,7 +47,7 @@ pub(crate) fn push_escaped(
     Ok(())
 }
 
-// Pushes a code point, or what stands in its place.
+// Pushes a code point, or what is in its place.
 fn push_escape(text: &mut String, c: char, escapes: Escapes) -> Result<(), AllocError>
     ensures { OnOk result (string_bytes text.new ≡ string_bytes text.old ++ escape escapes c) }
 {
@@ -57,7 +57,7 @@ fn push_escape(text: &mut String, c: char, escapes: Escapes) -> Result<(), Alloc
     }
 }
 
-// What stands in the place of a code point that may not stand as it is.
+// What is in the place of a code point that may not be as it is.
 fn stand_in(escapes: Escapes, c: char) -> Option<&'static str>
     ensures { unwrap_or (option_copied result) (encode_utf8 c) ≡ escape escapes c }
 {

@@ -1,11 +1,11 @@
-//! Texts of which each byte stands in a string of JSON as it is, seen by lanes, 32 bytes a turn.
+//! Texts of which each byte is in a string of JSON as it is, seen by lanes, 32 bytes a turn.
 ghost use Rattle.std.specs.Prelude.{◌≡◌, ◌&&◌, ◌≤◌, ◌==◌, length};
 ghost use Rattle.std.specs.List.{list_all};
 ghost use Rattle.uv_report.specs.Escaping.Quoted.{is_plain};
 
 use std::simd::prelude::*;
 
-/// Whether each byte of a text stands in a string of JSON as it is.
+/// Whether each byte of a text is in a string of JSON as it is.
 pub(crate) fn is_plain_text(bytes: &[u8]) -> bool
     ensures { result ≡ list_all is_plain bytes.now }
 {
@@ -17,7 +17,7 @@ pub(crate) fn is_plain_text(bytes: &[u8]) -> bool
 }
 
 // The same of 32 bytes and more. What fills no load is seen by one that begins before it. Each load is looked at, also
-// behind one that isn't plain, which costs less than a branch for each.
+// after one that isn't plain, which costs less than a branch for each.
 fn are_loads_plain(bytes: &[u8]) -> bool
     requires { 32 ≤ length bytes.now }
     ensures { result ≡ list_all is_plain bytes.now }
@@ -26,21 +26,21 @@ fn are_loads_plain(bytes: &[u8]) -> bool
     let mut seen = 0;
     let mut at = 0;
     while at < last {
-        seen = behind_bits(seen, unplain_bits(u8x32::from_slice(&bytes[at..])));
+        seen = after_bits(seen, unplain_bits(u8x32::from_slice(&bytes[at..])));
         at += 32;
     }
-    behind_bits(seen, unplain_bits(u8x32::from_slice(&bytes[last..]))) == 0
+    after_bits(seen, unplain_bits(u8x32::from_slice(&bytes[last..]))) == 0
 }
 
-// What was seen up to a load and with it: 0 where each byte stands as it is.
+// What was seen up to a load and with it: 0 where each byte is as it is.
 #[inline(always)]
-fn behind_bits(seen: u64, bits: u64) -> u64
+fn after_bits(seen: u64, bits: u64) -> u64
     ensures { (result == 0) ≡ ((seen == 0) && (bits == 0)) }
 {
     seen | bits
 }
 
-// A bit for each byte of a load that doesn't stand as it is, in some order.
+// A bit for each byte of a load that isn't as it is, in some order.
 #[inline(always)]
 fn unplain_bits(load: u8x32) -> u64
     ensures { (result == 0) ≡ list_all is_plain load }
@@ -48,29 +48,29 @@ fn unplain_bits(load: u8x32) -> u64
     let controls = load.simd_lt(u8x32::splat(32)).to_bitmask();
     let quotation_marks = load.simd_eq(u8x32::splat(34)).to_bitmask();
     let backslashes = load.simd_eq(u8x32::splat(92)).to_bitmask();
-    behind_bits(controls, behind_bits(quotation_marks, backslashes))
+    after_bits(controls, after_bits(quotation_marks, backslashes))
 }
 
 // The same of a few bytes.
 fn are_bytes_plain(bytes: &[u8]) -> bool
     ensures { result ≡ list_all is_plain bytes.now }
 {
-    // Each byte is looked at, also behind one that isn't plain: so many are looked at at once.
+    // Each byte is looked at, also after one that isn't plain: so many are looked at at once.
     let mut seen = 0;
     for &byte in bytes {
-        seen = behind_byte(seen, byte);
+        seen = after_byte(seen, byte);
     }
     seen == 0
 }
 
-// What was seen up to a byte and with it: 0 where each stands as it is.
-fn behind_byte(seen: u8, byte: u8) -> u8
+// What was seen up to a byte and with it: 0 where each is as it is.
+fn after_byte(seen: u8, byte: u8) -> u8
     ensures { (result == 0) ≡ ((seen == 0) && is_plain byte) }
 {
     seen | unplain_bit(byte)
 }
 
-// 0 for a byte that stands as it is.
+// 0 for a byte that is as it is.
 fn unplain_bit(byte: u8) -> u8
     ensures { (result == 0) ≡ is_plain byte }
 {

@@ -7,16 +7,16 @@ ghost use Rattle.uv_report.specs.Escaping.Printable.{is_printable};
 pub(crate) fn is_printable_text(bytes: &[u8]) -> bool
     ensures { result ≡ list_all is_printable bytes.now }
 {
-    // Each byte is looked at, also behind one that isn't printable: so many are looked at at once.
+    // Each byte is looked at, also after one that isn't printable: so many are looked at at once.
     let mut seen = 0;
     for &byte in bytes {
-        seen = behind_byte(seen, byte);
+        seen = after_byte(seen, byte);
     }
     seen == 0
 }
 
 // What was seen up to a byte and with it: 0 where each is printable ASCII.
-fn behind_byte(seen: u8, byte: u8) -> u8
+fn after_byte(seen: u8, byte: u8) -> u8
     ensures { (result == 0) ≡ ((seen == 0) && is_printable byte) }
 {
     seen | bit_of(byte)

@@ -23,8 +23,8 @@ pub(crate) fn push_quoted(alloc: Global, text: &mut String, value: &str) -> Resu
     }
 }
 
-/// Pushes what is reported of a line as a string of JSON. It is pushed where it is to stand, since each byte of it
-/// mostly stands there as it is; else it is made anew.
+/// Pushes what is reported of a line as a string of JSON. It is pushed where it is to be, since each byte of it
+/// mostly is there as it is; else it is made anew.
 pub(crate) fn push_quoted_message(
     alloc: Global,
     text: &mut String,
@@ -44,7 +44,7 @@ pub(crate) fn push_quoted_message(
     push_value_message(alloc, text, profile, line, violation)
 }
 
-// Pushes `"` and what is reported of a line. Gives whether each byte of that stands in a string of JSON as it is.
+// Pushes `"` and what is reported of a line. Gives whether each byte of that is in a string of JSON as it is.
 fn push_bare_message(
     alloc: Global,
     text: &mut String,
@@ -78,7 +78,7 @@ fn push_value_message(
     push_value(alloc, text, message.as_str())
 }
 
-/// Pushes a text as a string of JSON, where each of its bytes stands as it is.
+/// Pushes a text as a string of JSON, where each of its bytes is as it is.
 pub(crate) fn push_plain(text: &mut String, value: &str) -> Result<(), AllocError>
     requires { list_all is_plain value.now ≡ true }
     ensures { OnOk result (string_bytes text.new ≡ string_bytes text.old ++ quoted value.now) }

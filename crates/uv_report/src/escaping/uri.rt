@@ -21,7 +21,7 @@ const ESCAPED: AsciiSet = ascii_set!(
 pub(crate) fn push_uri_path(text: &mut String, name: &str) -> Result<(), AllocError>
     ensures { OnOk result (string_bytes text.new ≡ string_bytes text.old ++ spec.uri_path name.now) }
 {
-    match behind_slashes(name) {
+    match after_slashes(name) {
         Some(rest) => {
             text.push_str("/%2F")?;
             push_uri_part(text, rest)
@@ -31,15 +31,15 @@ pub(crate) fn push_uri_path(text: &mut String, name: &str) -> Result<(), AllocEr
 }
 
 // What follows the `//` that a name begins with.
-fn behind_slashes(name: &str) -> Option<&str>
-    ensures { option_map (λ rest. rest.now) result ≡ spec.behind_slashes name.now }
+fn after_slashes(name: &str) -> Option<&str>
+    ensures { option_map (λ rest. rest.now) result ≡ spec.after_slashes name.now }
 {
-    behind_slash(behind_slash(name)?)
+    after_slash(after_slash(name)?)
 }
 
 // What follows the `/` that a name begins with.
-fn behind_slash(name: &str) -> Option<&str>
-    ensures { option_map (λ rest. rest.now) result ≡ spec.behind_slash name.now }
+fn after_slash(name: &str) -> Option<&str>
+    ensures { option_map (λ rest. rest.now) result ≡ spec.after_slash name.now }
 {
     name.strip_prefix('/')
 }
@@ -55,7 +55,7 @@ fn push_uri_part(text: &mut String, name: &str) -> Result<(), AllocError>
     }
 }
 
-// Whether each byte of a name stands as it is, as in most names.
+// Whether each byte of a name is as it is, as in most names.
 fn all_stay(bytes: &[u8]) -> bool
     ensures { IsTrue result → spec.uri_part bytes.now ≡ bytes.now }
 {

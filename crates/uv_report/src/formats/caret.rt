@@ -112,7 +112,7 @@ fn push_help(
     }
 }
 
-// What stands before a mended text, which is offered or isn't.
+// What is before a mended text, which is offered or isn't.
 fn help_words(offered: bool, kind: MendKind) -> &'static str
     ensures { result.now ≡ help_words offered kind }
 {
@@ -181,7 +181,7 @@ fn push_lines(text: &mut String, line: &str, place: usize) -> Result<(), AllocEr
     Ok(())
 }
 
-// Pushes what stands below the code points of a line before a place: below printable ASCII as many spaces.
+// Pushes what is below the code points of a line before a place: below printable ASCII as many spaces.
 fn push_padding(text: &mut String, line: &str, place: usize) -> Result<(), AllocError>
     ensures { OnOk result (string_bytes text.new ≡ string_bytes text.old ++ padding (take place (chars line.now))) }
 {
@@ -201,7 +201,7 @@ fn push_each_below(text: &mut String, line: &str, place: usize) -> Result<(), Al
     Ok(())
 }
 
-// Pushes what stands below a code point.
+// Pushes what is below a code point.
 fn push_below(text: &mut String, c: char) -> Result<(), AllocError>
     ensures { OnOk result (string_bytes text.new ≡ string_bytes text.old ++ below c) }
 {

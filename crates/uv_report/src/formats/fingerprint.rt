@@ -1,4 +1,4 @@
-//! What tells one diagnostic from another, in any run: by what is wrong with which text, or also by where that stands.
+//! What tells one diagnostic from another, in any run: by what is wrong with which text, or also by where that is.
 ghost use Rattle.std.specs.Prelude.{◌≡◌, ◌++◌, IfOk, OnOk, string_bytes};
 ghost use Rattle.uv_report.specs.Found.{told};
 ghost use Rattle.uv_report.specs.Formats.Fingerprint as spec;
@@ -14,7 +14,7 @@ use sha2::{Digest, Sha256};
 use std::alloc::{AllocError, Global};
 
 /// The fingerprint of what is wrong with a text: of the rule, the place, and what a report carries of the text. It is
-/// the same wherever the text stands.
+/// the same wherever the text is.
 pub(crate) fn text_fingerprint(
     alloc: Global,
     violation: LineViolation,

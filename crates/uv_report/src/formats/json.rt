@@ -57,7 +57,7 @@ fn push_object(alloc: Global, text: &mut String, diagnostic: &Found<'_>) -> Resu
     Ok(())
 }
 
-/// Pushes what stands before a number, and the number.
+/// Pushes what is before a number, and the number.
 pub(crate) fn push_number_member(
     text: &mut String,
     before: &str,
@@ -70,7 +70,7 @@ pub(crate) fn push_number_member(
     Ok(())
 }
 
-/// Pushes what stands before a text, and the text as a string of JSON.
+/// Pushes what is before a text, and the text as a string of JSON.
 pub(crate) fn push_text_member(
     alloc: Global,
     text: &mut String,
@@ -108,7 +108,7 @@ fn cut_member(cut: bool) -> &'static str
     }
 }
 
-// Pushes how a mended text stands to the refused one, where there is a mended text, and the number of the line.
+// Pushes how a mended text is to the refused one, where there is a mended text, and the number of the line.
 fn push_line(text: &mut String, diagnostic: &Found<'_>) -> Result<(), AllocError>
     ensures { OnOk result (string_bytes text.new ≡ string_bytes text.old
         ++ (line_member diagnostic.now.mended ++ decimal diagnostic.now.line)) }
@@ -116,7 +116,7 @@ fn push_line(text: &mut String, diagnostic: &Found<'_>) -> Result<(), AllocError
     push_number_member(text, line_member(diagnostic), diagnostic.line)
 }
 
-// The member that says how a mended text stands to the refused one, where there is a mended text, up to the number of
+// The member that says how a mended text is to the refused one, where there is a mended text, up to the number of
 // the line.
 fn line_member(diagnostic: &Found<'_>) -> &'static str
     ensures { result.now ≡ line_member diagnostic.now.mended }
@@ -187,7 +187,7 @@ fn push_mended(alloc: Global, text: &mut String, diagnostic: &Found<'_>) -> Resu
     }
 }
 
-/// Pushes what stands before what is reported of a line, and that as a string of JSON.
+/// Pushes what is before what is reported of a line, and that as a string of JSON.
 pub(crate) fn push_message_member(
     alloc: Global,
     text: &mut String,
@@ -204,7 +204,7 @@ pub(crate) fn push_message_member(
     Ok(())
 }
 
-/// Pushes what stands before the link that a diagnostic is about, and the link, as far as it is carried.
+/// Pushes what is before the link that a diagnostic is about, and the link, as far as it is carried.
 #[tactic(auto, unfolding(crate::specs::Places::Window::carried))]
 pub(crate) fn push_link(
     alloc: Global,

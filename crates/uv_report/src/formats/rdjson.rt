@@ -160,14 +160,14 @@ fn location(alloc: Global, diagnostic: &Found<'_>) -> Result<Value, AllocError>
     })
 }
 
-// The only suggestion: a mended text in place of all of the text, which stands in the line with this number.
+// The only suggestion: a mended text in place of all of the text, which is in the line with this number.
 fn suggestions(alloc: Global, line: u64, mended: Mended<'_>) -> Result<Value, AllocError>
     ensures { IfOk result (λ value. view value ≡ single (spec.suggestion_value line mended.entry)) }
 {
     json!(in alloc; [suggestion(alloc, line, mended)?])
 }
 
-// A mended text in place of all of the text, which stands in the line with this number.
+// A mended text in place of all of the text, which is in the line with this number.
 fn suggestion(alloc: Global, line: u64, mended: Mended<'_>) -> Result<Value, AllocError>
     ensures { IfOk result (λ value. view value ≡ spec.suggestion_value line mended.entry) }
 {
@@ -177,7 +177,7 @@ fn suggestion(alloc: Global, line: u64, mended: Mended<'_>) -> Result<Value, All
     })
 }
 
-// What stands in a line from a column on, up to the one behind it.
+// What is in a line from a column on, up to the one after it.
 fn range(alloc: Global, line: u64, start: u64, end: u64) -> Result<Value, AllocError>
     ensures { IfOk result (λ value. view value ≡ spec.range_value line start end) }
 {

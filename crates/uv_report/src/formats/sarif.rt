@@ -67,7 +67,7 @@ fn column_kind(columns: Columns) -> &'static str
     }
 }
 
-/// What the document ends with behind its results: the run's invocation, which says whether every file was read to its
+/// What the document ends with after its results: the run's invocation, which says whether every file was read to its
 /// end (SARIF 2.1.0, 3.20).
 pub(crate) fn sarif_end(completion: Completion) -> &'static str
     ensures { result.now ≡ spec.sarif_end completion }
@@ -85,7 +85,7 @@ pub(crate) fn sarif_end(completion: Completion) -> &'static str
     }
 }
 
-// Pushes the rules, behind the three violations that are no refusal.
+// Pushes the rules, after the three violations that are no refusal.
 #[tactic(auto, unfolding(crate::specs::Formats::Sarif::all_rules))]
 fn push_rules(alloc: Global, text: &mut String) -> Result<(), AllocError>
     ensures { OnOk result (string_bytes text.new ≡ string_bytes text.old ++ spec.all_rules) }
@@ -99,7 +99,7 @@ fn push_rules(alloc: Global, text: &mut String) -> Result<(), AllocError>
     Ok(())
 }
 
-// Pushes each of the rules of valid URL strings behind a comma.
+// Pushes each of the rules of valid URL strings after a comma.
 fn push_uri_rules(alloc: Global, text: &mut String, rules: &[Rule]) -> Result<(), AllocError>
     ensures { OnOk result (string_bytes text.new ≡ string_bytes text.old ++ flat_map spec.next_rule rules.now) }
 {
@@ -139,7 +139,7 @@ fn rule_text(alloc: Global, violation: LineViolation) -> Result<String, AllocErr
     rule_object(alloc, violation)?.to_string(alloc)
 }
 
-// A rule, with what is wrong where it is violated, what it asks, its page, and where it stands in the URL Standard.
+// A rule, with what is wrong where it is violated, what it asks, its page, and where it is in the URL Standard.
 fn rule_object(alloc: Global, violation: LineViolation) -> Result<Value, AllocError>
     ensures { IfOk result (λ value. view value ≡ spec.rule_value violation) }
 {
@@ -168,7 +168,7 @@ fn worded(alloc: Global, text: &str) -> Result<Value, AllocError>
     json!(in alloc; {"text": text})
 }
 
-// Where what a rule asks stands in the URL Standard.
+// Where what a rule asks is in the URL Standard.
 fn section(alloc: Global, violation: LineViolation) -> Result<Value, AllocError>
     ensures { IfOk result (λ value. view value ≡ spec.section_value violation) }
 {
@@ -192,7 +192,7 @@ pub(crate) fn push_sarif(
 }
 
 // Pushes the result of a diagnostic, with a fix where a mended text is offered, and before it a comma where it isn't
-// the first one. What stands between two values is pushed at once, since each piece costs a call.
+// the first one. What is between two values is pushed at once, since each piece costs a call.
 fn push_result(
     alloc: Global,
     text: &mut String,
@@ -235,7 +235,7 @@ fn push_region(text: &mut String, diagnostic: &Found<'_>) -> Result<(), AllocErr
     Ok(())
 }
 
-// Pushes the fingerprint of what is wrong with the text, behind the end of what is reported.
+// Pushes the fingerprint of what is wrong with the text, after the end of what is reported.
 fn push_fingerprint(
     alloc: Global,
     text: &mut String,
@@ -255,7 +255,7 @@ fn push_fingerprint(
     Ok(())
 }
 
-/// What stands before a result, an issue or a diagnostic that isn't the first one: a comma.
+/// What is before a result, an issue or a diagnostic that isn't the first one: a comma.
 pub(crate) fn separator(is_first: bool) -> &'static str
     ensures { result.now ≡ spec.separator is_first }
 {

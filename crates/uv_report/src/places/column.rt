@@ -1,4 +1,4 @@
-//! The unit in which columns are counted, and the column behind a code point.
+//! The unit in which columns are counted, and the column after a code point.
 ghost use Rattle.std.specs.Prelude.{◌≡◌};
 ghost use Rattle.uv_report.specs.Places.Column as spec;
 
@@ -46,14 +46,14 @@ impl Columns {
     }
 }
 
-/// The column behind a code point that stands in this one; the greatest number of 64 bits for each column beyond it.
-pub(crate) fn column_behind(columns: Columns, column: u64, c: char) -> u64
-    ensures { result ≡ spec.column_behind columns column c }
+/// The column after a code point that is in this one; the greatest number of 64 bits for each column beyond it.
+pub(crate) fn column_after(columns: Columns, column: u64, c: char) -> u64
+    ensures { result ≡ spec.column_after columns column c }
 {
     column.saturating_add(point_width(columns, column, c))
 }
 
-// How many columns a code point takes that stands in this one.
+// How many columns a code point takes that is in this one.
 fn point_width(columns: Columns, column: u64, c: char) -> u64
     ensures { result ≡ spec.point_width columns column c }
 {

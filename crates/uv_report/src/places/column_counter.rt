@@ -5,11 +5,11 @@ ghost use Rattle.uv_report.specs.Places.Column.{column_at};
 ghost use Rattle.uv_report.specs.Places.ColumnCounter.{IsMark, Tells};
 ghost use Rattle.uv_report.specs.declared.places.column.Columns.TheVariants.{CodePoints};
 
-use crate::places::column::{Columns, column_behind};
+use crate::places::column::{Columns, column_after};
 use std::marker::Model;
 use uv_model::first_code_point;
 
-// A place of a text, its column, and what stands from there on.
+// A place of a text, its column, and what is from there on.
 #[derive(Clone, Copy)]
 struct Mark<'t> {
     place: usize,
@@ -50,7 +50,7 @@ impl<'t> ColumnCounter<'t> {
         }
     }
 
-    /// The column of a place: so many columns behind the text's start as what stands before the place takes.
+    /// The column of a place: so many columns after the text's start as what is before the place takes.
     pub fn column(&mut self, place: usize) -> u64
         ensures column { result ≡ column_at self.old.columns self.old.start self.old.text place }
         ensures same { self.new ≡ self.old }
@@ -86,33 +86,33 @@ fn first_mark<'t>(start: u64, text: &'t str) -> Mark<'t>
     }
 }
 
-// The mark of a place behind another, or of the text's end where it has no such place.
+// The mark of a place after another, or of the text's end where it has no such place.
 fn mark_at<'t>(columns: Columns, from: Mark<'t>, place: usize) -> Mark<'t>
     requires { from.place ≤ place }
     ensures { (start : ℕ) (text : List ℕ) → IsMark columns start text from.entry
         → Tells columns start text place result }
 {
-    match mark_behind_ascii(columns, from, place) {
+    match mark_after_ascii(columns, from, place) {
         Some(mark) => mark,
         None => mark_by_steps(columns, from, place),
     }
 }
 
-// The mark of a place behind another, where code points are counted and those between the two are ASCII: it is found
+// The mark of a place after another, where code points are counted and those between the two are ASCII: it is found
 // without a walk over them.
-fn mark_behind_ascii<'t>(columns: Columns, from: Mark<'t>, place: usize) -> Option<Mark<'t>>
+fn mark_after_ascii<'t>(columns: Columns, from: Mark<'t>, place: usize) -> Option<Mark<'t>>
     requires { from.place ≤ place }
     ensures { (start : ℕ) (text : List ℕ) → IsMark columns start text from.entry
         → IfSome result (Tells columns start text place) }
 {
     match columns {
-        Columns::CodePoints => point_behind_ascii(from, place),
+        Columns::CodePoints => point_after_ascii(from, place),
         Columns::Bytes | Columns::Utf16 | Columns::Screen => None,
     }
 }
 
 // The same of code points.
-fn point_behind_ascii<'t>(from: Mark<'t>, place: usize) -> Option<Mark<'t>>
+fn point_after_ascii<'t>(from: Mark<'t>, place: usize) -> Option<Mark<'t>>
     requires { from.place ≤ place }
     ensures { (start : ℕ) (text : List ℕ) → IsMark CodePoints start text from.entry
         → IfSome result (Tells CodePoints start text place) }
@@ -154,7 +154,7 @@ fn next_mark<'t>(columns: Columns, mark: Mark<'t>) -> Option<Mark<'t>>
     let (c, rest) = first_code_point(mark.rest)?;
     Some(Mark {
         place: mark.place + 1,
-        column: column_behind(columns, mark.column, c),
+        column: column_after(columns, mark.column, c),
         rest,
     })
 }

@@ -14,7 +14,7 @@ use crate::sentences::message::{has_credentials_in, part_length};
 use std::marker::Model;
 use uv_model::first_code_point;
 
-// A place of a text, and what stands from there on.
+// A place of a text, and what is from there on.
 #[derive(Clone, Copy)]
 struct Spot<'t> {
     place: usize,
@@ -134,15 +134,15 @@ impl<'t> SeenText<'t> {
         self.text
     }
 
-    /// What stands from a place of the text on: nothing, where it has no such place.
+    /// What is from a place of the text on: nothing, where it has no such place.
     pub(crate) fn rest_at(&self, place: usize) -> &'t str
         ensures { chars result.now ≡ drop place (chars self.now) }
     {
         if self.last.place <= place {
-            return rest_behind(self.last, place);
+            return rest_after(self.last, place);
         }
         if self.window.place <= place {
-            return rest_behind(self.window, place);
+            return rest_after(self.window, place);
         }
         rest_in(self.text, place)
     }
@@ -226,14 +226,14 @@ fn first_spot<'t>(text: &'t str) -> Spot<'t>
     spot_at(0, text)
 }
 
-// A place, before what stands from there on.
+// A place, before what is from there on.
 fn spot_at<'t>(place: usize, rest: &'t str) -> Spot<'t>
     ensures { (text : List ℕ) → chars rest.entry.now ≡ drop place (chars text) → IsSpot text result }
 {
     Spot { place, rest }
 }
 
-// The part that begins at a place, before what stands from there on.
+// The part that begins at a place, before what is from there on.
 fn part_from(place: usize, rest: &str) -> Part
     ensures { (text : List ℕ) → chars rest.now ≡ drop place (chars text) → IsPart text result }
 {
@@ -244,8 +244,8 @@ fn part_from(place: usize, rest: &str) -> Part
     }
 }
 
-// What stands from a place on, which isn't before another.
-fn rest_behind<'t>(spot: Spot<'t>, place: usize) -> &'t str
+// What is from a place on, which isn't before another.
+fn rest_after<'t>(spot: Spot<'t>, place: usize) -> &'t str
     requires { spot.place ≤ place }
     ensures { (text : List ℕ) → IsSpot text spot.entry → chars result.now ≡ drop place (chars text) }
 {

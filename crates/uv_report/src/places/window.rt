@@ -5,7 +5,7 @@ ghost use Rattle.uv_report.specs.Places.Window as spec;
 
 use crate::places::seen_text::SeenText;
 use std::alloc::{AllocError, Global};
-use uv_model::{behind_code_points, first_code_point};
+use uv_model::{after_code_points, first_code_point};
 
 /// What is shown of a line of which a place is reported: the line, where it has at most 200 code points, else a window
 /// of it, with `…` on each side that is cut.
@@ -38,18 +38,18 @@ fn point_in(line: &str, place: usize) -> Option<char>
     }
 }
 
-/// What stands from a place of a line on: nothing, where it has no such place.
+/// What is from a place of a line on: nothing, where it has no such place.
 pub(crate) fn rest_in(line: &str, place: usize) -> &str
     ensures { chars result.now ≡ drop place (chars line.now) }
 {
     // ASCII isn't walked by code points.
     match line.split_at_checked(place) {
         Some((front, rest)) if front.is_ascii() => rest,
-        _ => behind_code_points(line, place),
+        _ => after_code_points(line, place),
     }
 }
 
-/// The window from a start on, with `…` on each side where more of the line stands.
+/// The window from a start on, with `…` on each side where more of the line is.
 #[tactic(auto, unfolding(crate::specs::Places::Window::cut_out, crate::specs::Places::Window::window_points))]
 pub(crate) fn cut_out(
     alloc: Global,

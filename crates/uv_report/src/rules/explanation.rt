@@ -13,7 +13,7 @@ use uv_model::Rule;
 pub struct Explanation {
     /// What the rule asks, in a sentence or two.
     pub asks: &'static str,
-    /// The section of the URL Standard in which it stands, and what that section calls it.
+    /// The section of the URL Standard in which it is, and what that section calls it.
     pub section: &'static str,
     /// The base that the example is read against, or `None` where it is read alone.
     pub base: Option<&'static str>,

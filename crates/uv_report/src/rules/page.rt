@@ -1,4 +1,4 @@
-//! Where the pages of the project stand, and which of them is about what is wrong with a line.
+//! Where the pages of the project are, and which of them is about what is wrong with a line.
 ghost use Rattle.std.specs.Prelude.{◌≡◌, ◌++◌, IfOk, OnOk, codes, string_bytes};
 ghost use Rattle.uv_model.specs.Violations.Rule.{rule_name};
 ghost use Rattle.uv_report.specs.Rules.Page as spec;

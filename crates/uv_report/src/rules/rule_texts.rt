@@ -1,4 +1,4 @@
-//! What JSON and SARIF say of the rule of a violation, each written out with what stands round it: a diagnostic is
+//! What JSON and SARIF say of the rule of a violation, each written out with what is round it: a diagnostic is
 //! written in few pieces, since each costs a call.
 ghost use Rattle.std.specs.Prelude.{◌≡◌, ◌+◌};
 ghost use Rattle.uv_model.specs.Violations.Rule.{rule_name, rule_number};
@@ -41,8 +41,8 @@ fn refused_member(rule: Rule) -> &'static str
     }
 }
 
-/// The end of a result of SARIF behind the text of the link: the name of a violation as the one of its rule, and where
-/// that stands among all.
+/// The end of a result of SARIF after the text of the link: the name of a violation as the one of its rule, and where
+/// that is among all.
 pub(crate) fn result_end(violation: LineViolation) -> &'static str
     ensures { result.now ≡ spec.result_end violation }
 {

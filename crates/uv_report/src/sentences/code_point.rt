@@ -208,7 +208,7 @@ fn is_noncharacter(c: char) -> bool
     }
 }
 
-/// Whether nothing is seen of a code point that stands alone: it isn't shown as it is, or is a tab, a space or
+/// Whether nothing is seen of a code point that is alone: it isn't shown as it is, or is a tab, a space or
 /// invisible.
 pub(crate) fn is_unseen(c: char) -> bool
     ensures { result ≡ spec.is_unseen c }

@@ -76,7 +76,7 @@ impl LabelFault {
 }
 
 /// Pushes why the host that begins at a place of a line is no valid domain by a profile: that it is a drive letter,
-/// which code point may not stand in it, or what is wrong with a label of it, else the rule's sentence.
+/// which code point may not be in it, or what is wrong with a label of it, else the rule's sentence.
 pub(crate) fn push_domain_sentence(
     alloc: Global,
     text: &mut String,
@@ -150,7 +150,7 @@ fn parser_note(foreign: u8) -> &'static str
     }
 }
 
-// What is said behind a byte that is not allowed in a domain: of the one that begins a port elsewhere, and else which
+// What is said after a byte that is not allowed in a domain: of the one that begins a port elsewhere, and else which
 // profile takes it.
 #[tactic(auto, unfolding(crate::specs::Sentences::Domain::foreign_note))]
 fn foreign_note(profile: Profile, foreign: u8) -> &'static str
@@ -234,7 +234,7 @@ fn host_at<'t>(line: &SeenText<'t>, place: usize) -> &'t [u8]
     before_end(is_file_link(line.as_str()), line.rest_at(place).as_bytes())
 }
 
-// What stands before the end of a host, of a `file` link or another one.
+// What is before the end of a host, of a `file` link or another one.
 fn before_end(is_file: bool, text: &[u8]) -> &[u8]
     ensures { result.now ≡ before_first (spec.ends_host is_file) text.now }
 {
@@ -300,7 +300,7 @@ fn has_inner_hyphens(label: &[u8]) -> bool
     is_hyphen_at(label, 2) && is_hyphen_at(label, 3)
 }
 
-// Whether a hyphen stands there.
+// Whether a hyphen is there.
 fn is_hyphen_at(label: &[u8], at: usize) -> bool
     ensures { result ≡ (slice_index label.now at == 45) }
 {

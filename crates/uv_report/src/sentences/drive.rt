@@ -1,4 +1,4 @@
-//! Drive letters of `file` links that stand in the place of a host, or are written with `|`.
+//! Drive letters of `file` links that are in the place of a host, or are written with `|`.
 ghost use Rattle.std.specs.List.{after_first, before_first};
 ghost use Rattle.std.specs.Prelude.{◌≡◌, ◌==◌};
 ghost use Rattle.uv_model.specs.Ascii.{colon};
@@ -11,19 +11,19 @@ use uv_model::is_name;
 pub(crate) const IN_PLACE_OF_A_HOST: &str =
     "a drive letter is written after file:///, and not in place of a host";
 
-/// Whether a text is a `file` link whose first segment, behind at most three slashes, is a letter and `|`.
+/// Whether a text is a `file` link whose first segment, after at most three slashes, is a letter and `|`.
 pub(crate) fn has_barred_drive(text: &str) -> bool
     ensures { result ≡ spec.has_barred_drive text.now }
 {
     is_file_link(text) && is_barred_drive(before_end(first_segment(text).as_bytes()))
 }
 
-// What stands behind the first `:` and at most three slashes.
+// What is after the first `:` and at most three slashes.
 fn first_segment(text: &str) -> &str
     ensures { result.now ≡ spec.without_slash (spec.without_slash (spec.without_slash
         (after_first (λ b. b == colon) text.now))) }
 {
-    without_slash(without_slash(without_slash(behind_scheme(text))))
+    without_slash(without_slash(without_slash(after_scheme(text))))
 }
 
 // Whether a segment is a letter and `|`, which the URL parser reads as a drive letter.
@@ -46,14 +46,14 @@ pub(crate) fn without_slash(text: &str) -> &str
     }
 }
 
-/// Whether what stands before the first `:` is `file` in any case.
+/// Whether what is before the first `:` is `file` in any case.
 pub(crate) fn is_file_link(line: &str) -> bool
     ensures { result ≡ spec.is_file_link line.now }
 {
     is_name(before_colon(line), "file")
 }
 
-/// What stands before the first `:`.
+/// What is before the first `:`.
 pub(crate) fn before_colon(line: &str) -> &str
     ensures { result.now ≡ before_first (λ b. b == colon) line.now }
 {
@@ -63,12 +63,12 @@ pub(crate) fn before_colon(line: &str) -> &str
     }
 }
 
-/// What stands behind the first `:`.
-pub(crate) fn behind_scheme(line: &str) -> &str
+/// What is after the first `:`.
+pub(crate) fn after_scheme(line: &str) -> &str
     ensures { result.now ≡ after_first (λ b. b == colon) line.now }
 {
     match line.split_once(':') {
-        Some((_, behind)) => behind,
+        Some((_, after)) => after,
         None => "",
     }
 }

@@ -6,28 +6,28 @@ ghost use Rattle.uv_model.specs.Path.{starts_with_slash};
 ghost use Rattle.uv_report.specs.Sentences.Intention as spec;
 
 use crate::places::seen_text::SeenText;
-use crate::sentences::drive::{before_colon, behind_scheme, has_barred_drive, without_slash};
-use crate::sentences::ipv6::behind_slash;
+use crate::sentences::drive::{after_scheme, before_colon, has_barred_drive, without_slash};
+use crate::sentences::ipv6::after_slash;
 use std::alloc::AllocError;
 use uv_model::{Class, Rule, class_of};
 
 /// What the author of a refused text likely meant, which the mended text isn't.
 #[derive(Clone, Copy, PartialEq, Eq)]
 pub enum Intention {
-    /// A template, which a program writes another text for: `{{`, `{%`, `${`, `<%` or `%s` stands in the text.
+    /// A template, which a program writes another text for: `{{`, `{%`, `${`, `<%` or `%s` is in the text.
     Template,
     /// A path of Windows: the text begins with a letter, `:` and `\`, or with `\\`.
     WindowsPath,
     /// A drive letter: a letter and `|` are the first segment of a `file` link, as in `file:///C|/x`.
     DriveLetter,
-    /// One URL alone: a scheme stands behind another one, as in `http://http://h/`.
+    /// One URL alone: a scheme is after another one, as in `http://http://h/`.
     TwoSchemes,
     /// One slash: the mended text keeps two of them as `/.//`.
     JoinedSlashes,
 }
 
 impl Intention {
-    // What is said of it, behind what is wrong.
+    // What is said of it, after what is wrong.
     fn note(self) -> &'static str
         ensures { result.now ≡ spec.intention_note self }
     {
@@ -180,20 +180,20 @@ fn is_windows_path(text: &[u8]) -> bool
     }
 }
 
-// Whether behind a scheme that `//` follows, its `:` and up to two slashes another one begins a link.
+// Whether after a scheme that `//` follows, its `:` and up to two slashes another one begins a link.
 fn has_two_schemes(text: &str) -> bool
     ensures { result ≡ spec.has_two_schemes text.now }
 {
     is_link_scheme(before_colon(text))
-        && begins_link(without_slash(without_slash(behind_scheme(text))))
+        && begins_link(without_slash(without_slash(after_scheme(text))))
 }
 
-// Whether a text begins with a scheme that `//` follows and `://`, or with the `//` alone behind it.
+// Whether a text begins with a scheme that `//` follows and `://`, or with the `//` alone after it.
 fn begins_link(text: &str) -> bool
     ensures { result ≡ spec.begins_link text.now }
 {
-    (is_link_scheme(before_colon(text)) && starts_with_slashes(behind_scheme(text).as_bytes()))
-        || (is_link_scheme(before_slash(text)) && starts_with_slash(behind_slash(text).as_bytes()))
+    (is_link_scheme(before_colon(text)) && starts_with_slashes(after_scheme(text).as_bytes()))
+        || (is_link_scheme(before_slash(text)) && starts_with_slash(after_slash(text).as_bytes()))
 }
 
 /// Whether a text is a scheme that `//` follows.
@@ -227,7 +227,7 @@ pub(crate) fn starts_with_slash(text: &[u8]) -> bool
     matches!(text, [b'/', ..])
 }
 
-/// What stands before the first `/`.
+/// What is before the first `/`.
 pub(crate) fn before_slash(text: &str) -> &str
     ensures { result.now ≡ before_first (λ b. b == slash) text.now }
 {

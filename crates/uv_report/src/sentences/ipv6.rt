@@ -1,4 +1,4 @@
-//! An IPv6 address that stands in an authority without brackets, or in them with a zone.
+//! An IPv6 address that is in an authority without brackets, or in them with a zone.
 ghost use Rattle.std.specs.List.{after_first, before_first};
 ghost use Rattle.std.specs.Prelude.{◌≡◌, ◌==◌, ◌↔◌, IsTrue};
 ghost use Rattle.uv_model.specs.Ascii.{percent_sign, slash};
@@ -26,20 +26,20 @@ fn is_ipv6(text: &[u8]) -> bool
 fn authority_of(line: &str) -> &[u8]
     ensures { result.now ≡ spec.authority_text line.now }
 {
-    before_end(behind_slash(behind_slash(line)).as_bytes())
+    before_end(after_slash(after_slash(line)).as_bytes())
 }
 
-/// What stands behind the first `/`.
-pub(crate) fn behind_slash(text: &str) -> &str
+/// What is after the first `/`.
+pub(crate) fn after_slash(text: &str) -> &str
     ensures { result.now ≡ after_first (λ b. b == slash) text.now }
 {
     match text.split_once('/') {
-        Some((_, behind)) => behind,
+        Some((_, after)) => after,
         None => "",
     }
 }
 
-/// What stands before the end of an authority.
+/// What is before the end of an authority.
 pub(crate) fn before_end(text: &[u8]) -> &[u8]
     ensures { result.now ≡ spec.before_end text.now }
 {
@@ -56,14 +56,14 @@ pub(crate) fn ends_authority(byte: u8) -> bool
     byte == b'/' || byte == b'?' || byte == b'#'
 }
 
-/// Whether the authority of a text is an IPv6 text in brackets with a zone behind it.
+/// Whether the authority of a text is an IPv6 text in brackets with a zone after it.
 pub(crate) fn has_zone(line: &str) -> bool
     ensures { result ≡ spec.has_zone line.now }
 {
     is_zoned_host(authority_of(line))
 }
 
-// Whether a host begins with `[`, and behind it an IPv6 text stands before a `%`.
+// Whether a host begins with `[`, and after it an IPv6 text is before a `%`.
 fn is_zoned_host(host: &[u8]) -> bool
     ensures { result ≡ spec.is_zoned_host host.now }
 {
@@ -73,14 +73,14 @@ fn is_zoned_host(host: &[u8]) -> bool
     }
 }
 
-// Whether an IPv6 text stands before a `%`.
+// Whether an IPv6 text is before a `%`.
 fn is_zoned(text: &[u8]) -> bool
     ensures { result ≡ spec.is_zoned text.now }
 {
     text.contains(&b'%') && is_ipv6(before_percent(text))
 }
 
-// What stands before the first `%`.
+// What is before the first `%`.
 fn before_percent(text: &[u8]) -> &[u8]
     ensures { result.now ≡ before_first (λ b. b == percent_sign) text.now }
 {

@@ -25,7 +25,7 @@ const ZONE: &str = "an IPv6 address in a URL has no zone: leave out the % and wh
 
 const BARE_IPV6: &str = "a host that is an IPv6 address is written in brackets";
 
-/// What is reported of a line that is judged by a profile, in a sentence without its end.
+/// What is reported of a line that is checked by a profile, in a sentence without its end.
 pub(crate) fn message(
     alloc: Global,
     profile: Profile,
@@ -40,7 +40,7 @@ pub(crate) fn message(
     Ok(text)
 }
 
-/// Pushes what is reported of a line that is judged by a profile, in a sentence without its end.
+/// Pushes what is reported of a line that is checked by a profile, in a sentence without its end.
 pub fn push_message(
     alloc: Global,
     text: &mut String,
@@ -53,7 +53,7 @@ pub fn push_message(
     push_seen_message(alloc, text, profile, &SeenText::new(line), violation)
 }
 
-/// Pushes what is reported of a line that was seen, and is judged by a profile.
+/// Pushes what is reported of a line that was seen, and is checked by a profile.
 pub(crate) fn push_seen_message(
     alloc: Global,
     text: &mut String,

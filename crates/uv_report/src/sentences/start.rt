@@ -1,4 +1,4 @@
-//! What is said of a text that has no scheme and no base: what stands before the scheme, or what is likely missing.
+//! What is said of a text that has no scheme and no base: what is before the scheme, or what is likely missing.
 ghost use Rattle.std.specs.List.{list_all};
 ghost use Rattle.std.specs.Prelude.{◌≡◌, ◌++◌, OnOk, codes, string_bytes};
 ghost use Rattle.uv_model.specs.Scheme.{is_scheme_code_point};
@@ -12,11 +12,11 @@ use crate::sentences::code_point::{is_unseen, push_point};
 use crate::sentences::intention::{
     before_slash, is_link_scheme, starts_with_slash, starts_with_slashes,
 };
-use crate::sentences::ipv6::{before_end, behind_slash};
+use crate::sentences::ipv6::{after_slash, before_end};
 use std::alloc::{AllocError, Global};
 use uv_model::Rule;
 
-/// Pushes what is said of a text without a scheme that begins with this code point: that it stands before the scheme,
+/// Pushes what is said of a text without a scheme that begins with this code point: that it is before the scheme,
 /// or that there is none, and what is likely missing.
 pub(crate) fn push_start_sentence(
     alloc: Global,
@@ -48,7 +48,7 @@ fn push_first(
     }
 }
 
-// Pushes that a code point stands before the scheme.
+// Pushes that a code point is before the scheme.
 fn push_stray(alloc: Global, text: &mut String, c: char) -> Result<(), AllocError>
     ensures { OnOk result (string_bytes text.new
         ≡ string_bytes text.old ++ (point_text c ++ codes " is before the scheme")) }
@@ -85,7 +85,7 @@ fn missing_note(line: &str) -> &'static str
     ""
 }
 
-// Whether a code point stands before the scheme, if it is the first one.
+// Whether a code point is before the scheme, if it is the first one.
 fn is_stray(line: &SeenText<'_>, c: char) -> bool
     ensures { result ≡ spec.is_stray line.now c }
 {
@@ -107,14 +107,14 @@ fn opens_quotation(c: char) -> bool
         || c == '\u{201C}'
 }
 
-// Whether a scheme and its `:` stand at a place.
+// Whether a scheme and its `:` are at a place.
 fn has_scheme_at(line: &SeenText<'_>, place: usize) -> bool
     ensures { result ≡ spec.has_scheme_at line.now place }
 {
     is_letter(line.point_at(place)) && is_colon(scheme_end(line, place))
 }
 
-// Whether an ASCII letter stands there.
+// Whether an ASCII letter is there.
 fn is_letter(point: Option<char>) -> bool
     ensures { result ≡ spec.is_letter point }
 {
@@ -124,7 +124,7 @@ fn is_letter(point: Option<char>) -> bool
     }
 }
 
-// Whether a `:` stands there.
+// Whether a `:` is there.
 fn is_colon(point: Option<char>) -> bool
     ensures { result ≡ spec.is_colon point }
 {
@@ -143,7 +143,7 @@ fn scheme_end(line: &SeenText<'_>, place: usize) -> Option<char>
         .find(|c| !is_scheme_code_point(*c))
 }
 
-// Whether a code point may stand in a scheme behind its first.
+// Whether a code point may be in a scheme after its first.
 fn is_scheme_code_point(c: char) -> bool
     ensures { result ≡ is_scheme_code_point c }
 {
@@ -154,7 +154,7 @@ fn is_scheme_code_point(c: char) -> bool
 fn lacks_colon(line: &str) -> bool
     ensures { result ≡ spec.lacks_colon line.now }
 {
-    is_link_scheme(before_slash(line)) && starts_with_slash(behind_slash(line).as_bytes())
+    is_link_scheme(before_slash(line)) && starts_with_slash(after_slash(line).as_bytes())
 }
 
 // Whether a text looks like a domain: letters, digits, `-` and `.`, with a letter or a digit first.

@@ -28,8 +28,8 @@ returns c =
     let long = length-drop start bytes in
     let whole : take 32 (drop start bytes) ≡ drop start bytes
     = take_all 32 (drop start bytes) (omega (arith, c.requires)) in
-    let behind : start ≤ c.loop-at.at = omega (arith, c.loop-at-test.false) in (
-      λ yes. ascii_joined c.loop-at.at start bytes behind c.loop-at.invariant.1
+    let after : start ≤ c.loop-at.at = omega (arith, c.loop-at-test.false) in (
+      λ yes. ascii_joined c.loop-at.at start bytes after c.loop-at.invariant.1
           (subst (λ (l : List ℕ). IsAscii l) whole (c.is_load_ascii-2.ensures.0 yes)),
       λ ascii. c.is_load_ascii-2.ensures.1 (IsAscii-take _ 32 (IsAscii-drop _ start ascii)),
     )

@@ -12,8 +12,8 @@ loop-at-preserved c =
     = omega (arith, c.loop-at-test.true, c.requires, c.loop-at.invariant.long) in
     let other : Refusal = record { place = 0; rule = NoScheme } in
     record {
-      utf8 = c.behind_passed-left.utf8;
-      behind = c.behind_passed-left.ensures;
+      utf8 = c.after_passed-left.utf8;
+      after = c.after_passed-left.ensures;
       prefix =
           written_more (fault_of c.args.text.now) c.args.found.now c.loop-at.out c.loop-at.at other _
           c.loop-at-test.true room c.loop-at.invariant.prefix

@@ -1,4 +1,4 @@
--- The prefix of the buffer has the faults so far, and what is left of the text stands behind the last of them.
+-- The prefix of the buffer has the faults so far, and what is left of the text is after the last of them.
 use Rattle.std.proofs.Common.{◌≡◌, ℕ, List, IsUtf8, length, map, take, drop}
 use Rattle.std.specs.Str.{chars}
 use Rattle.uv_model.specs.declared.rule.Refusal.{Refusal}
@@ -10,7 +10,7 @@ use Rattle.urlcheck_c.proofs.buffers.store_all.Given as goal
 pub record AreWritten (text : List ℕ) (found : List Refusal) (old now : List Fault) (count passed : ℕ)
     (left : List ℕ) : Type 0 where
   pub utf8 : IsUtf8 left
-  pub behind : chars left ≡ drop passed (chars text)
+  pub after : chars left ≡ drop passed (chars text)
   pub prefix : take count now ≡ take count (map (fault_of text) found)
   pub rest : drop count now ≡ drop count old
   pub long : length now ≡ length old

@@ -1,6 +1,6 @@
--- The bytes that are judged are the text's.
+-- The bytes that are checked are the text's.
 use Rattle.std.proofs.Common.{ℕ, List, None, inr, subst}
-use Rattle.urlcheck_c.specs.Answer.{IsJudged}
+use Rattle.urlcheck_c.specs.Answer.{IsChecked}
 use Rattle.urlcheck_c.proofs.checks.answer_alone.Goals as goal
 
 pub returns-in-Ok : goal.returns-in-Ok
@@ -9,6 +9,6 @@ returns-in-Ok c =
       _,
       _,
       c.in-Ok.ensures.1,
-      subst (λ (bytes : List ℕ). IsJudged c.in-Ok.request.profile None bytes c.judged_alone.result)
-          c.in-Ok.ensures.0 c.judged_alone.ensures,
+      subst (λ (bytes : List ℕ). IsChecked c.in-Ok.request.profile None bytes c.checked_alone.result)
+          c.in-Ok.ensures.0 c.checked_alone.ensures,
     )

@@ -6,9 +6,9 @@ use Rattle.urlcheck_c.proofs.checks.answer_of.Goals as goal
 pub returns-in-Err : goal.returns-in-Err
 returns-in-Err c = λ profile base is takes.
     inr (
-      c.unjudged-in-Err.ensures.parts,
+      c.unchecked-in-Err.ensures.parts,
       inr (
-        c.unjudged-in-Err.ensures.found ∙ c.plain-in-Err.ensures,
+        c.unchecked-in-Err.ensures.found ∙ c.plain-in-Err.ensures,
         λ none. false≢true (rw c.in-Err.is at (takes none)),
       ),
     )

@@ -1,4 +1,4 @@
--- What stands before the first LF is the first line.
+-- What is before the first LF is the first line.
 use Rattle.std.proofs.Common.{◌∙◌, ◌+◌, ◌∷◌, ℕ, List, ap, arith, drop, length, sym, take}
 use Rattle.uv_lines.specs.Lines.{lines_of}
 use Rattle.urlcheck_c.proofs.NextLineLemmas.{closed_first, closed_text}

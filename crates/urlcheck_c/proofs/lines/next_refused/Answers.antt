@@ -1,9 +1,9 @@
--- The first line that isn't valid stands behind those that are passed.
+-- The first line that isn't valid is after those that are passed.
 use Rattle.std.proofs.Common.{◌≡◌, ◌-◌, ℕ, List, arith, drop, inl, length, subst, take}
 use Rattle.std.proofs.lemmas.List.{length-drop, take_all}
 use Rattle.uv_lines.specs.Lines.{lines_of}
 use Rattle.urlcheck_c.specs.NextLine.{IsFirstLine, Passes}
-use Rattle.urlcheck_c.proofs.NextLineLemmas.{lines_behind, text_stands}
+use Rattle.urlcheck_c.proofs.NextLineLemmas.{lines_after, text_stands}
 use Rattle.urlcheck_c.proofs.lines.next_refused.Goals as goal
 
 pub returns-then-found-ne0 : goal.returns-then-found-ne0
@@ -16,7 +16,7 @@ returns-then-found-ne0 c =
     = take_all (length bytes - start) (drop start bytes) (omega (arith, rest)) in
     let line : IsFirstLine (drop start bytes) c.first_line-line.result
     = subst (λ (l : List ℕ). IsFirstLine l c.first_line-line.result) whole c.first_line-line.ensures in
-    let first = lines_behind bytes text start c.first_line-line.result.extent line.first in
+    let first = lines_after bytes text start c.first_line-line.result.extent line.first in
     let within = line.within in
     let before = c.loop-start-test.true in
     inl (record {

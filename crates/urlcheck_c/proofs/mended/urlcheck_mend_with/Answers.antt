@@ -3,7 +3,7 @@ use Rattle.std.proofs.Common.{ℕ, Some, ap, inl, refl, subst, sym}
 use Rattle.urlcheck_c.specs.declared.finding.Finding.{Finding}
 use Rattle.urlcheck_c.specs.declared.mended.Mended.{Mended}
 use Rattle.urlcheck_c.specs.Mended.{IsMendedAnswer}
-use Rattle.urlcheck_c.specs.Request.{IsUnjudged}
+use Rattle.urlcheck_c.specs.Request.{IsUnchecked}
 use Rattle.urlcheck_c.proofs.BaseLemmas.{prepared_profile}
 use Rattle.urlcheck_c.proofs.mended.urlcheck_mend_with.Goals as goal
 
@@ -20,7 +20,7 @@ returns-in-None-clause-held c = λ number is.
       ap (λ (m : Mended). m.kind) none,
       ap (λ (m : Mended). m.length) none,
       refl,
-      subst (λ (finding : Finding). IsUnjudged number (Some c.args.base_text.now) c.args.text.now finding)
+      subst (λ (finding : Finding). IsUnchecked number (Some c.args.base_text.now) c.args.text.now finding)
           (sym (ap (λ (m : Mended). m.found) none))
           (c.unread.ensures.held number c.args.base_text.now is
           (c.in-None.ensures.held number c.args.base_text.now is)),

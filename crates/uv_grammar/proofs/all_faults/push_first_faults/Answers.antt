@@ -1,4 +1,4 @@
--- The fault of the start, or else those of the judged parts.
+-- The fault of the start, or else those of the checked parts.
 use Rattle.std.specs.Str.{chars}
 use Rattle.std.proofs.lemmas.Result.{on_ok_weaker}
 use Rattle.uv_grammar.proofs.PartFaultLemmas.{start_adds, started_adds}
@@ -13,7 +13,7 @@ returns-in-Some c =
 
 pub returns-in-None : goal.returns-in-None
 returns-in-None c =
-    on_ok_weaker c.push_judged_faults.result
+    on_ok_weaker c.push_checked_faults.result
     (started_adds c.args.setting.now (chars c.args.text.now) c.args.cut.now c.args.found.now.items
-    c.push_judged_faults.new.found.items c.in-None.ensures)
-    c.push_judged_faults.ensures
+    c.push_checked_faults.new.found.items c.in-None.ensures)
+    c.push_checked_faults.ensures

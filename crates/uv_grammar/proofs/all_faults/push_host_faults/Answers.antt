@@ -2,7 +2,7 @@
 use Rattle.std.proofs.Common.{◌∙◌, ap, sym, subst, ℕ}
 use Rattle.std.specs.Str.{chars}
 use Rattle.std.proofs.lemmas.Result.{on_ok_weaker}
-use Rattle.uv_model.specs.Violations.Violation.{Behind, HostPartViolation}
+use Rattle.uv_model.specs.Violations.Violation.{After, HostPartViolation}
 use Rattle.uv_model.specs.Cut.{Cut}
 use Rattle.uv_grammar.specs.Faults.{AddsViolations}
 use Rattle.uv_grammar.specs.PartsHost.{FitsPartsHost}
@@ -10,7 +10,7 @@ use Rattle.uv_grammar.specs.PartValues.{FitsHostPart}
 use Rattle.uv_grammar.specs.Scan.{HostUnitViolation}
 use Rattle.uv_grammar.specs.Slices.{chars_of_option}
 use Rattle.uv_model.specs.Setting.{Setting}
-use Rattle.uv_grammar.proofs.PartFaultLemmas.{host_fault_adds, host_scan_adds, judged_least}
+use Rattle.uv_grammar.proofs.PartFaultLemmas.{checked_least, host_fault_adds, host_scan_adds}
 use Rattle.uv_grammar.proofs.all_faults.push_host_faults.Goals as goal
 
 pub returns-then-is_scanned : goal.returns-then-is_scanned
@@ -21,7 +21,7 @@ returns-then-is_scanned c =
     (ap (λ (cut : Cut). cut.host_text) (sym c.cut.view_is) ∙ ap chars_of_option c.in-Some.is)
     (ap (λ (s : Setting). s.class) c.setting.view_is)
     (sym c.is_scanned.ensures ∙ c.if-is_scanned.true)
-    (subst (λ (n : ℕ). AddsViolations (Behind n (HostUnitViolation (chars c.in-Some.host_text.now)))
+    (subst (λ (n : ℕ). AddsViolations (After n (HostUnitViolation (chars c.in-Some.host_text.now)))
     c.args.found.now.items c.push_scan.new.found.items) c.host_place.ensures adds))
     c.push_scan.ensures
 
@@ -33,8 +33,8 @@ returns c =
     (ap (λ (cut : Cut). cut.host_text) (sym c.cut.view_is) ∙ ap chars_of_option c.in-Some.is)
     (ap (λ (s : Setting). s.class) c.setting.view_is)
     (sym c.is_scanned.ensures ∙ c.if-is_scanned.false)
-    (rw c.into_refusal.ensures (judged_least (FitsPartsHost (FitsHostPart c.args.setting.now c.args.cut.now))
+    (rw c.into_refusal.ensures (checked_least (FitsPartsHost (FitsHostPart c.args.setting.now c.args.cut.now))
     (HostPartViolation c.args.setting.now c.args.cut.now)
-    c.in_ok-judge_host_part.field-0 c.in_ok-judge_host_part.ensures.answer))
+    c.in_ok-check_host_part.field-0 c.in_ok-check_host_part.ensures.answer))
     joined)
     c.push_fault.ensures

@@ -4,7 +4,7 @@ use Rattle.std.proofs.lemmas.Result.{on_ok_weaker}
 use Rattle.uv_model.specs.Cut.{Cut}
 use Rattle.uv_model.specs.declared.profile.Profile.TheVariants.{Parser}
 use Rattle.uv_model.specs.Violations.UnitViolation.{PathUnitViolation, UnitViolation}
-use Rattle.uv_model.specs.Violations.Violation.{Behind, PathContentViolation}
+use Rattle.uv_model.specs.Violations.Violation.{After, PathContentViolation}
 use Rattle.uv_grammar.specs.Faults.{AddsViolations}
 use Rattle.uv_grammar.proofs.SpacedPathLemmas.{plain_adds, spaced_adds}
 use Rattle.uv_grammar.proofs.all_faults.push_path_faults.Goals as goal
@@ -15,15 +15,15 @@ returns-then-takes_spaces c =
     let after = c.push_scan.new.found.items in
     let start = c.path_place-start.result in
     on_ok_weaker c.push_scan.result
-    (λ adds. subst (λ (n : ℕ). AddsViolations (Behind n (PathContentViolation c.args.setting.now c.args.cut.now))
+    (λ adds. subst (λ (n : ℕ). AddsViolations (After n (PathContentViolation c.args.setting.now c.args.cut.now))
     before after) c.path_place-start.ensures
     (spaced_adds c.args.setting.now c.args.cut.now start before after
     (sym c.takes_spaces.ensures ∙ c.if-takes_spaces.true)
     (subst (λ (followed : Bool). AddsViolations
-    (Behind start (PathUnitViolation Parser true followed c.args.cut.now.path_text)) before after)
+    (After start (PathUnitViolation Parser true followed c.args.cut.now.path_text)) before after)
     c.is_followed.ensures
     (subst (λ (text : List ℕ). AddsViolations
-    (Behind start (PathUnitViolation Parser true c.is_followed.result text)) before after)
+    (After start (PathUnitViolation Parser true c.is_followed.result text)) before after)
     (ap (λ (cut : Cut). cut.path_text) c.cut.view_is) adds))))
     c.push_scan.ensures
 
@@ -33,10 +33,10 @@ returns c =
     let after = c.push_scan-2.new.found.items in
     let start = c.path_place-start.result in
     on_ok_weaker c.push_scan-2.result
-    (λ adds. subst (λ (n : ℕ). AddsViolations (Behind n (PathContentViolation c.args.setting.now c.args.cut.now))
+    (λ adds. subst (λ (n : ℕ). AddsViolations (After n (PathContentViolation c.args.setting.now c.args.cut.now))
     before after) c.path_place-start.ensures
     (plain_adds c.args.setting.now c.args.cut.now start before after
     (sym c.takes_spaces.ensures ∙ c.if-takes_spaces.false)
-    (subst (λ (text : List ℕ). AddsViolations (Behind start (UnitViolation text)) before after)
+    (subst (λ (text : List ℕ). AddsViolations (After start (UnitViolation text)) before after)
     (ap (λ (cut : Cut). cut.path_text) c.cut.view_is) adds)))
     c.push_scan-2.ensures

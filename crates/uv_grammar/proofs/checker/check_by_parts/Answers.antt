@@ -5,7 +5,7 @@ use Rattle.std.specs.Str.{chars}
 use Rattle.std.proofs.lemmas.Bool.{false≢true}
 use Rattle.uv_grammar.specs.Bases.{as_base}
 use Rattle.uv_grammar.specs.PartsHost.{as_host}
-use Rattle.uv_grammar.proofs.VerdictLemmas.{accepted, countable, host_without_memory, refused_behind, refused_host}
+use Rattle.uv_grammar.proofs.VerdictLemmas.{accepted, countable, host_without_memory, refused_after, refused_host}
 use Rattle.uv_grammar.proofs.VerdictLemmas.{refused_port, refused_start}
 use Rattle.uv_grammar.proofs.checker.check_by_parts.Goals as goal
 
@@ -20,8 +20,8 @@ returns-in-Some-clause-answer c =
     c.cut_text-cut.result.1 c.in-Some.refusal c.cut_text-cut.ensures.cut c.cut_text-cut.ensures.setting
     c.in-Some.ensures)
 
-pub judge_host_part-requires : goal.judge_host_part-requires
-judge_host_part-requires c =
+pub check_host_part-requires : goal.check_host_part-requires
+check_host_part-requires c =
     countable c.args.text.now c.cut_text-cut.result.0 c.utf8.text (omega arith) c.cut_text-cut.ensures.cut.whole
 
 pub returns-in-Refused-clause-answer : goal.returns-in-Refused-clause-answer
@@ -31,29 +31,29 @@ returns-in-Refused-clause-answer c =
     c.cut_text-cut.result.1 c.in-Refused.refusal c.cut_text-cut.ensures.cut c.cut_text-cut.ensures.setting
     c.in_default.ensures (rw c.in-Refused.is at c.in_ok-host.ensures.answer))
 
-pub judge_port_part-requires : goal.judge_port_part-requires
-judge_port_part-requires c =
+pub check_port_part-requires : goal.check_port_part-requires
+check_port_part-requires c =
     countable c.args.text.now c.cut_text-cut.result.0 c.utf8.text (omega arith) c.cut_text-cut.ensures.cut.whole
 
-pub returns-in-Refused-judge_port_part-clause-answer : goal.returns-in-Refused-judge_port_part-clause-answer
-returns-in-Refused-judge_port_part-clause-answer c =
-    rw c.refused-in-Refused-judge_port_part.ensures
+pub returns-in-Refused-check_port_part-clause-answer : goal.returns-in-Refused-check_port_part-clause-answer
+returns-in-Refused-check_port_part-clause-answer c =
+    rw c.refused-in-Refused-check_port_part.ensures
     (refused_port c.args.profile (as_base c.args.base) (chars c.args.text.now) c.cut_text-cut.result.0
-    c.cut_text-cut.result.1 c.in-Refused-judge_port_part.refusal c.cut_text-cut.ensures.cut
+    c.cut_text-cut.result.1 c.in-Refused-check_port_part.refusal c.cut_text-cut.ensures.cut
     c.cut_text-cut.ensures.setting c.in_default.ensures (rw c.in-Valid.is at c.in_ok-host.ensures.answer).1
-    c.in-Refused-judge_port_part.ensures)
+    c.in-Refused-check_port_part.ensures)
 
-pub fault_behind_authority-requires : goal.fault_behind_authority-requires
-fault_behind_authority-requires c =
+pub fault_after_authority-requires : goal.fault_after_authority-requires
+fault_after_authority-requires c =
     countable c.args.text.now c.cut_text-cut.result.0 c.utf8.text (omega arith) c.cut_text-cut.ensures.cut.whole
 
-pub returns-in-Some-fault_behind_authority-clause-answer : goal.returns-in-Some-fault_behind_authority-clause-answer
-returns-in-Some-fault_behind_authority-clause-answer c =
-    rw c.refused-in-Some-fault_behind_authority.ensures
-    (refused_behind c.args.profile (as_base c.args.base) (chars c.args.text.now) c.cut_text-cut.result.0
-    c.cut_text-cut.result.1 c.in-Some-fault_behind_authority.refusal c.cut_text-cut.ensures.cut
+pub returns-in-Some-fault_after_authority-clause-answer : goal.returns-in-Some-fault_after_authority-clause-answer
+returns-in-Some-fault_after_authority-clause-answer c =
+    rw c.refused-in-Some-fault_after_authority.ensures
+    (refused_after c.args.profile (as_base c.args.base) (chars c.args.text.now) c.cut_text-cut.result.0
+    c.cut_text-cut.result.1 c.in-Some-fault_after_authority.refusal c.cut_text-cut.ensures.cut
     c.cut_text-cut.ensures.setting c.in_default.ensures (rw c.in-Valid.is at c.in_ok-host.ensures.answer).1
-    c.in-Valid-judge_port_part.ensures.1 c.in-Some-fault_behind_authority.ensures)
+    c.in-Valid-check_port_part.ensures.1 c.in-Some-fault_after_authority.ensures)
 
 pub build-requires : goal.build-requires
 build-requires c = (as_base c.args.base, c.cut_text-cut.ensures.cut)
@@ -64,10 +64,10 @@ returns-clause-answer c =
     c.cut_text-cut.result.1 c.cut_text-cut.ensures.cut c.cut_text-cut.ensures.setting c.in_default.ensures
     c.build.result (record {
       host = option_map as_host c.in-Valid.host;
-      port = c.in-Valid-judge_port_part.port;
+      port = c.in-Valid-check_port_part.port;
       built = c.build.ensures;
       fits_host = (rw c.in-Valid.is at c.in_ok-host.ensures.answer).0;
-      fits_port = c.in-Valid-judge_port_part.ensures.0;
+      fits_port = c.in-Valid-check_port_part.ensures.0;
       silent = c.in-None.ensures;
     })
 

@@ -1,4 +1,4 @@
--- A cut that is judged but for the host, and a file link, are so by this profile and against this base.
+-- A cut that is checked but for the host, and a file link, are so by this profile and against this base.
 use Rattle.std.proofs.Common.{refl}
 use Rattle.std.specs.Prelude.{Some}
 use Rattle.std.specs.Str.{chars}
@@ -16,20 +16,20 @@ pub returns-in-Some-address_of-clause-answer : goal.returns-in-Some-address_of-c
 returns-in-Some-address_of-clause-answer c =
     let base = as_base c.args.base in
     let setting = setting_of c.args.profile base c.in-Some.cut.scheme in
-    let judged = c.in-Some.ensures c.in-Some-address_of.ensures.text c.args.profile base in
-    accepted c.args.profile base (chars c.args.text.now) c.in-Some.cut setting judged.is_cut refl judged.started
+    let checked = c.in-Some.ensures c.in-Some-address_of.ensures.text c.args.profile base in
+    accepted c.args.profile base (chars c.args.text.now) c.in-Some.cut setting checked.is_cut refl checked.started
     c.build.result
     (record {
       host = Some c.in-Some-address_of.address;
       port = c.in-Some.port;
       built = c.build.ensures;
-      fits_host = c.in-Some-address_of.ensures.host setting judged.special;
-      fits_port = judged.fits_port;
-      silent = judged.silent;
+      fits_host = c.in-Some-address_of.ensures.host setting checked.special;
+      fits_port = checked.fits_port;
+      silent = checked.silent;
     })
 
-pub check_host-requires : goal.check_host-requires
-check_host-requires c =
+pub check_by_host-requires : goal.check_by_host-requires
+check_by_host-requires c =
     c.in-Some.ensures (c.if-not-is_bracketed.ensures refl) c.args.profile (as_base c.args.base)
 
 pub returns-in-Some-file_parts-clause-answer : goal.returns-in-Some-file_parts-clause-answer

@@ -1,4 +1,4 @@
--- The sides of the `:` behind a scheme, and a text without one.
+-- The sides of the `:` after a scheme, and a text without one.
 use Rattle.std.proofs.Common.{List, ℕ, Some, None, subst}
 use Rattle.uv_grammar.specs.TextSplits.{IsSchemeEnd}
 use Rattle.uv_grammar.proofs.SchemeEndLemmas.{scheme_boundary, splits_at_scheme_end, splits_without_scheme}

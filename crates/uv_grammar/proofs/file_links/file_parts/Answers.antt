@@ -15,7 +15,7 @@ use Rattle.uv_grammar.proofs.file_links.file_parts.Goals as goal
 pub build-requires : goal.build-requires
 build-requires c =
     let text = c.args.text.now in
-    let scheme = c.split_prefix-behind.result.0.now in
+    let scheme = c.split_prefix-after.result.0.now in
     let rest = c.split_prefix-rest.result.1 in
     let path = chars_of c.in-Some.path_text in
     let query = chars_of_option c.in-Some.query in
@@ -23,9 +23,9 @@ build-requires c =
     let same : text ≡ codes "file://" ++ drop 7 text =
     subst (λ (s : List ℕ). s ≡ codes "file://" ++ drop 7 s) c.as_bytes.ensures.value
     (c.has_prefix.ensures c.if-not-has_prefix.false) in
-    let joined = file_joined text scheme c.split_prefix-behind.result.1 c.split_prefix-rest.result.0.now rest same
-    (subst (λ (s : List ℕ). IsPrefixCut s 4 scheme c.split_prefix-behind.result.1) c.of.ensures
-    c.split_prefix-behind.ensures) c.split_prefix-rest.ensures in (
+    let joined = file_joined text scheme c.split_prefix-after.result.1 c.split_prefix-rest.result.0.now rest same
+    (subst (λ (s : List ℕ). IsPrefixCut s 4 scheme c.split_prefix-after.result.1) c.of.ensures
+    c.split_prefix-after.ensures) c.split_prefix-rest.ensures in (
       None,
       rw (joined.1, c.split_prefix.ensures.code_points)
           (file_is_cut None (chars text) (chars rest) path query fragment joined.0 c.in-Some.ensures),
@@ -34,8 +34,8 @@ build-requires c =
 pub returns : goal.returns
 returns c = λ profile base.
     let text = c.args.text.now in
-    let scheme = c.split_prefix-behind.result.0.now in
-    let behind = c.split_prefix-behind.result.1 in
+    let scheme = c.split_prefix-after.result.0.now in
+    let after = c.split_prefix-after.result.1 in
     let rest = c.split_prefix-rest.result.1 in
     let path = chars_of c.in-Some.path_text in
     let query = chars_of_option c.in-Some.query in
@@ -43,8 +43,8 @@ returns c = λ profile base.
     let same : text ≡ codes "file://" ++ drop 7 text =
     subst (λ (s : List ℕ). s ≡ codes "file://" ++ drop 7 s) c.as_bytes.ensures.value
     (c.has_prefix.ensures c.if-not-has_prefix.false) in
-    let joined = file_joined text scheme behind c.split_prefix-rest.result.0.now rest same
-    (subst (λ (s : List ℕ). IsPrefixCut s 4 scheme behind) c.of.ensures c.split_prefix-behind.ensures)
+    let joined = file_joined text scheme after c.split_prefix-rest.result.0.now rest same
+    (subst (λ (s : List ℕ). IsPrefixCut s 4 scheme after) c.of.ensures c.split_prefix-after.ensures)
     c.split_prefix-rest.ensures in
     subst (λ (p : Parts). IsAccepted profile base (chars text) p)
     (sym (c.build.ensures

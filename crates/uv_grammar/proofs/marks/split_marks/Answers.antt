@@ -5,8 +5,8 @@ use Rattle.uv_model.specs.Ascii.{number_sign, question_mark}
 use Rattle.uv_grammar.proofs.MarkSplitLemmas.{splits_at_none}
 use Rattle.uv_grammar.proofs.marks.split_marks.Goals as goal
 
-pub split_behind_mark-requires : goal.split_behind_mark-requires
-split_behind_mark-requires c =
+pub split_after_mark-requires : goal.split_after_mark-requires
+split_after_mark-requires c =
     subst (λ (s : List ℕ). IsFirstByte (is_byte2 question_mark number_sign) s (Some c.in-Some.end))
     c.as_bytes.ensures.value c.in-Some.ensures
 

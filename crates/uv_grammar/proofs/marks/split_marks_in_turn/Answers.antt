@@ -1,4 +1,4 @@
--- The splits one behind the other.
+-- The splits one after the other.
 use Rattle.std.specs.Str.{chars}
 use Rattle.uv_grammar.specs.Slices.{chars_of, chars_of_option}
 use Rattle.uv_grammar.proofs.MarkSplitLemmas.{splits_in_turn}

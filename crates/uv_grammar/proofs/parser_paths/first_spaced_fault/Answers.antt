@@ -17,7 +17,7 @@ overflow_add-here c =
     let inside = c.loop-refusal.invariant.1.inside in
     let within = c.in-Some.ensures.within in
     let fits = c.taken_spaces-spaces.ensures.fits in
-    let found = ap length c.behind_code_points-found.ensures
+    let found = ap length c.after_code_points-found.ensures
     ∙ length-drop c.in-Some.refusal.place (chars c.loop-refusal.left.now) in
     omega arith
 
@@ -27,7 +27,7 @@ overflow_add-here-in-Some c =
     let inside = c.loop-refusal.invariant.1.inside in
     let within = c.in-Some.ensures.within in
     let fits = c.taken_spaces-spaces.ensures.fits in
-    let found = ap length c.behind_code_points-found.ensures
+    let found = ap length c.after_code_points-found.ensures
     ∙ length-drop c.in-Some.refusal.place (chars c.loop-refusal.left.now) in
     omega arith
 
@@ -35,15 +35,15 @@ pub returns-then-spaces-eq0 : goal.returns-then-spaces-eq0
 returns-then-spaces-eq0 c =
     spaced_found c.args.followed (chars c.args.text.now) c.loop-refusal.here (chars c.loop-refusal.left.now)
     c.in-Some.refusal c.loop-refusal.invariant.1 c.in-Some.ensures.least
-    (rw c.behind_code_points-found.ensures at c.taken_spaces-spaces.ensures.none c.if-spaces-eq0.true)
+    (rw c.after_code_points-found.ensures at c.taken_spaces-spaces.ensures.none c.if-spaces-eq0.true)
 
 pub loop-refusal-preserved : goal.loop-refusal-preserved
 loop-refusal-preserved c = (
-  c.behind_code_points-left.utf8,
+  c.after_code_points-left.utf8,
   spaced_goes_on c.args.followed (chars c.args.text.now) c.loop-refusal.here (chars c.loop-refusal.left.now)
-      (chars c.behind_code_points-found.result.now) (chars c.behind_code_points-left.result.now) c.in-Some.refusal
+      (chars c.after_code_points-found.result.now) (chars c.after_code_points-left.result.now) c.in-Some.refusal
       c.taken_spaces-spaces.result c.loop-refusal.invariant.1 c.in-Some.ensures.least
-      c.behind_code_points-found.ensures c.behind_code_points-left.ensures c.in-Some.ensures.within
+      c.after_code_points-found.ensures c.after_code_points-left.ensures c.in-Some.ensures.within
       c.taken_spaces-spaces.ensures,
 )
 
@@ -52,10 +52,10 @@ loop-refusal-smaller c =
     let within = c.in-Some.ensures.within in
     let some = c.if-spaces-eq0.false in
     let fits = c.taken_spaces-spaces.ensures.fits in
-    let found = ap length c.behind_code_points-found.ensures
+    let found = ap length c.after_code_points-found.ensures
     ∙ length-drop c.in-Some.refusal.place (chars c.loop-refusal.left.now) in
-    let shorter = ap length c.behind_code_points-left.ensures
-    ∙ length-drop c.taken_spaces-spaces.result (chars c.behind_code_points-found.result.now) in
+    let shorter = ap length c.after_code_points-left.ensures
+    ∙ length-drop c.taken_spaces-spaces.result (chars c.after_code_points-found.result.now) in
     omega arith
 
 pub returns : goal.returns

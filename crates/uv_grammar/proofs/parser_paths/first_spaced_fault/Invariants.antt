@@ -1,4 +1,4 @@
--- What is left of the text stands behind so many code points, and no violation stands before it.
+-- What is left of the text is after so many code points, and no violation is before it.
 use Rattle.std.proofs.Common.{length}
 use Rattle.std.specs.Str.{IsUtf8, chars}
 use Rattle.uv_grammar.proofs.SpacedPathLemmas.{SpacedOn}

@@ -12,11 +12,11 @@ returns-then-followed c =
 pub returns-then-holds_any : goal.returns-then-holds_any
 returns-then-holds_any c =
     run_taken c.args.followed (chars c.args.text.now) c.count_spaces-spaces.result c.count_spaces-spaces.ensures
-    (λ alone. rw c.behind_code_points.ensures at c.holds_any.ensures.0 c.if-holds_any.true)
+    (λ alone. rw c.after_code_points.ensures at c.holds_any.ensures.0 c.if-holds_any.true)
 
 pub returns-else-holds_any : goal.returns-else-holds_any
 returns-else-holds_any c =
     run_ends c.args.followed (chars c.args.text.now) c.count_spaces-spaces.result c.count_spaces-spaces.ensures
     c.if-followed.false
     (λ some. false≢true
-    (sym c.if-holds_any.false ∙ c.holds_any.ensures.1 (rw (← c.behind_code_points.ensures) at some)))
+    (sym c.if-holds_any.false ∙ c.holds_any.ensures.1 (rw (← c.after_code_points.ensures) at some)))

@@ -1,12 +1,12 @@
--- The texts of a plain link, each cut behind the one before.
+-- The texts of a plain link, each cut after the one before.
 use Rattle.std.specs.Str.{chars}
 use Rattle.uv_grammar.proofs.plain_links.plain_cut.Goals as goal
 
 pub returns : goal.returns
 returns c = λ profile base text start. record {
-  behind = start.behind;
+  after = start.after;
   rest = start.rest;
-  after = chars c.args.start.now.rest;
+  remaining = chars c.args.start.now.rest;
   special = start.special;
   named = start.named;
   port_cut = start.port_cut;

@@ -13,6 +13,6 @@ returns c =
     IfSome_then c.named_start.result c.named_start.ensures
     (λ start is.
     is base (chars c.args.text.now)
-    (reference_cut base (chars c.args.text.now) (chars c.in-Some.behind) scheme c.in-Some.ensures
+    (reference_cut base (chars c.args.text.now) (chars c.in-Some.after) scheme c.in-Some.ensures
     c.in-Some-special_base.ensures)
     (base_scheme base scheme c.in-Some-special_base.ensures))

@@ -9,5 +9,5 @@ pub returns-in-SpecialNotFile : goal.returns-in-SpecialNotFile
 returns-in-SpecialNotFile c =
     rw c.of.ensures
     (scheme_cut (chars c.args.text.now) (chars_of c.in-Some.scheme) (chars_of c.split_scheme.result.1)
-    (chars_of c.in-Some-behind_two_slashes.behind) (rw c.in-Some.is at c.split_scheme.ensures)
-    c.in-Some-behind_two_slashes.ensures (sym c.class_of.ensures ∙ c.in-SpecialNotFile.is))
+    (chars_of c.in-Some-after_two_slashes.after) (rw c.in-Some.is at c.split_scheme.ensures)
+    c.in-Some-after_two_slashes.ensures (sym c.class_of.ensures ∙ c.in-SpecialNotFile.is))

@@ -7,8 +7,8 @@ use Rattle.uv_grammar.specs.PlainLinks.{HasAsciiPrefix}
 use Rattle.uv_grammar.proofs.PlainPrefixLemmas.{byte_ascii, digits_ascii, no_port, some_port}
 use Rattle.uv_grammar.proofs.plain_prefixes.split_port.Goals as goal
 
-pub split_prefix-behind-requires : goal.split_prefix-behind-requires
-split_prefix-behind-requires c =
+pub split_prefix-after-requires : goal.split_prefix-after-requires
+split_prefix-after-requires c =
     byte_ascii colon c.args.text (omega arith)
     (subst (λ (s : List ℕ). s ≡ colon ∷ drop 1 s) (c.as_bytes.ensures.value ∙ c.as_str.ensures)
     (c.begins_with.ensures c.if-not-begins_with.false))
@@ -24,10 +24,10 @@ returns-then-not-begins_with c = no_port (default_port (chars c.args.scheme.now)
 pub returns-in-Valid : goal.returns-in-Valid
 returns-in-Valid c =
     some_port (default_port (chars c.args.scheme.now)) c.args.text
-    c.split_prefix-behind.result.0.now c.split_prefix-behind.result.1
+    c.split_prefix-after.result.0.now c.split_prefix-after.result.1
     c.split_prefix-rest.result.0.now c.split_prefix-rest.result.1
     c.digits_prefix.result c.in-Valid.number c.without_default-port.result
     (subst (λ (s : List ℕ). s ≡ colon ∷ drop 1 s) (c.as_bytes.ensures.value ∙ c.as_str.ensures)
     (c.begins_with.ensures c.if-not-begins_with.false))
-    c.split_prefix-behind.ensures c.split_prefix-rest.ensures c.in-Valid.ensures.0
+    c.split_prefix-after.ensures c.split_prefix-rest.ensures c.in-Valid.ensures.0
     (rw c.default_port.ensures at c.without_default-port.ensures)

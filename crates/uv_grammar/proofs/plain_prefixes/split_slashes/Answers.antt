@@ -1,4 +1,4 @@
--- Two slashes and what stands behind them.
+-- Two slashes and what is after them.
 use Rattle.std.proofs.Common.{◌≡◌, ℕ, List, ◌∷◌, drop, subst, sym, ◌∙◌}
 use Rattle.uv_model.specs.Ascii.{slash}
 use Rattle.uv_model.proofs.Cuts.AuthorityCutLemmas.{two_slashes_before}

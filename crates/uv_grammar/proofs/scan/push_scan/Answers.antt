@@ -1,4 +1,4 @@
--- Behind a fault the scan goes on.
+-- After a fault the scan goes on.
 use Rattle.std.proofs.Common.{◌∙◌, ◌+◌, ◌++◌, ◌∷◌, [], ap, arith, length}
 use Rattle.std.specs.Str.{chars}
 use Rattle.std.proofs.lemmas.List.{length-drop}
@@ -9,25 +9,25 @@ pub loop-refusal-smaller : goal.loop-refusal-smaller
 loop-refusal-smaller c =
     let within = scan_within c.args.scan (chars c.loop-refusal.left.now) c.in-Some.refusal.place c.in-Some.refusal.rule
     c.in-Some.ensures.stands in
-    let shorter = ap length c.behind_code_points-left.ensures
+    let shorter = ap length c.after_code_points-left.ensures
     ∙ length-drop (c.in-Some.refusal.place + 1) (chars c.loop-refusal.left.now) in
     omega arith
 
 pub loop-refusal-preserved : goal.loop-refusal-preserved
 loop-refusal-preserved c =
     scan_goes_on c.args.scan c.args.start c.args.text.now c.args.found.now.items c.loop-refusal.found.items _
-    c.loop-refusal.here c.loop-refusal.left.now c.behind_code_points-left.result.now c.in-Some.refusal
-    c.loop-refusal.invariant c.behind_code_points-left.utf8 c.in-Some.ensures
-    (c.in_ok-push.ensures.items ∙ ap (λ r. c.loop-refusal.found.items ++ r ∷ []) c.refusal_behind.ensures)
-    c.behind_code_points-left.ensures
+    c.loop-refusal.here c.loop-refusal.left.now c.after_code_points-left.result.now c.in-Some.refusal
+    c.loop-refusal.invariant c.after_code_points-left.utf8 c.in-Some.ensures
+    (c.in_ok-push.ensures.items ∙ ap (λ r. c.loop-refusal.found.items ++ r ∷ []) c.refusal_after.ensures)
+    c.after_code_points-left.ensures
 
 pub returns : goal.returns
 returns c =
     scan_ends c.args.scan c.args.start c.args.text.now c.args.found.now.items c.loop-refusal.found.items
     c.loop-refusal.here c.loop-refusal.left.now c.loop-refusal.invariant c.in_default.ensures
 
-pub refusal_behind-requires : goal.refusal_behind-requires
-refusal_behind-requires c =
+pub refusal_after-requires : goal.refusal_after-requires
+refusal_after-requires c =
     let within = scan_within c.args.scan (chars c.loop-refusal.left.now) c.in-Some.refusal.place c.in-Some.refusal.rule
     c.in-Some.ensures.stands in
     let inside = c.loop-refusal.invariant.inside in

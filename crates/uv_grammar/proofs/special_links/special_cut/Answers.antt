@@ -2,7 +2,7 @@
 use Rattle.std.proofs.Common.{Some}
 use Rattle.std.specs.Str.{chars}
 use Rattle.uv_grammar.specs.Slices.{chars_of, chars_of_option}
-use Rattle.uv_grammar.proofs.SpecialLinkLemmas.{link_judged}
+use Rattle.uv_grammar.proofs.SpecialLinkLemmas.{link_checked}
 use Rattle.uv_grammar.proofs.special_links.special_cut.Goals as goal
 
 pub returns : goal.returns
@@ -10,16 +10,16 @@ returns c = λ known profile base.
     let scheme = Some (chars_of c.in-Some.scheme) in
     let name = chars_of c.in-Some-split_host.host_text in
     let port_text = chars_of_option c.in-Some-split_port.port_text in
-    let path = chars_of c.in-Some-split_behind.path_text in
-    let query = chars_of_option c.in-Some-split_behind.query in
-    let fragment = chars_of_option c.in-Some-split_behind.fragment in
-    link_judged profile base (chars c.args.text.now) scheme name port_text c.in-Some-split_port.port path query fragment
-    (record {
-      behind = chars c.in-Some.behind;
+    let path = chars_of c.in-Some-split_after.path_text in
+    let query = chars_of_option c.in-Some-split_after.query in
+    let fragment = chars_of_option c.in-Some-split_after.fragment in
+    link_checked profile base (chars c.args.text.now) scheme name port_text c.in-Some-split_port.port path query
+    fragment (record {
+      after = chars c.in-Some.after;
       rest = chars c.in-Some-split_host.rest;
-      after = chars c.in-Some-split_port.rest;
+      remaining = chars c.in-Some-split_port.rest;
       special = c.in-Some.ensures;
       host_cut = c.in-Some-split_host.ensures known;
       port_cut = c.in-Some-split_port.ensures;
-      units = c.in-Some-split_behind.ensures;
+      units = c.in-Some-split_after.ensures;
     })

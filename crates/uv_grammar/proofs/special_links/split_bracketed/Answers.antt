@@ -1,4 +1,4 @@
--- The text up to the first `]`, behind which it may be cut.
+-- The text up to the first `]`, after which it may be cut.
 use Rattle.std.proofs.Common.{List, ℕ, Some, lit<, subst, ◌∙◌}
 use Rattle.std.specs.Str.{IsUtf8}
 use Rattle.uv_model.specs.Ascii.{right_bracket}

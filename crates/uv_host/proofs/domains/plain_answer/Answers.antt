@@ -7,8 +7,8 @@ use Rattle.uv_host.proofs.OwnFormLemmas.{hyphens_no_form, lower_own_form, plain_
 use Rattle.uv_host.proofs.PlainLemmas.{plain_bytes, plain_from_simple}
 use Rattle.uv_host.proofs.domains.plain_answer.Goals as goal
 
-pub judge_own-requires : goal.judge_own-requires
-judge_own-requires c =
+pub check_own-requires : goal.check_own-requires
+check_own-requires c =
     plain_own_form c.args.profile c.args.name.now c.utf8.name
     (plain_from_simple c.args.name.now
     (ap (list_all is_simple) (sym (c.of-known.ensures ∙ c.as_bytes.ensures.value))
@@ -22,8 +22,8 @@ returns-then-not-is_lower_name-clause-plain c = λ plain.
     absurd (false≢true (sym other
     ∙ plain_lower c.args.profile c.args.name.now (plain_bytes c.args.name.now c.utf8.name plain)))
 
-pub judge_own-requires-then-takes_hyphens : goal.judge_own-requires-then-takes_hyphens
-judge_own-requires-then-takes_hyphens c =
+pub check_own-requires-then-takes_hyphens : goal.check_own-requires-then-takes_hyphens
+check_own-requires-then-takes_hyphens c =
     lower_own_form c.args.profile c.args.name.now c.utf8.name
     (ap (is_lower_name c.args.profile) (sym (c.of-known.ensures ∙ c.as_bytes.ensures.value))
     ∙ (sym c.is_lower_name.ensures ∙ c.if-not-is_lower_name.false))

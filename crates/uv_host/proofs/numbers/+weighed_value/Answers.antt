@@ -1,10 +1,10 @@
--- One number, or a number before a full stop and the value of what stands behind it.
+-- One number, or a number before a full stop and the value of what is after it.
 use Rattle.std.proofs.Common.{◌≡◌, ◌≤◌, ◌*◌, ◌-◌, ℕ, Some, None, sym, ap, subst, arith, lit<}
 use Rattle.std.proofs.Math.Nat.{mul-le-mul_right}
 use Rattle.std.proofs.lemmas.Str.Pattern.{split_parts}
 use Rattle.uv_model.specs.Ascii.{full_stop}
 use Rattle.uv_host.specs.ParserHosts.{IsWeighedText, weight_of}
-use Rattle.uv_host.proofs.NumberTextLemmas.{alone_from, alone_to, behind_from, behind_to, fewer_than, no_stop_from}
+use Rattle.uv_host.proofs.NumberTextLemmas.{after_from, after_to, alone_from, alone_to, fewer_than, no_stop_from}
 use Rattle.uv_host.proofs.NumberTextLemmas.{weighed_small, weight_small}
 use Rattle.uv_host.proofs.numbers.+weighed_value.Goals as goal
 
@@ -24,7 +24,7 @@ returns-then-more-eq0 t c = λ value is.
     split_parts full_stop c.args.text.now (Some (c.in-Some.first, c.in-Some.rest)) c.in-Some.ensures.cases
     (lit< tt) in
     let has =
-    behind_from c.args.more c.args.text.now c.in-Some.first.now c.in-Some.rest.now value parts.0
+    after_from c.args.more c.args.text.now c.in-Some.first.now c.in-Some.rest.now value parts.0
     (no_stop_from c.in-Some.first.now parts.1) is in
     omega (arith, has.is_more, c.if-more-eq0.true)
 
@@ -34,7 +34,7 @@ returns-in_default-byte_value t c = λ value is.
     split_parts full_stop c.args.text.now (Some (c.in-Some.first, c.in-Some.rest)) c.in-Some.ensures.cases
     (lit< tt) in
     let has =
-    behind_from c.args.more c.args.text.now c.in-Some.first.now c.in-Some.rest.now value parts.0
+    after_from c.args.more c.args.text.now c.in-Some.first.now c.in-Some.rest.now value parts.0
     (no_stop_from c.in-Some.first.now parts.1) is in
     c.in_default-byte_value.ensures has.number has.before
 
@@ -55,13 +55,13 @@ overflow_add-result t c =
     let most : c.from-in-Some-weighed_value.result * c.weight_of.result ≤ 255 * c.weight_of.result
     = mul-le-mul_right c.weight_of.result (omega (arith, c.from-in-Some-weighed_value.ensures, number.0)) in
     let (fewer, is) = fewer_than c.args.more c.if-more-eq0.false in
-    let behind =
-    weighed_small (c.args.more - 1) c.in-Some.rest.now c.in-Some-weighed_value.behind
+    let after =
+    weighed_small (c.args.more - 1) c.in-Some.rest.now c.in-Some-weighed_value.after
     c.in-Some-weighed_value.ensures in
     let one_less : c.args.more - 1 ≡ fewer = omega (arith, is) in
     let whole : weight_of c.args.more ≡ 256 * weight_of fewer = ap weight_of is in
     let part : weight_of (c.args.more - 1) ≡ weight_of fewer = ap weight_of one_less in
-    omega (arith, most, weight, behind, whole, part, c.weight_of.ensures)
+    omega (arith, most, weight, after, whole, part, c.weight_of.ensures)
 
 pub returns-in-Some-weighed_value : goal.returns-in-Some-weighed_value
 returns-in-Some-weighed_value t c =
@@ -69,12 +69,12 @@ returns-in-Some-weighed_value t c =
     split_parts full_stop c.args.text.now (Some (c.in-Some.first, c.in-Some.rest)) c.in-Some.ensures.cases
     (lit< tt) in
     let (fewer, is) = fewer_than c.args.more c.if-more-eq0.false in
-    let behind : IsWeighedText fewer c.in-Some.rest.now c.in-Some-weighed_value.behind
-    = subst (λ (n : ℕ). IsWeighedText n c.in-Some.rest.now c.in-Some-weighed_value.behind) (omega (arith, is))
+    let after : IsWeighedText fewer c.in-Some.rest.now c.in-Some-weighed_value.after
+    = subst (λ (n : ℕ). IsWeighedText n c.in-Some.rest.now c.in-Some-weighed_value.after) (omega (arith, is))
     c.in-Some-weighed_value.ensures in
     rw (c.weight_of.ensures, c.from-in-Some-weighed_value.ensures, is)
-    (behind_to fewer c.args.text.now c.in-Some.first.now c.in-Some.rest.now c.in-Some-byte_value-2.number
-    c.in-Some-weighed_value.behind parts.0 c.in-Some-byte_value-2.ensures behind)
+    (after_to fewer c.args.text.now c.in-Some.first.now c.in-Some.rest.now c.in-Some-byte_value-2.number
+    c.in-Some-weighed_value.after parts.0 c.in-Some-byte_value-2.ensures after)
 
 pub returns-in-None-weighed_value : goal.returns-in-None-weighed_value
 returns-in-None-weighed_value t c = λ value is.
@@ -82,7 +82,7 @@ returns-in-None-weighed_value t c = λ value is.
     split_parts full_stop c.args.text.now (Some (c.in-Some.first, c.in-Some.rest)) c.in-Some.ensures.cases
     (lit< tt) in
     let has =
-    behind_from c.args.more c.args.text.now c.in-Some.first.now c.in-Some.rest.now value parts.0
+    after_from c.args.more c.args.text.now c.in-Some.first.now c.in-Some.rest.now value parts.0
     (no_stop_from c.in-Some.first.now parts.1) is in
     c.in-None-weighed_value.ensures has.value
-    (subst (λ (n : ℕ). IsWeighedText n c.in-Some.rest.now has.value) (omega (arith, has.is_more)) has.behind)
+    (subst (λ (n : ℕ). IsWeighedText n c.in-Some.rest.now has.value) (omega (arith, has.is_more)) has.after)

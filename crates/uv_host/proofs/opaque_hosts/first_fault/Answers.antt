@@ -1,4 +1,4 @@
--- The code point behind the units is the first fault, and the place counts the units.
+-- The code point after the units is the first fault, and the place counts the units.
 use Rattle.std.proofs.Common.{refl}
 use Rattle.std.specs.Str.{chars}
 use Rattle.uv_host.proofs.OpaqueHostScan.{fault_found, no_fault}

@@ -5,8 +5,8 @@ use Rattle.uv_model.specs.Hosts.Domain.{IsForm}
 use Rattle.uv_model.proofs.Hosts.DomainLemmas.{IsAscii-form}
 use Rattle.uv_host.proofs.parser_hosts.parser_host.Goals as goal
 
-pub judge_form-requires : goal.judge_form-requires
-judge_form-requires c =
+pub check_form-requires : goal.check_form-requires
+check_form-requires c =
     let is : IsForm Parser (chars c.args.text.now) (string_bytes c.in-Some.form)
     = rw c.in-Some.is at c.in_ok-form.ensures in
     IsAscii-form Parser (chars c.args.text.now) (string_bytes c.in-Some.form) is

@@ -1,4 +1,4 @@
--- What goes on behind what goes on.
+-- What goes on after what goes on.
 use Rattle.std.proofs.Common.{◌≡◌, ◌+◌, false, sym, ap, ◌∙◌, arith}
 use Rattle.uv_host.specs.PlainNames.{signed_before}
 use Rattle.uv_host.proofs.NamePrefixLemmas.{goes_further, signed_at}
@@ -19,12 +19,12 @@ loop-ahead-preserved c =
     c.loop-ahead.invariant.more in
     let all = c.loop-ahead-test.true in
     let signed : c.loop-ahead.signed ≡ signed_before c.args.low false text (end + c.loop-ahead.ahead) =
-    c.loop-ahead.invariant.behind all
+    c.loop-ahead.invariant.after all
     ∙ (sym (signed_at c.args.low text end 31) ∙ ap (λ n. signed_before c.args.low false text (end + n)) (sym all)) in
     record {
       prefix = prefix;
       more = rw (← signed) c.chain_run.ensures.goes_on;
-      behind = c.chain_run.ensures.signed;
+      after = c.chain_run.ensures.signed;
     }
 
 pub overflow_add-result : goal.overflow_add-result

@@ -8,7 +8,7 @@ abbrev pub invariant-loop-ahead : goal.invariant-loop-ahead
 invariant-loop-ahead l = record {
   prefix : IsJoined l.low false l.text l.end;
   more : IsJoined l.low (signed_before l.low false l.text l.end) (drop l.end l.text) l.ahead;
-  behind : l.ahead ≡ 32 → l.signed ≡ is_sign l.low (slice_index (drop l.end l.text) 31);
+  after : l.ahead ≡ 32 → l.signed ≡ is_sign l.low (slice_index (drop l.end l.text) 31);
 }
 
 abbrev pub decreases-loop-ahead : goal.decreases-loop-ahead

@@ -2,7 +2,7 @@
 use Rattle.std.proofs.Common.{◌≡◌, ◌+◌, ◌∙◌, drop, is_some, sym, ap, arith, true, false}
 use Rattle.uv_lint.specs.Located.{file_length, run_of}
 use Rattle.uv_lint.specs.LocatedViews.{run_view}
-use Rattle.uv_lint.proofs.LocatedLemmas.{begins_run, behind_none, is_some-view}
+use Rattle.uv_lint.proofs.LocatedLemmas.{after_none, begins_run, is_some-view}
 use Rattle.uv_lint.proofs.located.file_length.Goals as goal
 
 pub returns-then-is_some : goal.returns-then-is_some
@@ -22,7 +22,7 @@ loop-place-preserved c =
     ∙ c.if-is_some.false in
     let more : file_length (drop c.loop-place.place c.args.line.now)
     ≡ file_length (drop (c.loop-place.place + 1) c.args.line.now) + 1 =
-    behind_none c.args.line.now c.loop-place.place c.loop-place-test.true (rw c.split_at.ensures.back at is) in
+    after_none c.args.line.now c.loop-place.place c.loop-place-test.true (rw c.split_at.ensures.back at is) in
     let whole = c.loop-place.invariant in
     let next : file_length c.args.line.now
     ≡ file_length (drop (c.loop-place.place + 1) c.args.line.now) + (c.loop-place.place + 1) =

@@ -1,4 +1,4 @@
--- No run stands before the place.
+-- No run is before the place.
 use Rattle.std.proofs.Common.{◌≡◌, ◌+◌, drop}
 use Rattle.uv_lint.specs.Located.{file_length}
 use Rattle.uv_lint.proofs.located.file_length.Given as goal

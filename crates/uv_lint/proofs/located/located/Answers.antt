@@ -1,4 +1,4 @@
--- What stands before a run is within the line.
+-- What is before a run is within the line.
 use Rattle.uv_lint.proofs.LocatedLemmas.{file_length-le}
 use Rattle.uv_lint.proofs.located.located.Goals as goal
 

@@ -3,7 +3,7 @@ use Rattle.std.proofs.Common.{◌≡◌, ◌∙◌, ap, is_some, sym, true, fals
 use Rattle.uv_lint.specs.LocatedFault.{first_number, whole_number}
 use Rattle.uv_lint.specs.LocatedViews.{number_view}
 use Rattle.uv_lint.proofs.LocatedLemmas.{is_some-view}
-use Rattle.uv_lint.proofs.LocatedFaultLemmas.{begins_number, behind_other}
+use Rattle.uv_lint.proofs.LocatedFaultLemmas.{after_other, begins_number}
 use Rattle.uv_lint.proofs.located_fault.first_number.Goals as goal
 
 pub returns-then-is_some : goal.returns-then-is_some
@@ -20,4 +20,4 @@ loop-place-preserved c =
     sym (ap is_some c.whole_number-number.ensures) ∙ is_some-view number_view c.whole_number-number.result
     ∙ sym c.is_some.ensures ∙ c.if-is_some.false in
     c.loop-place.invariant
-    ∙ behind_other c.args.line.now c.loop-place.place c.loop-place-test.true (rw c.split_at.ensures.back at is)
+    ∙ after_other c.args.line.now c.loop-place.place c.loop-place-test.true (rw c.split_at.ensures.back at is)

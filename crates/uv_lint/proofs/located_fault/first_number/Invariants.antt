@@ -1,4 +1,4 @@
--- No whole number stands before the place.
+-- No whole number is before the place.
 use Rattle.std.proofs.Common.{◌≡◌, drop}
 use Rattle.uv_lint.specs.LocatedFault.{first_number}
 use Rattle.uv_lint.proofs.located_fault.first_number.Given as goal

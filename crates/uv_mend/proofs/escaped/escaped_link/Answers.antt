@@ -1,4 +1,4 @@
--- The parts are written one behind the other.
+-- The parts are written one after the other.
 use Rattle.std.proofs.Common.{◌≡◌, ◌∙◌, ◌++◌, ap, chars, encode_utf8_all, false, string_bytes, subst, sym}
 use Rattle.std.proofs.lemmas.Str.{chars_from_encodes}
 use Rattle.std.specs.Str.{IsUtf8}

@@ -1,4 +1,4 @@
--- What is left stands before controls and spaces.
+-- What is left is before controls and spaces.
 use Rattle.std.proofs.Common.{◌≡◌, length}
 use Rattle.uv_mend.specs.Prepared as spec
 use Rattle.uv_mend.proofs.prepared.before_controls.Given as goal

@@ -10,5 +10,5 @@ returns c =
     let controls = bitmask_splat w8 nat_lt load 32 32 c.fits-load.0 (omega arith) in
     let backslashes = bitmask_splat w8 nat_eq load 32 92 c.fits-load.0 (omega arith) in
     let beyond = bits_left nat_lt 127 load c.fits-load.0 in
-    let first = c.behind_bits.ensures ∙ (λ i. (controls i == 0) && (backslashes i == 0)) in
-    c.behind_bits-2.ensures ∙ (λ i. first i && (beyond i == 0)) ∙ load_stays load
+    let first = c.after_bits.ensures ∙ (λ i. (controls i == 0) && (backslashes i == 0)) in
+    c.after_bits-2.ensures ∙ (λ i. first i && (beyond i == 0)) ∙ load_stays load

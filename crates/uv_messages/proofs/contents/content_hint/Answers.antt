@@ -1,4 +1,4 @@
--- The pieces behind the program's name.
+-- The pieces after the program's name.
 use Rattle.std.proofs.Common.{◌++◌, ap, ◌∙◌, codes, string_bytes}
 use Rattle.uv_report.proofs.PieceLemmas.{six_pieces}
 use Rattle.uv_messages.specs.Unread.{name_text}

@@ -1,4 +1,4 @@
--- The rest of the line looks so behind the byte before it where the whole line does.
+-- The rest of the line looks so after the byte before it where the whole line does.
 use Rattle.std.proofs.Common.{◌≡◌, drop}
 use Rattle.uv_messages.specs.Contents.{is_header}
 use Rattle.uv_messages.proofs.contents.is_header.Given as goal

@@ -4,17 +4,17 @@ use Rattle.std.proofs.lemmas.Result.{IfOk-weaker}
 use Rattle.std.specs.List.{join_by}
 use Rattle.uv_messages.proofs.explanations.separated.Goals as goal
 
--- each behind a mark
-each_behind : (mark : List ℕ) (texts : List (String Global))
+-- each after a mark
+each_after : (mark : List ℕ) (texts : List (String Global))
     → flat_map (λ text. mark ++ string_bytes text) texts ≡ flat_map (λ text. mark ++ text) (map string_bytes texts)
-each_behind mark [] = refl
-each_behind mark (text ∷ rest) = ap (λ r. (mark ++ string_bytes text) ++ r) (each_behind mark rest)
+each_after mark [] = refl
+each_after mark (text ∷ rest) = ap (λ r. (mark ++ string_bytes text) ++ r) (each_after mark rest)
 
 -- a mark between two
 joined : (mark : List ℕ) (texts : List (String Global))
     → join_by string_bytes mark texts ≡ join_by (λ text. text) mark (map string_bytes texts)
 joined mark [] = refl
-joined mark (text ∷ rest) = ap (λ r. string_bytes text ++ r) (each_behind mark rest)
+joined mark (text ∷ rest) = ap (λ r. string_bytes text ++ r) (each_after mark rest)
 
 pub returns : goal.returns
 returns c =

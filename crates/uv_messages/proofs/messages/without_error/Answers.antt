@@ -1,4 +1,4 @@
--- What stands behind the word for an error, or the whole line.
+-- What is after the word for an error, or the whole line.
 use Rattle.std.proofs.Common.{◌≡◌, ◌∙◌, ◌++◌, ℕ, List, true, false, ap, codes, drop, nat_eq, refl, subst, sym}
 use Rattle.std.proofs.lemmas.Str.Pattern.{starts_text}
 use Rattle.std.specs.List.{starts_with}
@@ -8,10 +8,10 @@ use Rattle.uv_messages.proofs.messages.without_error.Goals as goal
 -- the line begins with the word
 begun : (text rest : List ℕ) (n : ℕ) → n ≡ 7 → text ≡ codes "error: " ++ drop n text → rest ≡ drop n text
     → rest ≡ without_error text
-begun text rest n long is behind =
+begun text rest n long is after =
     let starts : starts_with nat_eq text (codes "error: ") ≡ true =
     subst (λ (t : List ℕ). starts_with nat_eq t (codes "error: ") ≡ true) (sym is) refl in
-    rw starts (behind ∙ ap (λ (k : ℕ). drop k text) long)
+    rw starts (after ∙ ap (λ (k : ℕ). drop k text) long)
 
 pub returns-in-Some : goal.returns-in-Some
 returns-in-Some c =

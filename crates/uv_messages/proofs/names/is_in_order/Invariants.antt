@@ -1,4 +1,4 @@
--- What is left of the letters stands in order among the rest of the others where all letters do among all others.
+-- What is left of the letters is in order among the rest of the others where all letters do among all others.
 use Rattle.std.proofs.Common.{◌≡◌, drop}
 use Rattle.uv_messages.specs.Names.{is_in_order}
 use Rattle.uv_messages.proofs.names.is_in_order.Given as goal

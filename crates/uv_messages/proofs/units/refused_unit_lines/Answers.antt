@@ -1,4 +1,4 @@
--- The five pieces behind the first one.
+-- The five pieces after the first one.
 use Rattle.std.proofs.Common.{[], ◌≡◌, ◌++◌, ap, ◌∙◌, codes, map, string_bytes}
 use Rattle.uv_report.proofs.PieceLemmas.{five_pieces}
 use Rattle.uv_report.specs.Escaping.Escapes.{shown_text}

@@ -1,4 +1,4 @@
--- The groups of the pieces so far stand behind what the text began with, and take five bytes each at most.
+-- The groups of the pieces so far are after what the text began with, and take five bytes each at most.
 use Rattle.std.proofs.Common.{◌≡◌, ◌+◌, ◌*◌, ◌≤◌, ◌++◌, length, take}
 use Rattle.uv_model.specs.Records.AddressText.{later_groups}
 use Rattle.uv_model.proofs.address_text.push_later_groups.Given as goal

@@ -1,4 +1,4 @@
--- What is left of a domain behind its last full stop.
+-- What is left of a domain after its last full stop.
 use Rattle.std.proofs.Common.{◌≡◌, ℕ, ◌-◌, not, length, take, drop, ap, arith, eq-eqb}
 use Rattle.std.specs.List.{suffix_len}
 use Rattle.std.proofs.lemmas.Bool.{not_from_true}

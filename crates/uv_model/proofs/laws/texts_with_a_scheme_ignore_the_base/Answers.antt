@@ -1,4 +1,4 @@
--- A text with a scheme is judged without looking at the base.
+-- A text with a scheme is checked without looking at the base.
 use Rattle.uv_model.proofs.Cuts.SchemesIgnoreBases.{ignores_the_base}
 use Rattle.uv_model.proofs.laws.texts_with_a_scheme_ignore_the_base.Goals as goal
 

@@ -1,4 +1,4 @@
--- A path's text is its segments, each behind a `/`.
+-- A path's text is its segments, each after a `/`.
 use Rattle.std.proofs.Common.{ap, sym, ◌∙◌}
 use Rattle.uv_model.specs.Records.Serialize.{serial_path}
 use Rattle.uv_model.proofs.Paths.PathTexts.{path_text-written}

@@ -1,4 +1,4 @@
--- The path behind an authority, by the form that is seen.
+-- The path after an authority, by the form that is seen.
 use Rattle.std.proofs.Common.{ap, option_copied, sym, ◌∙◌}
 use Rattle.std.proofs.lemmas.Option.{IfSome_then}
 use Rattle.uv_grammar.specs.Form.{seen_form}

@@ -12,19 +12,19 @@ pub returns : goal.returns
 returns c =
     let form = c.args.parts.now.form in
     let bytes = c.path_text-rest.result.now in
-    let behind = c.in-Some.field-0.now in
+    let after = c.in-Some.field-0.now in
     let begins = ap chars (strip_prefix_char slash bytes (Some c.in-Some.field-0) c.in-Some.ensures.cases (lit< tt))
-    ∙ chars-ascii_first slash behind (lit< tt) in
+    ∙ chars-ascii_first slash after (lit< tt) in
     record {
       start = refl;
       marked = refl;
       rest = c.path_text-rest.ensures;
-      behind = chars behind;
+      after = chars after;
       slashed = sym c.path_text-rest.ensures ∙ begins;
       segments = c.segments.ensures.text;
       kept =
           subst (λ (s : List (List ℕ)). list_all is_kept_segment s ≡ true) c.segments.ensures.segments
-          (c.keeps_path.ensures c.if-not-keeps_path.false form (chars behind)
+          (c.keeps_path.ensures c.if-not-keeps_path.false form (chars after)
           (c.segments.ensures.segments ∙ c.segments.ensures.text ∙ ap (segments_in form) (sym c.path_text-rest.ensures))
           begins);
     }

@@ -1,4 +1,4 @@
--- A path behind an authority, of which a walk keeps each segment.
+-- A path after an authority, of which a walk keeps each segment.
 use Rattle.std.proofs.Common.{◌≡◌, ◌∙◌, ap, sym, subst, IfOk, [], List, ℕ}
 use Rattle.uv_grammar.specs.Built.{segments_in}
 use Rattle.uv_model.specs.declared.path.UrlPath.TheVariants.{Segments}

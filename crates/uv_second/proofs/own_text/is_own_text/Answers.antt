@@ -1,4 +1,4 @@
--- What stands behind the name is written as it stands.
+-- What is after the name is written as it is.
 use Rattle.std.proofs.Common.{◌≡◌, ◌∙◌, ◌++◌, ap, append_assoc, subst, sym, true}
 use Rattle.std.specs.List.{list_all}
 use Rattle.uv_second.specs.Links.{IsBounded, is_kept, is_plain}

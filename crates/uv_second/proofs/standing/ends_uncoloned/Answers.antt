@@ -1,4 +1,4 @@
--- The slash and the rest stand.
+-- The slash and the rest are.
 use Rattle.std.proofs.Common.{arith}
 use Rattle.uv_second.proofs.StandingLemmas.{end_uncoloned}
 use Rattle.uv_second.proofs.standing.ends_uncoloned.Goals as goal

@@ -1,4 +1,4 @@
--- The bytes at the end stand.
+-- The bytes at the end are.
 use Rattle.uv_second.proofs.StandingLemmas.{end_whole}
 use Rattle.uv_second.proofs.standing.ends_whole.Goals as goal
 

@@ -1,4 +1,4 @@
--- The bytes before the place stand.
+-- The bytes before the place are.
 use Rattle.std.proofs.Common.{◌-◌, ◌≤◌, length}
 use Rattle.uv_second.specs.Standing.{StandsBetween}
 use Rattle.uv_second.proofs.standing.stands_from.Given as goal

@@ -1,4 +1,4 @@
--- The byte stands in both.
+-- The byte is in both.
 use Rattle.std.proofs.Common.{◌≡◌, ◌∙◌, ◌∷◌, ◌-◌, ap, drop, get_or, length, subst, sym, take, true}
 use Rattle.uv_second.specs.Links.{IsCompared, is_plain_at}
 use Rattle.uv_second.proofs.ComparedLemmas.{compared_byte, first_rest}
@@ -18,7 +18,7 @@ returns-clause-further c = λ text other so_far.
     let plain : is_plain_at byte rest ≡ true = sym c.is_plain_at.ensures ∙ c.if-not-is_plain_at.false in
     let other_plain : is_plain_at byte other_rest ≡ true =
     sym c.is_plain_at-else-not-is_plain_at.ensures ∙ c.if-not-is_plain_at-2.false in
-    subst (λ p. IsCompared text other p state.same rest other_rest) (sym c.part_behind.ensures)
+    subst (λ p. IsCompared text other p state.same rest other_rest) (sym c.part_after.ensures)
     (compared_byte text other state.part state.same byte rest other_rest plain other_plain
     (subst (λ l. IsCompared text other state.part state.same (byte ∷ rest) l) second
     (subst (λ l. IsCompared text other state.part state.same l others) first so_far)))

@@ -1,4 +1,4 @@
--- What is written behind nothing is the encoded text.
+-- What is written after nothing is the encoded text.
 use Rattle.uv_text.proofs.EscapesLemmas.{IsAscii-encoded}
 use Rattle.uv_text.proofs.escapes.encode.Goals as goal
 

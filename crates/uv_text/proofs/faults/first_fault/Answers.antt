@@ -1,4 +1,4 @@
--- The code point behind the units is the first fault, and the place counts the units.
+-- The code point after the units is the first fault, and the place counts the units.
 use Rattle.std.proofs.Common.{◌≡◌, ◌↔◌, ◌∷◌, ℕ, Bool, refl, List, [], Option, None, Some, drop, length, arith, sym, ap}
 use Rattle.std.proofs.Common.{◌∙◌, subst}
 use Rattle.std.specs.Prelude.{IsNone}
@@ -13,7 +13,7 @@ use Rattle.uv_model.proofs.Violations.ViolationLemmas.{least_unit_fault_within}
 use Rattle.uv_text.specs.Class.{HoldsUrlBytes}
 use Rattle.uv_text.specs.Splits.{IsUnitSplit, class_has, unit_length}
 use Rattle.uv_text.specs.declared.units.UnitClass.TheVariants.{Url}
-use Rattle.uv_text.proofs.FaultsLemmas.{fault_at, fault_behind, least_fault, none_in_units}
+use Rattle.uv_text.proofs.FaultsLemmas.{fault_after, fault_at, least_fault, none_in_units}
 use Rattle.uv_text.proofs.SplitsLemmas.{unit_length-le}
 use Rattle.uv_text.proofs.faults.first_fault.Goals as goal
 
@@ -23,14 +23,14 @@ record Answers (bytes : List ℕ) (answer : Option Refusal) : Type 0 where
   within : StandsWithin (chars bytes) answer
   none : IsNone answer ↔ IsUnits (chars bytes)
 
--- the first code point behind the units is what the function ensures
+-- the first code point after the units is what the function ensures
 answers : (held : ℕ → Bool) (bytes : List ℕ) (answer : Option Refusal) → HoldsUrlBytes held
     → answer ≡ fault_at (unit_length held (chars bytes)) (drop (unit_length held (chars bytes)) (chars bytes))
     → Answers bytes answer
 answers held bytes answer holds is =
     let text = chars bytes in
     let n = unit_length held text in
-    let found = fault_behind held holds 0 text ∙ ap (λ p. fault_at p (drop n text)) (omega arith) in
+    let found = fault_after held holds 0 text ∙ ap (λ p. fault_at p (drop n text)) (omega arith) in
     let least = subst (λ a. IsLeast (UnitViolation text) a) (found ∙ sym is) (least_fault text) in
     record {
       least = least;
@@ -38,7 +38,7 @@ answers held bytes answer holds is =
       none = none_in_units text answer least;
     }
 
--- a code point behind the units
+-- a code point after the units
 fault_found : (held : ℕ → Bool) (bytes prefix rest : List ℕ) (c : ℕ) (more : List ℕ) (place : ℕ) (rule : Rule)
     → HoldsUrlBytes held → IsUnitSplit held (chars bytes) (chars prefix) (chars rest) → chars rest ≡ c ∷ more
     → place ≡ length (chars prefix) → rule ≡ unit_rule c → Answers bytes (Some (record { place = place; rule = rule }))
@@ -49,7 +49,7 @@ fault_found held bytes prefix rest c more place rule holds cut first counted nam
     answers held bytes (Some (record { place = place; rule = rule })) holds
     (rw (here, named) (ap (fault_at n) (sym first ∙ cut.is_rest)))
 
--- none behind them
+-- none after them
 no_fault : (held : ℕ → Bool) (bytes prefix rest : List ℕ) → HoldsUrlBytes held
     → IsUnitSplit held (chars bytes) (chars prefix) (chars rest) → chars rest ≡ [] → Answers bytes None
 no_fault held bytes prefix rest holds cut none =

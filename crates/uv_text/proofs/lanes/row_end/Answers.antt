@@ -1,4 +1,4 @@
--- The first prefix has the end where it is shorter than 32 bytes; else the run goes on behind them.
+-- The first prefix has the end where it is shorter than 32 bytes; else the run goes on after them.
 use Rattle.std.proofs.Common.{◌≡◌, ◌≢◌, ap, drop, arith}
 use Rattle.std.specs.List.{prefix_len}
 use Rattle.std.proofs.lemmas.List.{drop-drop, length-drop}

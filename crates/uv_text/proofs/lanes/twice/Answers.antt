@@ -1,4 +1,4 @@
--- The places of the load are the lanes of the table, from the first again behind the last.
+-- The places of the load are the lanes of the table, from the first again after the last.
 use Rattle.std.proofs.Common.{◌≡◌, ◌++◌, ◌%◌, length, take, get_or, get_or-take, length-take-le, refl, ◌∙◌, arith}
 use Rattle.std.proofs.lemmas.List.{get_or_append_left}
 use Rattle.std.proofs.lemmas.List.FromFn.{get_or-map-range_with_len}

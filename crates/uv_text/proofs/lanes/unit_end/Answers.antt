@@ -16,7 +16,7 @@ module _ (p : ℕ → Bool) (rest : List ℕ) (ahead : ℕ) (is : ahead ≡ asci
       let bound = ascii_unit_length-le p rest in
       omega arith
 
-  -- the whole goes on behind it
+  -- the whole goes on after it
   past : ascii_unit_length p rest ≡ ahead + ascii_unit_length p (drop ahead rest)
   past =
       let part = ascii_unit_length-taken p 32 rest in

@@ -1,4 +1,4 @@
--- The cut behind what was passed.
+-- The cut after what was passed.
 use Rattle.std.proofs.Common.{◌≡◌, ◌∙◌, ℕ, List, ap, false, length, subst, take, ◌-◌}
 use Rattle.std.specs.Str.{IsUtf8, chars}
 use Rattle.uv_text.specs.Splits.{class_has, starts_with_mark, unit_length}
@@ -29,7 +29,7 @@ overflow_sub-whole c =
     c.as_str-2.utf8
     (rw (c.as_str-2.ensures, c.as_str-whole.ensures)
     (passes_prefix (class_has c.args.class) (chars c.args.text.now) (chars c.split_run-rest.result.1)
-    (chars c.behind_rest-rest.result) c.split_run-rest.ensures.passes c.behind_rest-rest.ensures))).inside
+    (chars c.after_rest-rest.result) c.split_run-rest.ensures.passes c.after_rest-rest.ensures))).inside
 
 pub range-requires-clause-end_boundary : goal.range-requires-clause-end_boundary
 range-requires-clause-end_boundary c =
@@ -38,15 +38,15 @@ range-requires-clause-end_boundary c =
     c.as_str-2.utf8
     (rw (c.as_str-2.ensures, c.as_str-whole.ensures)
     (passes_prefix (class_has c.args.class) (chars c.args.text.now) (chars c.split_run-rest.result.1)
-    (chars c.behind_rest-rest.result) c.split_run-rest.ensures.passes c.behind_rest-rest.ensures))).boundary
+    (chars c.after_rest-rest.result) c.split_run-rest.ensures.passes c.after_rest-rest.ensures))).boundary
 
 pub returns : goal.returns
 returns c =
     let held = class_has c.args.class in
     let whole = c.as_str-whole.result.now in
     let is_rest =
-    passes_prefix held (chars c.args.text.now) (chars c.split_run-rest.result.1) (chars c.behind_rest-rest.result)
-    c.split_run-rest.ensures.passes c.behind_rest-rest.ensures in
+    passes_prefix held (chars c.args.text.now) (chars c.split_run-rest.result.1) (chars c.after_rest-rest.result)
+    c.split_run-rest.ensures.passes c.after_rest-rest.ensures in
     let split =
     split_bytes whole c.as_str-2.result.now (unit_length held (chars whole)) c.as_str-whole.utf8 c.as_str-2.utf8
     (rw (c.as_str-2.ensures, c.as_str-whole.ensures) is_rest) in

@@ -1,4 +1,4 @@
--- The counts behind the lines.
+-- The counts after the lines.
 use Rattle.std.proofs.Common.{◌++◌, ◌∙◌, ap, length, string_bytes}
 use Rattle.serde_json.specs.View.{items_view}
 use Rattle.uv_vectors.specs.Case.{list_of}

@@ -1,4 +1,4 @@
--- What stands before the first NUL.
+-- What is before the first NUL.
 use Rattle.std.proofs.Common.{None, Some, lit<}
 use Rattle.std.proofs.lemmas.Str.Pattern.{split_once_first}
 use Rattle.uv_words.proofs.ArgumentLemmas.{said_before, said_none}

@@ -1,4 +1,4 @@
--- The text behind a hyphen, or the whole one.
+-- The text after a hyphen, or the whole one.
 use Rattle.std.proofs.Common.{None, Some, lit<}
 use Rattle.std.proofs.lemmas.Str.Pattern.{strip_prefix_char}
 use Rattle.uv_words.proofs.ArgumentLemmas.{without_none, without_some}

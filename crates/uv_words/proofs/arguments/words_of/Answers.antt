@@ -1,4 +1,4 @@
--- The next word is pushed behind those so far.
+-- The next word is pushed after those so far.
 use Rattle.std.proofs.Common.{[], ◌∷◌, Some, ap, map, string_bytes, ◌∙◌}
 use Rattle.std.proofs.lemmas.List.{map-append}
 use Rattle.uv_words.specs.Arguments.{IsWordAt}

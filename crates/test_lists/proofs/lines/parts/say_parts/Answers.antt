@@ -2,7 +2,7 @@
 use Rattle.std.proofs.Common.{◌≡◌, ◌⊎◌, ◌+◌, ◌++◌, ◌∙◌, [], refl, ap, subst, append-nil, append_assoc, inr}
 use Rattle.uv_lines.specs.Fault.{failed_within}
 use Rattle.uv_lines.specs.Waiting.{Passes}
-use Rattle.uv_lines.proofs.WaitingLemmas.{parts_behind, passes_more, passes_none}
+use Rattle.uv_lines.proofs.WaitingLemmas.{parts_after, passes_more, passes_none}
 use Rattle.test_lists.proofs.lines.parts.say_parts.Goals as goal
 
 pub loop-part-init : goal.loop-part-init
@@ -33,7 +33,7 @@ loop-part-preserved g c =
 pub returns-in-Err-clause-fault : goal.returns-in-Err-clause-fault
 returns-in-Err-clause-fault g c =
     let before = c.loop-part.invariant in
-    parts_behind (λ parts. (parts ≡ []) ⊎ Unit {0}) (λ parts. (parts ≡ []) ⊎ Unit {0}) c.in-Err.fault
+    parts_after (λ parts. (parts ≡ []) ⊎ Unit {0}) (λ parts. (parts ≡ []) ⊎ Unit {0}) c.in-Err.fault
     c.args.text.now.items before.said.0 (g.W.Sink.contents c.args.writer.now)
     (g.W.Sink.contents c.loop-part.writer) (g.W.Sink.contents c.say_part.new.writer) c.loop-part.text.items
     c.say_part.new.text.items before.said.1 (λ parts is. inr (tt {0})) c.in-Err.ensures.fault

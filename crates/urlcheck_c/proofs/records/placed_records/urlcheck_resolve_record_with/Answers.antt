@@ -3,7 +3,7 @@ use Rattle.std.proofs.Common.{ℕ, Some, ap, inl, refl, subst, sym, ◌∙◌}
 use Rattle.urlcheck_c.specs.declared.finding.Finding.{Finding}
 use Rattle.urlcheck_c.specs.declared.records.placed_records.PlacedRecord.{PlacedRecord}
 use Rattle.urlcheck_c.specs.PlacedRecord.{IsPlacedAnswer, no_record}
-use Rattle.urlcheck_c.specs.Request.{IsUnjudged}
+use Rattle.urlcheck_c.specs.Request.{IsUnchecked}
 use Rattle.urlcheck_c.proofs.BaseLemmas.{prepared_profile}
 use Rattle.urlcheck_c.proofs.records.placed_records.urlcheck_resolve_record_with.Goals as goal
 
@@ -19,7 +19,7 @@ returns-in-None-clause-held c = λ number is.
     let found = ap (λ (r : PlacedRecord). r.found) none in
     inl (
       (none ∙ ap no_record (sym found), refl),
-      subst (λ (finding : Finding). IsUnjudged number (Some c.args.base_text.now) c.args.text.now finding) (sym found)
+      subst (λ (finding : Finding). IsUnchecked number (Some c.args.base_text.now) c.args.text.now finding) (sym found)
           (c.unread.ensures.held number c.args.base_text.now is
           (c.in-None.ensures.held number c.args.base_text.now is)),
     )

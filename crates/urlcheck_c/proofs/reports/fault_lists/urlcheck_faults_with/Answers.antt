@@ -1,6 +1,6 @@
 -- What is listed against a base that is held is listed against the bytes from which it was prepared.
 use Rattle.std.proofs.Common.{ℕ, List, Some, inl, inr, refl, subst}
-use Rattle.urlcheck_c.specs.Faults.{IsFaultsJudged}
+use Rattle.urlcheck_c.specs.Faults.{IsFaultsChecked}
 use Rattle.urlcheck_c.proofs.reports.fault_lists.urlcheck_faults_with.Goals as goal
 
 pub returns-in-Ok-clause-held : goal.returns-in-Ok-clause-held
@@ -12,9 +12,9 @@ returns-in-Ok-clause-held c = λ number bytes is.
       read.1.1,
       subst
           (λ (text : List ℕ).
-          IsFaultsJudged c.in-Ok.request.base.profile (Some read.1.0) text c.args.out.now c.judged_with.new.out
-          c.judged_with.result)
-          read.0 (c.judged_with.ensures read.1.0 read.1.2),
+          IsFaultsChecked c.in-Ok.request.base.profile (Some read.1.0) text c.args.out.now c.checked_with.new.out
+          c.checked_with.result)
+          read.0 (c.checked_with.ensures read.1.0 read.1.2),
     )
 
 pub returns-in-Err-clause-held : goal.returns-in-Err-clause-held

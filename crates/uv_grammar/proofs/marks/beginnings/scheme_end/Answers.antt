@@ -1,4 +1,4 @@
--- The run of a scheme's bytes, and what stands behind it.
+-- The run of a scheme's bytes, and what is after it.
 use Rattle.std.proofs.Common.{◌∙◌, sym}
 use Rattle.std.proofs.lemmas.List.Sums.{prefix_len-le-length}
 use Rattle.uv_model.specs.Scheme.{is_scheme_code_point}

@@ -1,4 +1,4 @@
--- What stands before the first slash is the next segment.
+-- What is before the first slash is the next segment.
 use Rattle.std.proofs.Common.{◌∙◌, ap, sym, arith, length}
 use Rattle.uv_grammar.specs.Slices.{chars_of_option}
 use Rattle.uv_model.specs.Path.{left_segments}

@@ -8,7 +8,7 @@ use Rattle.uv_report.specs.declared.line_violation.LineViolation.TheVariants.{Re
 use Rattle.uv_report.specs.Report.{diagnostic_text}
 use Rattle.uv_lines.specs.Fault.{failed_within}
 use Rattle.uv_lines.specs.Waiting.{Passes}
-use Rattle.uv_lines.proofs.WaitingLemmas.{parts_behind, passes_more, passes_none}
+use Rattle.uv_lines.proofs.WaitingLemmas.{parts_after, passes_more, passes_none}
 use Rattle.uv_lint.specs.Report.{AreFirstDiagnostics, diagnostics_text, framed_text, mended_on}
 use Rattle.uv_lint.specs.Reporting.{IsNoneOr}
 use Rattle.uv_lint.specs.ReportedView.{lent_if_mended, mended_line_view, reported_view}
@@ -100,7 +100,7 @@ returns-in-Err-clause-fault g c =
     violations i none said.0 c.loop-violation-test.true
     (c.column-column.ensures.column ∙ rw (invariant.counter, c.place.ensures) refl)
     (c.column_ahead-end.ensures ∙ rw (counted, c.end.ensures) refl) said.2 in
-    parts_behind (IsNoneOr one) (AreFirstDiagnostics setting.form setting.format setting.columns
+    parts_after (IsNoneOr one) (AreFirstDiagnostics setting.form setting.format setting.columns
     setting.profile (reported_view line)
     c.args.is_first mended violations) c.in-Err.fault c.args.text.now.items said.0
     (g.W.Sink.contents c.args.writer.now) (g.W.Sink.contents c.loop-violation.writer)

@@ -1,4 +1,4 @@
--- What is shown of a text that stands there is what is shown of the line.
+-- What is shown of a text that is there is what is shown of the line.
 use Rattle.std.proofs.Common.{◌≡◌, ◌+◌, ◌∙◌, option_copied, ap, subst, sym}
 use Rattle.uv_lint.specs.Findings.{IsRefusedFirst, IsUtf8WhereRefused, bytes_by, text_by}
 use Rattle.uv_lint.specs.LineViolations.{link_of}

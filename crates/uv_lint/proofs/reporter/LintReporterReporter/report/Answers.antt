@@ -9,16 +9,16 @@ pub returns-in-Ok-report_line-clause-added : goal.returns-in-Ok-report_line-clau
 returns-in-Ok-report_line-clause-added g c =
     let before = c.args.self.now in
     let lines = sym (ap (λ r. r.lines) c.self.view_is) in
-    adds_line before c.report_line.new.self c.count.new.self _ _ (option_copied c.judged_line-line.result) _ _ _ _ _ _ _
-    lines c.judged_line-line.ensures c.in-Ok.ensures c.as_slice.ensures c.in-Ok-report_line.ensures.text
+    adds_line before c.report_line.new.self c.count.new.self _ _ (option_copied c.checked_line-line.result)
+    _ _ _ _ _ _ _ lines c.checked_line-line.ensures c.in-Ok.ensures c.as_slice.ensures c.in-Ok-report_line.ensures.text
     c.in-Ok-report_line.ensures.same c.as_slice-in-Ok-report_line.ensures c.count.ensures
 
 pub returns-clause-fault : goal.returns-clause-fault
 returns-clause-fault g c =
     let before = c.args.self.now in
     let lines = sym (ap (λ r. r.lines) c.self.view_is) in
-    leaves_line c.in-Err.fault before _ _ (option_copied c.judged_line-line.result) _ _ _ _ _ _ lines
-    c.judged_line-line.ensures c.in-Ok.ensures c.as_slice.ensures c.in-Err.ensures.fault
+    leaves_line c.in-Err.fault before _ _ (option_copied c.checked_line-line.result) _ _ _ _ _ _ lines
+    c.checked_line-line.ensures c.in-Ok.ensures c.as_slice.ensures c.in-Err.ensures.fault
 
 pub returns-in_default-clause-fault : goal.returns-in_default-clause-fault
 returns-in_default-clause-fault g c =

@@ -1,7 +1,7 @@
--- A `/` and a text behind it are the pieces of that text more.
+-- A `/` and a text after it are the pieces of that text more.
 use Rattle.std.proofs.Common.{◌≡◌, ◌++◌, ◌∙◌, ap, lit<, subst, sym, List, ℕ, string_bytes}
 use Rattle.std.specs.Prelude.{OnOk, is_ok}
-use Rattle.uv_model.specs.Path.{pieces, segments_behind}
+use Rattle.uv_model.specs.Path.{pieces, segments_after}
 use Rattle.uv_model.specs.Records.Held.{held_text}
 use Rattle.uv_model.specs.Records.PathText.{IsPathText}
 use Rattle.uv_model.proofs.Paths.PathTexts.{pushed_path, pushed_segments}
@@ -19,8 +19,8 @@ invariant_of-self-in-Long c =
 pub returns-in-Long : goal.returns-in-Long
 returns-in-Long c =
     subst (λ (old : List (List ℕ)). OnOk c.push_str.result
-    (segments_behind (string_bytes c.push_str.new.self) ≡ old ++ pieces c.args.text.now))
-    (sym (ap (λ held. segments_behind (held_text held)) c.in-Long.is) ∙ c.self.view_is)
+    (segments_after (string_bytes c.push_str.new.self) ≡ old ++ pieces c.args.text.now))
+    (sym (ap (λ held. segments_after (held_text held)) c.in-Long.is) ∙ c.self.view_is)
     (pushed_segments c.push_str.result (string_bytes c.in-Long.path) (string_bytes c.push.new.self)
     c.args.text.now (string_bytes c.push_str.new.self)
     (c.in_ok-push.ensures.bytes
@@ -36,6 +36,6 @@ invariant_of-self-2 c =
 pub returns : goal.returns
 returns c =
     subst (λ (old : List (List ℕ)). OnOk c.push_str-3.result
-    (segments_behind (held_text c.push_str-3.new.self) ≡ old ++ pieces c.args.text.now)) c.self.view_is
+    (segments_after (held_text c.push_str-3.new.self) ≡ old ++ pieces c.args.text.now)) c.self.view_is
     (pushed_segments c.push_str-3.result (held_text c.self.inside.held) (held_text c.push_str-2.new.self)
     c.args.text.now (held_text c.push_str-3.new.self) c.in_ok-push_str.ensures c.push_str-3.ensures)

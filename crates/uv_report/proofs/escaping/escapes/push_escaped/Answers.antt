@@ -1,4 +1,4 @@
--- At the end of the loop each code point of the source stands with its escape.
+-- At the end of the loop each code point of the source is with its escape.
 use Rattle.std.proofs.Common.{◌++◌, flat_map, string_bytes, sym, ap, ◌∙◌, map-id}
 use Rattle.std.proofs.lemmas.Iterator.{YieldsList-from_chars}
 use Rattle.std.proofs.lemmas.Iterator.Consumers.{YieldsList-end}

@@ -1,4 +1,4 @@
--- The code points so far stand with their escapes.
+-- The code points so far are with their escapes.
 use Rattle.std.proofs.Common.{◌≡◌, ◌++◌, flat_map, string_bytes}
 use Rattle.uv_report.specs.Escaping.Escapes.{escape}
 use Rattle.uv_report.proofs.escaping.escapes.push_escaped.Given as goal

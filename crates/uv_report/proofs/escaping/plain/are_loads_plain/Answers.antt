@@ -12,7 +12,7 @@ loop-at-preserved c =
     let bytes = c.args.bytes.now in
     let at = c.loop-at.at in (
       omega arith,
-      c.behind_bits-seen.ensures
+      c.after_bits-seen.ensures
           ∙ (λ i. c.loop-at.invariant.1 i && c.unplain_bits.ensures i)
           ∙ sym (list_all-append is_plain (take at bytes) (take 32 (drop at bytes)))
           ∙ ap (list_all is_plain) (sym (take-add at 32 bytes)),
@@ -25,7 +25,7 @@ returns c =
     let long = length-drop start bytes in
     let whole : take 32 (drop start bytes) ≡ drop start bytes
     = take_all 32 (drop start bytes) (omega (arith, c.requires)) in
-    c.behind_bits.ensures
+    c.after_bits.ensures
     ∙ (λ i. c.loop-at.invariant.1 i && c.unplain_bits-2.ensures i)
     ∙ ap (λ l. list_all is_plain (take c.loop-at.at bytes) && list_all is_plain l) whole
     ∙ all_joined is_plain c.loop-at.at start bytes (omega (arith, c.loop-at-test.false))

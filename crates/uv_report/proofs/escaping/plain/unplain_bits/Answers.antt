@@ -10,5 +10,5 @@ returns c =
     let controls = bitmask_splat w8 nat_lt load 32 32 c.fits-load.0 (omega arith) in
     let quotation_marks = bitmask_splat w8 nat_eq load 32 34 c.fits-load.0 (omega arith) in
     let backslashes = bitmask_splat w8 nat_eq load 32 92 c.fits-load.0 (omega arith) in
-    let others = c.behind_bits.ensures ∙ (λ i. (quotation_marks i == 0) && (backslashes i == 0)) in
-    c.behind_bits-2.ensures ∙ (λ i. (controls i == 0) && others i) ∙ load_plain load
+    let others = c.after_bits.ensures ∙ (λ i. (quotation_marks i == 0) && (backslashes i == 0)) in
+    c.after_bits-2.ensures ∙ (λ i. (controls i == 0) && others i) ∙ load_plain load

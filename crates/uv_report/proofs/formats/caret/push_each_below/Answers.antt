@@ -1,4 +1,4 @@
--- At the end of the loop the padding stands below the code points before the place.
+-- At the end of the loop the padding is below the code points before the place.
 use Rattle.std.proofs.Common.{◌++◌, flat_map, string_bytes, sym, ap, ◌∙◌, map-id}
 use Rattle.std.proofs.lemmas.Iterator.{YieldsList-from_chars, YieldsList-from_take}
 use Rattle.std.proofs.lemmas.Iterator.Consumers.{YieldsList-end}

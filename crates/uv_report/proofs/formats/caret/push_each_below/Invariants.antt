@@ -1,4 +1,4 @@
--- Below the code points so far stands what is below each of them.
+-- Below the code points so far is what is below each of them.
 use Rattle.std.proofs.Common.{◌≡◌, ◌++◌, flat_map, string_bytes}
 use Rattle.uv_report.specs.Formats.Caret.{below}
 use Rattle.uv_report.proofs.formats.caret.push_each_below.Given as goal

@@ -1,4 +1,4 @@
--- Below printable ASCII stand spaces.
+-- Below printable ASCII are spaces.
 use Rattle.std.proofs.Common.{◌≡◌, ◌++◌, ◌∙◌, OnOk, ap, length, string_bytes, subst, sym, take, true}
 use Rattle.std.specs.List.{list_all}
 use Rattle.uv_report.specs.Escaping.Printable.{is_printable}

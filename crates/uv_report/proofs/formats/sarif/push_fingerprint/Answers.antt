@@ -1,4 +1,4 @@
--- The fingerprint behind what stands before it.
+-- The fingerprint after what is before it.
 use Rattle.std.proofs.Common.{◌∙◌, ◌++◌, List, ap, codes, string_bytes, ℕ}
 use Rattle.uv_report.specs.Escaping.Quoted.{quoted}
 use Rattle.uv_report.proofs.formats.sarif.push_fingerprint.Goals as goal

@@ -1,4 +1,4 @@
--- The rules so far stand behind their commas.
+-- The rules so far are after their commas.
 use Rattle.std.proofs.Common.{◌≡◌, ◌++◌, flat_map, take, string_bytes}
 use Rattle.uv_report.specs.Formats.Sarif.{next_rule}
 use Rattle.uv_report.proofs.formats.sarif.push_uri_rules.Given as goal

@@ -7,11 +7,11 @@ use Rattle.uv_report.proofs.places.seen_text.part_from.Goals as goal
 
 pub returns : goal.returns
 returns c = λ text is. record {
-  same = λ place behind within.
+  same = λ place after within.
       let from = c.args.place in
       let count = place - from in
-      let further : from + count ≡ place = omega (arith, behind) in
-      let near : count ≤ c.part_length.result = omega (arith, c.saturating_add.ensures, within, behind) in
+      let further : from + count ≡ place = omega (arith, after) in
+      let near : count ≤ c.part_length.result = omega (arith, c.saturating_add.ensures, within, after) in
       c.has_credentials_in.ensures
       ∙ ap is_at_sign (sym (c.part_length.ensures count near)
       ∙ ap (λ rest. find ends_part (drop count rest)) is

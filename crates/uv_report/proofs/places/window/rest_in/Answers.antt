@@ -1,7 +1,7 @@
--- Before the place stands ASCII alone.
+-- Before the place is ASCII alone.
 use Rattle.std.proofs.Common.{◌∙◌, ap, sym, length, subst}
 use Rattle.std.specs.Str.{IsAscii, chars}
-use Rattle.uv_report.proofs.PlaceLemmas.{chars_behind_ascii}
+use Rattle.uv_report.proofs.PlaceLemmas.{chars_after_ascii}
 use Rattle.uv_report.proofs.places.window.rest_in.Goals as goal
 
 pub returns-in-Some : goal.returns-in-Some
@@ -10,5 +10,5 @@ returns-in-Some c =
     let place = c.args.place in
     let front = c.in-Some.ensures.front in
     ap chars c.in-Some.ensures.back
-    ∙ chars_behind_ascii line place (ap length (sym front) ∙ c.in-Some.ensures.front_len)
+    ∙ chars_after_ascii line place (ap length (sym front) ∙ c.in-Some.ensures.front_len)
     (subst IsAscii front c.if-is_ascii.ensures.cases)

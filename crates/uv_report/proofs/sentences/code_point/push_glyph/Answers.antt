@@ -1,4 +1,4 @@
--- A noncharacter stands by its label.
+-- A noncharacter is by its label.
 use Rattle.std.proofs.Common.{◌≡◌, ◌∙◌, rules, sym, true}
 use Rattle.uv_model.specs.Units.{is_noncharacter}
 use Rattle.uv_report.proofs.sentences.code_point.push_glyph.Goals as goal

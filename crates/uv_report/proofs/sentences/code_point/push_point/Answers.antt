@@ -1,4 +1,4 @@
--- A code point of the table stands as it is there, and another one has no name.
+-- A code point of the table is as it is there, and another one has no name.
 use Rattle.std.proofs.Common.{◌≡◌, ◌++◌, OnOk, string_bytes, subst}
 use Rattle.uv_report.proofs.PointLemmas.{other_point}
 use Rattle.uv_report.proofs.sentences.code_point.push_point.Goals as goal

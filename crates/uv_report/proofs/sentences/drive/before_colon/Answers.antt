@@ -1,4 +1,4 @@
--- What stands before the first `:`.
+-- What is before the first `:`.
 use Rattle.std.proofs.Common.{◌≡◌, None, Some, arith, length, lit<, take}
 use Rattle.std.proofs.lemmas.Grind.{common_steps}
 use Rattle.std.proofs.lemmas.Str.Pattern.{split_once_first}

@@ -1,4 +1,4 @@
--- The library's search finds a piece where it stands.
+-- The library's search finds a piece where it is.
 use Rattle.std.proofs.lemmas.Str.Pattern.{contains_text}
 use Rattle.uv_report.proofs.IntentionLemmas.{found_is}
 use Rattle.uv_report.proofs.sentences.intention.has_piece.Goals as goal

@@ -1,10 +1,10 @@
--- A load that begins before the place has its bits behind those of the bytes before the place.
+-- A load that begins before the place has its bits after those of the bytes before the place.
 use Rattle.std.proofs.Common.{◌≡◌, ◌+◌, ◌-◌, ◌≤◌, ℕ, List, length, map, take, take_all, drop, ap, sym, ◌∙◌, arith}
 use Rattle.std.specs.Simd.Lanes.{mask_l}
 use Rattle.std.proofs.lemmas.List.{length-drop}
 use Rattle.std.proofs.lemmas.Simd.{length-chunk}
 use Rattle.uv_text.specs.Rows.{is_in_rows}
-use Rattle.uv_text.proofs.MaskLemmas.{taken-behind}
+use Rattle.uv_text.proofs.MaskLemmas.{taken-after}
 use Rattle.uv_text.proofs.lanes.Load.of.Goals as goal
 
 pub returns-then-bytes-lt32 : goal.returns-then-bytes-lt32
@@ -24,7 +24,7 @@ returns c = λ rows.
     let k = c.args.place - start in
     let there : start + k ≡ c.args.place = omega arith in
     ap (λ (l : List ℕ). mask_l (map (is_in_rows rows) l))
-    (taken-behind start k xs (λ some. omega arith) ∙ ap (λ n. take 32 (drop n xs)) there)
+    (taken-after start k xs (λ some. omega arith) ∙ ap (λ n. take 32 (drop n xs)) there)
 
 pub invariant_of-result : goal.invariant_of-result
 invariant_of-result c =

@@ -1,4 +1,4 @@
--- A shift leaves the bits behind the first so many.
+-- A shift leaves the bits after the first so many.
 use Rattle.std.proofs.Common.{◌/◌, ◌^◌, ℕ, List, ap, map, sym, ◌∙◌}
 use Rattle.std.specs.List.{drop-map}
 use Rattle.std.specs.Simd.Lanes.{mask_l}

@@ -1,5 +1,0 @@
--- The text of a line that is UTF-8 has the line's bytes.
-use Rattle.uv_links.proofs.judge.Judge.judge.Goals as goal
-
-pub returns-in-Ok : goal.returns-in-Ok
-returns-in-Ok c = rw (← c.in-Ok.ensures.cases.0) c.judge_text.ensures

@@ -1,8 +1,0 @@
--- More of the prefix, and in the end the whole.
-use Rattle.std.specs.Str.{chars}
-use Rattle.uv_text.specs.Splits.{class_has}
-use Rattle.uv_text.proofs.SplitsLemmas.{passes_nothing}
-use Rattle.uv_text.proofs.splits.behind_rest.Goals as goal
-
-pub loop-behind-init : goal.loop-behind-init
-loop-behind-init c = record { passes = passes_nothing (class_has c.args.class) (chars c.args.text); stops = c.requires }
