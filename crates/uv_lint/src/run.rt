@@ -26,13 +26,13 @@ const LINE_LIMITS: LineLimits = LineLimits {
 ///
 /// A located line is `FILE:LINE:COLUMN:LINK`, where FILE is all before the first `:digits:digits:`. Its link is
 /// checked, also an empty one, and reported by that file and line and from that column on. What isn't of this form is
-/// reported by the name and number of the list's line. What is round a file's diagnostics then is round each diagnostic.
+/// reported by the name and number of the list's line. Each diagnostic then has round it what a file's have.
 ///
 /// A line ends with LF, and one CR before that is no part of it; a last part without LF is a line where it isn't empty.
 /// A byte order mark at the file's start is no part of the first line, though it is among the bytes that this may have.
 /// Lines are numbered from 1, and an empty line, which is numbered too, isn't checked. A line may have 65,536 bytes,
-/// and 1,000,000,000 lines may come. What is found with the lines that a read has ended is written before the next read,
-/// and sooner where 262,144 bytes or more wait after a diagnostic. What is after the diagnostics is written
+/// and 1,000,000,000 lines may come. What is found with the lines that a read has ended is written before the next
+/// read, and sooner where 262,144 bytes or more wait after a diagnostic. What is after the diagnostics is written
 /// after each fault but one of a write. The writer isn't flushed. The counts are those of the lines that were reported
 /// on whole, also after a fault. After a fault nothing is tried again, and how far the reader was read is open.
 pub fn run_lint<R: Source, W: Sink>(
