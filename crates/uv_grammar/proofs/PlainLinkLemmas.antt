@@ -32,7 +32,7 @@ use Rattle.uv_model.proofs.Violations.FaultlessHosts.{host_text_faultless, port_
 use Rattle.uv_grammar.specs.Built.{built}
 use Rattle.uv_grammar.specs.PartViolations.{AfterAuthority, IsCountable}
 use Rattle.uv_grammar.specs.PartValues.{FitsHostPart}
-use Rattle.uv_grammar.specs.declared.plain_links.PlainCut.{PlainCut}
+use Rattle.uv_grammar.specs.declared.links.plain.PlainCut.{PlainCut}
 use Rattle.uv_grammar.specs.PlainLinks.{IsPlainCut, IsPlainLink, IsStartCut}
 use Rattle.uv_grammar.specs.PlainLinks.{begins_after}
 use Rattle.uv_grammar.specs.Slices.{chars_of, chars_of_option}

@@ -28,7 +28,7 @@ use Rattle.uv_model.proofs.SchemeLemmas.{is_ascii-scheme}
 use Rattle.uv_text.specs.Class.{HoldsUrlBytes, HasHexDigits}
 use Rattle.uv_text.specs.Splits.{IsUnitSplit}
 use Rattle.uv_grammar.specs.PartValues.{FitsPort, without_default}
-use Rattle.uv_grammar.specs.declared.plain_links.PlainStart.{PlainStart}
+use Rattle.uv_grammar.specs.declared.links.plain.PlainStart.{PlainStart}
 use Rattle.uv_grammar.specs.PlainLinks.{HasAsciiPrefix, IsNameCut, IsPrefixCut, IsPartCut, IsPlainStart, IsPortCut}
 use Rattle.uv_grammar.specs.PlainLinks.{IsReferenceStart, IsSpecialBase, IsSpecialCut, IsSpecialPrefix, IsSpecialStart}
 use Rattle.uv_grammar.specs.PlainLinks.{IsStartAfter}

@@ -18,8 +18,8 @@ use Rattle.uv_model.specs.Scheme.{default_port, is_scheme, scheme_class}
 use Rattle.uv_model.specs.Setting.{scheme_or}
 use Rattle.uv_model.specs.Units.{is_faultless}
 use Rattle.uv_model.specs.Valid.{MayBePortText, port_given}
-use Rattle.uv_grammar.specs.declared.plain_links.PlainCut.{PlainCut}
-use Rattle.uv_grammar.specs.declared.plain_links.PlainStart.{PlainStart}
+use Rattle.uv_grammar.specs.declared.links.plain.PlainCut.{PlainCut}
+use Rattle.uv_grammar.specs.declared.links.plain.PlainStart.{PlainStart}
 use Rattle.uv_grammar.specs.Slices.{chars_of, chars_of_option}
 
 -- the prefix of so many bytes is ASCII

@@ -1,4 +1,8 @@
-//! The host and the port of a cut text.
+//! The host and the port of a cut text: each host by its class in `host`, by its text in `host_text`.
+pub(crate) mod host;
+mod host_text;
+pub(crate) mod port;
+
 ghost use Rattle.std.specs.Prelude.{◌≡◌, ◌==◌, IfOk, IsOk, length};
 ghost use Rattle.std.specs.Str.{chars};
 ghost use Rattle.uv_model.specs.Cut.{ends_at_host};
@@ -10,13 +14,13 @@ ghost use Rattle.uv_grammar.specs.NoMemory.{HostPartTakesNoMemory};
 ghost use Rattle.uv_grammar.specs.PartViolations.{IsCountable};
 ghost use Rattle.uv_grammar.specs.PartValues.{FitsHostPart, FitsPortPart, without_default};
 
+use crate::authority::host::check_host;
+use crate::authority::port::check_port;
 use crate::checked::Checked;
 use crate::cut::Cut;
-use crate::host::check_host;
 use crate::parser_paths::is_followed;
 use crate::parts_host::PartsHost;
 use crate::places::{host_place, port_place, refusal_after};
-use crate::port::check_port;
 use crate::setting::Setting;
 use std::alloc::{AllocError, Global};
 use uv_model::{Class, Profile};

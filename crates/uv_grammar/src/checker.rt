@@ -13,15 +13,15 @@ use crate::bases::{Base, BaseKind};
 use crate::built::build;
 use crate::checked::Checked;
 use crate::cut::{Cut, cut_text};
-use crate::file_links::file_parts;
+use crate::links::file::file_parts;
+use crate::links::plain::{
+    PlainStart, begins_after, may_start_otherwise, other_start, plain_cut, plain_parts, plain_start,
+};
+use crate::links::special::{address_of, begins_with_http_or_file, is_bracketed, special_cut};
 use crate::marks::split_marks;
 use crate::parts::Parts;
 use crate::parts_host::{AsciiText, PartsHost};
-use crate::plain_links::{
-    PlainStart, begins_after, may_start_otherwise, other_start, plain_cut, plain_parts, plain_start,
-};
 use crate::setting::Setting;
-use crate::special_links::{address_of, begins_with_http_or_file, is_bracketed, special_cut};
 use crate::start_rules::start_fault;
 use crate::unit_faults::fault_after_authority;
 use std::alloc::{AllocError, Global};

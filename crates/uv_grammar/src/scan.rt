@@ -6,10 +6,10 @@ ghost use Rattle.uv_model.specs.Violations.Refusal.{IsLeast};
 ghost use Rattle.uv_grammar.specs.Faults.{AddsViolations};
 ghost use Rattle.uv_grammar.specs.Scan.{HostUnitViolation, ScanViolation};
 
+use crate::authority::port::digit_fault;
 use crate::marks::beginnings::has_bracket;
 use crate::parser_paths::first_spaced_fault;
 use crate::places::refusal_after;
-use crate::port::digit_fault;
 use std::alloc::AllocError;
 use uv_host::opaque_fault;
 use uv_model::{Refusal, Rule, after_code_points};

@@ -9,7 +9,7 @@ ghost use Rattle.uv_grammar.specs.Verdict.{IsValidity};
 
 use crate::bases::{Base, BaseKind};
 use crate::checker::{Verdict, check_started, check_unstarted};
-use crate::plain_links::{PlainStart, plain_cut, plain_start};
+use crate::links::plain::{PlainStart, plain_cut, plain_start};
 use std::alloc::{AllocError, Global};
 use uv_model::{Profile, Record};
 
