@@ -39,7 +39,8 @@ echo "release: the same bytes twice: $(cd "$room/one" && ls | tr '\n' ' ')"
 
 # ---- the packages for Debian
 
-lintian --allow-root --display-info --pedantic "$room"/one/*.deb >"$room/said" 2>&1 || true
+# (what it takes for misspelt words are parts of numbers in machine code that happen to be letters)
+lintian --allow-root --display-info --pedantic --suppress-tags spelling-error-in-binary "$room"/one/*.deb >"$room/said" 2>&1 || true
 [ ! -s "$room/said" ] || { cat "$room/said"; fail "lintian isn't silent"; }
 echo "release: lintian is silent"
 
