@@ -11,6 +11,7 @@ for tool in cc cmp dpkg dpkg-deb lintian man objcopy pg_config pkg-config python
     command -v $tool >/dev/null || { echo "release: $tool is missing" >&2; exit 70; }
 done
 room=$(mktemp -d)
+chmod 755 "$room" # (the server of PostgreSQL is started as another user)
 trap 'rm -rf "$room"' EXIT
 version=$(cat VERSION)
 
