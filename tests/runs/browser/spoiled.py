@@ -71,7 +71,7 @@ ALL = (
     ),
     Spoiled(
         "a report with other lines", "long_list", "differs from that of lint",
-        "page/worker.js", "number: this.lines + line,", "number: this.lines + line - 1,",
+        "page/worker.js", "number: this.lines + line,", "number: this.lines + line + 1,",
     ),
     Spoiled(
         "a page that doesn't answer meanwhile", "long_list", "doesn't answer",
