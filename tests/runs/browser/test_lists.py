@@ -15,7 +15,7 @@ from session import TOP, PageCase
 # So many lines a list has, and in a sample.
 LINES = 200_000
 LINES_OF_SAMPLE = 20_000
-# How long the page may not answer while a list is checked: in milliseconds, or as a part of all the time that it takes.
+# While a list is checked the page answers within so many milliseconds, but for this part of the time: a machine may be busy.
 LONGEST_PAUSE = 500
 LONGEST_PART = 0.25
 # Lines that are no texts, or odd ones.
@@ -65,8 +65,8 @@ class Lists(PageCase):
         self.page.drop("links.txt", "/room/links.txt")
         self.page.wait(self.page.report_ended, 300)
         pauses = self.page.run("return window.pauses")
-        longest = max(LONGEST_PAUSE, LONGEST_PART * sum(pauses))
-        self.assertLess(max(pauses), longest, "the page doesn't answer while a list is checked")
+        without_answer = sum(it for it in pauses if it > LONGEST_PAUSE)
+        self.assertLess(without_answer, LONGEST_PART * sum(pauses), "the page doesn't answer while a list is checked")
         return float(max(pauses))
 
     def shows_what_lint_says(self) -> None:
