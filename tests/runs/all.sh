@@ -26,6 +26,32 @@ as_nobody() {
     "${other[@]}" "$@"
 }
 
+# answers_at_once WHAT LINE ANSWER LAST WORD.. : through pipes that live, each of three lines is answered before the next
+# one is written, and LAST is said once the input ends. `N` in LINE and ANSWER is the line's number.
+answers_at_once() {
+    local what=$1 line=$2 answer=$3 last=$4 number said asked
+    shift 4
+    mkfifo "$room/ask" "$room/answer"
+    "$program" "$@" <"$room/ask" >"$room/answer" 2>"$room/err" &
+    asked=$!
+    exec 8>"$room/ask" 9<"$room/answer"
+    for number in 1 2 3; do
+        echo "${line//N/$number}" >&8
+        said=
+        read -r -t 5 said <&9
+        count=$((count + 1))
+        if [ "$said" != "${answer//N/$number}" ]; then fail "$what: it answered $said"; fi
+    done
+    exec 8>&-
+    said=
+    read -r -t 5 said <&9
+    exec 9<&-
+    wait $asked
+    ends_with 0 $? '' "$what"
+    if [ "$said" != "$last" ]; then fail "$what: it ended with $said"; fi
+    rm -f "$room/ask" "$room/answer"
+}
+
 # expect STATUS STDOUT STDERR WORD.. : a run with these words ends so. STDOUT and STDERR are read with escapes.
 expect() {
     local status=$1 stdout=$2 stderr=$3 ended

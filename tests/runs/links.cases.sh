@@ -107,25 +107,7 @@ longest=urn:$(head -c 65532 /dev/zero | tr '\0' a)
 printf '%s\r\n%sa\n%sa' "$longest" "$longest" "$longest" >"$room/list"
 reports 1 "1 ok $longest\n2 bad 0 line-too-long\n3 bad 0 line-too-long\nlinks 3 ok 1 bad 2 differs 0\n" ''
 
-# A pipe that lives: each line is answered before the next one is written.
-mkfifo "$room/ask" "$room/answer"
-"$program" links <"$room/ask" >"$room/answer" 2>"$room/err" &
-asked=$!
-exec 8>"$room/ask" 9<"$room/answer"
-for number in 1 2 3; do
-    echo "urn:$number" >&8
-    answer=
-    read -r -t 5 answer <&9
-    count=$((count + 1))
-    if [ "$answer" != "$number ok urn:$number" ]; then fail "a live pipe: it answered $answer"; fi
-done
-exec 8>&-
-answer=
-read -r -t 5 answer <&9
-exec 9<&-
-wait $asked
-ends_with 0 $? '' 'a live pipe'
-if [ "$answer" != 'links 3 ok 3 bad 0 differs 0' ]; then fail "a live pipe: it ended with $answer"; fi
+answers_at_once 'a live pipe' 'urn:N' 'N ok urn:N' 'links 3 ok 3 bad 0 differs 0' links
 
 # Streams that fail.
 printf 'urn:a\n' >"$room/list"

@@ -184,21 +184,7 @@ fi
 "$program" mend --quiet <"$room/wanted" 2>"$room/err" | cmp -s - "$room/wanted" ||
     fail 'mend of mended lines: it wrote other bytes'
 
-# A pipe that lives: each line is answered before the next one is written.
-mkfifo "$room/mend_ask" "$room/mend_answer"
-"$program" mend --quiet <"$room/mend_ask" >"$room/mend_answer" 2>"$room/err" &
-asked=$!
-exec 8>"$room/mend_ask" 9<"$room/mend_answer"
-for number in 1 2 3; do
-    echo "urn: $number" >&8
-    answer=
-    read -r -t 5 answer <&9
-    count=$((count + 1))
-    if [ "$answer" != "urn:%20$number" ]; then fail "mend of a live pipe: it answered $answer"; fi
-done
-exec 8>&- 9<&-
-wait $asked
-ends_with 0 $? '' 'mend of a live pipe'
+answers_at_once 'mend of a live pipe' 'urn: N' 'urn:%20N' '' mend --quiet
 
 # Streams that fail.
 printf 'http://h/a b\n' >"$room/list"
