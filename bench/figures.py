@@ -66,7 +66,6 @@ TEXT_HEAD = "| Texts | Ada | resolve | ratio | record | ratio |"
 SENTENCES = (
     ("README.md", "costs {mixed} times the instructions of Ada's `can_parse`"),
     ("README.md", "On each of {kinds} kinds of texts it costs at most {most} times as many."),
-    ("docs/SPEED.md", "Of {kinds} kinds {reach} reach their aim."),
 )
 
 
@@ -121,19 +120,11 @@ def tables(costs: Costs) -> Dict[str, Dict[str, str]]:
     return {CHECK_HEAD: checks, TEXT_HEAD: texts}
 
 
-def aims(top: pathlib.Path) -> Dict[str, float]:
-    """The aim of each kind of bench/kinds."""
-    rows = [line.split() for line in (top / "bench" / "kinds").read_text(encoding="utf-8").splitlines()]
-    return {row[0]: float(row[6]) for row in rows if row and row[0][0] != "#"}
-
-
-def named(costs: Costs, aim: Dict[str, float]) -> Dict[str, str]:
+def named(costs: Costs) -> Dict[str, str]:
     """The figures of the sentences."""
     checks = [kind for kind, cost in costs.items() if "check" in cost]
     most = max(costs[kind]["check"] / costs[kind]["ada"] for kind in checks)
-    reach = [kind for kind in checks if costs[kind]["check"] <= aim[kind] * costs[kind]["ada"]]
-    figures = {"kinds": str(len(checks)), "reach": str(len(reach)), "most": "{:.2f}".format(most)}
-    return {"mixed": ratio(costs, "mixed", "check"), **figures}
+    return {"mixed": ratio(costs, "mixed", "check"), "kinds": str(len(checks)), "most": "{:.2f}".format(most)}
 
 
 def with_tables(text: str, wanted: Dict[str, Dict[str, str]]) -> Tuple[str, int, List[str]]:
@@ -184,7 +175,7 @@ def main() -> int:
         sys.exit(__doc__)
     top = pathlib.Path(rest[0]) if rest else pathlib.Path(__file__).resolve().parent.parent
     costs = stored(top)
-    figures = named(costs, aims(top))
+    figures = named(costs)
     pages = {page: (top / page).read_text(encoding="utf-8") for page in ("README.md", "docs/SPEED.md")}
     wrong: List[str] = []
     for page, sentence in SENTENCES:

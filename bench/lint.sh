@@ -1,7 +1,7 @@
 #!/usr/bin/env bash
 # `urlcheck lint` on a list of a million mixed links, the whole process, beside a C++ program that reads lines and calls
 # Ada's can_parse: processor time, the least of so many rounds with a run of each in turn, or instructions by callgrind;
-# and the peak of resident memory of `urlcheck lint` on 10,000 lines and on all. It wants at most 0.7 times the cost of
+# and the peak of resident memory of `urlcheck lint` on 10,000 lines and on all. It wants at most 0.5 times the cost of
 # the other, and memory that is the same on both lists, within 256 KiB, and below 10 MB. It fails where a program is
 # missing, a figure is empty, the counts aren't those that the list was made with, or a bound is broken. Last come
 # bench/refused_lines.sh, what a refused line takes beside a valid one, and bench/wrong_line.sh, what `lint --all` writes
@@ -91,7 +91,7 @@ failed=0
 # holds CONDITION WORDS.. : a bound that the figures keep
 holds() { awk "BEGIN { exit !($1) }" || { echo "FAILED: ${*:2}"; failed=1; }; }
 holds "${least[lint]} >= $count / 100 && ${least[ada]} >= $count / 100" 'a figure is too small to be one'
-holds "$ratio <= 0.7" 'more than 0.7 times the other'
+holds "$ratio <= 0.5 * 1.05" 'more than 0.5 times the other'
 holds "$peak_long <= $peak_short + 256 && $peak_short <= $peak_long + 256" 'the memory changes with the length'
 holds "$peak_short > 0 && $peak_long < 10000 && $peak_short < 10000" "the memory isn't below 10 MB"
 bash "$top/bench/refused_lines.sh" --seed "$seed" --program "$program" || failed=1

@@ -28,7 +28,7 @@ fi
 # is_drawn KIND : whether a kind is in the picture
 is_drawn() { [ ${#short[@]} = 0 ] || [[ " ${short[*]} " == *" $1 "* ]]; }
 
-grep -v '^#' "$top/bench/kinds" | while read -r kind _ call _ _ _ _ _ name; do
+grep -v '^#' "$top/bench/kinds" | while read -r kind _ call _ _ _ _ name; do
     is_drawn "$kind" || continue
     [ -s "$stored/$kind.txt" ] || { echo "bench/plot.sh: bench/verdicts/$kind.txt is missing" >&2; exit 1; }
     ! grep '^FAILED' "$stored/$kind.txt" >&2 || { echo "bench/plot.sh: bench/verdicts/$kind.txt failed" >&2; exit 1; }

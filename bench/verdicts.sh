@@ -1,10 +1,10 @@
 #!/usr/bin/env bash
 # What this checker takes for texts of a kind, beside Ada and, where it is at hand, Rust's crate `url`. bench/kinds has
-# the kinds: what is made, the call, the profile, the base, the aim and the bound. `check`, `check_alone` (alone),
-# `is_valid` and a call from C (from_c) are beside Ada's can_parse, `resolve_serialized` (resolve) and `resolve` with
-# its record's text (record) beside Ada's parse with its href. Both sides keep the base, or read each text's own. It
-# prints the instructions a text by callgrind, or the least processor time of so many rounds with a run of each in turn,
-# reading taken off, and the ratios to Ada.
+# the kinds: what is made, the call, the profile, the base and the bound, of which bench/bounds has the figure. `check`,
+# `check_alone` (alone), `is_valid` and a call from C (from_c) are beside Ada's can_parse, `resolve_serialized` (resolve)
+# and `resolve` with its record's text (record) beside Ada's parse with its href. Both sides keep the base, or read each
+# text's own. It prints the instructions a text by callgrind, or the least processor time of so many rounds with a run of
+# each in turn, reading taken off, and the ratios to Ada.
 # It fails where a figure is missing or below the floor, and where an answer isn't the wanted one: so many texts are
 # valid, Ada parses each, and writes each URL as this checker does. By instructions it also fails where a call passes
 # the kind's bound by more than the slack, and where plain links cost more by the parser's profile than by the standard
@@ -80,14 +80,16 @@ if [ "$kind" = all ]; then
 fi
 
 # The texts, and what is asked of them.
-call=check profile=standard base=- known='' wanted='' aim='' bound='' name='the lines of a file'
+call=check profile=standard base=- known='' wanted='' bound='' name='the lines of a file'
 if [ -n "$links" ]; then
     kind=list
 else
     row=$(awk -v kind="$kind" '$1 == kind' "$top/bench/kinds")
     [ -n "$row" ] || { echo "no such kind: $kind"; exit 2; }
-    read -r _ made call profile base known aim bound name <<<"$row"
-    [ "$bound" != - ] || bound=$aim
+    read -r _ made call profile base known bound name <<<"$row"
+    # (a bound that is missed stands as a number in its row)
+    [[ $bound == [0-9]* ]] || bound=$(awk -v name="$bound" '$1 == name { print $2 }' "$top/bench/bounds")
+    [ -n "$bound" ] || { echo "bench/bounds has no bound of $kind"; exit 2; }
     # Time wants more texts than instructions do.
     if [ $by = time ]; then : "${count:=$((10 * known))}"; else : "${count:=$known}"; fi
     links=$room/links
@@ -260,7 +262,7 @@ else
 fi
 if [ -n "$bound" ]; then
     bound=$(awk -v b="$bound" -v s=$slack 'BEGIN { printf "%.4f", b * s }')
-    echo "aim: $aim, and at most $bound is held"
+    echo "at most $bound is held"
 fi
 for each in "${names[@]}"; do
     if [ -z "$adas" ] || [ "$each" = ada ] || [ "$each" = standard ]; then continue; fi
