@@ -74,7 +74,7 @@ spoiled 'a path to nowhere' 'librarian' "$texts" docs/TRUST.md 's/runs\/library.
 spoiled 'a name of no function' 'no `fault_list`' "$texts" docs/PROVED.md 's/^| `faults` |/| `fault_list` |/'
 spoiled 'a clause that is none' 'no clause `reported`' "$texts" docs/PROVED.md 's/^| `run_links` | `report`/| `run_links` | `reported`/'
 spoiled 'a name of nothing' 'the name of nothing' "$texts" docs/ARCHITECTURE.md \
-    's/`links::plain::plain_cut`/`links::plain::plain_''cup`/'
+    's/`links::plain::plain_rest`/`links::plain::plain_''nest`/'
 spoiled 'a call with other arguments' 'isn.t in `uv_resolve`' "$texts" docs/LIBRARY.md \
     's/`resolve(alloc, text, base, profile)`/`resolve(alloc, base, text, profile)`/'
 spoiled 'a link that is no URL string' 'a link of the pages' "$commands" docs/guides/hook.md \

@@ -3,7 +3,7 @@
 use crate::repeated::repeated_before;
 use std::alloc::{AllocError, Global};
 use std::process::Abort;
-use uv_host::{PlainAnswer, name_prefix, plain_answer, wide_name_prefix};
+use uv_host::{PlainAnswer, name_prefix, plain_answer};
 use uv_model::Profile;
 use uv_text::Tail;
 
@@ -15,22 +15,10 @@ fn name_end(text: &str) -> usize {
     name_prefix(&Tail::of(text)).unwrap_or(NONE)
 }
 
-// The same by the wide profile.
-fn wide_end(text: &str) -> usize {
-    wide_name_prefix(&Tail::of(text)).unwrap_or(NONE)
-}
-
 // In each text of the table a name ends there.
 fn end_at(rt: &impl Abort, rows: &[(&str, usize)]) {
     for (text, end) in rows {
         assert!(rt; name_end(*text) == *end, "{text}");
-    }
-}
-
-// The same by the wide profile.
-fn wide_end_at(rt: &impl Abort, rows: &[(&str, usize)]) {
-    for (text, end) in rows {
-        assert!(rt; wide_end(*text) == *end, "{text}");
     }
 }
 
@@ -57,46 +45,16 @@ fn ends_after_a_letter_or_a_digit(rt: HostRuntime) {
     );
 }
 
-// By the wide profile a low line counts as a letter, and all else is as it is by the others.
-#[test]
-fn goes_on_after_a_low_line(rt: HostRuntime) {
-    wide_end_at(
-        &rt,
-        &[
-            ("example.com/", 11),
-            ("a_b", 3),
-            ("_dmarc.example.com/", 18),
-            ("_", 1),
-            ("a._.b:80", 5),
-            ("a_-_b", 5),
-            ("a_.", 3),
-            ("a_..b", 3),
-            ("", NONE),
-            (".", NONE),
-            (".a", NONE),
-            ("_-/", NONE),
-            ("a-._", NONE),
-            ("-_", NONE),
-            ("A_", NONE),
-        ],
-    );
-}
-
-// After letters of each length a name ends so many bytes after them or nowhere, and by the wide profile so many.
+// After letters of each length a name ends so many bytes after them or nowhere.
 fn ends_after_letters(
     rt: &(impl Abort + AllocGlobal),
     after: &str,
     more: usize,
-    wide: usize,
 ) -> Result<(), AllocError> {
     for length in 1..70usize {
         let text = repeated_before(rt.alloc(), "a", length, after)?;
         assert!(rt;
             name_end(text.as_str()) == length.saturating_add(more),
-            "{after}"
-        );
-        assert!(rt;
-            wide_end(text.as_str()) == length.saturating_add(wide),
             "{after}"
         );
     }
@@ -105,25 +63,18 @@ fn ends_after_letters(
 
 #[test]
 fn ends_alike_at_each_length(rt: HostRuntime) -> Result<(), AllocError> {
-    ends_after_letters(&rt, "/", 0, 0)?;
-    ends_after_letters(&rt, ".com/a", 4, 4)?;
-    ends_after_letters(&rt, "-b:80", 2, 2)?;
-    ends_after_letters(&rt, "./", 1, 1)?;
-    ends_after_letters(&rt, "..b", 1, 1)?;
-    ends_after_letters(&rt, ".-b", 1, 1)?;
-    ends_after_letters(&rt, "--b", NONE, NONE)?;
-    ends_after_letters(&rt, "-.b", NONE, NONE)?;
-    ends_after_letters(&rt, "-", NONE, NONE)
-}
-
-#[test]
-fn ends_a_name_with_low_lines_alike_at_each_length(rt: HostRuntime) -> Result<(), AllocError> {
-    ends_after_letters(&rt, "_/", 0, 1)?;
-    ends_after_letters(&rt, "_.com/a", 0, 5)?;
-    ends_after_letters(&rt, "-_:80", NONE, 2)?;
-    ends_after_letters(&rt, "._./", 1, 3)?;
-    ends_after_letters(&rt, "_--b", 0, NONE)?;
-    ends_after_letters(&rt, "_A", 0, 1)
+    ends_after_letters(&rt, "/", 0)?;
+    ends_after_letters(&rt, ".com/a", 4)?;
+    ends_after_letters(&rt, "-b:80", 2)?;
+    ends_after_letters(&rt, "./", 1)?;
+    ends_after_letters(&rt, "..b", 1)?;
+    ends_after_letters(&rt, ".-b", 1)?;
+    ends_after_letters(&rt, "--b", NONE)?;
+    ends_after_letters(&rt, "-.b", NONE)?;
+    ends_after_letters(&rt, "-", NONE)?;
+    ends_after_letters(&rt, "_/", 0)?;
+    ends_after_letters(&rt, "._./", 1)?;
+    ends_after_letters(&rt, "-_:80", NONE)
 }
 
 // What a name of so many bytes is, of which all are `a` but the one at a place: by hand from the URL Standard, section

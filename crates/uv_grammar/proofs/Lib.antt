@@ -1,7 +1,6 @@
 pub mod AuthorityLemmas
 pub mod BuiltLemmas
 pub mod EndLemmas
-pub mod FileLinkLemmas
 pub mod HostLemmas
 pub mod KindLemmas
 pub mod MarkSplitLemmas
@@ -13,7 +12,6 @@ pub mod PlainLinkLemmas
 pub mod PortLemmas
 pub mod ScanLemmas
 pub mod SpacedPathLemmas
-pub mod SpecialLinkLemmas
 pub mod SearchLemmas
 pub mod SchemeEndLemmas
 pub mod SegmentLemmas

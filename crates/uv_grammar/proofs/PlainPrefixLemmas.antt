@@ -1,9 +1,8 @@
 -- The prefixes of a plain link: its scheme, its name, its port and what follows a mark.
-use Rattle.std.proofs.Common.{get_or, ◌≤◌, ◌≡◌, ℕ, ◌<◌, Bool, true, false, List, [], ◌∷◌, ◌++◌, length, take, drop}
+use Rattle.std.proofs.Common.{get_or, ◌≤◌, ◌≡◌, ℕ, ◌<◌, Bool, true, List, [], ◌∷◌, ◌++◌, length, take, drop}
 use Rattle.std.proofs.Common.{Option, Some, None, refl, sym, ap, ◌∙◌, inl, inr, arith, append_assoc, lt-ltb}
-use Rattle.std.proofs.Common.{Fits, w8, nat_lt, subst}
+use Rattle.std.proofs.Common.{Fits, w8, nat_lt}
 use Rattle.std.specs.Prelude.{◌+◌, suc, codes}
-use Rattle.std.specs.Borrow.{Bor}
 use Rattle.std.specs.Int.{from_le_bytes, w32}
 use Rattle.std.specs.Char.{is_ascii, is_ascii_digit}
 use Rattle.std.specs.List.{prefix_len}
@@ -16,28 +15,21 @@ use Rattle.std.proofs.lemmas.Nat.{le_bytes_4}
 use Rattle.std.proofs.lemmas.Str.{chars-append, chars-IsAscii, IsUtf8-from_ascii, IsCharBoundary-from_take}
 use Rattle.std.proofs.Math.Nat.{min-le_left}
 use Rattle.std.proofs.Math.Seq.{take-append_seam, drop-append_seam}
-use Rattle.uv_model.specs.declared.profile.Profile.{Profile}
+use Rattle.uv_model.specs.declared.profile.Profile.TheVariants.{Standard}
 use Rattle.uv_model.specs.declared.scheme.Class.TheVariants.{SpecialNotFile}
 use Rattle.uv_model.specs.Ascii.{slash, colon}
 use Rattle.uv_model.specs.Hosts.Domain.{is_form_code_point}
-use Rattle.uv_model.specs.Records.Url.{Url}
 use Rattle.uv_model.specs.Scheme.{default_port, is_scheme, scheme_class}
-use Rattle.uv_model.specs.Setting.{scheme_or}
 use Rattle.uv_model.proofs.Texts.AsciiLemmas.{IsAscii-from_test}
 use Rattle.uv_model.proofs.SchemeLemmas.{is_ascii-scheme}
 use Rattle.uv_text.specs.Class.{HoldsUrlBytes, HasHexDigits}
 use Rattle.uv_text.specs.Splits.{IsUnitSplit}
 use Rattle.uv_grammar.specs.PartValues.{FitsPort, without_default}
-use Rattle.uv_grammar.specs.declared.links.plain.PlainStart.{PlainStart}
-use Rattle.uv_grammar.specs.PlainLinks.{HasAsciiPrefix, IsNameCut, IsPrefixCut, IsPartCut, IsPlainStart, IsPortCut}
-use Rattle.uv_grammar.specs.PlainLinks.{IsReferenceStart, IsSpecialBase, IsSpecialCut, IsSpecialPrefix, IsSpecialStart}
-use Rattle.uv_grammar.specs.PlainLinks.{IsStartAfter}
-use Rattle.uv_grammar.specs.Slices.{chars_of, chars_of_option}
-use Rattle.uv_grammar.specs.TextSplits.{SplitsScheme}
+use Rattle.uv_grammar.specs.PlainLinks.{HasAsciiPrefix, IsPartCut, IsPortCut, IsPrefixCut, IsSpecialCut, IsSpecialPrefix}
 use Rattle.uv_grammar.proofs.PlainUnitLemmas.{split_joined, url_units}
 use Rattle.uv_grammar.proofs.PartLemmas.{given_number}
-use Rattle.uv_host.specs.PlainNames.{IsChainPrefixOf}
-use Rattle.uv_host.proofs.ChainLemmas.{profile_of, rooted_form_of}
+use Rattle.uv_host.specs.PlainNames.{IsChainPrefix}
+use Rattle.uv_host.proofs.ChainLemmas.{rooted_form}
 use Rattle.uv_model.proofs.Cuts.HostCutLemmas.{passes-weaker}
 
 -- the end of an ASCII prefix is a boundary
@@ -119,64 +111,10 @@ special_cut bytes scheme after none rest end is a b =
       special = ap scheme_class a.code_points ∙ is.special;
     }
 
--- a special scheme in any case
-pub scheme_cut : (text scheme rest after : List ℕ) → SplitsScheme text (Some scheme) rest → rest
-    ≡ slash ∷ slash ∷ after
-    → scheme_class scheme ≡ SpecialNotFile → IsSpecialCut text scheme after
-scheme_cut text scheme rest after split slashes special = record {
-  joined =
-      split.joined ∙ append_assoc scheme (colon ∷ []) rest ∙ ap (λ (s : List ℕ). scheme ++ colon ∷ s) slashes;
-  named = split.scheme;
-  special = special;
-}
-
 -- the cut after a prefix
 pub cut_joined : (bytes prefix rest : List ℕ) (end : ℕ) → IsPrefixCut bytes end prefix rest → chars bytes
     ≡ chars prefix ++ chars rest
 cut_joined bytes prefix rest end cut = cut.joined ∙ ap (λ s. s ++ chars rest) (sym cut.code_points)
-
--- two slashes are ASCII
-pub slashes_ascii : (bytes after : List ℕ) → bytes ≡ slash ∷ slash ∷ after → HasAsciiPrefix bytes 2
-slashes_ascii bytes after same = rw same (omega arith, refl)
-
--- the cut after them
-pub slashes_cut : (bytes none rest after : List ℕ) → bytes ≡ slash ∷ slash ∷ after → IsPrefixCut bytes 2 none rest
-    → chars bytes ≡ slash ∷ slash ∷ chars rest
-slashes_cut bytes none rest after same cut = cut.joined ∙ ap (λ s. s ++ chars rest) (ap (take 2) same)
-
--- what is after them is after the start of a reference, against a base of a special scheme
-pub reference_cut : (base : Option Url) (text after scheme : List ℕ) → text ≡ slash ∷ slash ∷ after
-    → IsSpecialBase base scheme → IsReferenceStart base text after
-reference_cut None text after scheme joined is = absurd is
-reference_cut (Some url) text after scheme joined is = record {
-  joined = joined;
-  special = ap scheme_class is.0 ∙ is.1;
-  segments = is.2;
-}
-
--- the scheme of such a base is that of the text
-pub base_scheme : (base : Option Url) (scheme : List ℕ) → IsSpecialBase base scheme → scheme_or base None ≡ scheme
-base_scheme None scheme is = absurd is
-base_scheme (Some url) scheme is = is.0
-
--- after a scheme, written or the base's, and a name by the profile such a start is a plain one
-pub start_after : (profile : Profile) (base : Option Url) (text after rest scheme : List ℕ)
-    (written : Option (Bor (List ℕ))) (name : Bor (List ℕ)) (start : PlainStart)
-    → IsSpecialStart base text (chars_of_option written) after → scheme_or base (chars_of_option written) ≡ scheme
-    → IsNameCut profile after (chars_of name) name.now rest → IsStartAfter written scheme name rest start
-    → IsPlainStart profile base text start
-start_after profile base text after rest scheme written name start special same named is =
-    rw (is.written_scheme, is.same_name) (record {
-      after = after;
-      rest = rest;
-      special = special;
-      named = named;
-      port_cut =
-          subst
-          (λ (s : List ℕ). IsPortCut (default_port s) rest (chars_of_option start.port_text) start.port
-          (chars start.rest))
-          (sym same) is.port_cut;
-    })
 
 -- a list that begins with a number is it and a rest
 pub first_byte : (mark : ℕ) (bytes : List ℕ) → 1 ≤ length bytes → get_or bytes 0 0 ≡ mark → bytes ≡ mark ∷ drop 1 bytes
@@ -208,17 +146,15 @@ some_part mark bytes none after prefix rest held same a holds digits cut = recor
 pub scheme_ascii : (bytes : List ℕ) (end : ℕ) → IsSpecialPrefix bytes end → HasAsciiPrefix bytes end
 scheme_ascii bytes end is = (is.inside, is_ascii-scheme (take end bytes) is.scheme)
 
--- the bytes of a plain name are ASCII, with low lines or without
-pub name_ascii : (low : Bool) (bytes : List ℕ) (end : ℕ) → IsChainPrefixOf low bytes end → HasAsciiPrefix bytes end
-name_ascii low bytes end is = (
+-- the bytes of a plain name are ASCII
+pub name_ascii : (bytes : List ℕ) (end : ℕ) → IsChainPrefix bytes end → HasAsciiPrefix bytes end
+name_ascii bytes end is = (
   is.0,
-  passes-weaker (is_form_code_point (profile_of low)) is_ascii (small low) (take end bytes)
-      (rooted_form_of low (take end bytes) is.1),
+  passes-weaker (is_form_code_point Standard) is_ascii small (take end bytes) (rooted_form (take end bytes) is.1),
 )
   where
-    small : (low : Bool) (c : ℕ) → is_form_code_point (profile_of low) c ≡ true → is_ascii c ≡ true
-    small true c h = grind (arith, nat_tests)
-    small false c h = grind (arith, nat_tests)
+    small : (c : ℕ) → is_form_code_point Standard c ≡ true → is_ascii c ≡ true
+    small c h = grind (arith, nat_tests)
 
 -- ---- ports
 

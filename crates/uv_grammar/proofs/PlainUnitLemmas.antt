@@ -8,16 +8,12 @@ use Rattle.std.proofs.lemmas.Bool.{and_from, and_parts, cases_Bool, cases_eq, fa
 use Rattle.std.proofs.lemmas.Bool.Decides.{nat_tests}
 use Rattle.std.proofs.lemmas.List.{take-append-drop}
 use Rattle.uv_model.specs.Ascii.{number_sign, percent_sign, question_mark}
-use Rattle.uv_model.specs.Hosts.OpaqueHost.{is_forbidden_host}
 use Rattle.uv_model.specs.Path.{is_without}
 use Rattle.uv_model.specs.Units.{is_faultless, is_unit_at, is_url_code_point, starts_with_two_hex}
-use Rattle.uv_model.proofs.Cuts.HostCutLemmas.{word_passes}
 use Rattle.uv_model.proofs.Texts.MarkLemmas.{is_without-more}
-use Rattle.uv_text.specs.Class.{HasHexDigits, HoldsOpaqueHostBytes, HoldsPathBytes, HoldsUrlBytes}
+use Rattle.uv_text.specs.Class.{HasHexDigits, HoldsPathBytes, HoldsUrlBytes}
 use Rattle.uv_text.specs.Splits.{IsUnitSplit, begins_mark, begins_unit, unit_length}
 use Rattle.uv_grammar.specs.PlainLinks.{AreUnits}
-use Rattle.uv_grammar.specs.SpecialLinks.{IsHostTextCut}
-use Rattle.uv_grammar.proofs.SpecialLinkLemmas.{word_cut}
 
 -- `%` and `#` are no URL code points
 percent_sign-unit : is_url_code_point percent_sign ≡ false
@@ -167,20 +163,3 @@ path_units held text prefix rest holds digits cut =
       | inl is ↦ rw is refl
       | inr not ↦ rw not refl
     ]
-
--- a byte of an opaque host is no forbidden host code point
-host_byte : (held : ℕ → Bool) → HoldsOpaqueHostBytes held → (c : ℕ) → held c ≡ true → not (is_forbidden_host c) ≡ true
-host_byte held holds c here =
-    let both = and_parts (is_ascii c) (is_url_code_point c && not (is_forbidden_host c)) (sym (holds c) ∙ here) in
-    (and_parts (is_url_code_point c) (not (is_forbidden_host c)) both.1).1
-
--- the units of the text of a host
-pub host_units : (held : ℕ → Bool) (text prefix rest : List ℕ) → HoldsOpaqueHostBytes held
-    → IsUnitSplit held text prefix rest → IsHostTextCut text prefix rest
-host_units held text prefix rest holds cut =
-    let permitted : ℕ → Bool = λ c. not (is_forbidden_host c) in
-    let each : list_all permitted prefix ≡ true =
-    rw cut.is_prefix (passes_prefix held permitted (host_byte held holds) refl (λ c far. grind (arith, nat_tests))
-    text) in
-    word_cut text prefix rest (split_joined held text prefix rest cut)
-    (word_passes permitted refl refl refl refl refl prefix each)

@@ -1,24 +1,20 @@
 -- The cuts of the links that people write, after the URL Standard, sections 3.4 and 4.3.
-use Rattle.std.specs.Prelude.{◌≡◌, ◌≢◌, ℕ, ◌≤◌, Bool, true, false, ◌||◌, ◌==◌, List, [], ◌∷◌, ◌++◌, length, take, drop}
+use Rattle.std.specs.Prelude.{◌≡◌, ◌≢◌, ℕ, ◌≤◌, Bool, true, false, List, [], ◌∷◌, ◌++◌, length, take, drop}
 use Rattle.std.specs.Prelude.{Option, Some, None}
-use Rattle.std.specs.Borrow.{Bor}
 use Rattle.std.specs.Char.{is_ascii}
 use Rattle.std.specs.List.{list_all}
 use Rattle.std.specs.Str.{chars}
 use Rattle.uv_model.specs.declared.profile.Profile.{Profile}
-use Rattle.uv_model.specs.declared.profile.Profile.TheVariants.{Wide}
 use Rattle.uv_model.specs.declared.scheme.Class.TheVariants.{SpecialNotFile}
 use Rattle.uv_model.specs.Ascii.{colon, number_sign, question_mark, slash}
 use Rattle.uv_model.specs.Cut.{starts_with_two_slashes}
 use Rattle.uv_model.specs.Hosts.Domain.{IsDomain}
 use Rattle.uv_model.specs.Parts.{written_after}
 use Rattle.uv_model.specs.Path.{is_without, starts_with_slash}
-use Rattle.uv_model.specs.Records.Url.{Url, is_opaque}
 use Rattle.uv_model.specs.Scheme.{default_port, is_scheme, scheme_class}
-use Rattle.uv_model.specs.Setting.{scheme_or}
 use Rattle.uv_model.specs.Units.{is_faultless}
 use Rattle.uv_model.specs.Valid.{MayBePortText, port_given}
-use Rattle.uv_grammar.specs.declared.links.plain.PlainCut.{PlainCut}
+use Rattle.uv_grammar.specs.declared.links.plain.PlainRest.{PlainRest}
 use Rattle.uv_grammar.specs.declared.links.plain.PlainStart.{PlainStart}
 use Rattle.uv_grammar.specs.Slices.{chars_of, chars_of_option}
 
@@ -47,33 +43,10 @@ pub record IsSpecialCut (text scheme rest : List ℕ) : Type 0 where
   pub named : is_scheme scheme ≡ true
   pub special : scheme_class scheme ≡ SpecialNotFile
 
--- the text is `//` and a rest, and the base has a special scheme and no opaque path
-pub record IsReferenceCut (base : Url) (text rest : List ℕ) : Type 0 where
-  pub joined : text ≡ slash ∷ slash ∷ rest
-  pub special : scheme_class base.scheme ≡ SpecialNotFile
-  pub segments : is_opaque base.path ≡ false
-
--- the same where there is a base
-abbrev pub IsReferenceStart : Option Url → List ℕ → List ℕ → Type 0
-IsReferenceStart None text rest = ⊥
-IsReferenceStart (Some base) text rest = IsReferenceCut base text rest
-
--- what is before the host of a special URL: its scheme and `://`, or `//` against a base
-abbrev pub IsSpecialStart : Option Url → List ℕ → Option (List ℕ) → List ℕ → Type 0
-IsSpecialStart base text (Some scheme) rest = IsSpecialCut text scheme rest
-IsSpecialStart base text None rest = IsReferenceStart base text rest
-
--- the base has this scheme, which is special, and no opaque path
-abbrev pub IsSpecialBase : Option Url → List ℕ → Type 0
-IsSpecialBase None scheme = ⊥
-IsSpecialBase (Some base) scheme =
-    (base.scheme ≡ scheme) × (scheme_class scheme ≡ SpecialNotFile) × (is_opaque base.path ≡ false)
-
--- the text is by the profile a domain of this form, which it is by the wide profile too, and a rest
-pub record IsNameCut (profile : Profile) (text name form rest : List ℕ) : Type 0 where
+-- the text is a domain of this form by each profile, and a rest
+pub record IsNameCut (text name form rest : List ℕ) : Type 0 where
   pub joined : text ≡ name ++ rest
-  pub wide : IsDomain Wide name form
-  pub domain : IsDomain profile name form
+  pub domain : (profile : Profile) → IsDomain profile name form
 
 -- the text is `:` and a valid port, or none, with the number that it gives beside a default port, and a rest
 pub record IsPortCut (default : Option ℕ) (text : List ℕ) (port_text : Option (List ℕ)) (port : Option ℕ)
@@ -105,20 +78,14 @@ pub record IsPartCut (mark : ℕ) (text : List ℕ) (part : Option (List ℕ)) (
   pub joined : text ≡ written_after mark part ++ rest
   pub units : MayBeUnits part
 
--- the texts of a special scheme or of none against a special base, a domain of the profile and a port, and what follows
--- them
-pub record IsStartCut (profile : Profile) (base : Option Url) (text : List ℕ) (scheme : Option (List ℕ))
-    (name form : List ℕ) (port_text : Option (List ℕ)) (port : Option ℕ) (remaining : List ℕ) : Type 0 where
+-- the texts of a special scheme, a domain and a port, and what follows them
+pub record IsStartCut (text scheme name form : List ℕ) (port_text : Option (List ℕ)) (port : Option ℕ)
+    (remaining : List ℕ) : Type 0 where
   pub after : List ℕ
   pub rest : List ℕ
-  pub special : IsSpecialStart base text scheme after
-  pub named : IsNameCut profile after name form rest
-  pub port_cut : IsPortCut (default_port (scheme_or base scheme)) rest port_text port remaining
-
--- the text begins a path after an authority, a query or a fragment, or is empty
-abbrev pub begins_after : List ℕ → Bool
-begins_after [] = true
-begins_after (c ∷ rest) = (c == slash) || ((c == question_mark) || (c == number_sign))
+  pub special : IsSpecialCut text scheme after
+  pub named : IsNameCut after name form rest
+  pub port_cut : IsPortCut (default_port scheme) rest port_text port remaining
 
 -- the text is a path of units, `?` and a query of units or none, and `#` and a fragment of units or none
 pub record AreUnitsAfter (text path : List ℕ) (query fragment : Option (List ℕ)) : Type 0 where
@@ -128,35 +95,13 @@ pub record AreUnitsAfter (text path : List ℕ) (query fragment : Option (List �
   pub query_cut : IsPartCut question_mark tail query end
   pub fragment_cut : IsPartCut number_sign end fragment []
 
--- the texts of a plain link by the profile
-pub record IsPlainLink (profile : Profile) (base : Option Url) (text : List ℕ) (scheme : Option (List ℕ))
-    (name form : List ℕ) (port_text : Option (List ℕ)) (port : Option ℕ) (path : List ℕ)
-    (query fragment : Option (List ℕ)) : Type 0 where
-  pub after : List ℕ
-  pub rest : List ℕ
-  pub remaining : List ℕ
-  pub special : IsSpecialStart base text scheme after
-  pub named : IsNameCut profile after name form rest
-  pub port_cut : IsPortCut (default_port (scheme_or base scheme)) rest port_text port remaining
-  pub units : AreUnitsAfter remaining path query fragment
+-- the text has this plain start
+abbrev pub IsPlainStart : List ℕ → PlainStart → Type 0
+IsPlainStart text start =
+    IsStartCut text (chars_of start.scheme) (chars_of start.name) start.name.now (chars_of_option start.port_text)
+    start.port (chars start.rest)
 
--- the text, against the base, is by the profile a plain link of these texts and this port
-abbrev pub IsPlainCut : Profile → Option Url → List ℕ → PlainCut → Type 0
-IsPlainCut profile base text cut =
-    IsPlainLink profile base text (chars_of_option cut.scheme) (chars_of cut.name) cut.name.now
-    (chars_of_option cut.port_text) cut.port (chars_of cut.path_text) (chars_of_option cut.query)
-    (chars_of_option cut.fragment)
-
--- the start has this scheme, written or not, and this name, and the text after the name begins with its port, or has
--- none, beside the default port of the scheme
-pub record IsStartAfter (written : Option (Bor (List ℕ))) (scheme : List ℕ) (name : Bor (List ℕ)) (text : List ℕ)
-    (start : PlainStart) : Type 0 where
-  pub written_scheme : start.scheme ≡ written
-  pub same_name : start.name ≡ name
-  pub port_cut : IsPortCut (default_port scheme) text (chars_of_option start.port_text) start.port (chars start.rest)
-
--- the text, against the base, has by the profile this plain start
-abbrev pub IsPlainStart : Profile → Option Url → List ℕ → PlainStart → Type 0
-IsPlainStart profile base text start =
-    IsStartCut profile base text (chars_of_option start.scheme) (chars_of start.name) start.name.now
-    (chars_of_option start.port_text) start.port (chars start.rest)
+-- the text is this rest of a plain link
+abbrev pub IsPlainRest : List ℕ → PlainRest → Type 0
+IsPlainRest text rest =
+    AreUnitsAfter text (chars_of rest.path_text) (chars_of_option rest.query) (chars_of_option rest.fragment)

@@ -6,7 +6,6 @@ pub(crate) mod port;
 ghost use Rattle.std.specs.Prelude.{◌≡◌, ◌==◌, IfOk, IsOk, length};
 ghost use Rattle.std.specs.Str.{chars};
 ghost use Rattle.uv_model.specs.Cut.{ends_at_host};
-ghost use Rattle.uv_model.specs.Setting.{Setting};
 ghost use Rattle.uv_model.specs.Violations.Violation.{HostPartViolation, PortPartViolation};
 ghost use Rattle.uv_grammar.specs.PartsHost.{FitsPartsHost};
 ghost use Rattle.uv_grammar.specs.Checked.{IsChecked};
@@ -23,9 +22,9 @@ use crate::parts_host::PartsHost;
 use crate::places::{host_place, port_place, refusal_after};
 use crate::setting::Setting;
 use std::alloc::{AllocError, Global};
-use uv_model::{Class, Profile};
 
-/// The host of a cut text, a refusal counted from the text's start. The error is out of memory.
+/// The host of a cut text, a refusal counted from the text's start. The error is out of memory. It is inlined, as the
+/// texts of the cut would else be stored.
 #[inline(always)]
 pub(crate) fn check_host_part<'t>(
     alloc: Global,
@@ -37,34 +36,17 @@ pub(crate) fn check_host_part<'t>(
         (IsChecked (FitsPartsHost (FitsHostPart setting.now cut.now)) (HostPartViolation setting.now cut.now)) }
     ensures memory { HostPartTakesNoMemory setting.now cut.now.host_text → IsOk result }
 {
-    check_host_of_class(alloc, cut, setting.class, setting.profile)
-}
-
-/// The same by the class and the profile of the setting. It is inlined, as the texts of the cut would else be stored.
-#[inline(always)]
-pub(crate) fn check_host_of_class<'t>(
-    alloc: Global,
-    cut: &Cut<'t>,
-    class: Class,
-    profile: Profile,
-) -> Result<Checked<Option<PartsHost<'t>>>, AllocError>
-    requires { IsCountable cut.now }
-    ensures answer { (setting : Setting) → setting.class ≡ class → setting.profile ≡ profile → IfOk result
-        (IsChecked (FitsPartsHost (FitsHostPart setting cut.now)) (HostPartViolation setting cut.now)) }
-    ensures memory { (setting : Setting) → setting.class ≡ class → setting.profile ≡ profile
-        → HostPartTakesNoMemory setting cut.now.host_text → IsOk result }
-{
     let Some(host_text) = cut.host_text else {
         return Ok(Checked::Valid(None));
     };
     match check_host(
         alloc,
-        class,
+        setting.class,
         host_text,
         cut.port_text,
         cut.path_text,
         ends_at_host(cut),
-        profile,
+        setting.profile,
     )? {
         Checked::Valid(host) => Ok(Checked::Valid(host)),
         Checked::Refused(refusal) => Ok(Checked::Refused(refusal_after(host_place(cut), refusal))),

@@ -77,13 +77,6 @@ fn port_of(scheme: &str) -> Option<u16>
     default_port(scheme)
 }
 
-/// The class of a scheme.
-pub(crate) fn known_class(scheme: &str) -> Class
-    ensures { result ≡ scheme_class (chars scheme.now) }
-{
-    class_beside(scheme, port_of(scheme))
-}
-
 // The class of a scheme with this default port.
 fn class_beside(scheme: &str, port: Option<u16>) -> Class
     requires { port ≡ default_port (chars scheme.now) }

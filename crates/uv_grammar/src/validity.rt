@@ -1,15 +1,14 @@
 //! Whether a text is a valid URL string, without its parts or what is wrong with it.
-ghost use Rattle.std.specs.Prelude.{IfOk, IsOk, Some, option_copied};
+ghost use Rattle.std.specs.Prelude.{ℕ, List, Option, IfOk, IsOk, Some, option_copied};
 ghost use Rattle.std.specs.Str.{chars};
+ghost use Rattle.uv_model.specs.declared.profile.Profile.{Profile};
 ghost use Rattle.uv_model.specs.Records.Url.{Url};
-ghost use Rattle.uv_grammar.specs.Bases.{IsOfKind, as_base};
+ghost use Rattle.uv_grammar.specs.Bases.{IsOfKind};
 ghost use Rattle.uv_grammar.specs.NoMemory.{TakesNoMemoryAgainst};
-ghost use Rattle.uv_grammar.specs.PlainLinks.{IsPlainStart};
-ghost use Rattle.uv_grammar.specs.Verdict.{IsValidity};
+ghost use Rattle.uv_grammar.specs.Verdict.{IsValidity, IsVerdict};
 
-use crate::bases::{Base, BaseKind};
-use crate::checker::{Verdict, check_started, check_unstarted};
-use crate::links::plain::{PlainStart, plain_cut, plain_start};
+use crate::bases::BaseKind;
+use crate::checker::{Verdict, check, check_of_kind};
 use std::alloc::{AllocError, Global};
 use uv_model::{Profile, Record};
 
@@ -24,13 +23,7 @@ pub fn is_valid(
     ensures answer { IfOk result (IsValidity profile (option_copied base.entry) (chars text.now)) }
     ensures memory { TakesNoMemoryAgainst profile (option_copied base.entry) (chars text.now) → IsOk result }
 {
-    let Some(start) = plain_start(text) else {
-        return is_valid_otherwise(alloc, text, Base::whole(base), profile);
-    };
-    match plain_cut(&start) {
-        Some(_) => Ok(true),
-        None => is_valid_from(alloc, text, start, Base::whole(base), profile),
-    }
+    Ok(says_yes(&check(alloc, text, base, profile)?))
 }
 
 /// The same against every base of a kind.
@@ -44,45 +37,16 @@ pub fn is_valid_of_kind(
     ensures memory { (url : Url) → IsOfKind url base → TakesNoMemoryAgainst profile (Some url) (chars text.now)
         → IsOk result }
 {
-    let Some(start) = plain_start(text) else {
-        return is_valid_otherwise(alloc, text, Some(Base::Kind(base)), profile);
-    };
-    match plain_cut(&start) {
-        Some(_) => Ok(true),
-        None => is_valid_from(alloc, text, start, Some(Base::Kind(base)), profile),
-    }
+    Ok(says_yes(&check_of_kind(alloc, text, base, profile)?))
 }
 
-// Whether a text of a plain start is valid.
-fn is_valid_from(
-    alloc: Global,
-    text: &str,
-    start: PlainStart<'_>,
-    base: Option<Base<'_>>,
-    profile: Profile,
-) -> Result<bool, AllocError>
-    requires { IsPlainStart profile (as_base base) (chars text.now) start }
-    ensures answer { IfOk result (IsValidity profile (as_base base.entry) (chars text.now)) }
-    ensures memory { TakesNoMemoryAgainst profile (as_base base.entry) (chars text.now) → IsOk result }
+// Whether a verdict is that the text is valid.
+fn says_yes(verdict: &Verdict<'_>) -> bool
+    ensures { (profile : Profile) (base : Option Url) (text : List ℕ) → IsVerdict profile base text verdict.now
+        → IsValidity profile base text result }
 {
-    match check_started(alloc, text, start, base, profile)? {
-        Verdict::Yes(..) => Ok(true),
-        Verdict::No(..) => Ok(false),
-    }
-}
-
-// Whether a text that doesn't begin as a plain link with a scheme is valid.
-fn is_valid_otherwise(
-    alloc: Global,
-    text: &str,
-    base: Option<Base<'_>>,
-    profile: Profile,
-) -> Result<bool, AllocError>
-    ensures answer { IfOk result (IsValidity profile (as_base base.entry) (chars text.now)) }
-    ensures memory { TakesNoMemoryAgainst profile (as_base base.entry) (chars text.now) → IsOk result }
-{
-    match check_unstarted(alloc, text, base, profile)? {
-        Verdict::Yes(_) => Ok(true),
-        Verdict::No(_) => Ok(false),
+    match verdict {
+        Verdict::Yes(_) => true,
+        Verdict::No(_) => false,
     }
 }

@@ -12,27 +12,19 @@ use Rattle.std.proofs.lemmas.Nat.{and_le_l, or_lt}
 use Rattle.std.proofs.lemmas.Simd.{bit_mask_l}
 use Rattle.std.proofs.lemmas.Nat.Bits.{bit_at-lt, bit_at-trailing_ones, bit_at_above, bit_at_and, bit_at_cat_high}
 use Rattle.std.proofs.lemmas.Nat.Bits.{bit_at_cat_low, bit_at_or}
-use Rattle.uv_text.specs.Rows.{HasBitsOf, is_in_rows}
+use Rattle.uv_text.specs.Rows.{is_in_rows}
 use Rattle.uv_text.proofs.MaskLemmas.{bit-set, mask-small}
 use Rattle.uv_text.proofs.RowsLemmas.{beyond}
-use Rattle.uv_host.specs.declared.plain_names.TheConstants.{JOINT_ROWS, SIGN_ROWS, WIDE_SIGN_ROWS}
+use Rattle.uv_host.specs.declared.plain_names.TheConstants.{JOINT_ROWS, SIGN_ROWS}
 use Rattle.uv_host.specs.PlainNames.{IsJoined, goes_on, is_joint, is_sign, signed_before}
 
--- the rows hold the letters and digits, with low lines or without
-sign_rows : (b : ℕ) → is_in_rows SIGN_ROWS b ≡ is_sign false b
+-- the rows hold the letters and digits
+sign_rows : (b : ℕ) → is_in_rows SIGN_ROWS b ≡ is_sign b
 sign_rows b = elim (cases_lt b 256) [
-  | inl small ↦ agree_below_at (is_in_rows SIGN_ROWS) (is_sign false) 256 b refl small
+  | inl small ↦ agree_below_at (is_in_rows SIGN_ROWS) is_sign 256 b refl small
   | inr large ↦
-      let none : is_sign false b ≡ false = grind (arith, nat_tests, large) in
+      let none : is_sign b ≡ false = grind (arith, nat_tests, large) in
       beyond SIGN_ROWS b large ∙ sym none
-]
-
-wide_sign_rows : (b : ℕ) → is_in_rows WIDE_SIGN_ROWS b ≡ is_sign true b
-wide_sign_rows b = elim (cases_lt b 256) [
-  | inl small ↦ agree_below_at (is_in_rows WIDE_SIGN_ROWS) (is_sign true) 256 b refl small
-  | inr large ↦
-      let none : is_sign true b ≡ false = grind (arith, nat_tests, large) in
-      beyond WIDE_SIGN_ROWS b large ∙ sym none
 ]
 
 same_map : (p q : ℕ → Bool) (xs : List ℕ) → ((b : ℕ) → p b ≡ q b) → map p xs ≡ map q xs
@@ -40,17 +32,8 @@ same_map p q [] h = refl
 same_map p q (x ∷ xs) h = rw (h x, same_map p q xs h) refl
 
 -- so their bits are those of letters and digits
-pub sign_bits : (xs : List ℕ) → mask_l (map (is_in_rows SIGN_ROWS) xs) ≡ mask_l (map (is_sign false) xs)
-sign_bits xs = ap mask_l (same_map (is_in_rows SIGN_ROWS) (is_sign false) xs sign_rows)
-
-pub wide_sign_bits : (xs : List ℕ) → mask_l (map (is_in_rows WIDE_SIGN_ROWS) xs) ≡ mask_l (map (is_sign true) xs)
-wide_sign_bits xs = ap mask_l (same_map (is_in_rows WIDE_SIGN_ROWS) (is_sign true) xs wide_sign_rows)
-
--- those of a load are those of its bytes
-pub loaded_signs : (low : Bool) (bytes load : List ℕ) → HasBitsOf bytes load
-    → mask_l (map (is_sign low) load) ≡ mask_l (map (is_sign low) bytes)
-loaded_signs false bytes load has = sym (sign_bits load) ∙ has SIGN_ROWS ∙ sign_bits bytes
-loaded_signs true bytes load has = sym (wide_sign_bits load) ∙ has WIDE_SIGN_ROWS ∙ wide_sign_bits bytes
+pub sign_bits : (xs : List ℕ) → mask_l (map (is_in_rows SIGN_ROWS) xs) ≡ mask_l (map is_sign xs)
+sign_bits xs = ap mask_l (same_map (is_in_rows SIGN_ROWS) is_sign xs sign_rows)
 
 -- and the marks
 joint_rows : (b : ℕ) → is_in_rows JOINT_ROWS b ≡ is_joint b
@@ -96,34 +79,34 @@ put_in a bit small set =
     omega (arith, set, or, here)
 
 -- at each place a bit, which is set where the byte goes on
-abbrev pub joined_bits : Bool → Bool → List ℕ → ℕ
-joined_bits low signed xs =
-    bit_or (mask_l (map (is_sign low) xs)) (bit_and (mask_l (map (is_in_rows JOINT_ROWS) xs))
-    (bit_or (mask_l (map (is_sign low) xs) * 2 ^ 1 % 2 ^ 64) (cond signed 1 0)))
+abbrev pub joined_bits : Bool → List ℕ → ℕ
+joined_bits signed xs =
+    bit_or (mask_l (map is_sign xs)) (bit_and (mask_l (map (is_in_rows JOINT_ROWS) xs))
+    (bit_or (mask_l (map is_sign xs) * 2 ^ 1 % 2 ^ 64) (cond signed 1 0)))
 
-module _ (low signed : Bool) (xs : List ℕ) (few : length xs ≤ 32) where
+module _ (signed : Bool) (xs : List ℕ) (few : length xs ≤ 32) where
   abbrev signs : ℕ
-  signs = mask_l (map (is_sign low) xs)
+  signs = mask_l (map is_sign xs)
 
   abbrev joints : ℕ
   joints = mask_l (map (is_in_rows JOINT_ROWS) xs)
 
   abbrev joined : ℕ
-  joined = joined_bits low signed xs
+  joined = joined_bits signed xs
 
   joined-small : joined < 2 ^ 32
   joined-small =
       let after = bit_or (signs * 2 ^ 1 % 2 ^ 64) (cond signed 1 0) in
       let small = mask-small (is_in_rows JOINT_ROWS) xs few in
       let less = and_le_l joints after in
-      or_lt 32 signs (bit_and joints after) (mask-small (is_sign low) xs few) (omega arith)
+      or_lt 32 signs (bit_and joints after) (mask-small is_sign xs few) (omega arith)
 
   -- a bit of them is that of a byte that goes on
   goes : (k : ℕ) → bit_at joined k ≡ 1
-      → (k < length xs) × (goes_on low (signed_before low signed xs k) (get_or xs k 0) ≡ true)
+      → (k < length xs) × (goes_on (signed_before signed xs k) (get_or xs k 0) ≡ true)
   goes k set = elim (either signs joints (bit_or (signs * 2 ^ 1 % 2 ^ 64) (cond signed 1 0)) k set) [
     | inl sign ↦
-        let here = bit-set (is_sign low) xs k sign in
+        let here = bit-set is_sign xs k sign in
         (here.0, rw here.1 refl)
     | inr joint ↦
         let here = bit-set (is_in_rows JOINT_ROWS) xs k joint.0 in
@@ -131,9 +114,9 @@ module _ (low signed : Bool) (xs : List ℕ) (few : length xs ≤ 32) where
         (here.0, on (get_or xs k 0) is (before k joint.1))
   ]
     where
-      on : (c : ℕ) → is_joint c ≡ true → signed_before low signed xs k ≡ true
-          → goes_on low (signed_before low signed xs k) c ≡ true
-      on c joint sign = rw sign (elim (cases_Bool (is_sign low c)) [
+      on : (c : ℕ) → is_joint c ≡ true → signed_before signed xs k ≡ true
+          → goes_on (signed_before signed xs k) c ≡ true
+      on c joint sign = rw sign (elim (cases_Bool (is_sign c)) [
         | inl is ↦ rw is refl
         | inr other ↦ rw (other, joint) refl
       ])
@@ -147,14 +130,14 @@ module _ (low signed : Bool) (xs : List ℕ) (few : length xs ≤ 32) where
       at_most_one false = omega arith
 
       before : (k : ℕ) → bit_at (bit_or (signs * 2 ^ 1 % 2 ^ 64) (cond signed 1 0)) k ≡ 1
-          → signed_before low signed xs k ≡ true
-      before zero set = lowest signed (put_in signs (cond signed 1 0) (mask-small (is_sign low) xs few) set)
+          → signed_before signed xs k ≡ true
+      before zero set = lowest signed (put_in signs (cond signed 1 0) (mask-small is_sign xs few) set)
       before (suc k) set =
-          let sign = shifted signs (cond signed 1 0) k (mask-small (is_sign low) xs few) (at_most_one signed) set in
-          (bit-set (is_sign low) xs k sign).1
+          let sign = shifted signs (cond signed 1 0) k (mask-small is_sign xs few) (at_most_one signed) set in
+          (bit-set is_sign xs k sign).1
 
   -- the set bits below the first that isn't are bytes that go on
-  pub joined_run : (trailing_ones w64 joined ≤ 32) × IsJoined low signed xs (trailing_ones w64 joined)
+  pub joined_run : (trailing_ones w64 joined ≤ 32) × IsJoined signed xs (trailing_ones w64 joined)
   joined_run =
       let n = trailing_ones w64 joined in
       let small = joined-small in
@@ -179,12 +162,12 @@ module _ (low signed : Bool) (xs : List ℕ) (few : length xs ≤ 32) where
       )
 
 -- the same of the first 32 bytes of a text
-pub joined_prefix : (low signed : Bool) (rest : List ℕ) (n : ℕ)
-    → n ≡ trailing_ones w64 (joined_bits low signed (take 32 rest))
-    → (n ≤ 32) × IsJoined low signed rest n
-joined_prefix low signed rest n is =
+pub joined_prefix : (signed : Bool) (rest : List ℕ) (n : ℕ)
+    → n ≡ trailing_ones w64 (joined_bits signed (take 32 rest))
+    → (n ≤ 32) × IsJoined signed rest n
+joined_prefix signed rest n is =
     let long = length-take 32 rest in
-    let run = joined_run low signed (take 32 rest) (omega arith) in
+    let run = joined_run signed (take 32 rest) (omega arith) in
     let few = run.0 in
     let inside = run.1.inside in (
       omega (arith, is),
@@ -197,26 +180,26 @@ joined_prefix low signed rest n is =
     )
   where
     moved : (k : ℕ) → k < 32
-        → goes_on low (signed_before low signed (take 32 rest) k) (slice_index (take 32 rest) k) ≡ true
-        → goes_on low (signed_before low signed rest k) (slice_index rest k) ≡ true
+        → goes_on (signed_before signed (take 32 rest) k) (slice_index (take 32 rest) k) ≡ true
+        → goes_on (signed_before signed rest k) (slice_index rest k) ≡ true
     moved zero small goes = rw (get_or-take 32 rest 0 0 small) at goes
     moved (suc k) small goes =
         rw (get_or-take 32 rest (suc k) 0 small, get_or-take 32 rest k 0 (omega arith)) at goes
 
 -- the last of 32 bits
-pub last_bit : (low : Bool) (rest : List ℕ) → 32 ≤ length rest
-    → (mask_l (map (is_sign low) (take 32 rest)) / 2 ^ 31 == 1) ≡ is_sign low (slice_index rest 31)
-last_bit low rest room =
+pub last_bit : (rest : List ℕ) → 32 ≤ length rest
+    → (mask_l (map is_sign (take 32 rest)) / 2 ^ 31 == 1) ≡ is_sign (slice_index rest 31)
+last_bit rest room =
     let xs = take 32 rest in
     let long = length-take 32 rest in
-    let small = mask-small (is_sign low) xs (omega arith) in
-    let bit = bit_mask_l (map (is_sign low) xs) 31 in
-    let one : mask_l (map (is_sign low) xs) / 2 ^ 31
-    ≡ mask_l (map (is_sign low) xs) / 2 ^ 31 % 2 = omega arith in
-    let here : get_or (map (is_sign low) xs) 31 false ≡ is_sign low (slice_index rest 31)
-    = get_or-map (is_sign low) xs 31 0 false (omega arith)
-    ∙ ap (is_sign low) (get_or-take 32 rest 31 0 (omega arith)) in
-    ap (λ n. n == 1) (one ∙ bit) ∙ whether (get_or (map (is_sign low) xs) 31 false) ∙ here
+    let small = mask-small is_sign xs (omega arith) in
+    let bit = bit_mask_l (map is_sign xs) 31 in
+    let one : mask_l (map is_sign xs) / 2 ^ 31
+    ≡ mask_l (map is_sign xs) / 2 ^ 31 % 2 = omega arith in
+    let here : get_or (map is_sign xs) 31 false ≡ is_sign (slice_index rest 31)
+    = get_or-map is_sign xs 31 0 false (omega arith)
+    ∙ ap is_sign (get_or-take 32 rest 31 0 (omega arith)) in
+    ap (λ n. n == 1) (one ∙ bit) ∙ whether (get_or (map is_sign xs) 31 false) ∙ here
   where
     whether : (b : Bool) → (cond {A = ℕ} b 1 0 == 1) ≡ b
     whether true = refl

@@ -15,4 +15,4 @@ pub use domains::{DomainAnswer, PlainAnswer, domain, plain_answer};
 pub use numbers::numbers_value;
 pub use opaque_hosts::opaque_fault;
 pub use parser_hosts::{ParserHost, parser_host};
-pub use plain_names::{is_plain_domain, is_plain_wide_domain, name_prefix, wide_name_prefix};
+pub use plain_names::{is_plain_domain, name_prefix};

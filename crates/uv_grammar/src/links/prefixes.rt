@@ -1,12 +1,10 @@
-//! The texts before the path of a plain link, each cut after an ASCII prefix: its scheme and `://`, or `//` alone, its
-//! domain and its port.
+//! The texts before the path of a plain link, each cut after an ASCII prefix: its scheme and `://`, its domain
+//! and its port.
 ghost use Rattle.std.specs.Prelude.{◌≡◌, ◌≤◌, ◌+◌, ◌++◌, ◌∷◌, true, Option, IfSome, IsTrue, drop, length, take};
 ghost use Rattle.std.specs.Char.{is_ascii_digit};
 ghost use Rattle.std.specs.Int.{from_le_bytes, w32};
 ghost use Rattle.std.specs.List.{prefix_len};
 ghost use Rattle.std.specs.Str.{chars};
-ghost use Rattle.uv_model.specs.declared.profile.Profile.{Profile};
-ghost use Rattle.uv_model.specs.Ascii.{slash};
 ghost use Rattle.uv_model.specs.Scheme.{default_port};
 ghost use Rattle.uv_grammar.specs.PlainLinks.{HasAsciiPrefix, IsPrefixCut, IsNameCut, IsPortCut, IsSpecialCut};
 ghost use Rattle.uv_grammar.specs.PlainLinks.{IsSpecialPrefix};
@@ -15,11 +13,8 @@ ghost use Rattle.uv_grammar.specs.Slices.{chars_of, chars_of_option};
 use crate::authority::port::check_port;
 use crate::authority::without_default;
 use crate::checked::Checked;
-use crate::cut::split_scheme;
-use crate::marks::after_slash;
-use crate::marks::beginnings::two_slashes_first;
-use uv_host::{is_plain_domain, is_plain_wide_domain, name_prefix, wide_name_prefix};
-use uv_model::{Class, Profile, class_of, default_port};
+use uv_host::{is_plain_domain, name_prefix};
+use uv_model::default_port;
 use uv_text::Tail;
 
 /// A special scheme but `file`, in lower case, and what is after its `://`.
@@ -33,65 +28,6 @@ pub(crate) fn split_special<'t>(text: &'t str) -> Option<(&'t str, Tail<'t>)>
     let (scheme, after) = split_prefix(&Tail::of(text), end);
     let (_, rest) = split_prefix(&after, 3);
     Some((scheme, rest))
-}
-
-/// The same of a scheme in any case. One that begins with a capital isn't compared with those in lower case.
-#[inline(always)]
-pub(crate) fn split_written<'t>(text: &'t str) -> Option<(&'t str, Tail<'t>)>
-    ensures { IfSome result (λ r. IsSpecialCut (chars text.now) (chars_of r.0) (chars r.1)) }
-{
-    if begins_upper(text) {
-        split_any_case(text)
-    } else {
-        split_special(text)
-    }
-}
-
-// The same, part by part.
-fn split_any_case<'t>(text: &'t str) -> Option<(&'t str, Tail<'t>)>
-    ensures { IfSome result (λ r. IsSpecialCut (chars text.now) (chars_of r.0) (chars r.1)) }
-{
-    let (scheme, rest) = split_scheme(text);
-    let Some(scheme) = scheme else {
-        return None;
-    };
-    let Some(after) = after_two_slashes(rest) else {
-        return None;
-    };
-    match class_of(scheme) {
-        Class::SpecialNotFile => Some((scheme, Tail::of(after))),
-        Class::File | Class::Other => None,
-    }
-}
-
-/// Whether the first code point is an upper-case letter of ASCII.
-pub(crate) fn begins_upper(text: &str) -> bool {
-    match text.as_bytes() {
-        [first, ..] => first.is_ascii_uppercase(),
-        [] => false,
-    }
-}
-
-// What follows `//` at the text's start.
-fn after_two_slashes<'t>(text: &'t str) -> Option<&'t str>
-    ensures { IfSome result (λ r. chars text.now ≡ slash ∷ slash ∷ chars_of r) }
-{
-    match after_slash(text) {
-        Some(rest) => after_slash(rest),
-        None => None,
-    }
-}
-
-/// What is after `//` at the text's start.
-#[inline(always)]
-pub(crate) fn split_slashes<'t>(text: &'t str) -> Option<Tail<'t>>
-    ensures { IfSome result (λ rest. chars text.now ≡ slash ∷ slash ∷ chars rest) }
-{
-    if !two_slashes_first(text.as_bytes()) {
-        return None;
-    }
-    let (_, rest) = split_prefix(&Tail::of(text), 2);
-    Some(rest)
 }
 
 // How many bytes a special scheme has at its start.
@@ -152,41 +88,13 @@ pub(crate) fn begins_with(bytes: &[u8], mark: u8) -> bool
 /// A plain domain, and what follows it.
 #[inline(always)]
 pub(crate) fn split_name<'t>(text: &Tail<'t>) -> Option<(&'t str, Tail<'t>)>
-    ensures { IfSome result (λ r. (profile : Profile)
-        → IsNameCut profile (chars text.now) (chars_of r.0) r.0.now (chars r.1)) }
+    ensures { IfSome result (λ r. IsNameCut (chars text.now) (chars_of r.0) r.0.now (chars r.1)) }
 {
     let Some(end) = name_prefix(text) else {
         return None;
     };
     let (name, rest) = split_prefix(text, end);
     if is_plain_domain(name) {
-        Some((name, rest))
-    } else {
-        None
-    }
-}
-
-/// The same by the profile.
-#[inline(always)]
-pub(crate) fn split_name_by<'t>(text: &Tail<'t>, profile: Profile) -> Option<(&'t str, Tail<'t>)>
-    ensures { IfSome result (λ r. IsNameCut profile (chars text.now) (chars_of r.0) r.0.now (chars r.1)) }
-{
-    match profile {
-        Profile::Wide => split_wide_name(text),
-        Profile::Standard | Profile::Parser => split_name(text),
-    }
-}
-
-// The same by the wide profile, in which low lines count as letters.
-#[inline(always)]
-fn split_wide_name<'t>(text: &Tail<'t>) -> Option<(&'t str, Tail<'t>)>
-    ensures { IfSome result (λ r. IsNameCut Profile.Wide (chars text.now) (chars_of r.0) r.0.now (chars r.1)) }
-{
-    let Some(end) = wide_name_prefix(text) else {
-        return None;
-    };
-    let (name, rest) = split_prefix(text, end);
-    if is_plain_wide_domain(name) {
         Some((name, rest))
     } else {
         None

@@ -37,8 +37,7 @@ pub(crate) fn has_two_slashes(text: &str) -> bool
     two_slashes_first(text.as_bytes())
 }
 
-/// The same of bytes.
-pub(crate) fn two_slashes_first(bytes: &[u8]) -> bool
+fn two_slashes_first(bytes: &[u8]) -> bool
     ensures { result ≡ starts_with_two_slashes bytes.now }
 {
     match bytes {

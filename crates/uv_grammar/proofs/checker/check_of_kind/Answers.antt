@@ -7,44 +7,20 @@ use Rattle.uv_grammar.specs.Verdict.{IsVerdict}
 use Rattle.uv_grammar.proofs.KindLemmas.{flip, kind_alike, memory_alike, verdict_alike}
 use Rattle.uv_grammar.proofs.checker.check_of_kind.Goals as goal
 
-pub plain_parts-requires : goal.plain_parts-requires
-plain_parts-requires c =
-    let profile = c.args.profile in
-    let base = Some (url_of_kind c.args.base) in
-    (profile, base, c.in-Some-plain_cut.ensures profile base (chars c.args.text.now) (c.in-Some.ensures profile base))
-
-pub returns-in-Some-plain_cut-clause-answer : goal.returns-in-Some-plain_cut-clause-answer
-returns-in-Some-plain_cut-clause-answer c = λ url is.
-    c.plain_parts.ensures c.args.profile (Some url)
-    (c.in-Some-plain_cut.ensures c.args.profile (Some url) (chars c.args.text.now)
-    (c.in-Some.ensures c.args.profile (Some url)))
+pub returns-in-Some-plain_rest-clause-answer : goal.returns-in-Some-plain_rest-clause-answer
+returns-in-Some-plain_rest-clause-answer c = λ url is. c.plain_parts.ensures c.args.profile (Some url)
 
 pub returns-clause-answer : goal.returns-clause-answer
 returns-clause-answer c = λ url is.
     let text = chars c.args.text.now in
     let base = url_of_kind c.args.base in
-    IfOk-weaker c.check_started.result (IsVerdict c.args.profile (Some base) text)
+    IfOk-weaker c.check_otherwise.result (IsVerdict c.args.profile (Some base) text)
     (IsVerdict c.args.profile (Some url) text)
-    (verdict_alike c.args.profile base url text (kind_alike url c.args.base is)) c.check_started.ensures.answer
+    (verdict_alike c.args.profile base url text (kind_alike url c.args.base is)) c.check_otherwise.ensures.answer
 
 pub returns-clause-memory : goal.returns-clause-memory
 returns-clause-memory c = λ url is takes.
     let base = url_of_kind c.args.base in
-    c.check_started.ensures.memory
-    (memory_alike c.args.profile url base (chars c.args.text.now)
-    (flip base url (kind_alike url c.args.base is)) takes)
-
-pub returns-in_default-clause-answer : goal.returns-in_default-clause-answer
-returns-in_default-clause-answer c = λ url is.
-    let text = chars c.args.text.now in
-    let base = url_of_kind c.args.base in
-    IfOk-weaker c.check_unstarted.result (IsVerdict c.args.profile (Some base) text)
-    (IsVerdict c.args.profile (Some url) text)
-    (verdict_alike c.args.profile base url text (kind_alike url c.args.base is)) c.check_unstarted.ensures.answer
-
-pub returns-in_default-clause-memory : goal.returns-in_default-clause-memory
-returns-in_default-clause-memory c = λ url is takes.
-    let base = url_of_kind c.args.base in
-    c.check_unstarted.ensures.memory
+    c.check_otherwise.ensures.memory
     (memory_alike c.args.profile url base (chars c.args.text.now)
     (flip base url (kind_alike url c.args.base is)) takes)

@@ -6,7 +6,7 @@ use Rattle.uv_host.proofs.plain_names.chain_end.Goals as goal
 
 pub overflow_add-end : goal.overflow_add-end
 overflow_add-end c =
-    let prefix = goes_further c.args.low c.args.text.now c.loop-ahead.end c.loop-ahead.ahead
+    let prefix = goes_further c.args.text.now c.loop-ahead.end c.loop-ahead.ahead
     c.loop-ahead.invariant.prefix
     c.loop-ahead.invariant.more in
     omega (arith, prefix.inside, c.chain_run-ahead.ensures.short)
@@ -15,12 +15,12 @@ pub loop-ahead-preserved : goal.loop-ahead-preserved
 loop-ahead-preserved c =
     let text = c.args.text.now in
     let end = c.loop-ahead.end in
-    let prefix = goes_further c.args.low text end c.loop-ahead.ahead c.loop-ahead.invariant.prefix
+    let prefix = goes_further text end c.loop-ahead.ahead c.loop-ahead.invariant.prefix
     c.loop-ahead.invariant.more in
     let all = c.loop-ahead-test.true in
-    let signed : c.loop-ahead.signed ≡ signed_before c.args.low false text (end + c.loop-ahead.ahead) =
+    let signed : c.loop-ahead.signed ≡ signed_before false text (end + c.loop-ahead.ahead) =
     c.loop-ahead.invariant.after all
-    ∙ (sym (signed_at c.args.low text end 31) ∙ ap (λ n. signed_before c.args.low false text (end + n)) (sym all)) in
+    ∙ (sym (signed_at text end 31) ∙ ap (λ n. signed_before false text (end + n)) (sym all)) in
     record {
       prefix = prefix;
       more = rw (← signed) c.chain_run.ensures.goes_on;
@@ -29,12 +29,12 @@ loop-ahead-preserved c =
 
 pub overflow_add-result : goal.overflow_add-result
 overflow_add-result c =
-    let prefix = goes_further c.args.low c.args.text.now c.loop-ahead.end c.loop-ahead.ahead
+    let prefix = goes_further c.args.text.now c.loop-ahead.end c.loop-ahead.ahead
     c.loop-ahead.invariant.prefix
     c.loop-ahead.invariant.more in
     omega (arith, prefix.inside, c.chain_run-ahead.ensures.short)
 
 pub returns : goal.returns
 returns c =
-    goes_further c.args.low c.args.text.now c.loop-ahead.end c.loop-ahead.ahead c.loop-ahead.invariant.prefix
+    goes_further c.args.text.now c.loop-ahead.end c.loop-ahead.ahead c.loop-ahead.invariant.prefix
     c.loop-ahead.invariant.more

@@ -6,9 +6,9 @@ use Rattle.uv_host.proofs.plain_names.chain_end.Given as goal
 
 abbrev pub invariant-loop-ahead : goal.invariant-loop-ahead
 invariant-loop-ahead l = record {
-  prefix : IsJoined l.low false l.text l.end;
-  more : IsJoined l.low (signed_before l.low false l.text l.end) (drop l.end l.text) l.ahead;
-  after : l.ahead ≡ 32 → l.signed ≡ is_sign l.low (slice_index (drop l.end l.text) 31);
+  prefix : IsJoined false l.text l.end;
+  more : IsJoined (signed_before false l.text l.end) (drop l.end l.text) l.ahead;
+  after : l.ahead ≡ 32 → l.signed ≡ is_sign (slice_index (drop l.end l.text) 31);
 }
 
 abbrev pub decreases-loop-ahead : goal.decreases-loop-ahead

@@ -7,4 +7,4 @@ use Rattle.uv_host.proofs.plain_names.is_fitting.Goals as goal
 pub returns-then-name-le63 : goal.returns-then-name-le63
 returns-then-name-le63 c =
     let few : nat_le (length c.args.name.now) 63 ≡ true = grind (arith, nat_tests) in
-    few ∙ sym (rooted_lengths c.requires.0 c.args.name.now c.requires.1 c.if-name-le63.true)
+    few ∙ sym (rooted_lengths c.args.name.now c.requires c.if-name-le63.true)

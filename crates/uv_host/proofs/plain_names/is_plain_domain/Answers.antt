@@ -11,7 +11,7 @@ is_not true none = absurd (false≢true none)
 is_not false here = refl
 
 pub is_fitting-requires : goal.is_fitting-requires
-is_fitting-requires c = (false, c.requires)
+is_fitting-requires c = c.requires
 
 pub is_number-requires : goal.is_number-requires
 is_number-requires c = rooted_ascii c.args.name.now c.requires

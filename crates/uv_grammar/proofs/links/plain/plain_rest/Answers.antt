@@ -5,7 +5,7 @@ use Rattle.uv_model.specs.Ascii.{number_sign}
 use Rattle.uv_grammar.specs.PlainLinks.{IsPartCut}
 use Rattle.uv_grammar.specs.Slices.{chars_of_option}
 use Rattle.uv_grammar.proofs.HostLemmas.{no_chars}
-use Rattle.uv_grammar.proofs.links.plain.split_after.Goals as goal
+use Rattle.uv_grammar.proofs.links.plain.plain_rest.Goals as goal
 
 pub returns : goal.returns
 returns c = record {
