@@ -5,6 +5,21 @@ expect 0 'vectors 221 pass 221 fail 0\n' '' vectors "$vectors/parser.json"
 expect 0 'vectors 597 pass 597 fail 0\n' '' vectors "$vectors/urls.json"
 expect 0 'vectors 3781 pass 3781 fail 0\n' '' vectors "$vectors/uts46.json"
 
+# The cases by the standard profile whose domain ends with a dot, and is no reason to refuse them, are those that root_dot.tsv names.
+python3 - "$vectors" >"$room/out" <<'END'
+import json, os, re, sys
+print("file\tcase")
+for name in ("standard.json", "urls.json", "uts46.json"):
+    with open(os.path.join(sys.argv[1], name), encoding="utf-8") as file:
+        for number, case in enumerate(json.load(file), start=1):
+            host = re.match("(?:(?:https?|wss?|ftp|file):)?//([^/?#:]*)", case.get("text", case["input"]))
+            is_of_host = case.get("rule") in ("host-domain", "host-number")
+            if host and host[1].endswith(".") and "profile" not in case and not is_of_host:
+                print(name, number, sep="\t")
+END
+count=$((count + 1))
+cmp -s "$room/out" "$vectors/root_dot.tsv" || fail 'root_dot.tsv: other cases have a dot at the end of their domain'
+
 # vector_file TEXT : a file in the room that has this text, read with escapes
 vector_file() { printf '%b' "$1" >"$room/vectors.json"; }
 
@@ -217,4 +232,4 @@ vector_file '[]'
 (cd "$room" && "$program" vectors vectors.json) >/dev/full 2>"$room/err"
 ends_with 3 $? "${no_space}write\\n" 'vectors, into a full device'
 
-all_cases 114
+all_cases 115
