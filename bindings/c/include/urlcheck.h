@@ -54,7 +54,7 @@ enum urlcheck_outcome {
     URLCHECK_BASE_NO_UTF8 = 4, /* the base is no UTF-8; nothing is said of the text */
     URLCHECK_MEMORY = 5,       /* malloc gave no memory; nothing is said of the text */
     URLCHECK_NO_PROFILE = 6,   /* no profile has the number that was given */
-    URLCHECK_NO_BASE = 7,      /* the base wasn't made by urlcheck_prepare */
+    URLCHECK_NO_BASE = 7,      /* the base is null or of zeros, or no scheme or no profile has its number */
     URLCHECK_MENDED = 8,       /* the text violates a rule, and urlcheck_mend gives a valid one in its place */
     URLCHECK_DONE = 9,         /* of batches and reports: what was asked for is given */
     URLCHECK_NO_FORMAT = 10,   /* no format of reports has the number that was given */
@@ -65,7 +65,7 @@ enum urlcheck_outcome {
     URLCHECK_NO_PLACE = 15,    /* the place is after the end of the text */
     URLCHECK_NO_COLUMN = 16,   /* a line or a column isn't from 1 to 4294967295 */
     URLCHECK_NO_OFFSETS = 17,  /* an offset is less than the one before it, or after the end of the texts */
-    URLCHECK_NULL = 18,        /* a null pointer in place of bytes, offsets or a struct */
+    URLCHECK_NULL = 18,        /* a null pointer in place of bytes, of offsets or of a violation */
     URLCHECK_FILE_NO_UTF8 = 19,  /* the name of the file is no UTF-8 */
     URLCHECK_MENDED_NO_UTF8 = 20 /* the mended text is no UTF-8 */
 };
@@ -178,7 +178,7 @@ typedef struct urlcheck_fault_count {
 /*
  * A base, checked alone: what a verdict needs of it. It is a value, made by urlcheck_prepare alone: it may be copied,
  * held as long as you like and used by many threads, the bytes that it was made of aren't needed any more, and there is
- * nothing to free. One of zeros is no base: calls that are given it answer URLCHECK_NO_BASE.
+ * nothing to free. One of zeros is no base, and neither is null: calls that are given one answer URLCHECK_NO_BASE.
  */
 typedef struct urlcheck_base {
     urlcheck_finding found; /* URLCHECK_VALID, or why no text is checked against the base */
@@ -234,7 +234,7 @@ enum urlcheck_explanation {
     URLCHECK_SECTION = 1,      /* the section of the URL Standard, and what it calls that */
     URLCHECK_EXAMPLE_BASE = 2, /* the base that the example is read against; empty where it is read alone */
     URLCHECK_EXAMPLE = 3,      /* a text that is refused by the rule */
-    URLCHECK_EXAMPLE_MENDED = 4 /* the same text, mended */
+    URLCHECK_EXAMPLE_MENDED = 4 /* a valid text that its author may have meant */
 };
 
 /* The answer of a batch. */

@@ -85,7 +85,7 @@ class Explanation(NamedTuple):
     place: int
     """The place of that refusal, in code points from 0."""
     mended: str
-    """The same text, mended."""
+    """A valid text that its author may have meant."""
 
 
 def message(text: str, found: Union[Refused, Fault, BaseRefused], profile: Profile = Profile.STANDARD) -> str:

@@ -4,7 +4,7 @@ use Rattle.uv_model.specs.declared.rule.Rule.{Rule}
 use Rattle.uv_report.specs.Rules.Explanation.{rule_asks, rule_base, rule_mended, rule_place, rule_section, rule_wrong}
 use Rattle.urlcheck_c.specs.Names.{rule_with_number}
 
--- what a rule asks, its section, the base of its example, the example, and the same text, mended
+-- what a rule asks, its section, the base of its example, the example, and a valid text that may have been meant
 abbrev pub rule_text : Rule → ℕ → List ℕ
 rule_text rule part =
     if part == 0 then rule_asks rule

@@ -9,7 +9,7 @@ use uv_model::Rule;
 use uv_report::explain;
 
 /// Writes a text that explains the rule with this number, as `urlcheck_rule_name` writes its name: 0 what it asks,
-/// 1 its section, 2 the base of its example, 3 the example and 4 the same text, mended.
+/// 1 its section, 2 the base of its example, 3 the example and 4 a valid text that may have been meant.
 #[unsafe(no_mangle)]
 pub extern "C" fn urlcheck_explain(rule: u32, part: u32, out: &mut [u8]) -> usize
     ensures { IsWritten (explained rule part) out.old out.new result }

@@ -1,4 +1,4 @@
-//! What each rule asks, with a text that violates it and that text mended.
+//! What each rule asks, with a text that violates it and a valid one that may have been meant.
 ghost use Rattle.std.specs.Prelude.{◌≡◌};
 ghost use Rattle.std.specs.Option.{option_copied};
 ghost use Rattle.uv_report.specs.Rules.Explanation.{rule_asks, rule_base, rule_mended, rule_place, rule_section};
@@ -21,7 +21,7 @@ pub struct Explanation {
     pub wrong: &'static str,
     /// The place of that refusal: a number of code points from the text's start, from 0.
     pub place: usize,
-    /// The same text, mended: it is valid.
+    /// A valid text that its author may have meant.
     pub mended: &'static str,
 }
 
