@@ -5,10 +5,9 @@
     site.py looks SITE NAME..           these pages in a headless Chromium, in two widths, in light and dark: they fit the
                                         width, each text has a contrast of 4.5, and there is no error
     site.py browser SITE [PICTURES]     the same of some pages of each kind, and the search
-    site.py shown SITE FOLDER           the first page as above, with small pictures of it: FOLDER/site-WIDTH-COLOURS.png
 
-Where a folder PICTURES is given, a picture of each page that is opened is written there. Small ones need Pillow (Debian:
-python3-pil), and have few colours. It ends with 1 where something is wrong.
+Where a folder PICTURES is given, a picture of each page that is opened is written there. It ends with 1 where something
+is wrong.
 """
 
 import html.parser
@@ -23,9 +22,6 @@ LOADED = {("script", "src"), ("img", "src"), ("iframe", "src"), ("source", "src"
 STYLES = ("stylesheet", "icon", "preload")
 BROWSER = pathlib.Path(__file__).resolve().parent.parent / "browser"
 WIDTHS = (320, 1280)
-SHOWN = "index"
-# How many colours a small picture has, and how many bytes it may have.
-COLOURS, MOST_BYTES = 128, 80_000
 # How many browsers try the search, and how long each.
 BROWSERS, SECONDS = 4, 60
 PAGES = ("index", "docs/START", "docs/COMMANDS", "docs/guides/sphinx", "docs/rules/host-domain", "docs/PROFILES", "docs/FORMATS")
@@ -175,22 +171,6 @@ def check_browser(site, names, pictures, is_searched):
     return wrong, "{} pages in a browser, and a search".format(count)
 
 
-def small(site, folder):
-    """The first page in both widths and colours, as pictures of few colours."""
-    from PIL import Image
-
-    wrong, what = check_browser(site, [SHOWN], folder, False)
-    for width, scheme in itertools.product(WIDTHS, ("light", "dark")):
-        whole = folder / "{}-{}-{}.png".format(SHOWN, width, scheme)
-        picture = folder / "site-{}-{}.png".format(width, scheme)
-        with Image.open(whole) as seen:
-            seen.convert("RGB").quantize(COLOURS, dither=Image.Dither.NONE).save(picture, optimize=True)
-        whole.unlink()
-        if picture.stat().st_size > MOST_BYTES:
-            wrong.append("{} has {} bytes".format(picture, picture.stat().st_size))
-    return wrong, what
-
-
 def main():
     words = sys.argv[1:]
     if words[:1] == ["links"] and len(words) == 2:
@@ -198,8 +178,6 @@ def main():
     elif words[:1] == ["browser"] and len(words) in (2, 3):
         pictures = pathlib.Path(words[2]) if len(words) == 3 else None
         wrong, what = check_browser(pathlib.Path(words[1]).resolve(), PAGES, pictures, True)
-    elif words[:1] == ["shown"] and len(words) == 3:
-        wrong, what = small(pathlib.Path(words[1]).resolve(), pathlib.Path(words[2]).resolve())
     elif words[:1] == ["looks"] and len(words) > 2:
         wrong, what = check_browser(pathlib.Path(words[1]).resolve(), words[2:], None, False)
     else:
