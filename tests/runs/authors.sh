@@ -134,6 +134,19 @@ else
 fi
 python=$(python_with pylsp_jsonrpc markdown_it docutils tinycss2 sphinx mkdocs) || python=$(python_with markdown_it) || python=python3
 "$python" tests/runs/authors/spoiled.py || failed=1
+# Faults planted into documentation in reStructuredText, as Debian has it.
+documentations=()
+for folder in /usr/share/doc/docutils-doc/docs /usr/share/doc/python3*/html/_sources; do
+    [ ! -d "$folder" ] || documentations+=("$folder")
+done
+if [ ${#documentations[@]} -gt 0 ] && python=$(python_with docutils); then
+    for folder in "${documentations[@]}"; do
+        case $folder in */_sources) kind=--sphinx ;; *) kind=--alone ;; esac
+        "$python" tests/runs/authors/planted.py "$kind" "$folder" || failed=1
+    done
+else
+    left_out 'faults planted into documentation' "docutils, docutils-doc or python3-doc isn't installed"
+fi
 # The commands of the guides on documents, by a Python that has most of what they name.
 python=$(python_with sphinx mkdocs) || python=$(python_with sphinx) || python=python3
 "$python" tests/runs/authors/pages.py "$program" || failed=1

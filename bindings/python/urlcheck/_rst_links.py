@@ -4,11 +4,11 @@ those of Sphinx among them, are read through."""
 import contextlib
 import importlib
 import re
-from typing import Any, Dict, Iterator, List, Set, Tuple
+from typing import Any, Dict, Iterator, List, NamedTuple, Optional, Set, Tuple
 
 from ._html_links import links_of as links_of_html
 from ._literal import Literals
-from ._source import IGNORE, Link, Source
+from ._source import IGNORE, SPACES, Link, Source
 
 PASSED_OVER = (
     "roles and directives that docutils doesn't know are read for their text alone; the extension urlcheck.sphinx reads "
@@ -49,35 +49,90 @@ def links_of(source: Source) -> Tuple[List[Link], Set[int], Tuple[str, ...]]:
     literals.put("", source)
     links: List[Link] = []
     ignored: Set[int] = set()
-    for text, line in _texts_of(tree, ignored):
-        # (docutils takes the spaces out of a link, and so makes another one of it)
-        spaced = literals.spaced("", text)
-        if spaced is not None:
-            links.append(spaced)
-            continue
-        found = literals.find("", line, text)
-        # (what isn't written, as what :rfc: makes, isn't the author's; a named target is used often, and written once)
-        if found is not None and found[1]:
-            links.append(found[0])
+    for said in _said(tree, ignored):
+        if said.markup is None:
+            found = links_of_raw(literals, "", said.line, said.text)
+        else:
+            found = found_once(literals, "", said.line, said.text, said.markup)
+        # (what isn't written, as what :rfc: makes, isn't the author's)
+        links += [link for link, is_there in found if is_there]
     return sorted(links, key=lambda link: link.offset), ignored, tuple(notes)
 
 
-def _texts_of(tree: Any, ignored: Set[int]) -> Iterator[Tuple[str, int]]:
-    """The links of a document's nodes, each with the line from which on it is."""
+class _Said(NamedTuple):
+    """What a node says: a link, or HTML."""
+
+    text: str
+    line: int
+    """The line from which on it is."""
+    markup: Optional[str]
+    """How it is written, where that is known; none for HTML."""
+
+
+def _said(tree: Any, ignored: Set[int]) -> Iterator[_Said]:
+    """The links and the HTML of a document's nodes."""
     nodes: Any = importlib.import_module("docutils.nodes")
     for node in tree.findall():
         line = _line(node)
         if isinstance(node, nodes.comment) and node.astext().strip() == IGNORE:
             ignored.add(line + 1 + node.astext().count("\n"))
-        elif isinstance(node, nodes.image):
-            yield node["uri"], line
         elif isinstance(node, nodes.raw) and "html" in node.get("format", "").split():
-            yield from ((link.text, line) for link in links_of_html(Source(node.astext()))[0])
-        elif isinstance(node, nodes.reference) and node.get("refuri"):
-            if node["refuri"] != "mailto:" + node.astext():
-                yield node["refuri"], line
-        elif isinstance(node, nodes.target) and node.get("refuri") and not node.referenced:
-            yield node["refuri"], line
+            yield _Said(node.astext(), line, None)
+        elif is_link(node):
+            yield _Said(link_of(node), line, markup_of(node))
+
+
+def is_link(node: Any) -> bool:
+    """Whether a node has a link that is written where it is: one by a name is where that is defined."""
+    nodes: Any = importlib.import_module("docutils.nodes")
+    if isinstance(node, nodes.target):
+        # (that of an embedded URL is its reference's)
+        return bool(node.get("refuri")) and not isinstance(node.parent, nodes.TextElement)
+    if isinstance(node, nodes.reference):
+        return bool(node.get("refuri")) and not node.resolved and node["refuri"] != "mailto:" + node.astext()
+    return isinstance(node, nodes.image)
+
+
+def link_of(node: Any) -> str:
+    """The link of such a node. (docutils reads a line's end after a backslash as a space before it.)"""
+    link: str = node["uri" if "uri" in node else "refuri"]
+    return link.strip(SPACES)
+
+
+_OPTION = re.compile(r"\n\s*:(?!:)")
+"""What begins an option of a directive."""
+
+
+def markup_of(node: Any) -> str:
+    """How the link of such a node is written, where docutils says that."""
+    nodes: Any = importlib.import_module("docutils.nodes")
+    markup: str = node.rawsource
+    if isinstance(node, nodes.image):
+        return _OPTION.split(markup)[0]
+    if not markup and isinstance(node, nodes.reference) and node.children and isinstance(node[0], nodes.image):
+        option = ":target:" + node[0].rawsource.partition(":target:")[2]
+        return _OPTION.split(option)[0]
+    return markup
+
+
+def links_of_raw(literals: Literals, path: str, line: int, text: str) -> Iterator[Tuple[Link, bool]]:
+    """The links of HTML that a document has from a line on, and whether each is known to be there."""
+    place_of = literals.block(path, line, text)
+    for link in links_of_html(Source(text))[0]:
+        if place_of is not None:
+            yield literals.moved(path, link, place_of), True
+        else:
+            yield from found_once(literals, path, line, link.text)
+
+
+def found_once(literals: Literals, path: str, line: int, text: str, markup: str = "") -> Iterator[Tuple[Link, bool]]:
+    """A link where it is written, and whether that is known; nothing where it was found there before."""
+    found = literals.find(path, line, text, markup)
+    if found is None:
+        yield Link(text, 0, False), False
+    # (a substitution is used several times, and written once)
+    elif found[1]:
+        yield found
 
 
 def _line(node: Any) -> int:

@@ -10,7 +10,7 @@ import re
 from typing import Any, Dict, Iterator, List, NamedTuple, Optional, Set, Tuple
 
 from . import BaseRefused, Profile, version
-from . import _html_links, _markdown_links
+from . import _markdown_links, _rst_links
 from ._config import Misconfigured, configuration_of
 from ._checker import Checker
 from ._kinds import kind_of
@@ -24,11 +24,13 @@ _BEFORE_COLLECTORS = 100
 
 
 class _Said(NamedTuple):
-    """A link of a document, and where its block is."""
+    """A link of a document, or HTML that it has, and where its block is."""
 
     path: str
     line: int
     text: str
+    markup: Optional[str] = ""
+    """How it is written, where docutils says that; none for HTML."""
 
 
 class _Settings(NamedTuple):
@@ -82,22 +84,28 @@ def _check_document(app: Any, tree: Any) -> None:
     if kind_of(path) == "markdown":
         # (MyST percent-encodes what it reads, so that its nodes don't say what was written)
         read = _check_markdown(settings, literals, path)
-    for said in _links(tree, path):
+    for said in _said(tree, path):
         source = literals.source(said.path)
-        # (docutils takes the spaces out of a link, and so makes another one of it)
-        spaced = literals.spaced(said.path, said.text)
-        if spaced is not None:
-            _tell(settings, said._replace(text=spaced.text), source, spaced)
-            continue
-        # (only what is refused is sought)
-        if settings.checker.wrong(Link(said.text, 0, False)) is None:
-            continue
-        found = literals.find(said.path, said.line, said.text)
-        if found is None or source is None:
-            _tell(settings, said, None, None)
-        # (a substitution or a named target is used several times, and written once)
-        elif found[1] and (said.path != path or (said.text, source.position(found[0].offset)[0]) not in read):
-            _tell(settings, said, source, found[0])
+        for link, is_there in _links_of(settings, literals, said):
+            told = said._replace(text=link.text)
+            if source is None or not is_there:
+                _tell(settings, told, None, None)
+            elif said.path != path or (link.text, source.position(link.offset)[0]) not in read:
+                _tell(settings, told, source, link)
+
+
+def _links_of(settings: _Settings, literals: Literals, said: _Said) -> Iterator[Tuple[Link, bool]]:
+    """The links that a node says and that may be refused, and whether it is known where each is."""
+    if said.markup is None:
+        yield from _rst_links.links_of_raw(literals, said.path, said.line, said.text)
+    elif _is_sought(settings, said):
+        yield from _rst_links.found_once(literals, said.path, said.line, said.text, said.markup)
+
+
+def _is_sought(settings: _Settings, said: _Said) -> bool:
+    """Whether a link may be refused: as it was read, or as it is written, with spaces that docutils takes away."""
+    is_written = not said.markup or said.text in said.markup
+    return not is_written or settings.checker.wrong(Link(said.text, 0, False)) is not None
 
 
 def _check_markdown(settings: _Settings, literals: Literals, path: str) -> Set[Tuple[str, int]]:
@@ -115,33 +123,23 @@ def _check_markdown(settings: _Settings, literals: Literals, path: str) -> Set[T
     return read
 
 
-def _links(tree: Any, path: str) -> Iterator[_Said]:
-    """The links of a document's nodes."""
+def _said(tree: Any, path: str) -> Iterator[_Said]:
+    """The links and the HTML of a document's nodes."""
     nodes: Any = importlib.import_module("docutils.nodes")
     addnodes: Any = importlib.import_module("sphinx.addnodes")
-    wanted = (nodes.reference, nodes.image, nodes.raw, addnodes.toctree, addnodes.download_reference)
-    for node in tree.findall(lambda it: isinstance(it, wanted)):
-        source, line = _place(node, path)
+    for node in tree.findall():
         if isinstance(node, addnodes.toctree):
-            yield from (_Said(source, line, to) for _, to in node["entries"] if "://" in to)
-        elif isinstance(node, nodes.raw):
-            yield from _links_of_raw(node, source, line)
-        elif isinstance(node, nodes.image):
-            yield _Said(source, line, node["uri"])
+            yield from (_Said(*_place(node, path), to) for _, to in node["entries"] if "://" in to)
+        elif isinstance(node, nodes.raw) and "html" in node.get("format", "").split():
+            # (it may be in another file, which the document names)
+            named = node.get("source", "")
+            where = (os.path.abspath(named), 1) if os.path.exists(named) else _place(node, path)
+            yield _Said(*where, node.astext(), None)
         elif isinstance(node, addnodes.download_reference):
             if "://" in node.get("reftarget", ""):
-                yield _Said(source, line, node["reftarget"])
-        elif node.get("refuri") and not node.get("internal") and node["refuri"] != "mailto:" + node.astext():
-            yield _Said(source, line, node["refuri"])
-
-
-def _links_of_raw(node: Any, source: str, line: int) -> Iterator[_Said]:
-    """The links of HTML that a document has, or another file that it names."""
-    if "html" in node.get("format", "").split():
-        if os.path.exists(node.get("source", "")):
-            source, line = os.path.abspath(node["source"]), 1
-        for link in _html_links.links_of(Source(node.astext()))[0]:
-            yield _Said(source, line, link.text)
+                yield _Said(*_place(node, path), node["reftarget"], node.rawsource)
+        elif _rst_links.is_link(node) and not node.get("internal"):
+            yield _Said(*_place(node, path), _rst_links.link_of(node), _rst_links.markup_of(node))
 
 
 def _place(node: Any, path: str) -> Tuple[str, int]:

@@ -270,6 +270,23 @@ class Sphinx(Built):
         self.assertEqual((status, self.told(said)), (0, [("index.rst", 5, 23), ("index.rst", 7, 18)]), said)
         self.assertEqual(said.count("U+0020 SPACE is not allowed in a URL"), 2)
 
+    def test_a_space_beside_the_same_link(self):
+        """It has its own place, also where the same link without it, a literal, code or HTML is before it."""
+        self.write({"conf.py": "extensions = ['urlcheck.sphinx']\nexclude_patterns = ['mst.md', 'out']\nurlcheck_columns = True\n"})
+        spaced = "Para `space <http://h/a b>`_ end.\n"
+        for before, places in (
+            ("Good `ok <http://h/ab>`_.\n\n", [(6, 24)]),
+            (spaced + "\n", [(4, 24), (6, 24)]),
+            ("Para ``http://h/a b`` literal.\n\n", [(6, 24)]),
+            (".. code::\n\n   `space <http://h/a b>`_\n\n", [(8, 24)]),
+            (".. raw:: html\n\n   <!-- http://h/a b -->\n   <a href=\"http://h/a b\">x</a>\n\n", [(7, 23), (9, 24)]),
+            (".. _t: http://h/a b\n\nThe text t_ and again t_.\n\n", [(4, 18), (8, 24)]),
+        ):
+            with self.subTest(before):
+                self.write({"index.rst": "T\n=\n\n" + before + spaced})
+                status, said = self.build("-E")
+                self.assertEqual((status, sorted(self.told(said))), (0, [("index.rst", *place) for place in places]), said)
+
     def test_settings(self):
         self.write({"index.rst": "T\n=\n\n`a <http://a_b/>`_ `b <x>`_\n"})
         for given, rules in (

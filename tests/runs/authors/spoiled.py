@@ -34,6 +34,7 @@ PLACES = ("server.py", "Served.test_kinds_and_places")
 CHANGES = ("server.py", "Served.test_changes_actions_and_hover")
 PAGES = ("server.py", "Served.test_pages_of_the_rules")
 SPHINX = ("builds.py", "Sphinx.test_each_link_at_its_place")
+SPACED = ("builds.py", "Sphinx.test_a_space_beside_the_same_link")
 
 COPIES = (
     Spoiled("a kind is dropped", "_kinds.py", '    "rst": ("rst", "rest"),\n', "", ("expectations.py", "reStructuredText"), ("docutils",)),
@@ -57,11 +58,15 @@ COPIES = (
     Spoiled("a diagnostic leads to the standard, and not to its rule's page", "language_server.py", "rule.page or rule.url", "rule.url",
             PAGES, SERVER),
     Spoiled("a message of nonsense ends the server", "_rpc.py", "except (ValueError, RecursionError):", "except KeyError:", ("server.py", "Served.test_nonsense"), SERVER),
-    Spoiled("a literal is sought from the first line on", "_literal.py", "start = source.offset(min(max(line, 1), ",
-            "start = source.offset(min(1, ", SPHINX, ("sphinx",)),
-    Spoiled("the same place is told twice", "_literal.py", "used.add(at)", "pass", SPHINX, ("sphinx",)),
-    Spoiled("a space that docutils takes away isn't sought", "_literal.py", "used.add(found.start())", "return None",
+    Spoiled("a link is sought from the first line on", "_literal.py", "return source.offset(min(max(line, 1), ",
+            "return source.offset(min(1, ", SPHINX, ("sphinx",)),
+    Spoiled("the same place is told twice", "_literal.py", "used.add(begin)\n                return given, True", "return given, True",
+            SPHINX, ("sphinx",)),
+    Spoiled("a space that docutils takes away isn't sought", "_literal.py", '_BREAK.sub("", written)', 're.sub(r"\\s", "", written)',
             ("builds.py", "Sphinx.test_spaces_that_docutils_takes_away"), ("sphinx",)),
+    Spoiled("a link is sought outside of its markup", "_literal.py", 'if markup not in ("", link):', "if not link:", SPACED, ("sphinx",)),
+    Spoiled("the links of HTML are sought in the whole text", "_literal.py", "return _places(source, text, begin)", "return None",
+            SPACED, ("sphinx",)),
     Spoiled("front matter isn't counted in MkDocs", "mkdocs.py", "text = source if source is not None and is_written else Source(markdown)", "text = Source(markdown)", ("builds.py", "MkDocs.test_each_link_at_its_place"), ("mkdocs",)),
 )
 

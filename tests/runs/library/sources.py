@@ -121,6 +121,27 @@ class Rst(Texts):
         self.checks("a.rst", [("2:27", SPACE), ("4:18", SPACE)])
 
     @has("docutils")
+    def test_a_space_beside_the_same_link(self):
+        """A link with a space has its own place, also where the same one without it, a literal, code or HTML is before it."""
+        spaced = "Para `space <http://h/a b>`_ end.\n"
+        for before, places in (
+            ("Good `ok <http://h/ab>`_.\n\n", ["6:24"]),
+            (spaced + "\n", ["4:24", "6:24"]),
+            ("Para ``http://h/a b`` literal.\n\n", ["6:24"]),
+            ("Para ``space <http://h/a b>`_`` literal.\n\n", ["6:24"]),
+            (".. code::\n\n   `space <http://h/a b>`_\n   http://h/a b\n\n", ["9:24"]),
+            (".. raw:: html\n\n   <!-- http://h/a b -->\n   <a href=\"http://h/a b\">x</a>\n\n", ["7:23", "9:24"]),
+            (".. _t: http://h/a b\n   c\n\nThe text t_ and again t_.\n\n", ["4:18", "9:24"]),
+            (".. image:: http://h/a b\n   :alt: http://h/ab\n   :target: http://h/a c\n\n", ["4:22", "6:23", "8:24"]),
+            ("`http://h/ab <http://h/a b>`__ `\n\n", ["4:25", "6:24"]),
+            ("`a <b c>`__\n\n", ["4:6", "6:24"]),
+            (".. _t: \\\n   http://h/ab\n\n", ["7:24"]),
+        ):
+            with self.subTest(before):
+                self.write("a.rst", "T\n=\n\n" + before + spaced)
+                self.checks("a.rst", [(place, SPACE) for place in places])
+
+    @has("docutils")
     def test_what_docutils_does_not_know(self):
         self.write("a.rst", ":doc:`x`\n\n.. versionadded:: 1\n   See `y <http://h/^>`_.\n\n:d:`z <http://h/%>`\n\n"
                    ".. code-block:: c\n\n   http://no/^\n")
