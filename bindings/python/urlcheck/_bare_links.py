@@ -13,22 +13,27 @@ _REST = re.compile(r"[^\s<]*")
 _REFERENCE = re.compile(r"&[A-Za-z0-9]+;\Z")
 _SPACED = re.compile(r"\]\((?P<to>[^()<>\s\"'][^()<>\n\"']*?)[ \t]*\)")
 _TITLED = re.compile(r"[^\s]+\Z")
+_TEMPLATE = re.compile(r"\{\{|\{%|\$\{|<%|%s")
 
 
 def links_of(content: str, covered: List[Tuple[int, int]]) -> Iterator[Link]:
-    """The bare addresses of a block's content, and the destinations with a space; what is covered is no text."""
-    begins, ends = _merged(covered)
+    """The bare addresses of a block's content, and the destinations with a space; what is covered is no text, and an
+    address within a destination is none of its own."""
+    places = _merged(covered)
+    spaced = [it for it in _SPACED.finditer(content) if not _TITLED.match(it["to"]) and not _meets(places, *it.span())]
+    for found in spaced:
+        # (a template stands for another text, which perhaps has no space)
+        asks = Asks.REFERENCE if _TEMPLATE.search(found["to"]) else Asks.ANOTHER
+        yield Link(found["to"], found.start("to"), True, asks=asks)
+    places = _merged(covered + [it.span() for it in spaced])
     for found in _START.finditer(content):
         text = content[found.start() : _end(content, found)]
-        if text and not _meets(begins, ends, found.start(), found.start() + len(text)):
+        if text and not _meets(places, found.start(), found.start() + len(text)):
             if found[0][:4].lower() == "www.":
                 # (GitHub writes the scheme before it)
                 yield Link("http://" + text, found.start(), False, pieces=((0, found.start()), (7, found.start())))
             else:
                 yield Link(text, found.start(), True)
-    for found in _SPACED.finditer(content):
-        if not _TITLED.match(found["to"]) and not _meets(begins, ends, found.start(), found.end()):
-            yield Link(found["to"], found.start("to"), True, asks=Asks.ANOTHER)
 
 
 def _end(content: str, found: "re.Match[str]") -> int:
@@ -59,8 +64,12 @@ def _trimmed(text: str) -> str:
     return text
 
 
-def _merged(covered: List[Tuple[int, int]]) -> Tuple[List[int], List[int]]:
-    """The beginnings and the ends of what is covered, in order and apart from one another."""
+Places = Tuple[List[int], List[int]]
+"""The beginnings and the ends of places, in order and apart from one another."""
+
+
+def _merged(covered: List[Tuple[int, int]]) -> Places:
+    """The places of what is covered."""
     begins: List[int] = []
     ends: List[int] = []
     for begin, end in sorted(covered):
@@ -72,7 +81,8 @@ def _merged(covered: List[Tuple[int, int]]) -> Tuple[List[int], List[int]]:
     return begins, ends
 
 
-def _meets(begins: List[int], ends: List[int], begin: int, end: int) -> bool:
+def _meets(places: Places, begin: int, end: int) -> bool:
     """Whether a part of this range is covered."""
+    begins, ends = places
     at = bisect.bisect_left(begins, end) - 1
     return at >= 0 and ends[at] > begin

@@ -318,6 +318,14 @@ class MkDocs(Built):
         self.assertEqual(sorted(self.told(said)), sorted(wanted), said)
         self.assertEqual(self.build("--strict")[0], 1)
 
+    def test_a_template(self):
+        """It is told once, at the same place and in the same words, by whichever reader takes it for a link."""
+        self.write({"docs/index.md": "# T\n\nThe [u]({{ url }}).\n"})
+        said = [self.build(settings="[{urlcheck: {gfm: " + gfm + "}}]")[1] for gfm in ("true", "false")]
+        for each in said:
+            self.assertEqual(self.told(each), [("index.md", 3, 9)], each)
+        self.assertEqual(*(re.findall("^.*code-point.*$", each, re.M) for each in said))
+
     def test_settings(self):
         self.write({"docs/index.md": "# T\n\n[a](http://a_b/) [b](mailto:^)\n"})
         self.assertEqual(self.build("--strict")[0], 1)

@@ -69,6 +69,25 @@ class Markdown(Texts):
                 self.checks("a.md", found, "--gfm")
 
     @has("markdown_it")
+    def test_a_broken_link_counts_once(self):
+        """An address before the space of a destination is none beside it, and a template is told as in HTML."""
+        for text, place, rule in (
+            ("[a](http://h/a b)", "1:15", "no-link"), ("x www.h.x/a [a](www.h.x/b c) www.h.x/%", "1:26", "no-link"),
+            ("[a]({{ url }})", "1:5", "code-point"), ("[a](http://h/{{ url }}/b)", "1:14", "code-point"),
+            ("[a](/%s b)", "1:6", "percent"), ("[a](${b c})", "1:6", "code-point"),
+        ):
+            with self.subTest(text):
+                self.write("a.md", text + "\n")
+                more = [("1:38", "percent")] if text.endswith("%") else []
+                self.checks("a.md", [(place, rule), *more], "--gfm")
+                count = 3 if more else 1
+                self.assertIn("{} link{},".format(count, "s" * (count > 1)), self.run_on("--gfm", "--check", "a.md")[2])
+                if rule != "no-link":
+                    self.write("a.html", '<a href="{}">'.format(text[4:-1]))
+                    words = [self.run_on("-q", "--gfm", "--check", name)[1].split(" ", 1)[1] for name in ("a.md", "a.html")]
+                    self.assertEqual(words[0], words[1])
+
+    @has("markdown_it")
     def test_front_matter(self):
         """It is no text, and its values that begin with a scheme and // are links."""
         for front, links in (
