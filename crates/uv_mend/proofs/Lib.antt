@@ -2,10 +2,6 @@ pub mod EscapeLemmas
 pub mod KindLemmas
 pub mod PreparedLemmas
 pub mod RepairLemmas
-mod RunLemmas
-mod SettledLemmas
-mod WebLinkLemmas
-mod StayLemmas
 mod StepLemmas
 mod EncodedLemmas
 mod PassedOver

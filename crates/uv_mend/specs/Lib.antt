@@ -2,11 +2,8 @@
 pub mod CodePoints
 pub mod Prefixes
 pub mod Escapes
-pub mod Runs
-pub mod WebLinks
 pub mod Prepared
 pub mod Slashes
-pub mod Settled
 pub mod Hosts
 pub mod Edits
 pub mod Repairs

@@ -3,10 +3,9 @@ ghost use Rattle.std.specs.Prelude.{◌≡◌, ◌≤◌, IfOk, chars, length, o
 ghost use Rattle.uv_mend.specs.Edits as spec;
 
 use crate::code_points::{code_points, push_all, text_of};
-use crate::escaped::{escaped, escaped_link};
+use crate::escapes::escaped;
 use crate::hosts::rehosted;
 use crate::prepared::prepared;
-use crate::settled::settled_link;
 use crate::slashes::slashed;
 use std::alloc::{AllocError, Global};
 use uv_model::{Record, Refusal, Rule};
@@ -19,18 +18,6 @@ pub(crate) fn cleaned(
     text: &str,
     base: Option<&Record>,
 ) -> Result<String, AllocError>
-    ensures { IfOk result (λ out. chars (string_bytes out)
-        ≡ spec.cleaned (option_copied base.entry) (chars text.now)) }
-{
-    match settled_link(text) {
-        Some(link) => escaped_link(alloc, link),
-        None => cleaned_list(alloc, text, base),
-    }
-}
-
-// The same by a list of the code points.
-#[tactic(auto, unfolding(crate::specs::Edits::cleaned))]
-fn cleaned_list(alloc: Global, text: &str, base: Option<&Record>) -> Result<String, AllocError>
     ensures { IfOk result (λ out. chars (string_bytes out)
         ≡ spec.cleaned (option_copied base.entry) (chars text.now)) }
 {

@@ -1,17 +1,40 @@
-//! Code points that are no URL units, written as the escapes of their UTF-8.
-ghost use Rattle.std.specs.Prelude.{◌≡◌, ◌++◌, OnOk, false, flat_map};
+//! A text with what is no unit of its path, query and fragment written as the escapes of its UTF-8.
+ghost use Rattle.std.specs.Prelude.{◌≡◌, ◌++◌, IfOk, OnOk, chars, false, flat_map, string_bytes};
 ghost use Rattle.percent_encoding.specs.Percent as percent;
 ghost use Rattle.uv_model.specs.Units as units;
-ghost use Rattle.uv_mend.specs.Escapes.{as_unit, as_units, escape};
+ghost use Rattle.uv_mend.specs.Escapes.{as_unit, as_units, escape, escaped};
 
-use crate::code_points::{first_of, push_one, push_text};
+use crate::code_points::{code_points, first_of, push_one, push_text, text_of};
+use crate::prefixes::{push_authority, push_scheme};
 use percent_encoding::percent_encode_byte;
-use std::alloc::AllocError;
+use std::alloc::{AllocError, Global};
 use uv_model::is_url_code_point;
 
-/// Appends a path, a query and a fragment, with each code point that is no unit as its escapes. The error is out of
-/// memory.
-pub(crate) fn push_units(out: &mut Vec<char>, text: &[char]) -> Result<(), AllocError>
+/// The text with each code point of the path, the query and the fragment that is no unit written as escapes. The scheme
+/// and the authority stay. The error is out of memory.
+pub(crate) fn escaped_text(alloc: Global, text: &str) -> Result<String, AllocError>
+    ensures { IfOk result (λ out. chars (string_bytes out) ≡ escaped (chars text.now)) }
+{
+    let list = code_points(alloc, text)?;
+    let list = escaped(alloc, &list)?;
+    text_of(alloc, &list)
+}
+
+/// The same of a list of code points.
+#[tactic(auto, unfolding(crate::specs::Escapes::escaped))]
+pub(crate) fn escaped(alloc: Global, text: &[char]) -> Result<Vec<char>, AllocError>
+    ensures { IfOk result (λ out. out.items ≡ escaped text.now) }
+{
+    // Room for some escapes.
+    let mut out = Vec::with_capacity(alloc, text.len().saturating_add(30))?;
+    let after_scheme = push_scheme(&mut out, text)?;
+    let after_authority = push_authority(&mut out, after_scheme)?;
+    push_units(&mut out, after_authority)?;
+    Ok(out)
+}
+
+// Appends a path, a query and a fragment, with each code point that is no unit as its escapes.
+fn push_units(out: &mut Vec<char>, text: &[char]) -> Result<(), AllocError>
     ensures { OnOk result (out.new.items ≡ out.old.items ++ as_units false text.now) }
 {
     let mut in_fragment = false;

@@ -3,7 +3,7 @@ ghost use Rattle.std.specs.Prelude.{◌≡◌, ◌↔◌, IfOk, IsTrue, chars, o
 ghost use Rattle.uv_mend.specs.Escapes.{escaped};
 ghost use Rattle.uv_mend.specs.Kinds.{IsKind};
 
-use crate::escaped::escaped_text;
+use crate::escapes::escaped_text;
 use crate::second::reads_same;
 use std::alloc::{AllocError, Global};
 use uv_model::{MendKind, Record};

@@ -2,10 +2,8 @@
 #![tactic(auto)]
 
 mod answer;
-mod by_escapes;
 mod code_points;
 mod edits;
-mod escaped;
 mod escapes;
 mod hosts;
 mod kinds;
@@ -15,10 +13,7 @@ mod prefixes;
 mod prepared;
 mod repairs;
 mod second;
-mod settled;
 mod slashes;
-mod staying;
-mod unit_text;
 
 pub use answer::Mending;
 pub use mender::{mend, mend_refused};

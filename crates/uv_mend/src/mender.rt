@@ -4,13 +4,12 @@ ghost use Rattle.uv_grammar.specs.Verdict.{IsRefused};
 ghost use Rattle.uv_mend.specs.Mending.{IsMending};
 
 use crate::answer::Mending;
-use crate::by_escapes::mended_by_escapes;
 use crate::edits::cleaned;
 use crate::kinds::kind_of;
 use crate::repairs::repaired;
 use std::alloc::{AllocError, Global};
 use uv_grammar::{Verdict, check};
-use uv_model::{Profile, Record, Refusal, Rule};
+use uv_model::{Profile, Record, Refusal};
 
 /// What to write in place of a text, by the profile, alone or against a base: local edits that keep all else of it as
 /// its author wrote it.
@@ -40,31 +39,6 @@ pub fn mend(
 
 /// The same of a text that is known to be refused so, which isn't checked again.
 pub fn mend_refused(
-    alloc: Global,
-    text: &str,
-    base: Option<&Record>,
-    profile: Profile,
-    refusal: Refusal,
-) -> Result<Mending, AllocError>
-    requires { IsRefused profile (option_copied base) (chars text.now) refusal }
-    ensures { IfOk result (IsMending profile (option_copied base.entry) text.now) }
-{
-    if is_of_units(refusal.rule) {
-        if let Some(mending) = mended_by_escapes(alloc, text, base, profile)? {
-            return Ok(mending);
-        }
-    }
-    mended_by_edits(alloc, text, base, profile, refusal)
-}
-
-// Whether a rule is one of the units of a path, a query or a fragment. A text that violates no other one takes escapes
-// alone; no answer rests on that.
-fn is_of_units(rule: Rule) -> bool {
-    rule == Rule::CodePoint || rule == Rule::Percent
-}
-
-// The same of any refused text.
-fn mended_by_edits(
     alloc: Global,
     text: &str,
     base: Option<&Record>,

@@ -1,9 +1,3 @@
-mod SameLemmas
-mod WrittenLemmas
 mod NameLemmas
-mod PlainLemmas
-mod LinkLemmas
-mod ComparedLemmas
-mod StandingLemmas
-mod OwnTextLemmas
-mod OwnReferenceLemmas
+mod PlainLinkLemmas
+mod PlainBytesLemmas

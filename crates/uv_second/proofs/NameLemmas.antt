@@ -1,7 +1,7 @@
 -- A plain name is a domain, which the second parser writes as it is.
 use Rattle.std.proofs.Common.{◌≡◌, ◌∙◌, ℕ, suc, ◌+◌, ◌<◌, Bool, true, false, not, ◌&&◌, ◌||◌, ◌==◌, List}
 use Rattle.std.proofs.Common.{[], ◌∷◌, length}
-use Rattle.std.proofs.Common.{get_or, Option, Some, None, All, ap, arith, inl, inr, refl, subst, sym, take, take_all}
+use Rattle.std.proofs.Common.{get_or, Option, Some, None, All, ap, arith, inl, inr, refl, sym, take}
 use Rattle.std.specs.Char.{is_ascii_digit, is_digit, is_ascii_lowercase, to_ascii_lowercase}
 use Rattle.std.specs.List.{list_all, prefix_len}
 use Rattle.std.proofs.lemmas.Bool.{agree_below_at, cases_Bool, true≢false}
@@ -16,8 +16,8 @@ use Rattle.url.proofs.InputLemmas.{Passes, is_empty_nonempty, lowercase_other, m
 use Rattle.url.proofs.SetLemmas.{kept_from_passes}
 use Rattle.uv_text.specs.Rows.{is_in_rows}
 use Rattle.uv_text.proofs.RowsLemmas.{of_rows}
-use Rattle.uv_second.specs.declared.links.TheConstants.{NAME_ROWS}
-use Rattle.uv_second.specs.Links.{IsName, is_name_byte}
+use Rattle.uv_second.specs.declared.plain_links.TheConstants.{NAME_ROWS}
+use Rattle.uv_second.specs.PlainLinks.{IsName, is_name_byte}
 
 -- the last label is not an empty one before a last dot
 letter_label : (label : List ℕ) → is_ascii_lowercase (get_or label 0 0) ≡ true → (front : Option (List ℕ))
@@ -94,8 +94,6 @@ in_name_rows =
     of_rows is_name_byte NAME_ROWS
     (λ b small. agree_below_at (is_in_rows NAME_ROWS) is_name_byte 256 b refl small)
 
--- so bytes that are all in the rows are those of a name
-pub all_named : (name : List ℕ) → prefix_len (is_in_rows NAME_ROWS) name ≡ length name → All (Passes is_name_byte) name
-all_named name whole =
-    subst (All (Passes is_name_byte)) (ap (λ n. take n name) whole ∙ take_all (length name) name (omega arith))
-    (prefix_all (is_in_rows NAME_ROWS) is_name_byte in_name_rows name)
+-- so the longest run of bytes in the rows has bytes of a name alone
+pub run_named : (bytes : List ℕ) → All (Passes is_name_byte) (take (prefix_len (is_in_rows NAME_ROWS) bytes) bytes)
+run_named bytes = prefix_all (is_in_rows NAME_ROWS) is_name_byte in_name_rows bytes

@@ -1,4 +1,2 @@
 pub mod Second
-pub mod Links
-pub mod Standing
-pub mod References
+pub mod PlainLinks

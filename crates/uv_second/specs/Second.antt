@@ -1,8 +1,7 @@
 -- What the crate `url` makes of a text: the second parser, whose answer is compared with the record's text.
-use Rattle.std.specs.Prelude.{◌≡◌, ◌≢◌, ℕ, List, Option, Some, None, IfSome, Result, Ok, Err, option_map}
-use Rattle.url.specs.Canonical.{IsCanonical}
+use Rattle.std.specs.Prelude.{◌≡◌, ◌≢◌, ℕ, List, Option, Some, None, Result, Ok, Err, option_map}
 use Rattle.url.specs.Parser.{parse_url}
-use Rattle.url.specs.Parts.{IsValid, Parts, serialize}
+use Rattle.url.specs.Parts.{Parts, serialize}
 use Rattle.url.specs.declared.error.ParseError.{ParseError}
 use Rattle.url.specs.declared.error.ParseError.TheVariants as error
 use Rattle.uv_second.specs.declared.fault.RoomFault.{RoomFault}
@@ -67,13 +66,3 @@ pub record ReadsSame (base : Option Url) (text other : List ℕ) : Type 0 where
   pub url : List ℕ
   pub first : option_map second_serial (reading base text) ≡ Some url
   pub second : option_map second_serial (reading base other) ≡ Some url
-
--- the same of two texts against a base of its own
-pub record SameAgainst (base : Option Parts) (text other : List ℕ) : Type 0 where
-  pub url : List ℕ
-  pub first : text_against base text ≡ Some url
-  pub second : text_against base other ≡ Some url
-
--- it could have written the base, where there is one, so that what it writes of a URL it reads as that URL again
-abbrev pub IsOwnBase : Option Parts → Type 0
-IsOwnBase base = IfSome base (λ url. IsValid url × IsCanonical url)

@@ -4,8 +4,7 @@ ghost use Rattle.url.specs.Parser.{Gives, parse_url};
 ghost use Rattle.uv_second.specs.Second.{IsReadAs, parsed, room_fault, second_serial, text_against};
 
 use crate::fault::RoomFault;
-use crate::own_reference::is_own_reference;
-use crate::own_text::is_own_text;
+use crate::plain_links::is_own_url;
 use std::alloc::Global;
 use url::{ParseError, ParseResult, Url};
 
@@ -30,8 +29,8 @@ pub fn read_as(
     }
 }
 
-/// Whether the second parser makes of a text, alone or against a base, a URL that has the written text. Most links that
-/// are the text of their URL, and most references that are the end of theirs, are seen to be so, and aren't parsed.
+/// Whether the second parser makes of a text, alone or against a base, a URL that has the written text. Most links are
+/// the text of their URL, which is seen without a parse.
 pub fn reads_as(
     alloc: Global,
     base: Option<&Url>,
@@ -41,44 +40,11 @@ pub fn reads_as(
     ensures { IfOk result (λ same.
         IsTrue same ↔ (text_against (option_copied base.entry) text.now ≡ Some written.now)) }
 {
-    if is_seen(base, text, written) {
-        Ok(true)
-    } else {
-        parses_as(alloc, base, text, written)
+    if text == written && is_own_url(text) {
+        return Ok(true);
     }
-}
-
-// Whether that is seen without a parse.
-fn is_seen(base: Option<&Url>, text: &str, written: &str) -> bool
-    ensures { IsTrue result → text_against (option_copied base.entry) text.now ≡ Some written.now }
-{
-    if text == written {
-        return is_own_text(text);
-    }
-    match base {
-        Some(base) => is_own_reference(base, text, written),
-        None => false,
-    }
-}
-
-// The same by a parse.
-#[tactic(auto, unfolding(crate::specs::Second::second_serial, crate::specs::Second::text_against))]
-fn parses_as(
-    alloc: Global,
-    base: Option<&Url>,
-    text: &str,
-    written: &str,
-) -> Result<bool, RoomFault>
-    ensures { IfOk result (λ same.
-        IsTrue same ↔ (text_against (option_copied base.entry) text.now ≡ Some written.now)) }
-{
-    match parse(alloc, base, text) {
-        Ok(url) => Ok(url.as_str() == written),
-        Err(error) => match room_fault(error) {
-            Some(fault) => Err(fault),
-            None => Ok(false),
-        },
-    }
+    let url = read_as(alloc, base, text, written)?;
+    Ok(url.is_some())
 }
 
 /// The URL that the second parser makes of a text, alone or against a base; none where it refuses the text.

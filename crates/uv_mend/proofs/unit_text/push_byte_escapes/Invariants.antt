@@ -1,9 +1,0 @@
--- The escapes of the bytes so far were appended.
-use Rattle.std.proofs.Common.{◌≡◌, ◌++◌, drop, flat_map, string_bytes}
-use Rattle.percent_encoding.specs.Percent.{percent_encode_byte}
-use Rattle.uv_mend.proofs.unit_text.push_byte_escapes.Given as goal
-
-abbrev pub invariant-loop-byte : goal.invariant-loop-byte
-invariant-loop-byte l =
-    string_bytes l.out ++ flat_map percent_encode_byte (drop l.byte-index l.bytes)
-    ≡ string_bytes l.fn.out ++ flat_map percent_encode_byte l.bytes

@@ -1,0 +1,75 @@
+-- Links that the second parser writes as they are: `https://` or `http://`, a plain name, and a path, a query and a
+-- fragment of plain bytes.
+use Rattle.std.specs.Prelude.{◌≡◌, ◌⊎◌, ◌+◌, ◌<◌, ◌≤◌, ℕ, Bool, true, false, not, ◌&&◌, ◌||◌, ◌==◌, nat_lt, List, []}
+use Rattle.std.specs.Prelude.{◌∷◌, ◌++◌, codes, length, slice_index}
+use Rattle.std.specs.Char.{is_ascii_digit, is_ascii_lowercase}
+use Rattle.url.specs.Ascii.{backslash, dot, hyphen, percent_sign, slash, space}
+use Rattle.url.specs.Host.{IsDomain}
+use Rattle.url.specs.Path.{dot_len}
+
+-- ---- up to the name
+
+-- the scheme of a link
+abbrev pub IsWebScheme : List ℕ → Type 0
+IsWebScheme scheme = (scheme ≡ codes "https") ⊎ (scheme ≡ codes "http")
+
+-- the byte may be in a plain name: a small letter, a digit, `-`, `.` or `_`
+abbrev pub is_name_byte : ℕ → Bool
+is_name_byte b = is_ascii_lowercase b || (is_ascii_digit b || ((b == hyphen) || ((b == dot) || (b == 0x5F))))
+
+-- the domain of a link, which is written as it is
+abbrev pub IsName : List ℕ → Type 0
+IsName name = IsDomain name × (0 < length name)
+
+-- a text begins with such a scheme and `://`, and goes on with this
+pub record FollowsScheme (text rest : List ℕ) : Type 0 where
+  pub scheme : List ℕ
+  pub web : IsWebScheme scheme
+  pub joined : text ≡ scheme ++ (codes "://" ++ rest)
+
+-- a text begins with these and a name, and goes on with this
+pub record FollowsName (text rest : List ℕ) : Type 0 where
+  pub scheme : List ℕ
+  pub name : List ℕ
+  pub web : IsWebScheme scheme
+  pub named : IsName name
+  pub joined : text ≡ scheme ++ (codes "://" ++ (name ++ rest))
+
+-- ---- after the name
+
+-- the byte is written as it is in a path, a query and a fragment, and is no backslash, which is read as a slash
+abbrev pub is_plain_byte : ℕ → Bool
+is_plain_byte b =
+    nat_lt space b && (nat_lt b 0x7F
+    && (not (b == 0x22) && (not (b == 0x27) && (not (b == 0x3C) && (not (b == 0x3E) && (not (b == backslash)
+    && (not (b == 0x5E) && (not (b == 0x60) && (not (b == 0x7B) && not (b == 0x7D))))))))))
+
+-- the byte is such, and where it is a slash, no dot follows it, nor the escape of one
+unfoldable pub is_plain_at : ℕ → List ℕ → Bool
+is_plain_at b rest = is_plain_byte b && (not (b == slash) || (dot_len rest == 0))
+
+-- each byte is such
+abbrev pub is_plain : List ℕ → Bool
+is_plain [] = true
+is_plain (b ∷ rest) = is_plain_at b rest && is_plain rest
+
+-- a text ends with another one
+abbrev pub EndsWith : List ℕ → List ℕ → Type 0
+EndsWith text end = (front : List ℕ) × (text ≡ front ++ end)
+
+-- ---- by places
+
+-- the byte is a dot, or may begin the escape of one
+abbrev pub may_be_dot : ℕ → Bool
+may_be_dot b = (b == dot) || (b == percent_sign)
+
+-- from a place on and before another one each byte is plain, and after a slash is no dot, nor what may begin its escape
+pub record IsPlainBetween (text : List ℕ) (start end : ℕ) : Type 0 where
+  pub each : (k : ℕ) → start ≤ k → k < end → is_plain_byte (slice_index text k) ≡ true
+  pub pairs : (k : ℕ) → start ≤ k → k < end → slice_index text k ≡ slash
+      → may_be_dot (slice_index text (k + 1)) ≡ false
+
+-- so it is with 31 of 32 bytes at a place, where 32 are left, and with all that are left, where no more are
+pub record IsPlainAt (text : List ℕ) (place : ℕ) : Type 0 where
+  pub further : place + 32 ≤ length text → IsPlainBetween text place (place + 31)
+  pub last : length text ≤ place + 32 → IsPlainBetween text place (length text)
