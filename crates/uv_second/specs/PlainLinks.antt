@@ -1,6 +1,6 @@
 -- Links that the second parser writes as they are: `https://` or `http://`, a plain name, and a path, a query and a
 -- fragment of plain bytes.
-use Rattle.std.specs.Prelude.{◌≡◌, ◌⊎◌, ◌+◌, ◌<◌, ◌≤◌, ℕ, Bool, true, false, not, ◌&&◌, ◌||◌, ◌==◌, nat_lt, List, []}
+use Rattle.std.specs.Prelude.{◌≡◌, ◌⊎◌, ◌+◌, ◌<◌, ℕ, Bool, true, false, not, ◌&&◌, ◌||◌, ◌==◌, nat_lt, List, []}
 use Rattle.std.specs.Prelude.{◌∷◌, ◌++◌, codes, length, slice_index}
 use Rattle.std.specs.Char.{is_ascii_digit, is_ascii_lowercase}
 use Rattle.url.specs.Ascii.{backslash, dot, hyphen, percent_sign, slash, space}
@@ -53,23 +53,11 @@ abbrev pub is_plain : List ℕ → Bool
 is_plain [] = true
 is_plain (b ∷ rest) = is_plain_at b rest && is_plain rest
 
--- a text ends with another one
-abbrev pub EndsWith : List ℕ → List ℕ → Type 0
-EndsWith text end = (front : List ℕ) × (text ≡ front ++ end)
-
--- ---- by places
-
 -- the byte is a dot, or may begin the escape of one
 abbrev pub may_be_dot : ℕ → Bool
 may_be_dot b = (b == dot) || (b == percent_sign)
 
--- from a place on and before another one each byte is plain, and after a slash is no dot, nor what may begin its escape
-pub record IsPlainBetween (text : List ℕ) (start end : ℕ) : Type 0 where
-  pub each : (k : ℕ) → start ≤ k → k < end → is_plain_byte (slice_index text k) ≡ true
-  pub pairs : (k : ℕ) → start ≤ k → k < end → slice_index text k ≡ slash
-      → may_be_dot (slice_index text (k + 1)) ≡ false
-
--- so it is with 31 of 32 bytes at a place, where 32 are left, and with all that are left, where no more are
-pub record IsPlainAt (text : List ℕ) (place : ℕ) : Type 0 where
-  pub further : place + 32 ≤ length text → IsPlainBetween text place (place + 31)
-  pub last : length text ≤ place + 32 → IsPlainBetween text place (length text)
+-- no such byte follows a slash before this place
+abbrev pub HasNoDots : List ℕ → ℕ → Type 0
+HasNoDots bytes end =
+    (k : ℕ) → k + 1 < end → slice_index bytes k ≡ slash → may_be_dot (slice_index bytes (k + 1)) ≡ false

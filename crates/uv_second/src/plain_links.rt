@@ -1,15 +1,15 @@
 //! Links that are the text of their URL, as most are: `https://` or `http://`, a plain name, and a path, a query and a
 //! fragment that the second parser writes as they are.
-ghost use Rattle.std.specs.Prelude.{◌≡◌, ◌∷◌, ◌++◌, ◌≤◌, ℕ, List, IfSome, IsTrue, Option, Some, length, slice_index, true};
+ghost use Rattle.std.specs.Prelude.{◌≡◌, ◌∷◌, ◌++◌, ℕ, List, IfSome, IsTrue, Option, Some, length, slice_index, true};
 ghost use Rattle.std.specs.Char as char_spec;
 ghost use Rattle.url.specs.Ascii.{dot, slash};
 ghost use Rattle.url.specs.Input as input;
 ghost use Rattle.url.specs.Parts.{Parts};
-ghost use Rattle.uv_second.specs.PlainLinks.{EndsWith, FollowsName, FollowsScheme, IsName, IsPlainAt, IsPlainBetween};
-ghost use Rattle.uv_second.specs.PlainLinks.{is_plain};
+ghost use Rattle.uv_second.specs.PlainLinks as spec;
+ghost use Rattle.uv_second.specs.PlainLinks.{FollowsName, FollowsScheme, HasNoDots};
 ghost use Rattle.uv_second.specs.Second.{text_against};
 
-use uv_text::{Tail, byte_rows, row_end};
+use uv_text::{byte_rows, row_end};
 
 // The bytes of a plain name, by the low half of a byte: a bit for each high half.
 const NAME_ROWS: [u8; 16] = byte_rows!(b'a'..=b'z' | b'0'..=b'9' | b'-' | b'.' | b'_');
@@ -20,19 +20,13 @@ const PLAIN_ROWS: [u8; 16] = byte_rows!(
     | b']' | b'_' | b'|' | b'~'
 );
 
-// The slash.
-const SLASH_ROWS: [u8; 16] = byte_rows!(b'/');
-
-// The full stop, and the percent sign, with which its escape begins.
-const DOT_ROWS: [u8; 16] = byte_rows!(b'.' | b'%');
-
 /// Whether a text is seen to be the text of the URL that the second parser reads of it, against any base. Of some that
 /// are that isn't seen.
 pub(crate) fn is_own_url(text: &str) -> bool
     ensures { (base : Option Parts) → IsTrue result → text_against base text.now ≡ Some text.now }
 {
     match after_name(text) {
-        Some(rest) => begins_with_slash(rest) && ends_plain(text, rest),
+        Some(rest) => begins_with_slash(rest) && is_plain(rest),
         None => false,
     }
 }
@@ -94,39 +88,28 @@ fn begins_with_slash(bytes: &[u8]) -> bool
     matches!(bytes, [b'/', ..])
 }
 
-// Whether the end of a text is seen to be plain, 32 bytes a turn.
-fn ends_plain(text: &str, end: &[u8]) -> bool
-    requires { EndsWith text.now end.now }
-    ensures { IsTrue result → is_plain end.now ≡ true }
+// Whether bytes are seen to be plain.
+fn is_plain(bytes: &[u8]) -> bool
+    ensures { IsTrue result → spec.is_plain bytes.now ≡ true }
 {
-    is_plain_from(text, text.len().saturating_sub(end.len()))
+    row_end(bytes, 0, &PLAIN_ROWS) == bytes.len() && has_no_dots(bytes)
 }
 
-// Whether from a place on each byte of a text is plain, and after a slash is no dot, nor a percent sign. The last of 32
-// bytes is looked at again with the next ones.
-fn is_plain_from(text: &str, start: usize) -> bool
-    requires { start ≤ length text.now }
-    ensures { IsTrue result → IsPlainBetween text.now start (length text.now) }
+// Whether no `.` and no `%`, with which the escape of one begins, follows a `/`. Each byte is looked at, so that many
+// are at once.
+fn has_no_dots(bytes: &[u8]) -> bool
+    ensures { IsTrue result → HasNoDots bytes.now (length bytes.now) }
 {
-    let mut place = start;
-    while text.len() - place > 32 {
-        if !is_plain_load(text, place) {
-            return false;
-        }
-        place += 31;
+    let mut found = false;
+    for at in 1..bytes.len() {
+        found |= (bytes[at - 1] == b'/') & may_be_dot(bytes[at]);
     }
-    is_plain_load(text, place)
+    !found
 }
 
-// The same of the 32 bytes at a place, or of those that are left.
-#[inline(always)]
-fn is_plain_load(text: &str, place: usize) -> bool
-    requires { place ≤ length text.now }
-    ensures { IsTrue result → IsPlainAt text.now place }
+// Whether a byte is a dot, or may begin the escape of one.
+fn may_be_dot(byte: u8) -> bool
+    ensures { result ≡ spec.may_be_dot byte }
 {
-    let load = Tail::of(text).load(place);
-    let ahead = load.row_bits(&PLAIN_ROWS).trailing_ones() as usize;
-    let slashes = load.row_bits(&SLASH_ROWS);
-    let dots = load.row_bits(&DOT_ROWS);
-    ahead >= (text.len() - place).min(32) && slashes & dots >> 1 == 0
+    (byte == b'.') | (byte == b'%')
 }
