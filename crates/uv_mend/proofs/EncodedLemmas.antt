@@ -6,9 +6,9 @@ use Rattle.std.proofs.lemmas.Bool.{cases_Bool, cases_lt}
 use Rattle.std.proofs.lemmas.Bool.Decides.{nat_tests}
 use Rattle.std.proofs.lemmas.Str.{encode_ascii, encodes-append}
 use Rattle.uv_model.proofs.Texts.AsciiLemmas.{AreBeyond, AreBeyond-encode}
-use Rattle.uv_mend.specs.Prepared.{after_controls, before_controls, is_control_or_space, is_tab_or_newline}
-use Rattle.uv_mend.specs.Prepared.{on_one_line}
-use Rattle.uv_mend.proofs.PreparedLemmas.{before_controls-none, before_controls-one, before_controls-other, from_ends}
+use Rattle.uv_mend.specs.Stripped.{after_controls, before_controls, is_control_or_space, is_tab_or_newline}
+use Rattle.uv_mend.specs.Stripped.{on_one_line}
+use Rattle.uv_mend.proofs.StrippedLemmas.{before_controls-none, before_controls-one, before_controls-other, from_ends}
 
 -- the bytes of a code point beyond ASCII: a first one, and others
 pub record IsBeyond (bytes : List ℕ) : Type 0 where

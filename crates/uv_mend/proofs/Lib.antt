@@ -1,12 +1,12 @@
 pub mod EscapeLemmas
 pub mod KindLemmas
-pub mod PreparedLemmas
+pub mod StrippedLemmas
 pub mod RepairLemmas
 mod StepLemmas
 mod EncodedLemmas
 mod PassedOver
-mod StaysPrepared
-mod ReadPrepared
+mod StaysStripped
+mod ReadStripped
 mod TurnedLemmas
 mod SchemeReadLemmas
 mod CutReadLemmas

@@ -8,8 +8,8 @@ use Rattle.std.proofs.lemmas.List.{length-drop, length-reverse, reverse-append, 
 use Rattle.url.specs.Input.{is_c0_control_or_space, is_tab_or_new_line, strip_tabs_and_new_lines}
 use Rattle.url.specs.Input.{trim_c0_control_and_space}
 use Rattle.url.specs.Input.{trim_end, trim_start}
-use Rattle.uv_mend.specs.Prepared.{after_controls, before_controls, is_control_or_space, is_tab_or_newline}
-use Rattle.uv_mend.specs.Prepared.{on_one_line, prepared}
+use Rattle.uv_mend.specs.Stripped.{after_controls, before_controls, is_control_or_space, is_tab_or_newline}
+use Rattle.uv_mend.specs.Stripped.{on_one_line, stripped}
 use Rattle.uv_mend.proofs.StepLemmas.{line_in, line_out}
 
 -- both name the same bytes
@@ -20,13 +20,13 @@ same_tab b = grouped (b == 9) (b == 10) (b == 13)
     grouped true y z = refl
     grouped false y z = refl
 
-stripped : (bytes : List ℕ) → strip_tabs_and_new_lines bytes ≡ on_one_line bytes
+lines_stripped : (bytes : List ℕ) → strip_tabs_and_new_lines bytes ≡ on_one_line bytes
 unfolding strip_tabs_and_new_lines
-stripped [] = refl
-stripped (b ∷ rest) = elim (cases_Bool (is_tab_or_newline b)) [
-  | inl tab ↦ cond-false _ _ _ (ap not (same_tab b ∙ tab)) ∙ stripped rest ∙ sym (line_out b rest tab)
+lines_stripped [] = refl
+lines_stripped (b ∷ rest) = elim (cases_Bool (is_tab_or_newline b)) [
+  | inl tab ↦ cond-false _ _ _ (ap not (same_tab b ∙ tab)) ∙ lines_stripped rest ∙ sym (line_out b rest tab)
   | inr other ↦
-      cond-true _ _ _ (ap not (same_tab b ∙ other)) ∙ ap (λ t. b ∷ t) (stripped rest) ∙ sym (line_in b rest other)
+      cond-true _ _ _ (ap not (same_tab b ∙ other)) ∙ ap (λ t. b ∷ t) (lines_stripped rest) ∙ sym (line_in b rest other)
 ]
 
 start_trimmed : (bytes : List ℕ) → trim_start is_c0_control_or_space bytes ≡ after_controls bytes
@@ -52,9 +52,9 @@ end_trimmed bytes =
     dropped_end bytes (suffix_len is_c0_control_or_space bytes) ∙ ap reverse (start_trimmed (reverse bytes))
 
 -- the second parser's input
-pub input_prepared : (bytes : List ℕ) → strip_tabs_and_new_lines (trim_c0_control_and_space bytes) ≡ prepared bytes
+pub input_stripped : (bytes : List ℕ) → strip_tabs_and_new_lines (trim_c0_control_and_space bytes) ≡ stripped bytes
 unfolding trim_c0_control_and_space
-input_prepared bytes =
-    stripped (trim_end is_c0_control_or_space (trim_start is_c0_control_or_space bytes))
+input_stripped bytes =
+    lines_stripped (trim_end is_c0_control_or_space (trim_start is_c0_control_or_space bytes))
     ∙ ap on_one_line (end_trimmed (trim_start is_c0_control_or_space bytes)
     ∙ ap before_controls (start_trimmed bytes))

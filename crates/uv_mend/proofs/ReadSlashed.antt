@@ -24,19 +24,19 @@ use Rattle.uv_model.specs.Scheme.{goes_on_to_colon, is_scheme, is_scheme_code_po
 use Rattle.uv_model.proofs.Cuts.SchemeCutLemmas.{splits_at_scheme}
 use Rattle.uv_mend.specs.declared.prefixes.Stop.TheVariants.{Scheme, Start}
 use Rattle.uv_mend.specs.Prefixes.{after_scheme, before, class_of_base, stops}
-use Rattle.uv_mend.specs.Prepared.{prepared}
+use Rattle.uv_mend.specs.Stripped.{stripped}
 use Rattle.uv_mend.specs.Readings.{KeepsItsSlashes, SlashedTextsAreReadAlike, class_of_kind, class_of_own}
 use Rattle.uv_mend.specs.Slashes.{after_marks, new_slashes, renews_slashes, slashed, slashed_after}
 use Rattle.uv_mend.specs.Slashes.{starts_with_two_marks, with_slashes}
 use Rattle.uv_mend.proofs.CutReadLemmas.{HasCut, cut_scheme, cut_step, cut_stop, hash_cut, question_cut, renewed}
 use Rattle.uv_mend.proofs.CutReadLemmas.{renewed_cut, slashed_renewed, slashes_cut, slashes_stay, two_marks}
-use Rattle.uv_mend.proofs.PassedOver.{input_prepared}
-use Rattle.uv_mend.proofs.ReadPrepared.{prepared_encoded, prepared_twice, read_prepared}
+use Rattle.uv_mend.proofs.PassedOver.{input_stripped}
+use Rattle.uv_mend.proofs.ReadStripped.{stripped_encoded, stripped_twice, read_stripped}
 use Rattle.uv_mend.proofs.RenewedLemmas.{IsKept, renewed_read}
 use Rattle.uv_mend.proofs.SchemeReadLemmas.{scheme_bytes, split_none, split_written}
 use Rattle.uv_mend.proofs.SlashedLemmas.{has_scheme, slashed_bare, slashed_encoded, slashed_stays, slashed_written}
 use Rattle.uv_mend.proofs.SlashedLemmas.{starts_encoded, two_encoded, written_encoded}
-use Rattle.uv_mend.proofs.StaysPrepared.{StaysPrepared, prepared_stays, whole}
+use Rattle.uv_mend.proofs.StaysStripped.{StaysStripped, stripped_stays, whole}
 use Rattle.uv_mend.proofs.TurnedLemmas.{empty_turned, parts_turned, turned, turned_test}
 
 -- ---- what is read of bytes from which nothing is taken
@@ -47,10 +47,10 @@ read_cut base cut fragment = parse_by_scheme (split_scheme cut.0) base cut.0 cut
 abbrev read_whole : Option Parts → List ℕ → Parsed Parts
 read_whole base bytes = read_cut base (question_cut bytes) (hash_cut bytes)
 
-whole_read : (base : Option Parts) (bytes : List ℕ) → StaysPrepared bytes
+whole_read : (base : Option Parts) (bytes : List ℕ) → StaysStripped bytes
     → parse_url base bytes ≡ read_whole base bytes
 unfolding parse_url
-whole_read base bytes stays = ap (read_whole base) (input_prepared bytes ∙ whole bytes stays)
+whole_read base bytes stays = ap (read_whole base) (input_stripped bytes ∙ whole bytes stays)
 
 -- ---- what follows a scheme, or a text without one
 
@@ -341,11 +341,11 @@ kept_encoded base text kept is =
 -- by code points, from which what the parser passes over is taken
 pub read_slashed : SlashedTextsAreReadAlike
 read_slashed url base is text kept =
-    let line = prepared text in
+    let line = stripped text in
     let bytes = encode_utf8_all line in
-    let same : prepared bytes ≡ bytes = prepared_encoded line ∙ ap encode_utf8_all (prepared_twice text) in
-    let stays : StaysPrepared bytes = subst StaysPrepared same (prepared_stays bytes) in
+    let same : stripped bytes ≡ bytes = stripped_encoded line ∙ ap encode_utf8_all (stripped_twice text) in
+    let stays : StaysStripped bytes = subst StaysStripped same (stripped_stays bytes) in
     ap (parse_url base) (sym (slashed_encoded url line))
     ∙ whole_read base (slashed url bytes) (slashed_stays url bytes stays)
     ∙ slashed_read url base is bytes (kept_encoded base line kept)
-    ∙ sym (whole_read base bytes stays) ∙ read_prepared base text
+    ∙ sym (whole_read base bytes stays) ∙ read_stripped base text

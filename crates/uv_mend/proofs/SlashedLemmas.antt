@@ -29,8 +29,8 @@ use Rattle.uv_mend.specs.Slashes.{after_marks, as_slash, is_slash_mark, new_slas
 use Rattle.uv_mend.specs.Slashes.{slashed_after, starts_with_two_marks, with_slashes}
 use Rattle.uv_mend.proofs.EncodedLemmas.{IsBeyond, is_beyond}
 use Rattle.uv_mend.proofs.SchemeReadLemmas.{class_is, scheme_ascii, scheme_bytes}
-use Rattle.uv_mend.proofs.StaysPrepared.{StaysPrepared, ends_append, ends_more, ends_shown, is_in_line, is_shown}
-use Rattle.uv_mend.proofs.StaysPrepared.{starts_shown}
+use Rattle.uv_mend.proofs.StaysStripped.{StaysStripped, ends_append, ends_more, ends_shown, is_in_line, is_shown}
+use Rattle.uv_mend.proofs.StaysStripped.{starts_shown}
 use Rattle.uv_mend.proofs.TurnedLemmas.{isnt_turned, turned, turned_test}
 
 -- ---- the scheme
@@ -392,7 +392,7 @@ after_ends kind scheme known text end line = elim (cases_Bool (renews_slashes ki
       )
 ]
 
-after_starts : (kind : Class) (scheme : Bool) (text : List ℕ) → StaysPrepared text
+after_starts : (kind : Class) (scheme : Bool) (text : List ℕ) → StaysStripped text
     → starts_shown (slashed_after kind scheme text) ≡ true
 unfolding slashed_after
 after_starts kind scheme text stays = elim (cases_Bool (renews_slashes kind scheme text)) [
@@ -410,10 +410,10 @@ all_append (x ∷ xs) ys = ap (λ (b : Bool). is_in_line x && b) (all_append xs 
     and_assoc true y z = refl
     and_assoc false y z = refl
 
-written_stays : (scheme rest other : List ℕ) → is_scheme scheme ≡ true → StaysPrepared (scheme ++ colon ∷ rest)
+written_stays : (scheme rest other : List ℕ) → is_scheme scheme ≡ true → StaysStripped (scheme ++ colon ∷ rest)
     → ((known : Bool) → ends_shown known rest ≡ true → list_all is_in_line rest ≡ true
     → (ends_shown known other ≡ true) × (list_all is_in_line other ≡ true))
-    → StaysPrepared (scheme ++ colon ∷ other)
+    → StaysStripped (scheme ++ colon ∷ other)
 written_stays [] rest other is stays same = absurd (false≢true is)
 written_stays (c ∷ scheme) rest other is stays same =
     let front = c ∷ scheme in
@@ -427,17 +427,17 @@ written_stays (c ∷ scheme) rest other is stays same =
       line = all_append front (colon ∷ other) ∙ and_from _ _ lines.0 new.1;
     }
 
-pub slashed_stays : (url : Option Url) (text : List ℕ) → StaysPrepared text → StaysPrepared (slashed url text)
+pub slashed_stays : (url : Option Url) (text : List ℕ) → StaysStripped text → StaysStripped (slashed url text)
 slashed_stays url text stays = elim (cases_Bool (starts_with_scheme text)) [
   | inl starts ↦
       let split = splits_at_scheme text starts in
       let kind = class_of_kind (scheme_type (lowercase split.scheme)) in
-      subst StaysPrepared (sym (ap (slashed url) split.joined ∙ slashed_written url split.scheme split.rest split.is))
+      subst StaysStripped (sym (ap (slashed url) split.joined ∙ slashed_written url split.scheme split.rest split.is))
       (written_stays split.scheme split.rest (slashed_after kind true split.rest) split.is
-      (subst StaysPrepared split.joined stays) (λ known end line. after_ends kind true known split.rest end line))
+      (subst StaysStripped split.joined stays) (λ known end line. after_ends kind true known split.rest end line))
   | inr none ↦
       let ends = after_ends (class_of_base url) false true text stays.end stays.line in
-      subst StaysPrepared (sym (slashed_bare url text none)) (record {
+      subst StaysStripped (sym (slashed_bare url text none)) (record {
         start = after_starts (class_of_base url) false text stays;
         end = ends.0;
         line = ends.1;

@@ -4,10 +4,10 @@ use Rattle.std.proofs.Common.{inl, inr, arith}
 use Rattle.std.specs.List.{list_all}
 use Rattle.std.proofs.lemmas.Bool.{and_from, and_parts, cases_Bool, not-true, true≢false}
 use Rattle.std.proofs.lemmas.Bool.Decides.{nat_tests}
-use Rattle.uv_mend.specs.Prepared.{after_controls, before_controls, is_control_or_space, is_tab_or_newline}
-use Rattle.uv_mend.specs.Prepared.{on_one_line}
-use Rattle.uv_mend.specs.Prepared.{prepared}
-use Rattle.uv_mend.proofs.PreparedLemmas.{before_controls-none, before_controls-one, before_controls-other, from_ends}
+use Rattle.uv_mend.specs.Stripped.{after_controls, before_controls, is_control_or_space, is_tab_or_newline}
+use Rattle.uv_mend.specs.Stripped.{on_one_line}
+use Rattle.uv_mend.specs.Stripped.{stripped}
+use Rattle.uv_mend.proofs.StrippedLemmas.{before_controls-none, before_controls-one, before_controls-other, from_ends}
 use Rattle.uv_mend.proofs.StepLemmas.{control_out, line_in, line_out, shown_in}
 
 -- the code point is no control and no space, and no tab, LF or CR
@@ -28,7 +28,7 @@ ends_shown before [] = before
 ends_shown before (c ∷ rest) = ends_shown (is_shown c) rest
 
 -- nothing is taken off
-pub record StaysPrepared (text : List ℕ) : Type 0 where
+pub record StaysStripped (text : List ℕ) : Type 0 where
   pub start : starts_shown text ≡ true
   pub end : ends_shown true text ≡ true
   pub line : list_all is_in_line text ≡ true
@@ -145,13 +145,13 @@ end_in_line known other (c ∷ rest) ends more = elim (cases_Bool (is_tab_or_new
 
 -- ---- both
 
-pub whole : (text : List ℕ) → StaysPrepared text → prepared text ≡ text
+pub whole : (text : List ℕ) → StaysStripped text → stripped text ≡ text
 whole text stays =
     ap (λ t. on_one_line (before_controls t)) (start_stays text stays.start)
     ∙ ap on_one_line (end_stays text stays.end) ∙ line_stays text stays.line
 
-pub prepared_stays : (text : List ℕ) → StaysPrepared (prepared text)
-prepared_stays text =
+pub stripped_stays : (text : List ℕ) → StaysStripped (stripped text)
+stripped_stays text =
     let start = after_controls text in
     let both = before_controls start in
     record {

@@ -1,7 +1,7 @@
 -- One code point of a text further, function by function.
 use Rattle.std.proofs.Common.{◌≡◌, ℕ, true, false, List, ◌∷◌}
 use Rattle.std.proofs.lemmas.Bool.{cond-false, cond-true}
-use Rattle.uv_mend.specs.Prepared.{after_controls, is_control_or_space, is_tab_or_newline, on_one_line}
+use Rattle.uv_mend.specs.Stripped.{after_controls, is_control_or_space, is_tab_or_newline, on_one_line}
 
 -- a tab, an LF or a CR goes, and each other code point stays
 pub line_out : (c : ℕ) (rest : List ℕ) → is_tab_or_newline c ≡ true → on_one_line (c ∷ rest) ≡ on_one_line rest

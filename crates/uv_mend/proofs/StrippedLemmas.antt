@@ -1,7 +1,7 @@
 -- Texts without the controls and spaces at their end.
 use Rattle.std.proofs.Common.{◌≡◌, ℕ, true, false, List, [], ◌∷◌, ◌++◌, reverse, refl, subst, sym, ap, ◌∙◌}
 use Rattle.std.proofs.lemmas.List.{reverse-append, reverse-reverse}
-use Rattle.uv_mend.specs.Prepared.{after_controls, before_controls, is_control_or_space}
+use Rattle.uv_mend.specs.Stripped.{after_controls, before_controls, is_control_or_space}
 
 -- of an empty text nothing is taken
 pub before_controls-none : before_controls [] ≡ []

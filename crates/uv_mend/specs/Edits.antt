@@ -8,12 +8,12 @@ use Rattle.uv_model.specs.Ascii.{slash, full_stop}
 use Rattle.uv_model.specs.Records.Url.{Url}
 use Rattle.uv_mend.specs.Escapes.{escaped}
 use Rattle.uv_mend.specs.Hosts.{rehosted}
-use Rattle.uv_mend.specs.Prepared.{prepared}
+use Rattle.uv_mend.specs.Stripped.{stripped}
 use Rattle.uv_mend.specs.Slashes.{slashed}
 
 -- the text without what the parser takes off, with its slashes as they are read, and with escapes
 unfoldable pub cleaned : Option Url → List ℕ → List ℕ
-cleaned base text = escaped (slashed base (prepared text))
+cleaned base text = escaped (slashed base (stripped text))
 
 -- the text with `/.` before the code point at the place: a segment that the parser walks past
 unfoldable pub dotted : ℕ → List ℕ → List ℕ

@@ -2,7 +2,7 @@
 pub mod CodePoints
 pub mod Prefixes
 pub mod Escapes
-pub mod Prepared
+pub mod Stripped
 pub mod Slashes
 pub mod Hosts
 pub mod Edits

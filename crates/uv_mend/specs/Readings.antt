@@ -12,15 +12,15 @@ use Rattle.uv_model.specs.Records.Url.{Url}
 use Rattle.uv_model.specs.Scheme.{starts_with_scheme}
 use Rattle.uv_mend.specs.declared.prefixes.Stop.TheVariants.{Scheme}
 use Rattle.uv_mend.specs.Prefixes.{after_scheme, before, class_of_base}
-use Rattle.uv_mend.specs.Prepared.{prepared}
+use Rattle.uv_mend.specs.Stripped.{stripped}
 use Rattle.uv_mend.specs.Slashes.{slashed, starts_with_two_marks}
 
 -- Against each base of its own and without one, the second parser makes of each text what it makes of the text without
 -- what the URL parser takes off: the same URL, or the same error.
-abbrev pub PreparedTextsAreReadAlike : Type 0
-PreparedTextsAreReadAlike =
+abbrev pub StrippedTextsAreReadAlike : Type 0
+StrippedTextsAreReadAlike =
     (base : Option Parts) (text : List ℕ)
-    → parse_url base (encode_utf8_all (prepared text)) ≡ parse_url base (encode_utf8_all text)
+    → parse_url base (encode_utf8_all (stripped text)) ≡ parse_url base (encode_utf8_all text)
 
 -- ---- slashes
 
@@ -50,5 +50,5 @@ KeepsItsSlashes base text = has_scheme_of base text ≡ true → starts_with_two
 abbrev pub SlashedTextsAreReadAlike : Type 0
 SlashedTextsAreReadAlike =
     (record_of : Option Url) (base : Option Parts) → class_of_base record_of ≡ class_of_own base → (text : List ℕ)
-    → KeepsItsSlashes base (prepared text)
-    → parse_url base (encode_utf8_all (slashed record_of (prepared text))) ≡ parse_url base (encode_utf8_all text)
+    → KeepsItsSlashes base (stripped text)
+    → parse_url base (encode_utf8_all (slashed record_of (stripped text))) ≡ parse_url base (encode_utf8_all text)

@@ -25,5 +25,5 @@ on_one_line [] = []
 on_one_line (c ∷ rest) = if is_tab_or_newline c then on_one_line rest else c ∷ on_one_line rest
 
 -- the parser's input
-abbrev pub prepared : List ℕ → List ℕ
-prepared text = on_one_line (before_controls (after_controls text))
+abbrev pub stripped : List ℕ → List ℕ
+stripped text = on_one_line (before_controls (after_controls text))

@@ -5,8 +5,8 @@ ghost use Rattle.uv_mend.specs.Edits as spec;
 use crate::code_points::{code_points, push_all, text_of};
 use crate::escapes::escaped;
 use crate::hosts::rehosted;
-use crate::prepared::prepared;
 use crate::slashes::slashed;
+use crate::stripped::stripped;
 use std::alloc::{AllocError, Global};
 use uv_model::{Record, Refusal, Rule};
 
@@ -22,7 +22,7 @@ pub(crate) fn cleaned(
         ≡ spec.cleaned (option_copied base.entry) (chars text.now)) }
 {
     let list = code_points(alloc, text)?;
-    let list = prepared(alloc, &list)?;
+    let list = stripped(alloc, &list)?;
     let list = slashed(alloc, &list, base)?;
     let list = escaped(alloc, &list)?;
     text_of(alloc, &list)

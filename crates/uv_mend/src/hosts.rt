@@ -5,7 +5,7 @@ ghost use Rattle.uv_mend.specs.Hosts as spec;
 
 use crate::code_points::{first_of, push_all, push_one, push_text, text_of};
 use crate::prefixes::{Stop, after_two, class_against, push_scheme};
-use crate::second::reading;
+use crate::second_parser::reading;
 use std::alloc::{AllocError, Global};
 use url::Url;
 use uv_model::{Class, Record};

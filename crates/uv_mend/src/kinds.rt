@@ -4,7 +4,7 @@ ghost use Rattle.uv_mend.specs.Escapes.{escaped};
 ghost use Rattle.uv_mend.specs.Kinds.{IsKind};
 
 use crate::escapes::escaped_text;
-use crate::second::reads_same;
+use crate::second_parser::reads_same;
 use std::alloc::{AllocError, Global};
 use uv_model::{MendKind, Record};
 

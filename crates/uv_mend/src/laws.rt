@@ -1,7 +1,7 @@
 //! Laws over edited texts, each as the clause of a function that does nothing. What the crate `url` makes of a text is
 //! the definition that its contract names.
 ghost use Rattle.uv_mend.specs.Escapes.{EscapedTextsAreEscapings};
-ghost use Rattle.uv_mend.specs.Readings.{PreparedTextsAreReadAlike, SlashedTextsAreReadAlike};
+ghost use Rattle.uv_mend.specs.Readings.{StrippedTextsAreReadAlike, SlashedTextsAreReadAlike};
 
 /// A text in which what is no unit is written as escapes is the text with some of its code points as the escapes of
 /// their UTF-8, and nothing else.
@@ -12,8 +12,8 @@ pub fn escaped_texts_are_escapings()
 /// Of every text the crate `url`, alone or against any base of its own, makes what it makes of the text without C0
 /// controls and spaces at its ends, tabs, LF and CR: the same URL, or the same error (URL Standard, section 4.4, the
 /// first steps of the basic URL parser).
-pub fn prepared_texts_are_read_alike()
-    ensures { PreparedTextsAreReadAlike }
+pub fn stripped_texts_are_read_alike()
+    ensures { StrippedTextsAreReadAlike }
 {}
 
 /// Of every text the crate `url`, alone or against any base of its own, makes what it makes of the text with its

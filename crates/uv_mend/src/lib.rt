@@ -10,10 +10,10 @@ mod kinds;
 pub mod laws;
 mod mender;
 mod prefixes;
-mod prepared;
 mod repairs;
-mod second;
+mod second_parser;
 mod slashes;
+mod stripped;
 
 pub use answer::Mending;
 pub use mender::{mend, mend_refused};

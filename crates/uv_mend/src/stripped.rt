@@ -1,13 +1,13 @@
 //! What the URL parser takes off its input before all else.
 ghost use Rattle.std.specs.Prelude.{◌≡◌, ◌++◌, IfOk};
-ghost use Rattle.uv_mend.specs.Prepared as spec;
+ghost use Rattle.uv_mend.specs.Stripped as spec;
 
 use crate::code_points::{first_of, last_of, push_one};
 use std::alloc::{AllocError, Global};
 
 /// The text without C0 controls and spaces at both ends, and without tabs, LF and CR. The error is out of memory.
-pub(crate) fn prepared(alloc: Global, text: &[char]) -> Result<Vec<char>, AllocError>
-    ensures { IfOk result (λ out. out.items ≡ spec.prepared text.now) }
+pub(crate) fn stripped(alloc: Global, text: &[char]) -> Result<Vec<char>, AllocError>
+    ensures { IfOk result (λ out. out.items ≡ spec.stripped text.now) }
 {
     on_one_line(alloc, before_controls(after_controls(text)))
 }

@@ -1,8 +1,8 @@
 -- What is left loses its last code point, where that is a control or a space.
 use Rattle.std.proofs.Common.{◌≡◌, [], sym, ap, ◌∙◌}
-use Rattle.uv_mend.specs.Prepared.{before_controls}
-use Rattle.uv_mend.proofs.PreparedLemmas.{before_controls-none, before_controls-one, before_controls-other}
-use Rattle.uv_mend.proofs.prepared.before_controls.Goals as goal
+use Rattle.uv_mend.specs.Stripped.{before_controls}
+use Rattle.uv_mend.proofs.StrippedLemmas.{before_controls-none, before_controls-one, before_controls-other}
+use Rattle.uv_mend.proofs.stripped.before_controls.Goals as goal
 
 pub loop-before-preserved : goal.loop-before-preserved
 loop-before-preserved c =

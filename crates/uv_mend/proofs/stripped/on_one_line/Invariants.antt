@@ -1,7 +1,7 @@
 -- What was appended, and what is left without tabs, LF and CR, are the text without them.
 use Rattle.std.proofs.Common.{◌≡◌, ◌++◌, length}
-use Rattle.uv_mend.specs.Prepared as spec
-use Rattle.uv_mend.proofs.prepared.on_one_line.Given as goal
+use Rattle.uv_mend.specs.Stripped as spec
+use Rattle.uv_mend.proofs.stripped.on_one_line.Given as goal
 
 abbrev pub invariant-loop-c : goal.invariant-loop-c
 invariant-loop-c l = l.out.items ++ spec.on_one_line l.rest ≡ spec.on_one_line l.fn.text
