@@ -1,10 +1,10 @@
-//! Names of each length round those of the loads in which they are looked at, with another byte at each place, as the
-//! second parser reads them.
+//! Plain links of each length round those of the loads in which they are looked at, with other bytes at each place, as
+//! the second parser reads them. Each expected answer is by the URL that the URL Standard, section 4.4, makes of them.
 
 use std::alloc::{AllocError, Global};
 use std::process::Abort;
 use std::test::Fail;
-use uv_second::reads_same;
+use uv_second::reads_as;
 
 // What a text begins with, so many small letters, of which this is in the place of one, and what it ends with.
 fn with_letters(
@@ -23,38 +23,65 @@ fn with_letters(
     Ok(text)
 }
 
-// Of two texts with a name of so many letters, and this at a place of it, one has an escape.
-fn compares(
+// A text is the text of the URL that the second parser reads of it, or it isn't.
+fn is_own(rt: &(impl Abort + AllocGlobal), text: &String, wanted: bool) -> Result<(), Fail> {
+    let found = reads_as(rt.alloc(), None, text.as_str(), text.as_str())?;
+    assert!(rt; found == wanted, "{text}");
+    Ok(())
+}
+
+// So it is with a name that has this at a place.
+fn is_own_name(
     rt: &(impl Abort + AllocGlobal),
     count: usize,
     place: usize,
     other: &str,
+    wanted: bool,
 ) -> Result<(), Fail> {
-    let text = with_letters(rt.alloc(), "http://a", count, place, other, "b/a b")?;
-    let escaped = with_letters(rt.alloc(), "http://a", count, place, other, "b/a%20b")?;
-    let Ok(same) = reads_same(rt.alloc(), None, text.as_str(), escaped.as_str()) else {
-        panic!(rt; "out of memory")
-    };
-    assert!(rt; same, "{count}, {place}");
-    let bar = with_letters(rt.alloc(), "http://a", count, place, other, "b/a|b")?;
-    let escaped = with_letters(rt.alloc(), "http://a", count, place, other, "b/a%7Cb")?;
-    let Ok(same) = reads_same(rt.alloc(), None, bar.as_str(), escaped.as_str()) else {
-        panic!(rt; "out of memory")
-    };
-    assert!(rt; !same, "{count}, {place}");
+    let text = with_letters(rt.alloc(), "http://a", count, place, other, "b/a")?;
+    is_own(rt, &text, wanted)
+}
+
+// So it is with a path that has this at a place.
+fn is_own_path(
+    rt: &(impl Abort + AllocGlobal),
+    count: usize,
+    place: usize,
+    other: &str,
+    wanted: bool,
+) -> Result<(), Fail> {
+    let text = with_letters(rt.alloc(), "https://h/", count, place, other, "")?;
+    is_own(rt, &text, wanted)
+}
+
+#[test]
+fn reads_names_of_each_length(rt: HostRuntime) -> Result<(), Fail> {
+    for count in 15..60usize {
+        is_own_name(&rt, count, count, "", true)?;
+        for place in 0..count {
+            is_own_name(&rt, count, place, ".", true)?;
+            is_own_name(&rt, count, place, "A", false)?;
+        }
+        is_own_name(&rt, count, count / 2, "_", true)?;
+        is_own_name(&rt, count, 14, "@", true)?;
+    }
     Ok(())
 }
 
 #[test]
-fn compares_names_of_each_length(rt: HostRuntime) -> Result<(), Fail> {
-    for count in 15..60usize {
-        compares(&rt, count, count, "")?;
-        for place in 0..count {
-            compares(&rt, count, place, ".")?;
-            compares(&rt, count, place, "A")?;
+fn reads_paths_of_each_length(rt: HostRuntime) -> Result<(), Fail> {
+    for count in 2..100usize {
+        is_own_path(&rt, count, count, "", true)?;
+        for place in 1..count {
+            is_own_path(&rt, count, place, "/b", true)?;
+            is_own_path(&rt, count, place, "/.b", true)?;
+            is_own_path(&rt, count, place, "/./", false)?;
+            is_own_path(&rt, count, place, "/%2E/", false)?;
+            is_own_path(&rt, count, place, "\\", false)?;
+            is_own_path(&rt, count, place, "{", false)?;
+            is_own_path(&rt, count, place, "?'", false)?;
+            is_own_path(&rt, count, place, "?{#'", true)?;
         }
-        compares(&rt, count, count / 2, "_")?;
-        compares(&rt, count, 14, "@")?;
     }
     Ok(())
 }

@@ -11,8 +11,6 @@ mod formats;
 #[cfg(test)]
 mod lengths;
 #[cfg(test)]
-mod references;
-#[cfg(test)]
 mod reports;
 #[cfg(test)]
 mod second;

@@ -149,6 +149,8 @@ fn compares_texts(rt: HostRuntime) -> Result<(), RoomFault> {
     assert!(rt; read_as(alloc, Some(&base), "../c", "http://h/c")?.is_some());
     assert!(rt; read_as(alloc, Some(&base), "c", "http://h/c")?.is_none());
     assert!(rt; reads_as(alloc, Some(&base), "../c", "http://h/c")?);
+    assert!(rt; reads_as(alloc, Some(&base), "?x#y", "http://h/a/b?x#y")?);
+    assert!(rt; reads_as(alloc, None, "http://h/a?b#c", "http://h/a?b#c")?);
     assert!(rt; !reads_as(alloc, Some(&base), "c", "http://h/c")?);
     assert!(rt; !reads_as(alloc, None, "//h", "http://h/")?);
     Ok(())
