@@ -1,10 +1,10 @@
-"""What a document gives, taken in a process of its own."""
+"""What documents give, taken in processes of their own."""
 
 import os
 import pickle
 import subprocess
 import sys
-from typing import BinaryIO, Callable, Iterator, NamedTuple, Optional, Tuple
+from typing import BinaryIO, Callable, Iterator, NamedTuple, Optional, Sequence, Tuple
 
 from . import _limits
 from ._started import hand_on, started
@@ -75,6 +75,9 @@ class Part:
 _ENOUGH = 256 * 1024
 """How many bytes the lines of a part have, before the next one begins."""
 
+MOST_GROWN = 64 * 1024 * 1024
+"""How many bytes of memory documents may have taken, before another process takes those after them."""
+
 Parts = Callable[[], Iterator[Taken]]
 """What takes a document part by part."""
 
@@ -85,46 +88,87 @@ def nothing(reason: str) -> Taken:
 
 
 class Apart:
-    """A document that is taken in a process of its own, which begins at once. Where memory is short Python may do
-    anything, also go on without an end: so the process is ended from without, and only the parts that it gave whole are
-    taken."""
+    """Documents that are taken one after another in a process of their own, which begins at once. Where memory is short
+    Python may do anything, also go on without an end: so the process is ended from without, and only the parts that it
+    gave whole are taken. Another process goes on where one ends; with the same document, unless that was its first or took
+    too long: so what is said of a document is never owed to those before it."""
 
-    def __init__(self, parts: Parts, is_input: bool = False) -> None:
-        self._failed: Optional[Taken] = None
+    def __init__(self, documents: Sequence[Parts], is_input: bool = False) -> None:
+        self._documents = documents
+        self._is_input = is_input
+        self._next = 0
+        self._begin()
+
+    def _begin(self) -> None:
+        """Begins a process for the documents that are left."""
+        self._first = self._next
+        self._child: Optional[_Child] = None
+        left = self._documents[self._next :]
+        if not left:
+            return
         try:
             if sys.platform != "win32" and hasattr(os, "fork"):
-                self._child: _Child = _Forked(parts)
+                self._child = _Forked(left)
             else:
-                self._child = _Started(parts, is_input)
+                self._child = _Started(left, self._is_input)
         except OSError as error:
             self._failed = nothing("can't be read: no process: {}".format(reason_of(error)))
 
     def taken(self) -> Iterator[Taken]:
-        """What the document gives, part by part."""
-        if self._failed is not None:
-            yield self._failed
-            return
-        is_begun = False
-        with self._child.pipe as pipe:
-            for part in _whole(pipe):
-                is_begun = True
-                yield part
-        status = self._child.status()
-        if status != 0:
-            yield nothing(_limits.ended_by(status) + (", and isn't reported to its end" if is_begun else " to read"))
+        """What the next document gives, part by part."""
+        given = 0
+        while self._child is not None:
+            for number, part in enumerate(_whole(self._child.pipe)):
+                if part is None:
+                    self._next += 1
+                    return
+                # (what was given before its process ended isn't given again)
+                if number >= given:
+                    given += 1
+                    yield part
+            status = self._child.end()
+            if self._first == self._next or _limits.is_of_time(status):
+                yield _ended(status, given > 0)
+                self._next += 1
+                self._begin()
+                return
+            self._begin()
+        self._next += 1
+        yield self._failed
+        self._begin()
+
+    def end(self) -> None:
+        """Ends the process, whose documents were all taken."""
+        if self._child is not None:
+            self._child.end()
+
+
+def _ended(status: int, is_begun: bool) -> Taken:
+    """What is said of a document whose process ended before its end."""
+    reason = _limits.ended_by(status)
+    if is_begun:
+        return nothing(reason + ", and isn't reported to its end")
+    return nothing(reason if _limits.is_from_outside(status) else reason + " to read")
 
 
 def apart(parts: Parts) -> Iterator[Taken]:
     """What a document gives, taken in a process of its own."""
-    yield from Apart(parts).taken()
+    taken = Apart([parts])
+    yield from taken.taken()
+    taken.end()
 
 
 class _Child:
-    """A process that takes a document."""
+    """A process that takes documents."""
 
     def __init__(self, pipe: BinaryIO) -> None:
         self.pipe = pipe
         """What it gives."""
+
+    def end(self) -> int:
+        """How it ended, of which nothing more is taken."""
+        self.pipe.close()
+        return self.status()
 
     def status(self) -> int:
         """How it ended, once it has: by a number below 0 where a signal ended it."""
@@ -136,7 +180,7 @@ if sys.platform != "win32":
     class _Forked(_Child):
         """One that begins as a copy of this process."""
 
-        def __init__(self, parts: Parts) -> None:
+        def __init__(self, documents: Sequence[Parts]) -> None:
             reader, writer = os.pipe()
             try:
                 self._number = os.fork()
@@ -146,7 +190,7 @@ if sys.platform != "win32":
                 raise
             if self._number == 0:
                 os.close(reader)
-                _give(parts, writer)
+                _give(documents, writer)
             os.close(writer)
             super().__init__(os.fdopen(reader, "rb"))
 
@@ -159,13 +203,13 @@ class _Started(_Child):
     """One that begins anew, where the system copies none. It is told what it takes, and handed standard input if that is
     the document."""
 
-    def __init__(self, parts: Parts, is_input: bool) -> None:
+    def __init__(self, documents: Sequence[Parts], is_input: bool) -> None:
         self._process: "subprocess.Popen[bytes]" = started(__name__)
         asked, given = self._process.stdin, self._process.stdout
         assert asked is not None and given is not None
         super().__init__(given)  # type: ignore[arg-type]
         try:
-            pickle.dump((parts, _limits.MOST_SECONDS, sys.stdin is None), asked)
+            pickle.dump((documents, _limits.MOST_SECONDS, sys.stdin is None), asked)
             asked.flush()
             if is_input and sys.stdin is not None:
                 hand_on(asked)
@@ -181,39 +225,52 @@ class _Started(_Child):
 
 def serve() -> None:
     """What such a process does."""
-    parts, _limits.MOST_SECONDS, is_closed = pickle.load(sys.stdin.buffer)
+    documents, _limits.MOST_SECONDS, is_closed = pickle.load(sys.stdin.buffer)
     if is_closed:
         sys.stdin = None  # type: ignore[assignment]
     writer = os.dup(1)
     write_nowhere(1)
     _limits.limit_memory()
-    _give(parts, writer)
+    _give(documents, writer)
 
 
-def _whole(pipe: BinaryIO) -> Iterator[Taken]:
-    """The parts that were written whole."""
+def _whole(pipe: BinaryIO) -> Iterator[Optional[Taken]]:
+    """The parts that were written whole, and ``None`` where a document ends."""
     while True:
         try:
-            part: Taken = pickle.load(pipe)
+            part: Optional[Taken] = pickle.load(pipe)
         except (EOFError, pickle.UnpicklingError):
             return
         yield part
 
 
-def _give(parts: Parts, writer: int) -> None:
-    """Writes the parts of a document to this file, and ends the process: with 0 where all were written whole."""
+def _give(documents: Sequence[Parts], writer: int) -> None:
+    """Writes the parts of documents to this file, and ends the process: with 0 where all of each were written whole. Where
+    they have taken much memory the others are left to another process."""
     ended = 1
     try:
-        _limits.limit_waiting()
-        _limits.limit_time(_limits.MOST_SECONDS)
         write_nowhere(2)
+        most = _limits.memory_taken() + MOST_GROWN
         with os.fdopen(writer, "wb") as pipe:
-            for part in _sure(parts):
-                pickle.dump(part, pipe)
-                pipe.flush()
+            for parts in documents:
+                _limits.limit_waiting()
+                _limits.limit_time(_limits.MOST_SECONDS)
+                for part in _sure(parts):
+                    _put(part, pipe)
+                _limits.has_come()
+                _limits.limit_time(0)
+                _put(None, pipe)
+                if _limits.memory_taken() > most:
+                    break
         ended = 0
     finally:
         os._exit(ended)
+
+
+def _put(part: Optional[Taken], pipe: BinaryIO) -> None:
+    """Writes a part, or that a document ends. (What isn't written out is lost where the next document ends the process.)"""
+    pickle.dump(part, pipe)
+    pipe.flush()
 
 
 def _sure(parts: Parts) -> Iterator[Taken]:

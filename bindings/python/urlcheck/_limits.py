@@ -71,12 +71,44 @@ def has_come() -> None:
         _waiting.pop().cancel()
 
 
+def memory_taken() -> int:
+    """How many bytes of memory the process has had at most, or 0 where the system doesn't say that."""
+    if sys.platform == "win32":
+        return 0
+    import resource
+
+    taken = resource.getrusage(resource.RUSAGE_SELF).ru_maxrss
+    return taken if sys.platform == "darwin" else taken * 1024
+
+
+_LATE = (LATE, -getattr(signal, "SIGALRM", -LATE))
+"""The statuses of processes for which a document's bytes didn't come."""
+
+_SLOW = tuple(-getattr(signal, it, -_OUT_OF_QUOTA) for it in ("SIGPROF", "SIGXCPU"))
+"""The statuses of processes that took too much processor time."""
+
+_FROM_OUTSIDE = {-getattr(signal, it): it for it in ("SIGKILL", "SIGTERM", "SIGHUP", "SIGINT", "SIGQUIT") if hasattr(signal, it)}
+"""The statuses of processes that another one ended, with the signals by which it did."""
+
+
+def is_of_time(status: int) -> bool:
+    """Whether a process was ended for the time that a document took, by its status."""
+    return status in _LATE + _SLOW
+
+
+def is_from_outside(status: int) -> bool:
+    """Whether another process ended it, by its status."""
+    return status in _FROM_OUTSIDE
+
+
 def ended_by(status: int) -> str:
     """Why a process was ended, by its status: that of a signal is below 0."""
-    if status in (LATE, -getattr(signal, "SIGALRM", -LATE)):
+    if status in _LATE:
         return "takes more than {} seconds".format(MOST_SECONDS)
-    if status in [-getattr(signal, it, -_OUT_OF_QUOTA) for it in ("SIGPROF", "SIGXCPU")]:
+    if status in _SLOW:
         return "takes more than {} seconds of processor time".format(MOST_SECONDS)
+    if status in _FROM_OUTSIDE:
+        return "lost its process to {}".format(_FROM_OUTSIDE[status])
     return "needs more than {} MiB of memory".format(MOST_MEMORY >> 20)
 
 

@@ -1,5 +1,8 @@
 """The links of a document of any kind, out of a file's bytes or out of the text that an editor holds."""
 
+import contextlib
+import gc
+import os
 import re
 from typing import Iterator, List, NamedTuple, Optional, Set, Tuple, Union
 
@@ -70,6 +73,21 @@ def found_in(given: Union[bytes, str], kind: str, reading: Reading = Reading()) 
     except Exception as error:
         # (a reader that isn't ours: the other documents are still to be read)
         raise Unread("its reader failed: {!r}".format(error)) from None
+
+
+_SMALL = {"markdown": b"[a](b)\n", "notebook": b'{"cells": []}', "rst": b"`a <http://h/>`_\n", "css": b"a { b: url(c) }"}
+"""A small document of each kind that a package reads."""
+
+
+def prepare(kind: Optional[str]) -> None:
+    """Has the package imported that reads a kind of document, if it is installed, so that no process that begins as a copy of
+    this one has to do it."""
+    if kind in _SMALL and hasattr(os, "fork"):
+        with contextlib.suppress(Unread):
+            # (what is wrong is said of each document)
+            list(found_in(_SMALL[kind], kind))
+        # (what the collector doesn't look at stays shared between the processes)
+        gc.freeze()
 
 
 def _found(data: bytes, kind: str, reading: Reading) -> Found:

@@ -1,11 +1,12 @@
-"""A run over documents: each is read and checked in a process of its own, and reported in their order."""
+"""A run over documents: they are read and checked in processes of their own, some in each, and reported in their order."""
 
 import errno
 import os
 import re
+import stat
 import sys
 from collections import deque
-from typing import Callable, Deque, Iterator, Optional, Set, Tuple
+from typing import Callable, Deque, Iterator, List, Optional, Set, Tuple
 
 from ._apart import Apart, Fault, Part, Taken, nothing
 from ._columns import Places
@@ -14,8 +15,8 @@ from ._finding import Report, lines_on, not_read
 from ._folders import configured_folder, no_document, with_slashes
 from ._checker import Checker
 from ._limits import has_come
-from ._kinds import is_list, kind_of
-from ._readers import MOST_BYTES, Found, Reading, Unread, found_in
+from ._kinds import PACKAGES, is_list, kind_of
+from ._readers import MOST_BYTES, Found, Reading, Unread, found_in, prepare
 from ._report import shows_mended
 from ._source import Broken, Foreign, Link
 from ._streams import closed, named, reason_of, tell
@@ -32,6 +33,16 @@ _CONTROL = re.compile("[\x00-\x1f\x7f-\x9f]")
 
 _PLACE = re.compile(":[0-9]+:[0-9]+:")
 """What ends the name of the file in a located line."""
+
+
+_ENOUGH = 2 * 1024 * 1024
+"""How much work a process is given: about so much as so many bytes of HTML take."""
+
+_LEAST = 32 * 1024
+"""How much work the smallest document is."""
+
+_SLOWER = 8
+"""How many times the work is of a document that a package reads."""
 
 
 class Counts:
@@ -105,12 +116,13 @@ class Document:
     def __init__(self, settings: Settings, is_checked: bool, name: str) -> None:
         self._settings = settings
         self._path = name
+        self.is_input = name == "-"
         # (a text of standard input may have the name of the file that an editor holds)
         given = settings.stdin_name if name == "-" else None
         self.name = with_slashes(name if given is None else given)
         file = given if name == "-" else name
         config = configuration_of(configured_folder(file)) if settings.is_configured else NONE
-        self._kind = settings.kind or config.kind_of(self.name) or kind_of(self.name)
+        self.kind = settings.kind or config.kind_of(self.name) or kind_of(self.name)
         self._ignored = settings.ignored + config.ignored
         self._is_empty_taken = settings.is_empty_taken or config.is_empty_taken
         self._reading = Reading(settings.gfm or config.gfm)
@@ -121,6 +133,16 @@ class Document:
         base = settings.base or config.base
         profile = config.profile if settings.is_profile_left and config.profile is not None else settings.profile
         return Checker(base, profile, shows_mended(settings.format), self._is_empty_taken)
+
+    def work(self) -> int:
+        """About how much work it is: enough for a process of its own where it is no file, and so can't be read twice."""
+        try:
+            found = os.stat(self._path)
+        except OSError:
+            return _ENOUGH if self.is_input else _LEAST
+        if not stat.S_ISREG(found.st_mode):
+            return _ENOUGH
+        return (_LEAST + found.st_size) * (_SLOWER if self.kind in PACKAGES else 1)
 
     def parts(self) -> Iterator[Taken]:
         """What the document gives, part by part."""
@@ -161,7 +183,7 @@ class Document:
         name = self._path
         if os.path.isdir(name):
             raise Unread(no_document(name, not self._settings.excluded))
-        if self._kind is None:
+        if self.kind is None:
             if name != "-" and not os.path.exists(name):
                 read_document(name)
             says = "it has no name that says its kind" if self.name == "-" else "its name's end says no kind"
@@ -174,7 +196,7 @@ class Document:
             raise Unread("its name has what a located line would read as its line and column")
         data = read_document(name)
         has_come()
-        yield from found_in(data, self._kind, self._reading)
+        yield from found_in(data, self.kind, self._reading)
 
     def _is_left_out(self, found: Found, link: Link) -> bool:
         """Whether a comment or a regular expression leaves a link out."""
@@ -192,21 +214,49 @@ class Run:
         self._is_quiet = is_quiet
         self._report = report
         self._noted: Set[str] = set()
-        self._begun: Deque[Tuple[Document, Apart]] = deque()
+        self._waiting: List[Document] = []
+        self._work = 0
+        self._kinds: Set[Optional[str]] = set()
+        self._begun: Deque[Tuple[List[Document], Apart]] = deque()
         self.counts = Counts()
 
     def take(self, name: str) -> None:
-        """Begins to read a document, and reports those before it for which there is no room. Raises ``Misconfigured``."""
+        """Takes a document, which is read with others in a process, and reports those before it for which there is no room.
+        Raises ``Misconfigured``."""
         document = Document(self._settings, self._is_checked, name)
-        parts: Callable[[], Iterator[Taken]] = document.parts
-        self._begun.append((document, Apart(parts, name == "-")))
-        while len(self._begun) >= self._settings.jobs:
-            self._end(*self._begun.popleft())
+        work = document.work()
+        if self._work + work >= _ENOUGH:
+            self._begin()
+        self._waiting.append(document)
+        self._work += work
+        if self._work >= _ENOUGH:
+            self._begin()
 
     def end(self) -> None:
-        """Reports all documents that were begun."""
+        """Reports all documents that were taken."""
+        self._begin()
         while self._begun:
-            self._end(*self._begun.popleft())
+            self._end_first()
+
+    def _begin(self) -> None:
+        """Begins to read the documents that wait."""
+        if not self._waiting:
+            return
+        documents, self._waiting, self._work = self._waiting, [], 0
+        for kind in {it.kind for it in documents} - self._kinds:
+            self._kinds.add(kind)
+            prepare(kind)
+        parts: List[Callable[[], Iterator[Taken]]] = [it.parts for it in documents]
+        self._begun.append((documents, Apart(parts, documents[0].is_input)))
+        while len(self._begun) >= self._settings.jobs:
+            self._end_first()
+
+    def _end_first(self) -> None:
+        """Reports the documents whose process was begun first."""
+        documents, apart = self._begun.popleft()
+        for document in documents:
+            self._end(document, apart)
+        apart.end()
 
     def _end(self, document: Document, apart: Apart) -> None:
         """Writes the located links of a document or what is wrong with them."""

@@ -1,7 +1,9 @@
 """What the words of a command line ask ``urlcheck-documents`` for."""
 
 import argparse
+import os
 import re
+import sys
 import textwrap
 from typing import List, NamedTuple, Optional, Tuple
 
@@ -143,6 +145,12 @@ def _jobs(parser: Parser, word: str) -> int:
     return int(word)
 
 
+def _processors() -> int:
+    """How many processors the program may use."""
+    count = len(os.sched_getaffinity(0)) if sys.platform == "linux" else os.cpu_count() or 1
+    return min(count, _MOST_JOBS)
+
+
 def _given(parser: Parser, words: List[str]) -> argparse.Namespace:
     """What the words give: options are anywhere before ``--``, and after that each word is a FILE."""
     end = words.index("--") if "--" in words else len(words)
@@ -209,7 +217,8 @@ def _parser() -> Parser:
     add("--no-config", action="store_true", help="leave out the configuration of the project")
     helped = "the name of the document on standard input, which says its kind"
     add("--stdin-name", metavar="NAME", help=helped)
-    add("--jobs", default="1", metavar="N", help="how many documents are read at once; without it 1")
+    helped = "how many documents are read at once; without it as many as there are processors"
+    add("--jobs", default=str(_processors()), metavar="N", help=helped)
     add("-q", "--quiet", action="store_true", help="leave out the counts on standard error")
     add("-h", "--help", action=_Printed, help="print this help")
     add("-V", "--version", action=_Printed, const="urlcheck-documents " + version() + "\n", help="print the version")

@@ -8,6 +8,7 @@ import json
 import os
 import resource
 import shutil
+import signal
 import subprocess
 import sys
 import time
@@ -326,6 +327,135 @@ class Limits(Texts):
                 self.assertEqual(self.taken(parts), (PART.lines * count, faults))
         _, (fault,) = self.taken(busy)
         self.assertRegex(fault.after(), "^: takes more than 1 seconds (of processor time )?to read$")
+
+    def test_documents_of_one_process(self):
+        """What ends a process is said of the document that did it, and the others are read: of each is said what is said of
+        it alone."""
+        def good():
+            _limits.has_come()
+            yield PART
+
+        def endless():
+            _limits.has_come()
+            yield PART
+            while True:
+                pass
+
+        def silent():
+            _limits.has_come()
+            while True:
+                pass
+            yield PART
+
+        def waiting():
+            time.sleep(100)
+            yield PART
+
+        def without_memory():
+            yield PART
+            yield PART
+            raise MemoryError
+
+        def failing():
+            yield PART
+            raise ValueError("x")
+
+        def killed():
+            os.kill(os.getpid(), signal.SIGKILL)
+            yield PART
+
+        def left():
+            yield PART
+            os._exit(0)
+
+        rest = ", and isn't reported to its end"
+        slow, memory = "takes more than 1 seconds", "needs more than 480 MiB of memory"
+        said = {
+            good: (1, None), endless: (1, slow + " of processor time" + rest), silent: (0, slow + " of processor time to read"),
+            waiting: (0, slow + " to read"), without_memory: (2, memory + rest), failing: (1, "its reader failed: ValueError('x')"),
+            killed: (0, "lost its process to SIGKILL"), left: (1, memory + rest),
+        }
+        bad = [it for it in said if it is not good]
+        with mock.patch.object(_limits, "MOST_SECONDS", 1):
+            for documents in ([it for each in bad for it in (good, each)] + [good], bad, bad[::-1], [killed] * 3, [good] * 100):
+                apart = _apart.Apart(documents)
+                for number, document in enumerate(documents):
+                    parts = list(apart.taken())
+                    faults = [it.fault.reason for it in parts if it.fault is not None]
+                    count, fault = said[document]
+                    with self.subTest(number=number, document=document.__name__):
+                        self.assertEqual((b"".join(it.lines for it in parts), faults),
+                                         (PART.lines * count, [] if fault is None else [fault]))
+                apart.end()
+        with self.assertRaises(ChildProcessError):
+            os.wait()
+
+    def test_a_process_ends_that_grew(self):
+        """Documents are read in one process until they have taken much memory; a part is given once, also where its document
+        is read again."""
+        kept = []
+
+        def numbered(length, is_killed=False):
+            def parts():
+                kept.append(b"x" * length)
+                yield _apart.Taken(1, 1, 0, 0, b"%d " % os.getpid())
+                if is_killed and len(kept) > 1:
+                    os.kill(os.getpid(), signal.SIGKILL)
+                yield _apart.Taken(0, 0, 0, 0, b"end")
+            return parts
+
+        large = 2 * _apart.MOST_GROWN
+        apart = _apart.Apart([numbered(9), numbered(9), numbered(large), numbered(9), numbered(9, True), numbered(9)])
+        given = [b"".join(it.lines for it in apart.taken()).split() for _ in range(6)]
+        apart.end()
+        self.assertEqual({len(it) for it in given}, {2})
+        processes = [int(it[0]) for it in given]
+        self.assertEqual(len(set(processes[:3])), 1)
+        self.assertNotEqual(processes[3], processes[2])
+        self.assertEqual(processes[4], processes[3])
+        self.assertNotEqual(processes[5], processes[4])
+
+    def test_a_folder_that_kills(self):
+        """A folder with documents that end their processes, by any number of processes at once."""
+        for number in range(6):
+            self.write("d/{}c.html".format(number), "<a href='x {}'>".format(number))
+        self.write("d/0a.html", "x" * (30 << 20) + "\U0001f600")
+        os.mkfifo(os.path.join(self.room, "d", "1a.html"))
+        self.write("d/2a.html", "<a href='&'>" * 2_000_000)
+        self.write("d/3a.html", b"<a href='x y'>\n\xff")
+        self.write("d/4a.xml", "<urlset>\n<loc>http://h/ a</loc><b></urlset>")
+        self.write("d/5a.html", "<a href='&'>" * 2_000_000)
+        said = "urlcheck-documents: d/{}\n"
+        faults = [said.format(it) for it in (
+            "0a.html: needs more than 160 MiB of memory to read", "1a.html: takes more than 2 seconds to read",
+            "2a.html: takes more than 2 seconds of processor time to read", "3a.html:2:1: this isn't UTF-8",
+            "4a.xml:2:28: can't be read from here on: mismatched tag",
+            "5a.html: takes more than 2 seconds of processor time to read",
+        )] + ["urlcheck-documents: 7 documents, 7 links, 7 refused, 0 ignored\n"]
+        places = ["0c.html:1:11", "1c.html:1:11", "2c.html:1:11", "3c.html:1:11", "4a.xml:2:15", "4c.html:1:11", "5c.html:1:11"]
+        run = "from urlcheck import _limits, documents; _limits.MOST_SECONDS = 2; _limits.MOST_MEMORY = 160 << 20; "
+        run += "import sys; sys.argv[1:] = ['--check', '--jobs', sys.argv[1], 'd']; documents.main()"
+        for jobs in ("1", "2", "4"):
+            ran = subprocess.run([sys.executable, "-c", run, jobs], cwd=self.room, capture_output=True)
+            found = [it.partition(": error")[0] for it in ran.stdout.decode().splitlines()]
+            self.assertEqual((ran.returncode, found, ran.stderr.decode()), (2, ["d/" + it for it in places], "".join(faults)), jobs)
+
+    def test_processes_that_begin_anew(self):
+        """Where the system copies no process, several documents are read by one all the same, and reported alike."""
+        for number in range(90):
+            self.write("d/{:02}.html".format(number), "<a href='{} y'>\n".format(number) * (number % 7))
+        self.write("d/05.html", b"<a href='x y'>\xff")
+        self.write("d/06.xml", "<urlset><loc>http://h/ a</loc>")
+        wanted = self.run_on("--check", "d")
+        self.assertEqual((wanted[0], wanted[1].count("\n")), (2, sum(it % 7 for it in range(90)) - 5 + 1))
+        run = "from urlcheck import _apart, documents; begun = []; known = _apart.started; "
+        run += "_apart.started = lambda module: begun.append(1) or known(module); "
+        run += "sys.argv[1:] = ['--check', '--jobs', '{}', 'd']\ntry: documents.main()\nfinally: print(len(begun))"
+        for jobs in (1, 3):
+            ran = self.without_fork(run.format(jobs))
+            self.assertEqual((ran.returncode, ran.stderr.decode()), (2, wanted[2]))
+            out, _, count = ran.stdout.decode().rstrip().rpartition("\n")
+            self.assertEqual((out + "\n", int(count) < 5), (wanted[1], True))
 
     def test_a_slow_reader(self):
         """A report that is read slowly takes no processor time."""

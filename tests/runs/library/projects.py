@@ -157,7 +157,7 @@ class Several(Texts):
         self.write("d/05.html", b"<a href='x y'>\xff")
         self.write("d/06.xml", "<urlset><loc>http://h/ a</loc>")
         wanted = self.run_on("--check", "--format", "sarif", "d")
-        for jobs in ("2", "4", "64", "256"):
+        for jobs in ("1", "2", "4", "64", "256"):
             self.assertEqual(self.run_on("--check", "--format", "sarif", "--jobs", jobs, "d"), wanted)
         self.assertEqual(wanted[0], 2)
         for word in ("0", "x", "257", "-1", "", "1.5"):
