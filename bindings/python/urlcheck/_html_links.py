@@ -1,29 +1,50 @@
-"""The links of an HTML document: each attribute that the HTML Standard gives a URL, by Python's own ``html.parser``."""
+"""The links of an HTML document: each attribute that the HTML Standard gives a URL. Tags, comments and what is no markup are
+told apart as the Standard's tokenizer does it (section 13.2.5), everywhere as in HTML, also within SVG and MathML."""
 
 import re
 from html.entities import html5
-from html.parser import HTMLParser
 from typing import Dict, FrozenSet, Iterator, List, Match, Optional, Set, Tuple
 
 from . import _css_links
 from ._attributes import CANDIDATES, LISTS, NON_EMPTY, URLS
-from ._source import IGNORE, SPACES, Asks, Broken, Link, NamedBase, Source, Written, base_of, moved, read, words_of
+from ._source import IGNORE, SPACES, Asks, Link, NamedBase, Source, Written, base_of, moved, read, words_of
 
-_INTERESTING = {*URLS, *LISTS, *CANDIDATES, "content", "style"}
+_TAKEN = {*URLS, *LISTS, *CANDIDATES, "style"}
+_KEPT = {*_TAKEN, "content", "http-equiv"}
 
-# An attribute of a start tag, as the HTML Standard's tokenizer reads it: a name, and a value in quotes, or in none.
+# An attribute of a tag: a name, and a value in quotes, in none, or with a quote that nothing closes.
 _ATTRIBUTE = re.compile(
     r"[ \t\n\f\r/]*(?P<name>[^ \t\n\f\r/>][^ \t\n\f\r/>=]*)"
     r"(?:[ \t\n\f\r]*=[ \t\n\f\r]*"
-    r"(?:\"(?P<double>[^\"]*)\"|'(?P<single>[^']*)'|(?P<bare>[^ \t\n\f\r>]*)))?"
+    r"(?:\"(?P<double>[^\"]*)\"|'(?P<single>[^']*)'|(?P<open>[\"'])|(?P<bare>[^ \t\n\f\r>]*)))?"
 )
-_REFERENCE = re.compile(
-    r"&(?:#(?P<digits>[0-9]+);?|#[xX](?P<hex>[0-9A-Fa-f]+);?|(?P<name>[A-Za-z][A-Za-z0-9]*)(?P<end>[;=]?))"
+_TAG_END = re.compile(r"[ \t\n\f\r/]*>")
+# What is in these is no markup. After `plaintext` nothing is.
+_RAW = "script|style|textarea|title|xmp|iframe|noembed|noframes|plaintext"
+_RAW_END = {
+    name: re.compile("</{}(?=[ \t\n\f\r/>])".format(name), re.IGNORECASE | re.ASCII) for name in _RAW.split("|")
+}
+# Within a script a comment in which another script begins hides that one's end.
+_SCRIPT = re.compile(
+    "(?P<open><!--)|(?P<close>-->)|<(?P<slash>/?)script(?=[ \t\n\f\r/>])", re.IGNORECASE | re.ASCII
+)
+# What begins there: a tag, by its name; a comment; or what ends with the first `>`. Tags of which nothing is taken are passed
+# over where that is plain: each of their few attributes has a space before it, and no value or one in quotes without `<`. So the
+# next `<` is after them.
+_NEXT = re.compile(
+    "<(?!/?(?!(?i:{raw})[{space}/>])[A-Za-z]{name}*"
+    "(?:[{space}]+(?!(?i:{taken}|content)[{space}/>=]){name}+(?:=\"[^\"<]*\"|='[^'<]*')?){{0,20}}[{space}]*/?>)"
+    "(?:(?P<tag>/?[A-Za-z][^{space}/>]*)|(?P<comment>!--)|(?P<bogus>[!?/]))".format(
+        raw=_RAW, taken="|".join(sorted(_TAKEN)), name="[^<>/=\"'{}]".format(SPACES), space=SPACES
+    ),
+    re.ASCII,
 )
 # What ends a comment, and what does so right after its beginning.
 _COMMENT_END = re.compile("--!?>")
 _NO_COMMENT = re.compile("-?>")
-_TAG_NAME = re.compile(r"<[A-Za-z][^ \t\n\f\r/>]*")
+_REFERENCE = re.compile(
+    r"&(?:#(?P<digits>[0-9]+);?|#[xX](?P<hex>[0-9A-Fa-f]+);?|(?P<name>[A-Za-z][A-Za-z0-9]*)(?P<end>[;=]?))"
+)
 # What is written before the URL of a refresh: a time, what ends it, and perhaps `url=` and a quote.
 _REFRESH = re.compile(
     r"{0}*(?:[0-9]|(?=\.))[0-9.]*(?=[{1};,]){0}*[;,]?{0}*(?:url{0}*={0}*)?(?P<quote>[\"']?)".format(
@@ -36,104 +57,106 @@ _BREAK = re.compile("[(," + SPACES + "]")
 _LIKE_DESCRIPTOR = re.compile(r"[-+]?[0-9.]+(?:e[-+]?[0-9]+)?[a-z]{0,2}|[wxh][0-9.]*", re.IGNORECASE)
 
 
-MOST_OUTSIDE_QUOTES = 1024 * 1024
-"""How many code points of a start tag may be outside the quotes of its values."""
-
-_PIECE = 1024 * 1024
-_QUOTED = re.compile("\"[^\"]*\"|'[^']*'")
-
-
-def links_of(
-    source: Source, start: int = 0, end: Optional[int] = None
-) -> Tuple[List[Link], Set[int], Optional[Broken], Tuple[str, ...]]:
-    """The links of the HTML between two places of a source, the lines whose links are to be ignored, why the reader
-    stopped before the end, if it did, and what was passed over."""
-    reader = _Reader(source, start)
-    last = len(source.text) if end is None else end
-    try:
-        for at in range(start, last, _PIECE):
-            reader.feed(source.text[at : min(at + _PIECE, last)])
-        reader.is_closing = True
-        reader.close()
-    except Broken as stopped:
-        return reader.links, reader.ignored, stopped, tuple(reader.notes)
-    reader.end_style()
-    return reader.links, reader.ignored, None, tuple(reader.notes)
+def links_of(source: Source) -> Tuple[List[Link], Set[int], Tuple[str, ...]]:
+    """The links of an HTML document, the lines whose links are to be ignored, and what was passed over."""
+    reader = _Reader(source)
+    reader.read()
+    return reader.links, reader.ignored, tuple(reader.notes)
 
 
-class _Reader(HTMLParser):
-    """Collects the links of the start tags."""
+class _Reader:
+    """Collects the links of the start tags. What has no end reaches to the document's end, as in the Standard's tokenizer; so
+    nothing is read twice."""
 
-    # What is in these is no markup.
-    CDATA_CONTENT_ELEMENTS = ("script", "style", "textarea", "title", "xmp", "iframe", "noembed", "noframes")
-
-    def __init__(self, source: Source, start: int) -> None:
-        super().__init__(convert_charrefs=True)
-        self.is_closing = False
+    def __init__(self, source: Source) -> None:
         self.links: List[Link] = []
         self.ignored: Set[int] = set()
-        self._source = source
-        self._first_line, column = source.position(start)
-        self._first_column = column - 1
-        self._base: Optional[NamedBase] = None
         self.notes: Set[str] = set()
-        # The text of a style sheet that isn't ended, and where it begins.
-        self._style: List[str] = []
-        self._style_at = 0
+        self._source = source
+        self._text = source.text
+        self._base: Optional[NamedBase] = None
 
-    def _offset(self) -> int:
-        """Where what is being read begins in the source."""
-        line, column = self.getpos()
-        return self._source.offset(line + self._first_line - 1, column + (self._first_column if line == 1 else 0))
-
-    def handle_starttag(self, tag: str, attrs: List[Tuple[str, Optional[str]]]) -> None:
-        if not any(name in _INTERESTING for name, _ in attrs):
-            return
-        seen: Set[str] = set()
-        content, is_refresh = None, False
-        for name, value, written in _values(self.get_starttag_text() or "", self._offset()):
-            if name in seen:
-                continue
-            seen.add(name)
-            if name == "content":
-                content = value, written
-            elif name == "http-equiv":
-                is_refresh = value.strip(SPACES).lower() == "refresh"
+    def read(self) -> None:
+        """Reads the document."""
+        at = 0
+        while True:
+            found = _NEXT.search(self._text, at)
+            if found is None:
+                return
+            if found.lastgroup == "tag":
+                at = self._read_tag(found)
+            elif found.lastgroup == "comment":
+                at = self._read_comment(found.end())
             else:
-                self._take(tag, name, value, written)
-        if tag == "meta" and is_refresh and content:
-            self.links += refreshes(*content, self._base)
+                # (`</>` is nothing, and a declaration or an instruction ends with the first `>`)
+                at = self._text.find(">", found.end()) + 1 or len(self._text)
 
-    def handle_startendtag(self, tag: str, attrs: List[Tuple[str, Optional[str]]]) -> None:
-        self.handle_starttag(tag, attrs)
+    def _read_comment(self, start: int) -> int:
+        """Reads a comment whose text begins there, and gives where it ends."""
+        ends = _NO_COMMENT.match(self._text, start) or _COMMENT_END.search(self._text, start)
+        if ends is None:
+            return len(self._text)
+        comment = self._text[start : ends.start()]
+        if comment.strip() == IGNORE:
+            line, _ = self._source.position(start)
+            self.ignored.add(line + comment.count("\n") + 1)
+        return ends.end()
 
-    def handle_comment(self, data: str) -> None:
-        if data.strip() == IGNORE:
-            line, _ = self._source.position(self._offset())
-            self.ignored.add(line + data.count("\n") + 1)
+    def _read_tag(self, found: Match[str]) -> int:
+        """Takes the links of a tag, and gives where it ends, or where what is no markup ends after it."""
+        attributes: Dict[str, Match[str]] = {}
+        at = found.end()
+        attribute = _ATTRIBUTE.match(self._text, at)
+        while attribute is not None:
+            if attribute.lastgroup == "open":
+                return len(self._text)
+            name = _lower(attribute["name"])
+            if name in _KEPT:
+                # (the first of a name counts)
+                attributes.setdefault(name, attribute)
+            at = attribute.end()
+            attribute = _ATTRIBUTE.match(self._text, at)
+        closed = _TAG_END.match(self._text, at)
+        if closed is None:
+            # (a tag that doesn't end is none)
+            return len(self._text)
+        tag = _lower(found["tag"])
+        if tag.startswith("/"):
+            return closed.end()
+        self._take_all(tag, attributes)
+        return self._read_raw(tag, closed.end()) if tag in _RAW_END else closed.end()
 
-    def handle_data(self, data: str) -> None:
-        if self.cdata_elem == "style":
-            if not self._style:
-                self._style_at = self._offset()
-            self._style.append(data)
+    def _take_all(self, tag: str, attributes: Dict[str, Match[str]]) -> None:
+        """Takes the links of a start tag's attributes."""
+        for name, found in attributes.items():
+            if name in _TAKEN:
+                self._take(tag, name, *_value(found))
+        if tag == "meta" and "content" in attributes and "http-equiv" in attributes:
+            if _value(attributes["http-equiv"])[0].strip(SPACES).lower() == "refresh":
+                self.links += refreshes(*_value(attributes["content"]), self._base)
 
-    def handle_endtag(self, tag: str) -> None:
+    def _read_raw(self, tag: str, start: int) -> int:
+        """Gives where the text ends that begins there and is no markup, and takes the links of a style sheet."""
+        if tag == "plaintext":
+            return len(self._text)
+        if tag == "script":
+            return _end_of_script(self._text, start)
+        ends = _RAW_END[tag].search(self._text, start)
+        end = ends.start() if ends else len(self._text)
         if tag == "style":
-            self.end_style()
+            self._take_sheet(start, end)
+        return end
 
-    def end_style(self) -> None:
-        """Takes the links of a style sheet that has ended."""
-        sheet, self._style = "".join(self._style), []
-        if not _css_links.NEEDED.search(sheet):
+    def _take_sheet(self, start: int, end: int) -> None:
+        """Takes the links of a style sheet."""
+        if not _css_links.NEEDED.search(self._text, start, end):
             return
         try:
-            links, _ = _css_links.links_of(Source(sheet))
+            links, _ = _css_links.links_of(Source(self._text[start:end]))
         except ImportError:
             self.notes.add(_css_links.MISSING)
             return
-        at = self._style_at
-        self.links += [moved(it, self._source, lambda place: at + place)._replace(base=self._base) for it in links]
+        self.links += [moved(it, self._source, lambda place: start + place)._replace(base=self._base) for it in links]
 
     def _take(self, tag: str, name: str, value: str, written: Written) -> None:
         """Takes the links of an attribute's value."""
@@ -154,37 +177,24 @@ class _Reader(HTMLParser):
         elif has(CANDIDATES, name, tag):
             self.links += [written.link(word, at, self._base) for word, at in candidates(value)]
 
-    # What has no end reaches to the document's end, as in the HTML Standard's tokenizer; so nothing is read twice.
 
-    def _whole(self, end: int) -> int:
-        return len(self.rawdata) if end < 0 and self.is_closing else end
-
-    def parse_starttag(self, i: int) -> int:
-        end = self.rawdata.find(">", i)
-        if end - i > MOST_OUTSIDE_QUOTES < len(_QUOTED.sub("", self.rawdata[i:end])):
-            raise Broken(self._offset(), "a tag has more than {} code points".format(MOST_OUTSIDE_QUOTES))
-        return self._whole(super().parse_starttag(i) if end >= 0 else end)
-
-    def parse_endtag(self, i: int) -> int:
-        return self._whole(super().parse_endtag(i))
-
-    def parse_comment(self, i: int, report: int = 1) -> int:
-        # (what ends a comment differs between the versions of this library)
-        start = i + len("<!--")
-        end = _NO_COMMENT.match(self.rawdata, start) or _COMMENT_END.search(self.rawdata, start)
-        if end is None:
-            return self._whole(-1)
-        self.handle_comment(self.rawdata[start : end.start()])
-        return end.end()
-
-    def parse_pi(self, i: int) -> int:
-        return self._whole(super().parse_pi(i))
-
-    def parse_html_declaration(self, i: int) -> int:
-        # (a marked section, of which this library knows some alone, is a comment)
-        if self.rawdata.startswith("<![", i):
-            return self._whole(self.parse_bogus_comment(i, False))
-        return self._whole(super().parse_html_declaration(i))
+def _end_of_script(text: str, start: int) -> int:
+    """Where a script's text ends that begins there, by the states of the Standard's tokenizer in which it is escaped."""
+    is_escaped = is_inner = False
+    found = _SCRIPT.search(text, start)
+    while found is not None:
+        at = found.end()
+        if found["open"]:
+            # (`<!-->` is a whole comment)
+            is_escaped, at = True, at - 2
+        elif found["close"]:
+            is_escaped = is_inner = False
+        elif found["slash"] and not is_inner:
+            return found.start()
+        else:
+            is_inner = is_escaped and not found["slash"]
+        found = _SCRIPT.search(text, at)
+    return len(text)
 
 
 def links_of_style(value: str, written: Written) -> Tuple[List[Link], Optional[str]]:
@@ -219,16 +229,18 @@ def refreshes(value: str, written: Written, base: Optional[NamedBase]) -> List[L
     return [written.link(link.strip(SPACES), at, base)] if link.strip(SPACES) else []
 
 
-def _values(raw: str, offset: int) -> Iterator[Tuple[str, str, Written]]:
-    """The attributes of a start tag that begins there: name, value, and where the value is."""
-    tag = _TAG_NAME.match(raw)
-    for found in _ATTRIBUTE.finditer(raw, tag.end() if tag else 0):
-        name, kind = found["name"].lower(), found.lastgroup or "name"
-        if kind == "name":
-            # (without a value it has the empty one, which is nowhere)
-            yield name, "", Written(offset + found.end(kind), False)
-        else:
-            yield (name, *unescaped(found[kind], offset + found.start(kind)))
+def _lower(name: str) -> str:
+    """A name in lower case, as far as it is of ASCII."""
+    return name.lower() if name.isascii() else name
+
+
+def _value(found: Match[str]) -> Tuple[str, Written]:
+    """The value of an attribute, and where it is."""
+    kind = found.lastgroup or "name"
+    if kind == "name":
+        # (without a value it has the empty one, which is nowhere)
+        return "", Written(found.end(kind), False)
+    return unescaped(found[kind], found.start(kind))
 
 
 def unescaped(raw: str, offset: int) -> Tuple[str, Written]:

@@ -194,7 +194,7 @@ class _Reader:
     def _take_html(self, line: int, content: str, html: str, at: int) -> None:
         """Takes the links of HTML that is at a place of a block's content. It is read without what nests the block,
         which may be within a tag of several lines."""
-        links, ignored, _, notes = _html_links.links_of(Source(html))
+        links, ignored, notes = _html_links.links_of(Source(html))
         self.notes |= set(notes)
         self.links += [self._moved(link, line, content, at) for link in links]
         start = self._offset(line, content, at) if ignored else None

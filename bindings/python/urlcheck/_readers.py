@@ -99,7 +99,8 @@ def _found(data: bytes, kind: str, reading: Reading) -> Found:
     if kind == "xml":
         return Found(source, *_xml_links.links_of(source, without_mark(data)))
     if kind == "html":
-        return Found(source, *_html_links.links_of(source))
+        links, ignored, notes = _html_links.links_of(source)
+        return Found(source, links, ignored, None, notes)
     if kind == "rst":
         links, ignored, notes = _rst_links.links_of(source)
         return Found(source, links, ignored, None, notes)

@@ -292,7 +292,7 @@ class _Reader:
         """Takes the links of HTML that is the text of an element."""
         if "<" not in value:
             return
-        links, _, _, notes = _html_links.links_of(Source(value))
+        links, _, notes = _html_links.links_of(Source(value))
         self.notes |= set(notes)
         found = [moved(link, self._source, lambda at: written.link("", at).offset) for link in links]
         self.links += [link._replace(base=link.base or base) for link in found]
