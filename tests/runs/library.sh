@@ -109,9 +109,16 @@ fi
 for tests in documents sources projects standards words limits errors; do
     python3 $tests.py >"$room/tests" 2>&1 || { cat "$room/tests"; exit 1; }
 done
-# Where the system copies no process, as Windows, each document is read by a Python that begins anew.
+# Where the system copies no process, as Windows, documents are read by a Python that begins anew.
 WITHOUT_FORK=1 python3 documents.py Documents.test_{html,xml,bases,messages} >"$room/tests" 2>&1 ||
     { cat "$room/tests"; exit 1; }
+# The attributes of made-up documents of HTML, as another reader of it has them.
+if echo '#include <gumbo.h>' | gcc -E - >/dev/null 2>&1; then
+    gcc -std=c99 "${strict[@]}" tokens.c -lgumbo -o "$room/tokens"
+    python3 tokens.py "$room/tokens" 20000 1
+else
+    echo "library: the tokens of HTML are left out, since gumbo (libgumbo-dev) isn't installed"
+fi
 # What is said of a link in each format is what `lint` says of it where it is.
 python3 formats.py "$program" >"$room/tests" 2>&1 || { cat "$room/tests"; exit 1; }
 python3 reports.py "$program" "$room/lines" standard parser

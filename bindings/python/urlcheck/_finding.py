@@ -31,12 +31,21 @@ def lines_on(format: str, found: Finding) -> str:
     """What is said of a link that is refused, after what was said of another one."""
     it = found.diagnostic
     # (in a line no control may be as it is)
-    name = named(it.file) if format == "gnu" else it.file
+    name = named(it.file) if format == "gnu" else name_in(format, it.file)
     it = it._replace(file=readable(name))
     written = _of_format(format, it) if it.rule in OF_FORMATS else said(format, it, False)
     if found.within:
         written = _within(written, found.message, found.within)
     return written if name == it.file else _with_bytes(format, written, name)
+
+
+_HERE = re.compile(r"\A(?:\./+)+(?=.)")
+"""What is before the name of a file of the current folder, where that is written."""
+
+
+def name_in(format: str, name: str) -> str:
+    """A document's name in a format: programs compare it with those of files, which have no ``./`` before them."""
+    return name if format in ("gnu", "caret") else _HERE.sub("", name)
 
 
 def readable(name: str) -> str:
@@ -108,7 +117,7 @@ def not_read(format: str, name: str, fault: Fault) -> str:
     if format != "github":
         return ""
     place = "" if fault.line is None else ",line={},col={}".format(fault.line, fault.column)
-    file, reason = _escaped(readable(name), _IN_PROPERTY), _escaped(fault.reason, _IN_MESSAGE)
+    file, reason = _escaped(readable(name_in(format, name)), _IN_PROPERTY), _escaped(fault.reason, _IN_MESSAGE)
     return "::error file={}{},title=not-read::{}\n".format(file, place, reason)
 
 
@@ -143,7 +152,7 @@ class Report:
 
     def passed(self, name: str) -> None:
         """Writes what is said of a document in which nothing is wrong."""
-        self._write(passed(self._format, readable(name)).encode("utf-8"))
+        self._write(passed(self._format, readable(name_in(self._format, name))).encode("utf-8"))
 
     def end(self, is_whole: bool) -> None:
         """Writes what is after all, by whether each document was read to its end."""

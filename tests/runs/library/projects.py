@@ -7,6 +7,8 @@ import shutil
 import subprocess
 import unittest
 
+from urlcheck import FORMATS
+
 from room import Texts
 
 WRONG = "<a href='x y'>"
@@ -163,6 +165,19 @@ class Several(Texts):
         for word in ("0", "x", "257", "-1", "", "1.5"):
             status, _, said = self.run_on("--jobs=" + word, "d")
             self.assertEqual((status, said.splitlines()[1]), (2, "urlcheck-documents: --jobs is a number from 1 to 256"))
+
+    def test_names_of_the_current_folder(self):
+        """In a format for programs a name has no `./` before it; for people it is as it was given."""
+        self.write("d/a.html", WRONG)
+        self.write("d/b.html", "<a href=x>")
+        self.write("d/c.html", b"\xff")
+        for name in FORMATS:
+            for words in (["."], ["./d", ".//./d"]):
+                with self.subTest(name=name, words=words):
+                    _, out, said = self.run_on("-q", "--check", "--format", name, *words)
+                    self.assertEqual(out.count("./d/") > 0, name in ("gnu", "caret"), out)
+                    self.assertIn("d/a.html", out)
+                    self.assertIn("urlcheck-documents: ./d/c.html:1:1: ", said)
 
     def test_a_name_for_standard_input(self):
         """It is reported, says the kind, and finds the configuration; nothing of that name is read."""
