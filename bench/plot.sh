@@ -3,7 +3,6 @@
 # bench/kinds. Ada's bars have one length, and the figures are instructions a text. The outputs are stored in
 # bench/verdicts/KIND.txt, as the script printed them.
 #   bench/plot.sh                     draws docs/speed.svg from the stored outputs, on standard output
-#   bench/plot.sh --short             draws docs/speed-short.svg, of eight kinds, the one that costs most beside Ada among them
 #   bench/plot.sh --measure [FOLDER]  makes the outputs anew first, by Ada in FOLDER, else beside what Ada took when it
 #                                     was measured (bench/verdicts/ada.stored); it takes some minutes
 # It fails where an output is missing, lacks a figure, or says that something failed.
@@ -18,18 +17,9 @@ if [ "${1:-}" = --measure ]; then
     bash "$top/bench/verdicts.sh" "${words[@]}" >&2
     shift $#
 fi
-short=()
-if [ "${1:-}" = --short ]; then
-    short=(mixed plain escapes beyond_ascii name_abroad ipv4 space long_path)
-    shift
-fi
-[ $# = 0 ] || { echo 'usage: bench/plot.sh [--short | --measure [FOLDER]]' >&2; exit 2; }
-
-# is_drawn KIND : whether a kind is in the picture
-is_drawn() { [ ${#short[@]} = 0 ] || [[ " ${short[*]} " == *" $1 "* ]]; }
+[ $# = 0 ] || { echo 'usage: bench/plot.sh [--measure [FOLDER]]' >&2; exit 2; }
 
 grep -v '^#' "$top/bench/kinds" | while read -r kind _ call _ _ _ _ name; do
-    is_drawn "$kind" || continue
     [ -s "$stored/$kind.txt" ] || { echo "bench/plot.sh: bench/verdicts/$kind.txt is missing" >&2; exit 1; }
     ! grep '^FAILED' "$stored/$kind.txt" >&2 || { echo "bench/plot.sh: bench/verdicts/$kind.txt failed" >&2; exit 1; }
     awk -v name="$name" -v call="$call:" '

@@ -13,7 +13,7 @@ import subprocess
 import sys
 import tempfile
 
-README_LINES = 100
+README_LINES = 98
 FIRST_SCREEN = 32
 HEADLINE = (
     "where the checker says yes to a string, alone or against a base, the Standard's parser started on it runs to its"

@@ -16,7 +16,7 @@ python3 "$top/tests/runs/pages.py" texts || failed=1
 python3 "$top/tests/runs/pages.py" commands "$program" || failed=1
 python3 "$top/tests/runs/prose.py" || failed=1
 python3 "$top/bench/figures.py" || failed=1
-for picture in profiles:docs/profiles.py speed:bench/plot.sh 'speed-short:bench/plot.sh --short'; do
+for picture in profiles:docs/profiles.py speed:bench/plot.sh; do
     read -ra words <<<"${picture#*:}"
     case $picture in
         *.py) python3 "$top/${words[0]}" ;;

@@ -1,4 +1,4 @@
-"""Runs the commands of docs/START.md and docs/guides that are in blocks of the language `shell-session`, and compares what they
+"""Runs the commands of README.md, docs/START.md and docs/guides that are in blocks of `shell-session`, and compares what they
 print: pages.py PROGRAM, the program `urlcheck`. What a block names that isn't installed is left out, and a line says so. The
 package is on PYTHONPATH."""
 
@@ -32,7 +32,8 @@ def missing(block, program):
 def blocks_of_pages():
     """The blocks of the pages, each with its page."""
     found = []
-    for path in [os.path.join(TOP, "docs", "START.md"), *sorted(glob.glob(os.path.join(TOP, "docs", "guides", "*.md")))]:
+    named = (os.path.join(TOP, "README.md"), os.path.join(TOP, "docs", "START.md"))
+    for path in [*named, *sorted(glob.glob(os.path.join(TOP, "docs", "guides", "*.md")))]:
         with open(path, encoding="utf-8") as page:
             blocks = re.findall(r"^```shell-session\n(.*?)^```$", page.read(), re.M | re.S)
         found += [(os.path.basename(path), block) for block in blocks]
@@ -57,7 +58,7 @@ def main():
                 said = ran.stderr.decode()
                 sys.exit("FAILED: {}: {}\nprinted: {}\nand not: {}\n{}".format(name, command, given, wanted, said))
             tried += 1
-    print("authors: {} commands of docs/START.md and docs/guides".format(tried))
+    print("authors: {} commands of README.md, docs/START.md and docs/guides".format(tried))
 
 
 if __name__ == "__main__":

@@ -1,7 +1,8 @@
 """Writes the programs of docs/guides and of README.md, and what they print, as files into a folder.
 
-programs.py TOP FOLDER: page.c, page.cpp, page.py and report.py with their outputs are those of the guides on C and Python; start.c
-and start.py those of README.md, the first within a function. The program in Rattle is the crate `caller`, byte for byte.
+programs.py TOP FOLDER: page.c, page.cpp, page.py and report.py with their outputs are those of the guides on C and Python. Those of
+README.md are start.c, within a function, and start.py, and wheel.py is that of the Python package's README.md. The program in Rattle
+is the crate `caller`, byte for byte.
 """
 
 import pathlib
@@ -24,11 +25,6 @@ def program_of(guide, language, number=0):
     return found[at][1], found[at + 1][1]
 
 
-def flat(code):
-    """Code without its layout: the same on one line and on many."""
-    return re.sub(r"\s+|,(?=\s*\))", "", code)
-
-
 caller = top / "crates" / "caller"
 rattle = (caller / "src" / "main.rt").read_text(encoding="utf-8")
 if program_of("rattle", "rust") != (rattle, (caller / "stdout").read_text(encoding="utf-8")):
@@ -39,9 +35,9 @@ for guide, language, number, name in programs:
     (folder / name).write_text(program, encoding="utf-8")
     (folder / (name + ".out")).write_text(printed, encoding="utf-8")
 
-short = dict(blocks(readme.split("\n## The library\n")[1].split("\n## ")[0]))
-if flat(short["rust"]) not in flat(rattle):
-    sys.exit("FAILED: README.md: its lines in Rattle aren't the crate caller's")
+wheel = dict(blocks((top / "bindings" / "python" / "README.md").read_text(encoding="utf-8")))
+(folder / "wheel.py").write_text(wheel["python"], encoding="utf-8")
+short = dict(blocks(readme.split("\n## Call it from your program\n")[1].split("\n## ")[0]))
 (folder / "start.py").write_text(short["python"], encoding="utf-8")
 (folder / "start.c").write_text(
     '#include <stdio.h>\n#include "urlcheck.h"\nint main(void) {\n'
