@@ -15,8 +15,15 @@ named_build() {
     ${OBJCOPY:-objcopy} --redefine-syms="$work/names" --wildcard --keep-global-symbol='urlcheck_*' "$1" "$3"
 }
 
+# cmake_files FOLDER VERSION : what find_package of CMake reads, which finds the library from its own folder
+cmake_files() {
+    mkdir -p "$1"
+    cp bindings/c/urlcheck-config.cmake "$1/"
+    sed "s|@VERSION@|$2|" bindings/c/urlcheck-config-version.cmake.in >"$1/urlcheck-config-version.cmake"
+}
+
 # whole_library FOLDER OBJECT.. : of one build, or of those for x86-64 between which the exports choose, the libraries
-# in lib/, with what names them, and the header. No path of this machine is in what is built.
+# in lib/, with what names them for pkg-config and CMake, and the header. No path of this machine is in what is built.
 whole_library() {
     local folder=$1 version soname words=(-O2 -fPIC -fvisibility=hidden -ffunction-sections)
     version=$(cat VERSION)
@@ -44,6 +51,7 @@ whole_library() {
     # (it tells folders from its own, so that this one may be moved)
     sed -e 's|@PREFIX@|${pcfiledir}/../..|' -e 's|@LIBDIR@|${prefix}/lib|' -e "s|@VERSION@|$version|" \
         bindings/c/urlcheck.pc.in >"$folder/lib/pkgconfig/urlcheck.pc"
+    cmake_files "$folder/lib/cmake/urlcheck" "$version"
 }
 
 # python_files FOLDER : the Python package without its extension module, whose sources come into the folder $work/native
@@ -52,7 +60,7 @@ python_files() {
     rm -rf "$folder/python"
     mkdir -p "$folder/python/urlcheck" "$work/native"
     cp bindings/python/native/*.[ch] bindings/c/include/urlcheck.h "$work/native/"
-    cp VERSION bindings/python/{pyproject.toml,wheel_backend.py} "$folder/python/"
+    cp VERSION bindings/python/{pyproject.toml,wheel_backend.py,README.md} "$folder/python/"
     cp bindings/python/urlcheck/{*.py,*.pyi,py.typed} "$folder/python/urlcheck/"
     for file in LICENSE* NOTICE; do
         [ ! -f "$file" ] || cp "$file" "$folder/python/"

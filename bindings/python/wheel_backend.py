@@ -66,21 +66,30 @@ def _licences():
     return sorted(glob.glob("LICENSE*") + glob.glob("NOTICE"))
 
 
+def _listed(name):
+    """The texts of a list of the project's table, whether on one line or on several."""
+    found = re.search(r"^{} = \[(.*?)\]$".format(name), _text(TABLE), re.M | re.S)
+    return re.findall('"(.*?)"', found.group(1))
+
+
 def _metadata():
-    """The metadata of the package (core metadata 2.4)."""
+    """The metadata of the package (core metadata 2.1, which the tools of older systems read too), with its README.md."""
     author = '"(.*)", email = "(.*)"'
     name, email = re.search("^authors = .*name = " + author, _text(TABLE), re.M).groups()
     lines = [
-        "Metadata-Version: 2.4",
+        "Metadata-Version: 2.1",
         "Name: " + NAME,
         "Version: " + _text("VERSION"),
         "Summary: " + _project('description = "(.*)"'),
         'Author-email: "{}" <{}>'.format(name, email),
-        "License-Expression: " + _project('license = "(.*)"'),
+        "License: " + _project('license = "(.*)"'),
+        "Keywords: " + ",".join(_listed("keywords")),
     ]
+    lines += ["Classifier: " + it for it in _listed("classifiers")]
     lines += ["License-File: " + file for file in _licences()]
     lines += ["Requires-Python: " + _project('requires-python = "(.*)"')]
     lines += _extras()
+    lines += ["Description-Content-Type: text/markdown; charset=UTF-8; variant=CommonMark", "", _text(_project('readme = "(.*)"'))]
     return "\n".join(lines) + "\n"
 
 

@@ -88,6 +88,28 @@ cc "$room/page.c" "${flags[@]}" -o "$room/page"
 { LD_LIBRARY_PATH=$at/lib "$room/page" || [ $? = 1 ]; } | cmp - "$room/page.c.out" || fail "the program in C"
 PYTHONPATH=$at/lib/$python python3 "$room/page.py" | cmp - "$room/page.py.out" ||
     fail "the program in Python"
+# The lines of the guide for CMake, by the shared library and by the archive; a version that isn't there is refused.
+if command -v cmake >/dev/null; then
+    mkdir "$room/cmake"
+    cp "$room/page.c" "$room/cmake/program.c"
+    {
+        printf 'cmake_minimum_required(VERSION 3.22)\nproject(page C)\n'
+        awk '/^```cmake$/ { inside = 1; next } /^```$/ { inside = 0 } inside' docs/guides/c.md
+        printf 'add_executable(archived program.c)\ntarget_link_libraries(archived urlcheck::static)\n'
+    } >"$room/cmake/CMakeLists.txt"
+    quietly cmake -S "$room/cmake" -B "$room/cmake/built" -DCMAKE_PREFIX_PATH="$at"
+    quietly cmake --build "$room/cmake/built"
+    for built in program archived; do
+        { "$room/cmake/built/$built" || [ $? = 1 ]; } | cmp - "$room/page.c.out" || fail "the program by CMake: $built"
+    done
+    for wanted in 99 0.99 1; do
+        sed -i "s/find_package(urlcheck [0-9.]*/find_package(urlcheck $wanted/" "$room/cmake/CMakeLists.txt"
+        ! cmake -S "$room/cmake" -B "$room/cmake/none" -DCMAKE_PREFIX_PATH="$at" >"$room/said" 2>&1 ||
+            fail "CMake finds version $wanted of the library"
+    done
+else
+    echo "packages: CMake is left out, since it isn't installed"
+fi
 # (the package finds the library that was installed with it)
 printf '<a href="http://x_y/">\n' >"$room/page.html"
 { (cd "$room" && PYTHONPATH=$at/lib/$python python3 "$at/bin/urlcheck-documents" --check page.html 2>"$room/said") ||
@@ -100,6 +122,14 @@ told=$(PYTHONPATH=$at/lib/$python python3 -c 'from importlib.metadata import ver
 for completions in urlcheck urlcheck-documents; do
     bash -n "$at/share/bash-completion/completions/$completions"
 done
+# The metadata of the wheel are such that the tool of registries takes it.
+if command -v twine >/dev/null; then
+    mkdir "$room/wheel"
+    (cd "$library/python" && quietly python3 -B -c 'import sys, wheel_backend; wheel_backend.build_wheel(sys.argv[1])' "$room/wheel")
+    quietly twine check --strict "$room"/wheel/*.whl
+else
+    echo "packages: the wheel's metadata are left out, since twine isn't installed"
+fi
 if command -v man >/dev/null; then
     man --warnings -E UTF-8 -l "$at/share/man/man1/urlcheck.1" >"$room/page.txt" 2>"$room/said"
     [ ! -s "$room/said" ] || { cat "$room/said"; fail "the manual page has warnings"; }
