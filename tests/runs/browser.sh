@@ -79,6 +79,21 @@ echo http://h/ >"$room/user/links.txt"
 tar -C "$room" -xzf "$room"/packed/urlcheck-page-*.tar.gz
 diff -r --exclude='program.*' "$folder" "$room"/urlcheck-page-* || { echo 'FAILED: the page is packed otherwise than it was built'; exit 1; }
 
+# The guide's lines for a bundle, of a program that sets the title of its page.
+if command -v esbuild >/dev/null; then
+    cat >"$room/user/app.js" <<'END'
+import { load } from 'urlcheck'
+const urlcheck = await load()
+document.title = urlcheck.check('https://example.com/a b').rule
+END
+    mkdir "$room/user/site"
+    echo '<!doctype html><script type="module" src="app.js"></script>' >"$room/user/site/index.html"
+    awk '/^## In a bundle/ { on = 1 } on && /^```sh$/ { inside = 1; next } inside && /^```$/ { exit } inside' "$guide" >"$room/lines"
+    (cd "$room/user" && sh -e "$room/lines") >"$room/said" 2>&1 || { cat "$room/said"; exit 1; }
+else
+    echo "browser: the bundle is left out, since esbuild isn't installed"
+fi
+
 if command -v tsc >/dev/null; then
     mkdir "$room/types"
     cp "$folder"/*.js "$folder/urlcheck.d.ts" "$here/types.ts" "$here/node.d.ts" "$room/types/"
@@ -114,7 +129,14 @@ if command -v mypy >/dev/null; then
 else
     echo "browser: the types of the tests are left out, since mypy isn't installed"
 fi
+if [ -d "$room/user/site" ]; then
+    [ "$("$python" "$here/bundle.py" "$room/user/site")" = code-point ] || { echo 'FAILED: a bundle of the package'; exit 1; }
+    echo 'browser: a bundle by esbuild, in Chromium'
+fi
 cp -r "$folder" "$room/limited"
 node "$here/limited.mjs" "$folder/urlcheck.wasm" 4 "$room/limited/urlcheck.wasm"
 BROWSERS=${BROWSERS:-chromium} "$python" "$here/each_browser.py" "$folder" "$room/limited" "$room/cases.json" "$program"
 [ -z "${PICTURE:-}" ] || "$python" "$here/picture.py" "$folder" "$PICTURE"
+case " ${BROWSERS:-chromium} " in
+    *' chromium '*) (cd "$top" && "$python" "$here/picture.py" "$folder" docs/page.png --check) ;;
+esac
