@@ -71,13 +71,6 @@ empty_rule profile class last port_text path_text place HostMissing h = (refl, h
 empty_rule profile class last port_text path_text place rule h =
     absurd (empty_content_fits profile class last place rule h)
 
--- an empty host that may be so
-pub empty_silent : (profile : Profile) (class : Class) (last : Bool) (port_text : Option (List ℕ))
-    (path_text : List ℕ) → ¬ (LacksHost profile class [] port_text path_text)
-    → IsLeast (HostViolation profile class last [] port_text path_text) None
-empty_silent profile class last port_text path_text not place rule h =
-    not (empty_rule profile class last port_text path_text place rule h).1
-
 -- ---- a host that isn't empty
 
 -- what it holds violates no rule of a missing host

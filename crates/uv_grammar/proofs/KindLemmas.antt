@@ -33,7 +33,7 @@ use Rattle.uv_grammar.specs.declared.checker.Verdict.{Verdict}
 use Rattle.uv_grammar.specs.declared.checker.Verdict.TheVariants.{Yes, No}
 use Rattle.uv_grammar.specs.Bases.{IsOfKind, url_of_kind}
 use Rattle.uv_grammar.specs.NoMemory.{HostPartTakesNoMemory, TakesNoMemory, TakesNoMemoryAgainst}
-use Rattle.uv_grammar.specs.Verdict.{IsValidity, IsVerdict}
+use Rattle.uv_grammar.specs.Verdict.{IsVerdict}
 use Rattle.uv_model.proofs.Violations.RefusalLemmas.{IsLeast-like}
 
 -- ---- two bases of one kind
@@ -286,13 +286,6 @@ verdict_alike profile a b text h (No refusal) x = record {
   within = x.within;
   none = λ parts valid. x.none parts (valid_alike profile b a text (flip a b h) parts valid);
 }
-
--- whether the text is valid against both
-pub validity_alike : (profile : Profile) (a b : Url) (text : List ℕ) → IsAlike a b → (valid : Bool)
-    → IsValidity profile (Some a) text valid → IsValidity profile (Some b) text valid
-validity_alike profile a b text h true (parts, x) = (parts, valid_alike profile a b text h parts x)
-validity_alike profile a b text h false x =
-    λ parts valid. x parts (valid_alike profile b a text (flip a b h) parts valid)
 
 -- all violations against both
 pub faults_alike : (profile : Profile) (a b : Url) (text : List ℕ) → IsAlike a b → (refusals : List Refusal)

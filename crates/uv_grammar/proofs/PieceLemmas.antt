@@ -8,12 +8,6 @@ use Rattle.uv_model.specs.Parts.{PathRelative, written_after}
 use Rattle.uv_grammar.specs.Built.{form_with}
 use Rattle.uv_model.specs.Path.{left_segments, pieces, segments_of}
 
--- there is a first part
-record HasFirst (parts : List (List ℕ)) : Type 0 where
-  first : List ℕ
-  others : List (List ℕ)
-  is : parts ≡ first ∷ others
-
 -- ---- forms and segments
 
 -- a path that isn't empty and doesn't begin with `/`

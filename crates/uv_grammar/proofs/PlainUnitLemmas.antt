@@ -1,10 +1,9 @@
 -- The prefix of a text that the scan of units passes is URL units, without the marks that its class lacks.
 use Rattle.std.proofs.Common.{◌≡◌, ℕ, ◌<◌, ◌==◌, Bool, true, false, not, ◌&&◌, List, [], ◌∷◌, ◌++◌, take, refl, sym}
-use Rattle.std.proofs.Common.{◌≤◌, ◌∙◌, subst, inl, inr, arith, eqb-true, ne_eqb}
+use Rattle.std.proofs.Common.{◌∙◌, subst, inl, inr, arith, eqb-true, ne_eqb}
 use Rattle.std.specs.Prelude.{nat_le}
 use Rattle.std.specs.Char.{is_ascii, is_ascii_hexdigit}
-use Rattle.std.specs.List.{list_all}
-use Rattle.std.proofs.lemmas.Bool.{and_from, and_parts, cases_Bool, cases_eq, false≢true, or_cases}
+use Rattle.std.proofs.lemmas.Bool.{and_parts, cases_Bool, cases_eq, false≢true, or_cases}
 use Rattle.std.proofs.lemmas.Bool.Decides.{nat_tests}
 use Rattle.std.proofs.lemmas.List.{take-append-drop}
 use Rattle.uv_model.specs.Ascii.{number_sign, percent_sign, question_mark}
@@ -95,32 +94,6 @@ module _ (held : ℕ → Bool) where
                 let below : nat_le 128 mark ≡ false = grind (arith, nat_tests, small) in
                 absurd (false≢true (rw (lacks, no_percent, below) at here))
             | inr different ↦ different
-          ]
-
-  -- each code point of the prefix passes a test that those of the class, `%` and those beyond ASCII pass
-  passes_prefix : (test : ℕ → Bool) → ((c : ℕ) → held c ≡ true → test c ≡ true) → test percent_sign ≡ true
-      → ((c : ℕ) → 128 ≤ c → test c ≡ true) → (text : List ℕ) → list_all test (prefix text) ≡ true
-  passes_prefix test class percent beyond [] = refl
-  passes_prefix test class percent beyond (c ∷ rest) =
-      elim (cases_Bool (begins_unit held c rest)) [
-        | inl begins ↦ rw begins (and_from (test c) (list_all test (prefix rest)) (here begins)
-            (passes_prefix test class percent beyond rest))
-        | inr stops ↦ rw stops refl
-      ]
-    where
-      here : begins_unit held c rest ≡ true → test c ≡ true
-      here begins =
-          elim (cases_eq c percent_sign) [
-            | inl same ↦ rw same percent
-            | inr other ↦
-                let no_percent : (c == percent_sign) ≡ false = ne_eqb c percent_sign other in
-                elim (or_cases (held c) (begins_mark c rest) begins) [
-                  | inl in_class ↦ class c in_class
-                  | inr mark ↦
-                      let both : (nat_le 128 c && is_url_code_point c) ≡ true = rw no_percent at mark in
-                      let far = (and_parts (nat_le 128 c) (is_url_code_point c) both).0 in
-                      beyond c (grind (arith, nat_tests, far))
-                ]
           ]
 
 -- a byte of a class of URL code points is one

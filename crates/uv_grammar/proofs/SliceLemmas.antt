@@ -92,10 +92,6 @@ splits_at_mark mark bytes prefix rest end small utf8 first is_prefix is_rest =
 
 -- ---- the first `/`
 
--- what begins with a mark is text
-pub after_utf8 : (c : ℕ) (ys : List ℕ) → IsUtf8 (c ∷ ys) → c < 128 → IsUtf8 ys
-after_utf8 c ys u small = (sides_utf8 [] ys c u small).1
-
 -- without `/` at the start of the bytes, none is at the start of the text
 pub no_slash_first : (bytes : List ℕ) → IsUtf8 bytes → ((rest : List ℕ) → bytes ≢ slash ∷ rest)
     → starts_with_slash (chars bytes) ≡ false

@@ -1,5 +1,5 @@
 -- Slices of a text as the code points that the definitions see.
-use Rattle.std.specs.Prelude.{ℕ, List, Option, map, option_map}
+use Rattle.std.specs.Prelude.{ℕ, List, Option, option_map}
 use Rattle.std.specs.Borrow.{Bor}
 use Rattle.std.specs.Str.{chars}
 
@@ -10,7 +10,3 @@ chars_of text = chars text.now
 -- the code points of a slice that may be absent
 abbrev pub chars_of_option : Option (Bor (List ℕ)) → Option (List ℕ)
 chars_of_option text = option_map chars_of text
-
--- the code points of each slice
-abbrev pub chars_of_each : List (Bor (List ℕ)) → List (List ℕ)
-chars_of_each texts = map chars_of texts

@@ -85,14 +85,6 @@ pub allowed_hyphens : (label : List ℕ) → passes_hyphens Check label ≡ true
 unfolding passes_hyphens
 allowed_hyphens label placed = rw (has_ace_prefix-passes Check label placed) refl
 
--- nor do those of any label
-pub allowed_labels_hyphens : (labels : List (List ℕ)) → list_all (passes_hyphens Check) labels ≡ true
-    → list_all (passes_hyphens Allow) labels ≡ true
-allowed_labels_hyphens labels placed =
-    list_all-from_AllPass (passes_hyphens Allow) labels
-    (All-weaker (λ label. passes_hyphens Check label ≡ true) (λ label. passes_hyphens Allow label ≡ true)
-    allowed_hyphens labels (AllPass-from_list_all (passes_hyphens Check) labels placed))
-
 -- a label that the strict settings take is taken at those of the URL parser
 allowed_in_nfc : (label : List ℕ) → passes_in_nfc STD3 Check label ≡ true → passes_in_nfc EMPTY Allow label ≡ true
 unfolding passes_in_nfc
