@@ -6,7 +6,6 @@ use std::alloc::{AllocError, Global};
 use uv_model::{Profile, Record, Refusal, Rule};
 use uv_resolve::{ResolveFault, resolve, resolve_serialized};
 
-mod lent;
 mod memory;
 
 // The record of a text alone.

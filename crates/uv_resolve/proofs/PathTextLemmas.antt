@@ -32,43 +32,6 @@ pub second : (test : Bool) (xs ys : List (List ℕ)) → test ≡ false → ys �
 second true xs ys fails = absurd (true≢false fails)
 second false xs ys fails = refl
 
--- a list with a first text isn't empty
-cons_some : (first : List ℕ) (others : List (List ℕ)) → first ∷ others ≢ []
-cons_some first others same = absurd cc
-
--- the segments of a path that isn't empty
-filled : (text : List ℕ) → (length text == 0) ≡ false → segments_of text ≢ []
-filled [] some = absurd cc
-filled (c ∷ rest) some = elim (cases_Bool (c == slash)) [
-  | inl same ↦
-      let s = splits_first rest in
-      rw same (λ none. absurd (cons_some s.first s.others (sym s.is ∙ none)))
-  | inr other ↦
-      let s = splits_first (c ∷ rest) in
-      subst (λ (segments : List (List ℕ)). segments ≢ []) (second (c == slash) (pieces rest) (pieces (c ∷ rest)) other)
-      (λ none. absurd (cons_some s.first s.others (sym s.is ∙ none)))
-]
-
--- of a walk that gives them, they are those of the path after an authority
-pub kept_authority : (class : Class) (segments : List (List ℕ)) (written : List ℕ) → (length written == 0) ≡ false
-    → walk class [] segments ≡ segments_of written → authority_path class segments ≡ segments_of written
-unfolding walk
-kept_authority class [] written some kept = absurd (filled written some (sym kept))
-kept_authority SpecialNotFile (first ∷ others) written some kept = kept
-kept_authority File (first ∷ others) written some kept = kept
-kept_authority Other (first ∷ others) written some kept = kept
-
--- the segments by a form that isn't opaque
-pub segmented : (seen : form.Form) (form : Form) → seen_form seen ≡ form → seen ≢ variant.SchemeOpaque
-    → IsSegmented form
-segmented variant.SchemeOpaque form is other = absurd (other refl)
-segmented variant.SchemeAuthority form is other = λ text. rw (← is) refl
-segmented variant.SchemePath form is other = λ text. rw (← is) refl
-segmented variant.Authority form is other = λ text. rw (← is) refl
-segmented variant.PathAbsolute form is other = λ text. rw (← is) refl
-segmented variant.PathRelative form is other = λ text. rw (← is) refl
-segmented variant.NoPath form is other = λ text. rw (← is) refl
-
 -- ---- segments without a `/`
 
 -- the first of some takes one more code point

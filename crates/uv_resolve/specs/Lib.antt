@@ -2,8 +2,8 @@ pub mod Base
 pub mod Kept
 pub mod Laws
 pub mod ParserAnswer
-pub mod Pieces
 pub mod Resolve
 pub mod Schemes
 pub mod Serialized
 pub mod Walk
+pub mod Written

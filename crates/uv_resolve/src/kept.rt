@@ -3,8 +3,6 @@ ghost use Rattle.std.specs.Prelude.{◌≡◌, ◌<◌, ◌≤◌, ◌+◌, IsTr
 ghost use Rattle.std.specs.List.{list_all};
 ghost use Rattle.uv_resolve.specs.Kept.{KeepsSlashed, has_no_dots, is_dot_mark, is_kept_segment, is_never_encoded};
 
-use uv_grammar::Segments;
-use uv_model::{is_double_dot, is_single_dot};
 use uv_text::{byte_rows, row_end};
 
 // The ASCII bytes but `'`.
@@ -17,50 +15,9 @@ pub(crate) fn is_never_encoded(text: &str) -> bool
     row_end(text.as_bytes(), 0, &NEVER_ENCODED_ROWS) == text.len()
 }
 
-/// Whether a walk keeps each segment of a path that begins with `/`. They are cut only where one begins as a dot
-/// segment does: of the first one that is seen at once.
-pub(crate) fn keeps_path(path: &str, segments: Segments<'_, '_>) -> bool
-    ensures { IsTrue result → KeepsSlashed segments.entry (chars path.now) }
-{
-    match path.as_bytes() {
-        [_, second, ..] if is_dot_mark(*second) => keeps_each(segments),
-        bytes => is_without_dots(false, bytes) || keeps_each(segments),
-    }
-}
-
-// Whether a walk keeps each segment.
-fn keeps_each(segments: Segments<'_, '_>) -> bool
-    ensures { result ≡ list_all is_kept_segment segments.entry }
-{
-    for segment in segments {
-        if !is_kept(segment) {
-            return false;
-        }
-    }
-    true
-}
-
-// Whether a segment isn't a dot segment.
-fn is_kept(segment: &str) -> bool
-    ensures { result ≡ is_kept_segment (chars segment.now) }
-{
-    !(is_double_dot(segment) || is_single_dot(segment))
-}
-
-/// Whether no `.` and no `%` is after a `/`, nor at the start where a segment begins there.
-#[inline(always)]
-pub(crate) fn is_without_dots(at_start: bool, path: &[u8]) -> bool
-    ensures { result ≡ has_no_dots at_start path.now }
-{
-    match path.first() {
-        Some(first) if at_start && is_dot_mark(*first) => false,
-        _ => is_without_dots_within(path),
-    }
-}
-
-// Whether no `.` and no `%` follows a `/`. The paths of most links are short: two windows of a fixed length, which
-// overlap, cover such a path, and each is compared at once. So is the end of a longer path.
-fn is_without_dots_within(path: &[u8]) -> bool
+/// Whether no `.` and no `%` follows a `/`. The paths of most links are short: two windows of a fixed length, which
+/// overlap, cover such a path, and each is compared at once. So is the end of a longer path.
+pub(crate) fn is_without_dots(path: &[u8]) -> bool
     ensures { result ≡ has_no_dots false path.now }
 {
     match path.len() {

@@ -5,18 +5,15 @@
 mod base;
 mod encoded_parts;
 mod fault;
-mod host_text;
-mod ipv6_text;
 mod kept;
 pub mod laws;
-mod path_pieces;
 mod paths;
-mod pieces;
 mod records;
 mod resolver;
 mod schemes;
 mod serialized;
 mod walker;
+mod writer;
 
 pub use base::resolve_base;
 pub use fault::ResolveFault;

@@ -1,17 +1,16 @@
 //! The path of the record that the parts of a valid text denote, after the URL Standard, section 4.4.
-ghost use Rattle.std.specs.Prelude.{◌≡◌, ◌∷◌, [], IfOk, IfSome, IsTrue, MatchOption, true, false, chars};
+ghost use Rattle.std.specs.Prelude.{◌≡◌, ◌∷◌, [], IfOk, IfSome, MatchOption, false, true, chars};
 ghost use Rattle.std.specs.Prelude.{option_copied, string_bytes};
-ghost use Rattle.std.specs.Str.{IsAscii};
 ghost use Rattle.uv_model.specs.Records.Denote as spec;
 ghost use Rattle.uv_model.specs.Records.WellFormed.{AreUrlSegments};
 ghost use Rattle.uv_model.specs.Encoding.{encoded};
 ghost use Rattle.uv_model.specs.Path as path_spec;
-ghost use Rattle.uv_resolve.specs.Resolve.{HaveValidText};
-ghost use Rattle.uv_resolve.specs.Kept.{has_no_dots};
-ghost use Rattle.uv_resolve.specs.Walk.{IsKeptPath, IsSegmented, StartsSegments};
+ghost use Rattle.uv_model.specs.Records.Serialize.{serial_segments};
+ghost use Rattle.uv_resolve.specs.Walk.{StartsSegments};
+ghost use Rattle.uv_resolve.specs.Written.{IsRooted, IsSlashed, IsWholePath};
 
 use crate::encoded_parts::encoded_part;
-use crate::kept::is_without_dots;
+use crate::kept::{is_never_encoded, is_without_dots};
 use crate::walker::{shorten, walk};
 use std::alloc::{AllocError, Global};
 use uv_grammar::{Form, Parts};
@@ -28,7 +27,101 @@ pub(crate) fn path_of(
     parts: &Parts<'_>,
     base: Option<&Record>,
 ) -> Result<UrlPath, AllocError>
-    requires { HaveValidText (option_copied base) parts.now }
+    ensures { IfOk result (λ path.
+        path ≡ spec.denoted_path (option_copied base.entry) class parts.now.form parts.now) }
+{
+    match whole_path(class, parts) {
+        Some(text) => Ok(UrlPath::Segments(TextList::of_path(whole(alloc, text)?))),
+        None => made_path(alloc, class, parts, base),
+    }
+}
+
+/// The text whose encoding is that of the path, where the path begins anew at a `/`, with which the next segment doesn't
+/// begin, and no segment begins as a dot segment does. So are the paths of most links. None says nothing.
+#[inline(always)]
+pub(crate) fn whole_path<'t>(class: Class, parts: &Parts<'t>) -> Option<&'t str>
+    ensures { IfSome result (λ text. IsWholePath class parts.now (chars text.now)) }
+{
+    // For the proof alone: the clause of this call says how the segments follow from the path's text.
+    let _segments = parts.segments();
+    let text = parts.path_text();
+    match parts.form() {
+        Form::SchemeAuthority => rooted(class, text),
+        Form::Authority => rooted(class, text),
+        Form::SchemePath => slashed(text),
+        Form::PathAbsolute => match class {
+            Class::SpecialNotFile => slashed(text),
+            Class::Other => slashed(text),
+            Class::File => None,
+        },
+        Form::SchemeOpaque | Form::PathRelative | Form::NoPath => None,
+    }
+}
+
+// The same of the text of a path after an authority, which may be empty.
+#[inline(always)]
+fn rooted<'t>(class: Class, text: &'t str) -> Option<&'t str>
+    ensures { IfSome result (λ found. IsRooted class (chars text.now) found.now) }
+{
+    if text.is_empty() {
+        Some(root_text(class))
+    } else {
+        slashed(text)
+    }
+}
+
+// The text of the path of a URL whose text has none after its authority.
+fn root_text(class: Class) -> &'static str
+    ensures { result.now ≡ serial_segments (spec.authority_path class []) }
+{
+    match class {
+        Class::SpecialNotFile | Class::File => "/",
+        Class::Other => "",
+    }
+}
+
+// A text, where it begins with one `/` and no segment begins as a dot segment does.
+#[inline(always)]
+fn slashed<'t>(text: &'t str) -> Option<&'t str>
+    ensures { IfSome result (λ found. (found.now ≡ text.now) × IsSlashed (chars text.now)) }
+{
+    let Some(rest) = text.strip_prefix('/') else {
+        return None;
+    };
+    if !begins_with_slash(rest.as_bytes()) && is_without_dots(text.as_bytes()) {
+        Some(text)
+    } else {
+        None
+    }
+}
+
+fn begins_with_slash(text: &[u8]) -> bool
+    ensures { result ≡ path_spec.starts_with_slash text.now }
+{
+    match text {
+        [first, ..] => *first == b'/',
+        [] => false,
+    }
+}
+
+// The path of such a text.
+fn whole(alloc: Global, text: &str) -> Result<PathText, AllocError>
+    ensures { IfOk result (λ path. path ≡ path_spec.segments_of (encoded false (chars text.now))) }
+{
+    if is_never_encoded(text) {
+        return PathText::of(alloc, text);
+    }
+    PathText::of_string(alloc, encode(alloc, text, false)?)
+}
+
+/// The path, made segment by segment where it has such.
+#[inline(never)]
+pub(crate) fn made_path(
+    alloc: Global,
+    class: Class,
+    parts: &Parts<'_>,
+    base: Option<&Record>,
+) -> Result<UrlPath, AllocError>
     ensures { IfOk result (λ path.
         path ≡ spec.denoted_path (option_copied base.entry) class parts.now.form parts.now) }
 {
@@ -47,24 +140,10 @@ fn authority_path(alloc: Global, class: Class, parts: &Parts<'_>) -> Result<UrlP
     ensures { IfOk result (λ path.
         path ≡ UrlPath.Segments (spec.authority_path class parts.now.segments)) }
 {
-    // For the proof alone: the clause of this call says how the segments follow from the path's text.
-    let _segments = parts.segments();
-    match kept_path(parts) {
-        Some(text) if !text.is_empty() => kept(alloc, text),
-        _ => match parts.segments().next() {
-            Some(_) => rewritten_alone(alloc, class, parts),
-            None => root(alloc, class),
-        },
+    match parts.segments().next() {
+        Some(_) => walked(alloc, class, path_for(alloc, parts)?, parts),
+        None => root(alloc, class),
     }
-}
-
-// The path of a text that stays as it is.
-fn kept(alloc: Global, text: &str) -> Result<UrlPath, AllocError>
-    requires { IsAscii text.now }
-    ensures { IfOk result (λ path. path ≡ UrlPath.Segments (path_spec.segments_of text.now)) }
-{
-    let path = PathText::of(alloc, text)?;
-    Ok(UrlPath::Segments(TextList::of_path(path)))
 }
 
 // The path of a URL whose text has none after its authority.
@@ -86,7 +165,7 @@ fn path_for(alloc: Global, parts: &Parts<'_>) -> Result<PathText, AllocError>
     PathText::with_capacity(alloc, parts.path_text().len().saturating_add(1))
 }
 
-// What a walk over the segments makes of the path `start`. Where each segment stays, they are appended at once.
+// What a walk over the segments makes of the path `start`.
 fn walked(
     alloc: Global,
     class: Class,
@@ -96,92 +175,9 @@ fn walked(
     ensures { IfOk result (λ path.
         path ≡ UrlPath.Segments (path_spec.walk class start parts.now.segments)) }
 {
-    // For the proof alone: the clause of this call says how the segments follow from the path's text.
-    let _segments = parts.segments();
-    match kept_path(parts) {
-        Some(text) => {
-            let mut path = start;
-            path.push_path(text)?;
-            Ok(UrlPath::Segments(TextList::of_path(path)))
-        }
-        None => rewritten(alloc, class, start, parts),
-    }
-}
-
-// What a walk over the segments makes of an empty path, where some segment changes. `rewritten` would make it too, but
-// with a copy: here the string of the encoded path becomes the path, and room is asked for only where the segments are
-// walked.
-fn rewritten_alone(alloc: Global, class: Class, parts: &Parts<'_>) -> Result<UrlPath, AllocError>
-    ensures { IfOk result (λ path. path ≡ UrlPath.Segments (path_spec.walk class [] parts.now.segments)) }
-{
     let segments = parts.segments();
-    let path = match encoded_path_of(alloc, parts)? {
-        Some(encoded) => PathText::of_string(alloc, encoded)?,
-        None => walk(alloc, class, path_for(alloc, parts)?, segments)?,
-    };
+    let path = walk(alloc, class, start, segments)?;
     Ok(UrlPath::Segments(TextList::of_path(path)))
-}
-
-// What a walk over the segments makes of the path `start`, where some segment changes. Where they are only encoded,
-// that is done at once, and else segment by segment.
-fn rewritten(
-    alloc: Global,
-    class: Class,
-    start: PathText,
-    parts: &Parts<'_>,
-) -> Result<UrlPath, AllocError>
-    ensures { IfOk result (λ path.
-        path ≡ UrlPath.Segments (path_spec.walk class start parts.now.segments)) }
-{
-    let segments = parts.segments();
-    let path = match encoded_path_of(alloc, parts)? {
-        Some(encoded) => {
-            let mut path = start;
-            path.push_path(encoded.as_str())?;
-            path
-        }
-        None => walk(alloc, class, start, segments)?,
-    };
-    Ok(UrlPath::Segments(TextList::of_path(path)))
-}
-
-// The path's text, where it is written as it is, and a walk keeps each segment. None says nothing.
-fn kept_path<'t>(parts: &Parts<'t>) -> Option<&'t str>
-    ensures { IfSome result (λ text. IsKeptPath parts.now.form parts.now.path_text text.now) }
-{
-    let text = parts.path_text();
-    if text.is_ascii() && is_segmented_without_dots(parts) {
-        Some(text)
-    } else {
-        None
-    }
-}
-
-// The encoded text of a path that begins with `/`, where a walk keeps each segment. None says nothing.
-fn encoded_path_of(alloc: Global, parts: &Parts<'_>) -> Result<Option<String>, AllocError>
-    ensures { IfOk result (λ encoded. IfSome encoded (λ text.
-        IsKeptPath parts.now.form parts.now.path_text (string_bytes text))) }
-{
-    let text = parts.path_text();
-    if !is_segmented_without_dots(parts) {
-        return Ok(None);
-    }
-    match text.strip_prefix('/') {
-        Some(_) => Ok(Some(encode(alloc, text, false)?)),
-        None => Ok(None),
-    }
-}
-
-// Whether the path isn't opaque, and no segment of it begins as a dot segment does.
-#[inline(always)]
-fn is_segmented_without_dots(parts: &Parts<'_>) -> bool
-    ensures form { IsTrue result → IsSegmented parts.now.form }
-    ensures no_dots { IsTrue result → has_no_dots true parts.now.path_text ≡ true }
-{
-    match parts.form() {
-        Form::SchemeOpaque => false,
-        _ => is_without_dots(true, parts.path_text().as_bytes()),
-    }
 }
 
 // Whether a query or a fragment follows the path.

@@ -8,8 +8,7 @@ ghost use Rattle.uv_model.specs.Records.WellFormed.{MayBeWellFormed};
 ghost use Rattle.uv_resolve.specs.Serialized.{ArePartsOf, IsSerialized, RefusesSerializedWithoutMemory};
 
 use crate::fault::ResolveFault;
-use crate::pieces::pieces;
-use crate::records::denoted;
+use crate::writer::write_url;
 use std::alloc::{AllocError, Global};
 use std::borrow::CowStr;
 use uv_grammar::{Parts, Verdict, check};
@@ -45,13 +44,10 @@ pub fn serialize_parts(
     ensures { IfOk result (λ written.
         string_bytes written ≡ serial (denote (option_copied base.entry) parts.entry)) }
 {
-    match serialized_text(alloc, text, &parts, base)? {
-        CowStr::Borrowed(text) => String::from_str(alloc, text),
-        CowStr::Owned(written) => Ok(written),
-    }
+    write_url(alloc, text, &parts, base)
 }
 
-/// The same, but lends the text where it is known to be the URL's text itself. Most links are, and take no memory then.
+/// The same of parts that are kept, as a text that may be lent.
 pub fn serialized_text<'t>(
     alloc: Global,
     text: &'t str,
@@ -62,43 +58,5 @@ pub fn serialized_text<'t>(
     ensures { IfOk result (λ written.
         cow_str_bytes written ≡ serial (denote (option_copied base.entry) parts.now)) }
 {
-    let Some(pieces) = pieces(parts, base) else {
-        return Ok(CowStr::Owned(record_text(alloc, text, parts, base)?));
-    };
-    if pieces.is_text(text, parts) {
-        return Ok(CowStr::Borrowed(text));
-    }
-    Ok(CowStr::Owned(pieces.write(alloc)?))
-}
-
-// The same, by the record, of a URL whose text has no pieces. A function clears room for a value as large as that where
-// it begins, so that this one is apart from what is written without a record.
-#[inline(never)]
-fn record_text(
-    alloc: Global,
-    _text: &str,
-    parts: &Parts<'_>,
-    base: Option<&Record>,
-) -> Result<String, AllocError>
-    requires { ArePartsOf (option_copied base) (chars _text.now) parts.now }
-    ensures { IfOk result (λ written.
-        string_bytes written ≡ serial (denote (option_copied base.entry) parts.now)) }
-{
-    see_base(base);
-    match denoted(alloc, parts, base) {
-        Ok(record) => record.text(alloc),
-        Err(ResolveFault::Refused(_) | ResolveFault::Memory(_)) => Err(AllocError),
-    }
-}
-
-// A base is well formed, as each record is.
-fn see_base(base: Option<&Record>)
-    ensures { MayBeWellFormed Parser (option_copied base.entry) }
-{
-    match base {
-        Some(base) => {
-            let _ = base.path();
-        }
-        None => {}
-    }
+    Ok(CowStr::Owned(write_url(alloc, text, parts, base)?))
 }

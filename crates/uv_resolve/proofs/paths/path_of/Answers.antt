@@ -1,20 +1,11 @@
--- The path of a text with an opaque one.
-use Rattle.std.proofs.Common.{◌≡◌, IfOk, ap, chars, option_copied, subst, sym, ◌∙◌}
-use Rattle.uv_grammar.specs.Form.{seen_form}
-use Rattle.uv_model.specs.declared.path.UrlPath.{UrlPath}
-use Rattle.uv_model.specs.declared.path.UrlPath.TheVariants.{Opaque}
-use Rattle.uv_model.specs.Encoding.{encoded}
-use Rattle.uv_model.specs.Records.Denote.{end_escaped, has_tail}
-use Rattle.std.proofs.Common.{false}
-use Rattle.uv_resolve.proofs.RecordLemmas.{opaque_path_denoted}
+-- The encoding of a whole path is the text of the denoted segments.
+use Rattle.std.proofs.Common.{ap, chars, option_copied, ◌∙◌}
+use Rattle.uv_model.specs.declared.path.UrlPath.TheVariants.{Segments}
+use Rattle.uv_resolve.proofs.WholePathLemmas.{whole-segments}
 use Rattle.uv_resolve.proofs.paths.path_of.Goals as goal
 
-pub returns-in-SchemeOpaque : goal.returns-in-SchemeOpaque
-returns-in-SchemeOpaque c =
-    let parts = c.args.parts.now in
-    subst (λ (path : UrlPath). IfOk c.opaque_path.result (λ p. p ≡ path))
-    (ap (λ followed. Opaque (encoded false (end_escaped followed (chars c.path_text.result.now)))) c.has_tail.ensures
-    ∙ ap (λ text. Opaque (encoded false (end_escaped (has_tail parts) text))) c.path_text.ensures
-    ∙ opaque_path_denoted (option_copied c.args.base) c.args.class parts
-    (sym c.form.ensures ∙ ap seen_form c.in-SchemeOpaque.is))
-    c.opaque_path.ensures
+pub returns-in_ok-whole-in-Some : goal.returns-in_ok-whole-in-Some
+returns-in_ok-whole-in-Some c =
+    ap Segments (c.of_path.ensures ∙ c.in_ok-whole-in-Some.ensures)
+    ∙ whole-segments (option_copied c.args.base) c.args.class c.args.parts.now (chars c.in-Some.text.now)
+    c.in-Some.ensures
