@@ -1,7 +1,7 @@
 -- What a base that is held says of the bytes from which it was prepared.
 use Rattle.std.proofs.Common.{◌≡◌, ◌≢◌, ℕ, Bool, true, false, List, None, Some, IsUtf8, refl, sym, ap, ◌∙◌, inl, inr}
 use Rattle.std.proofs.Common.{subst}
-use Rattle.std.specs.Prelude.{not, ◌==◌}
+use Rattle.std.specs.Prelude.{not, ◌==◌, ◌⊎◌}
 use Rattle.std.proofs.lemmas.Option.{same_Some}
 use Rattle.uv_model.specs.declared.profile.Profile.{Profile}
 use Rattle.uv_model.specs.Records.Url.{Url}
@@ -16,7 +16,7 @@ use Rattle.urlcheck_c.specs.Base.{IsBaseOfKind, IsPreparedBase, IsUnread, flag_n
 use Rattle.urlcheck_c.specs.Base.{scheme_number}
 use Rattle.urlcheck_c.specs.Base.{base_fault, scheme_with}
 use Rattle.urlcheck_c.specs.Finding.{profile_of}
-use Rattle.urlcheck_c.specs.Request.{IsBase, IsNoText, IsRequest, IsUnchecked}
+use Rattle.urlcheck_c.specs.Request.{IsBase, IsNoBase, IsNoRecord, IsNoRequest, IsNoText, IsRequest, IsUnchecked}
 
 -- ---- the kind and its numbers
 
@@ -54,7 +54,7 @@ pub told_fault : (number : ℕ) (bytes : List ℕ) (base : Base) → IsUnread nu
 told_fault number bytes base (inl x) other = absurd (other (ap (λ (f : Finding). f.verdict) x.1))
 told_fault number bytes base (inr (profile, is, inl x)) other = rw x.said refl
 told_fault number bytes base (inr (profile, is, inr (utf8, inl x))) other = rw x.said refl
-told_fault number bytes base (inr (profile, is, inr (utf8, inr x))) other = rw x.0 refl
+told_fault number bytes base (inr (profile, is, inr (utf8, inr x))) other = rw x.said refl
 
 -- nothing is read from the base
 pub no_base : (number : ℕ) (base bytes : List ℕ) (held : Base) → IsUnread number base held.found
@@ -122,3 +122,12 @@ pub prepared_profile : (number : ℕ) (bytes : List ℕ) (base : Base) → IsPre
     → base.profile ≡ number
 prepared_profile number bytes base (inl (unread, is)) = ap (λ (b : Base). b.profile) is
 prepared_profile number bytes base (inr (kind, of_kind, is)) = ap (λ (b : Base). b.profile) is
+
+-- ---- a record that isn't made
+
+-- nothing is read from the base, or memory runs out for its record
+pub no_request : (number : ℕ) (profile : Profile) (base bytes : List ℕ) (finding : Finding)
+    → profile_of number ≡ Some profile → IsUtf8 bytes
+    → IsNoBase profile base finding ⊎ IsNoRecord profile base finding → IsNoRequest number (Some base) bytes finding
+no_request number profile base bytes finding is utf8 (inl none) = inl (inr (profile, is, inr (utf8, none)))
+no_request number profile base bytes finding is utf8 (inr lacking) = inr (profile, is, utf8, lacking)

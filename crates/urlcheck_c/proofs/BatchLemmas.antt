@@ -51,7 +51,7 @@ small_numbers number bytes answer (inr (profile, url, request, inl valid)) = rw 
 small_numbers number bytes answer (inr (profile, url, request, inr (bare, inl refused))) =
     rw refused.said (lit< tt, small_rule refused.refusal.rule)
 small_numbers number bytes answer (inr (profile, url, request, inr (bare, inr memory))) =
-    rw memory.0 (lit< tt, lit< tt)
+    rw memory.said (lit< tt, lit< tt)
 
 -- ---- columns
 

@@ -100,7 +100,7 @@ refused_row number bytes finding (inl (found, same, unchecked)) =
     let is : finding ≡ found = cc in (
       record {
         room = [];
-        answer = inl (refl, refl, subst (λ (f : Finding). IsUnchecked number None bytes f) (sym is) unchecked);
+        answer = inl (refl, refl, inl (subst (λ (f : Finding). IsUnchecked number None bytes f) (sym is) unchecked));
       },
       subst (λ (f : Finding). IsSmall f) (sym is) (small_unchecked number bytes found unchecked),
     )

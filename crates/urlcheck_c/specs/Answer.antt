@@ -4,13 +4,12 @@ use Rattle.std.specs.Str.{chars}
 use Rattle.uv_model.specs.declared.profile.Profile.{Profile}
 use Rattle.uv_model.specs.Parts.{Parts}
 use Rattle.uv_model.specs.Records.Url.{Url}
-use Rattle.uv_grammar.specs.NoMemory.{TakesNoMemoryAgainst}
 use Rattle.uv_grammar.specs.Verdict.{IsAccepted}
 use Rattle.urlcheck_c.specs.declared.checks.Answer.{Answer}
 use Rattle.urlcheck_c.specs.declared.finding.Finding.{Finding}
 use Rattle.urlcheck_c.specs.declared.finding.CallOutcome.TheVariants.{Valid, Refused}
 use Rattle.urlcheck_c.specs.Finding.{plain_finding}
-use Rattle.urlcheck_c.specs.Request.{IsMemory, IsRefusedText, IsRequest, IsUnchecked}
+use Rattle.urlcheck_c.specs.Request.{IsOutOfMemory, IsRefusedText, IsRequest, IsUnchecked}
 use Rattle.urlcheck_c.specs.Span.{AreSpans, no_spans}
 
 -- the text is valid against the base, and the spans are those of its parts
@@ -19,10 +18,6 @@ pub record IsValidAnswer (profile : Profile) (base : Option Url) (bytes : List �
   pub accepted : IsAccepted profile base (chars bytes) parts
   pub spans : AreSpans bytes parts answer.parts
   pub found : answer.found ≡ plain_finding Valid
-
--- memory ran out, of a text that isn't checked without it
-abbrev pub IsOutOfMemory : Profile → Option Url → List ℕ → Finding → Type 0
-IsOutOfMemory profile base bytes finding = IsMemory finding × ¬ (TakesNoMemoryAgainst profile base (chars bytes))
 
 -- the text is valid; or it has no spans, and it is refused, or memory ran out
 abbrev pub IsChecked : Profile → Option Url → List ℕ → Answer → Type 0

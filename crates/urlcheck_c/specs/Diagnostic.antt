@@ -1,5 +1,6 @@
 -- A diagnostic on a text that is in a file, by numbers.
 use Rattle.std.specs.Prelude.{◌≡◌, ◌≢◌, ℕ, ◌⊎◌, ◌==◌, not, true, List, Option, Some, None, Result, Ok, Err, IsUtf8}
+use Rattle.uv_model.specs.declared.mend_kind.MendKind.{MendKind}
 use Rattle.uv_report.specs.declared.diagnostic.Diagnostic.{Diagnostic}
 use Rattle.uv_report.specs.declared.format.Format.{Format}
 use Rattle.uv_report.specs.declared.mended.Mended.{Mended}
@@ -19,32 +20,37 @@ use Rattle.urlcheck_c.specs.Written.{IsGiven, IsRefusedFor, IsUnwritten}
 
 -- ---- the mended text
 
--- the numbers say this mended text: its kind, its bytes, and in its line where the text is in whose place it is
-pub record IsMended (violation : Violation) (bytes : List ℕ) (mended : Mended) : Type 0 where
+-- The numbers say this mended text: its kind, its bytes, and in its line where the text is in whose place it is. An
+-- edit of the file is written where there is a region alone, whose columns are in range.
+pub record IsMended (format : Format) (violation : Violation) (bytes : List ℕ) (mended : Mended) : Type 0 where
   pub kind_is : kind_of violation.kind ≡ Some mended.kind
   pub utf8 : IsUtf8 bytes
   pub text : mended.text.now ≡ bytes
   pub start : mended.start ≡ violation.first_column
   pub end : mended.end ≡ violation.end_column
+  pub region : writes_edits format ≡ true → violation.has_region ≢ 0
+  pub range : violation.has_region ≢ 0 → IsInRange violation.first_column × IsInRange violation.end_column
 
--- A diagnostic carries none: the kind is 0, or there is no region, which an edit of the file needs.
-abbrev pub HasNoMended : Format → Violation → Type 0
-HasNoMended format violation =
-    (violation.kind ≡ 0) ⊎ ((violation.has_region ≡ 0) × (writes_edits format ≡ true))
+-- A diagnostic carries none: the kind is 0; or the numbers say one without a region, which an edit of the file needs.
+abbrev pub HasNoMended : Format → Violation → List ℕ → Type 0
+HasNoMended format violation bytes =
+    (violation.kind ≡ 0)
+    ⊎ ((kind : MendKind) × (kind_of violation.kind ≡ Some kind) × IsUtf8 bytes × (violation.has_region ≡ 0)
+    × (writes_edits format ≡ true))
 
--- The numbers say none of these: no kind has the number, the bytes are no UTF-8, or a column of the region is out of
--- range.
+-- The numbers say none of these: no kind has the number, the bytes are no UTF-8, or there is a region of which a column
+-- is out of range.
 abbrev pub IsNoMended : Violation → List ℕ → Finding → Type 0
 IsNoMended violation bytes finding =
     ((kind_of violation.kind ≡ None) × (finding ≡ plain_finding NoKind))
     ⊎ (IsNoText MendedNoUtf8 bytes finding
-    ⊎ ((¬ (IsInRange violation.first_column × IsInRange violation.end_column))
+    ⊎ ((violation.has_region ≢ 0) × (¬ (IsInRange violation.first_column × IsInRange violation.end_column))
     × (finding ≡ plain_finding NoColumn)))
 
 -- what a diagnostic in the format carries of a mended text, or why nothing is said
 abbrev pub IsMendedRead : Format → Violation → List ℕ → Result (Option Mended) Finding → Type 0
-IsMendedRead format violation bytes (Ok None) = HasNoMended format violation
-IsMendedRead format violation bytes (Ok (Some mended)) = IsMended violation bytes mended
+IsMendedRead format violation bytes (Ok None) = HasNoMended format violation bytes
+IsMendedRead format violation bytes (Ok (Some mended)) = IsMended format violation bytes mended
 IsMendedRead format violation bytes (Err finding) = (violation.kind ≢ 0) × IsNoMended violation bytes finding
 
 -- ---- the diagnostic
@@ -57,6 +63,7 @@ pub record IsDiagnostic (format : Format) (violation : Violation) (file text men
   pub line : diagnostic.line ≡ violation.line
   pub column : diagnostic.column ≡ violation.column
   pub end : diagnostic.end ≡ violation.end
+  pub range : IsInRange violation.line × IsInRange violation.column × IsInRange violation.end
   pub text_is : diagnostic.text.now ≡ text
   pub violated : IsViolation violation.profile violation.rule violation.place text diagnostic.profile
       diagnostic.violation

@@ -12,7 +12,7 @@ use Rattle.urlcheck_c.specs.declared.finding.CallOutcome.TheVariants as outcome
 use Rattle.urlcheck_c.specs.declared.mended.Mended.{Mended}
 use Rattle.urlcheck_c.specs.Buffer.{IsWritten}
 use Rattle.urlcheck_c.specs.Finding.{plain_finding, refused_finding}
-use Rattle.urlcheck_c.specs.Request.{IsRequest, IsUnchecked}
+use Rattle.urlcheck_c.specs.Request.{IsNoRequest, IsRequest}
 
 -- the number of a kind
 abbrev pub kind_number : MendKind → ℕ
@@ -47,6 +47,6 @@ IsRequestMended profile base bytes old new given =
 -- the text isn't checked, and nothing was written; or it is checked against the base, if one is given
 abbrev pub IsMendedAnswer : ℕ → Option (List ℕ) → List ℕ → List ℕ → List ℕ → Mended → Type 0
 IsMendedAnswer number base bytes old new given =
-    ((given.kind ≡ 0) × (given.length ≡ 0) × (new ≡ old) × IsUnchecked number base bytes given.found)
+    ((given.kind ≡ 0) × (given.length ≡ 0) × (new ≡ old) × IsNoRequest number base bytes given.found)
     ⊎ ((profile : Profile) × (url : Option Url) × IsRequest number base bytes profile url
     × IsRequestMended profile url bytes old new given)

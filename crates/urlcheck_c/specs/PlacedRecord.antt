@@ -12,7 +12,7 @@ use Rattle.urlcheck_c.specs.Base.{flag_number}
 use Rattle.urlcheck_c.specs.Buffer.{IsWritten}
 use Rattle.urlcheck_c.specs.Finding.{plain_finding}
 use Rattle.urlcheck_c.specs.RecordPlaces.{AreRecordSpans, host_number}
-use Rattle.urlcheck_c.specs.Request.{IsRefusedText, IsRequest, IsUnchecked, LacksMemory}
+use Rattle.urlcheck_c.specs.Request.{IsNoRequest, IsRefusedText, IsRequest, LacksMemory}
 use Rattle.urlcheck_c.specs.Span.{no_spans}
 
 -- no record, since this was found
@@ -47,6 +47,6 @@ IsPlacedChecked profile base bytes old new answer =
 -- the text isn't checked, and nothing was written; or it is checked against the base, if one is given
 abbrev pub IsPlacedAnswer : ℕ → Option (List ℕ) → List ℕ → List ℕ → List ℕ → PlacedRecord → Type 0
 IsPlacedAnswer number base bytes old new answer =
-    (IsUnplaced old new answer × IsUnchecked number base bytes answer.found)
+    (IsUnplaced old new answer × IsNoRequest number base bytes answer.found)
     ⊎ ((profile : Profile) × (url : Option Url) × IsRequest number base bytes profile url
     × IsPlacedChecked profile url bytes old new answer)

@@ -5,6 +5,7 @@ use Rattle.std.specs.Str.{chars}
 use Rattle.uv_model.specs.declared.profile.Profile.{Profile}
 use Rattle.uv_model.specs.declared.rule.Refusal.{Refusal}
 use Rattle.uv_model.specs.Records.Url.{Url}
+use Rattle.uv_grammar.specs.NoMemory.{TakesNoMemoryAgainst}
 use Rattle.uv_grammar.specs.Verdict.{IsRefused}
 use Rattle.uv_resolve.specs.Resolve.{Denotes, IsRefusedWithoutMemory}
 use Rattle.urlcheck_c.specs.declared.finding.Finding.{Finding}
@@ -32,6 +33,11 @@ pub record IsRefusedText (outcome : CallOutcome) (profile : Profile) (base : Opt
 abbrev pub IsMemory : Finding → Type 0
 IsMemory finding = finding ≡ plain_finding Memory
 
+-- memory ran out, of bytes that aren't checked without it
+pub record IsOutOfMemory (profile : Profile) (base : Option Url) (bytes : List ℕ) (finding : Finding) : Type 0 where
+  pub said : IsMemory finding
+  pub needed : ¬ (TakesNoMemoryAgainst profile base (chars bytes))
+
 -- memory ran out, of bytes that aren't refused without it
 abbrev pub LacksMemory : Profile → Option Url → List ℕ → Finding → Type 0
 LacksMemory profile base bytes finding = IsMemory finding × ¬ (IsRefusedWithoutMemory profile base (chars bytes))
@@ -41,17 +47,22 @@ abbrev pub IsTextRead : CallOutcome → List ℕ → Result (Bor (List ℕ)) Fin
 IsTextRead outcome bytes (Ok text) = (text.now ≡ bytes) × IsUtf8 bytes
 IsTextRead outcome bytes (Err finding) = IsNoText outcome bytes finding
 
--- the bytes of a base are no UTF-8; else they are refused alone, or memory ran out where it is asked for
+-- the bytes of a base are no UTF-8; else they are refused alone, or memory ran out where their check asks for it
 abbrev pub IsNoBase : Profile → List ℕ → Finding → Type 0
 IsNoBase profile bytes finding =
     IsNoText BaseNoUtf8 bytes finding
     ⊎ (IsUtf8 bytes
-    × (IsRefusedText BaseRefused profile None bytes finding ⊎ LacksMemory profile None bytes finding))
+    × (IsRefusedText BaseRefused profile None bytes finding ⊎ IsOutOfMemory profile None bytes finding))
+
+-- memory ran out for the record of a base
+pub record IsNoRecord (profile : Profile) (bytes : List ℕ) (finding : Finding) : Type 0 where
+  pub utf8 : IsUtf8 bytes
+  pub lacks : LacksMemory profile None bytes finding
 
 -- what the bytes of a base denote alone, or why they denote nothing
 abbrev pub IsBaseRead : Profile → List ℕ → Result Url Finding → Type 0
 IsBaseRead profile bytes (Ok url) = IsUtf8 bytes × Denotes profile None (chars bytes) url
-IsBaseRead profile bytes (Err finding) = IsNoBase profile bytes finding
+IsBaseRead profile bytes (Err finding) = IsNoBase profile bytes finding ⊎ IsNoRecord profile bytes finding
 
 -- there is no base, or its bytes denote the URL alone
 abbrev pub IsBase : Profile → Option (List ℕ) → Option Url → Type 0
@@ -71,6 +82,17 @@ IsUnchecked number base bytes finding =
     ⊎ ((profile : Profile) × (profile_of number ≡ Some profile)
     × (IsNoText NoUtf8 bytes finding ⊎ (IsUtf8 bytes × IsNoBaseGiven profile base finding)))
 
+-- memory ran out for the record of a base that is given
+abbrev pub IsNoRecordGiven : Profile → Option (List ℕ) → Finding → Type 0
+IsNoRecordGiven profile None finding = ⊥
+IsNoRecordGiven profile (Some bytes) finding = IsNoRecord profile bytes finding
+
+-- the text isn't checked; or memory ran out before that, for the record of the base
+abbrev pub IsNoRequest : ℕ → Option (List ℕ) → List ℕ → Finding → Type 0
+IsNoRequest number base bytes finding =
+    IsUnchecked number base bytes finding
+    ⊎ ((profile : Profile) × (profile_of number ≡ Some profile) × IsUtf8 bytes × IsNoRecordGiven profile base finding)
+
 -- the number is the profile's, the bytes are UTF-8, and the base is read
 pub record IsRequest (number : ℕ) (base : Option (List ℕ)) (bytes : List ℕ) (profile : Profile)
     (url : Option Url) : Type 0 where
@@ -78,11 +100,11 @@ pub record IsRequest (number : ℕ) (base : Option (List ℕ)) (bytes : List ℕ
   pub utf8 : IsUtf8 bytes
   pub base_is : IsBase profile base url
 
--- what is to be checked, or why nothing is
+-- what is to be checked against the record of a base, or why nothing is
 abbrev pub IsPrepared : ℕ → Option (List ℕ) → List ℕ → Result Request Finding → Type 0
 IsPrepared number base bytes (Ok request) =
     (request.text.now ≡ bytes) × IsRequest number base bytes request.profile request.base
-IsPrepared number base bytes (Err finding) = IsUnchecked number base bytes finding
+IsPrepared number base bytes (Err finding) = IsNoRequest number base bytes finding
 
 -- the same of a text alone
 abbrev pub IsPreparedAlone : ℕ → List ℕ → Result LoneRequest Finding → Type 0

@@ -9,7 +9,7 @@ use Rattle.urlcheck_c.specs.declared.finding.CallOutcome.TheVariants.{Valid, Ref
 use Rattle.urlcheck_c.specs.declared.records.Resolved.{Resolved}
 use Rattle.urlcheck_c.specs.Buffer.{IsWritten}
 use Rattle.urlcheck_c.specs.Finding.{plain_finding}
-use Rattle.urlcheck_c.specs.Request.{IsRefusedText, IsRequest, IsUnchecked}
+use Rattle.urlcheck_c.specs.Request.{IsNoRequest, IsRefusedText, IsRequest}
 
 -- out of memory
 abbrev pub no_memory : Resolved
@@ -45,6 +45,6 @@ IsRecordAnswer profile base bytes old new answer =
 -- the text isn't checked, and nothing was written; or it is checked against the base, if one is given
 abbrev pub IsResolvedAnswer : ℕ → Option (List ℕ) → List ℕ → List ℕ → List ℕ → Resolved → Type 0
 IsResolvedAnswer number base bytes old new answer =
-    ((answer.length ≡ 0) × (new ≡ old) × IsUnchecked number base bytes answer.found)
+    ((answer.length ≡ 0) × (new ≡ old) × IsNoRequest number base bytes answer.found)
     ⊎ ((profile : Profile) × (url : Option Url) × IsRequest number base bytes profile url
     × IsRecordAnswer profile url bytes old new answer)

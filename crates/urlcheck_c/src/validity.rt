@@ -6,7 +6,7 @@ ghost use Rattle.urlcheck_c.specs.Base.{IsPreparedBase, SaysNoBase};
 ghost use Rattle.urlcheck_c.specs.Validity.{IsKnownValid, IsValidityAnswer};
 
 use crate::bases::{Base, HeldRequest, prepared_with};
-use crate::request::{Request, prepared};
+use crate::request::{LoneRequest, prepared_alone};
 use std::alloc::{AllocError, Global};
 use uv_grammar::{is_valid, is_valid_of_kind};
 
@@ -17,7 +17,7 @@ use uv_grammar::{is_valid, is_valid_of_kind};
 pub extern "C" fn urlcheck_is_valid(alloc: Global, text: &[u8], profile: u32) -> bool
     ensures { IsValidityAnswer profile None text.now result }
 {
-    match prepared(alloc, text, None, profile) {
+    match prepared_alone(text, profile) {
         Ok(request) => is_known_valid(alloc, &request),
         Err(_) => false,
     }
@@ -37,10 +37,10 @@ pub extern "C" fn urlcheck_is_valid_with(alloc: Global, text: &[u8], base: &Base
 }
 
 // The answer on a text that is checked.
-fn is_known_valid(alloc: Global, request: &Request<'_>) -> bool
-    ensures { IsKnownValid request.now.profile request.now.base request.now.text.now result }
+fn is_known_valid(alloc: Global, request: &LoneRequest<'_>) -> bool
+    ensures { IsKnownValid request.now.profile None request.now.text.now result }
 {
-    match is_valid(alloc, request.text, request.base.as_ref(), request.profile) {
+    match is_valid(alloc, request.text, None, request.profile) {
         Ok(answer) => answer,
         Err(AllocError) => false,
     }

@@ -1,14 +1,17 @@
 //! All that is wrong with a text, in the caller's buffer.
-ghost use Rattle.std.specs.Prelude.{◌≡◌, ℕ, List, None, Some, option_copied};
+ghost use Rattle.std.specs.Prelude.{◌≡◌, ℕ, IfOk, List, None, Option, Some};
+ghost use Rattle.std.specs.Str.{chars};
 ghost use Rattle.uv_grammar.specs.Bases.{IsOfKind};
+ghost use Rattle.uv_model.specs.declared.profile.Profile.{Profile};
 ghost use Rattle.uv_model.specs.Records.Url.{Url};
+ghost use Rattle.uv_model.specs.Violations.AllViolations.{AreFaults};
 ghost use Rattle.urlcheck_c.specs.Base.{IsPreparedBase, IsUncheckedWith, SaysNoBase};
 ghost use Rattle.urlcheck_c.specs.Faults.{IsFaultsAnswer, IsFaultsChecked, first_finding};
 
-use crate::bases::{Base, HeldRequest, prepared_with};
+use crate::bases::{Base, HeldRequest, prepared_against, prepared_with};
 use crate::buffers::store;
 use crate::finding::{CallOutcome, Finding};
-use crate::request::{Request, prepared};
+use crate::request::prepared_alone;
 use std::alloc::{AllocError, Global};
 use uv_grammar::{faults, faults_of_kind};
 use uv_model::Refusal;
@@ -46,7 +49,13 @@ pub extern "C" fn urlcheck_faults(
 ) -> FaultCount
     ensures { IsFaultsAnswer profile None text.now out.old out.new result }
 {
-    answered(alloc, text, None, profile, out)
+    match prepared_alone(text, profile) {
+        Ok(request) => {
+            let all = faults(alloc, request.text, None, request.profile);
+            listed(request.text, &all, out)
+        }
+        Err(found) => FaultCount { found, count: 0 },
+    }
 }
 
 /// The same against the bytes of a base, which is checked alone by the same profile.
@@ -60,7 +69,10 @@ pub extern "C" fn urlcheck_faults_against(
 ) -> FaultCount
     ensures { IsFaultsAnswer profile (Some base.now) text.now out.old out.new result }
 {
-    answered(alloc, text, Some(base), profile, out)
+    match prepared_against(alloc, text, base, profile) {
+        Ok(request) => listed_with(alloc, &request, out),
+        Err(found) => FaultCount { found, count: 0 },
+    }
 }
 
 /// The same against a base that `urlcheck_prepare` gave, by the base's profile.
@@ -77,59 +89,32 @@ pub extern "C" fn urlcheck_faults_with(
         → (result.count ≡ 0) × (out.new ≡ out.old) × IsUncheckedWith base.now text.now result.found }
 {
     match prepared_with(text, base) {
-        Ok(request) => checked_with(alloc, &request, out),
+        Ok(request) => listed_with(alloc, &request, out),
         Err(found) => FaultCount { found, count: 0 },
     }
 }
 
-// The faults of bytes, alone or against those of a base.
-fn answered(
-    alloc: Global,
-    text: &[u8],
-    base: Option<&[u8]>,
-    profile: u32,
-    out: &mut [Fault],
-) -> FaultCount
-    ensures { IsFaultsAnswer profile (option_copied base.entry) text.now out.old out.new result }
+// The faults of a text that is checked against a base that is held.
+fn listed_with(alloc: Global, request: &HeldRequest<'_>, out: &mut [Fault]) -> FaultCount
+    ensures { (url : Url) → IsOfKind url request.now.base.kind
+        → IsFaultsChecked request.now.base.profile (Some url) request.now.text.now out.old out.new result }
 {
-    match prepared(alloc, text, base, profile) {
-        Ok(request) => checked(alloc, &request, out),
-        Err(found) => FaultCount { found, count: 0 },
-    }
+    let all = faults_of_kind(alloc, request.text, request.base.kind, request.base.profile);
+    listed(request.text, &all, out)
 }
 
-// The faults of a text that is checked.
-fn checked(alloc: Global, request: &Request<'_>, out: &mut [Fault]) -> FaultCount
-    ensures { IsFaultsChecked request.now.profile request.now.base request.now.text.now out.old out.new result }
+// The answer by the faults of a text, as many of which are written as the buffer holds.
+fn listed(text: &str, all: &Result<Vec<Refusal>, AllocError>, out: &mut [Fault]) -> FaultCount
+    ensures { (profile : Profile) (base : Option Url)
+        → IfOk all.now (λ found. AreFaults profile base (chars text.now) found.items)
+        → IsFaultsChecked profile base text.now out.old out.new result }
 {
-    let text = request.text;
-    match faults(alloc, text, request.base.as_ref(), request.profile) {
+    match all {
         Ok(found) => {
             store(text, found.as_slice(), out);
             FaultCount {
                 found: first_found(text, found.as_slice()),
                 count: found.len(),
-            }
-        }
-        Err(AllocError) => FaultCount {
-            found: Finding::plain(CallOutcome::Memory),
-            count: 0,
-        },
-    }
-}
-
-// The faults of a text that is checked against a base that is held.
-fn checked_with(alloc: Global, request: &HeldRequest<'_>, out: &mut [Fault]) -> FaultCount
-    ensures { (url : Url) → IsOfKind url request.now.base.kind
-        → IsFaultsChecked request.now.base.profile (Some url) request.now.text.now out.old out.new result }
-{
-    let text = request.text;
-    match faults_of_kind(alloc, text, request.base.kind, request.base.profile) {
-        Ok(all) => {
-            store(text, all.as_slice(), out);
-            FaultCount {
-                found: first_found(text, all.as_slice()),
-                count: all.len(),
             }
         }
         Err(AllocError) => FaultCount {

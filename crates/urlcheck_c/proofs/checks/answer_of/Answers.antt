@@ -7,8 +7,8 @@ pub returns-in-Err : goal.returns-in-Err
 returns-in-Err c = λ profile base is takes.
     inr (
       c.unchecked-in-Err.ensures.parts,
-      inr (
-        c.unchecked-in-Err.ensures.found ∙ c.plain-in-Err.ensures,
-        λ none. false≢true (rw c.in-Err.is at (takes none)),
-      ),
+      inr (record {
+        said = c.unchecked-in-Err.ensures.found ∙ c.plain-in-Err.ensures;
+        needed = λ none. false≢true (rw c.in-Err.is at (takes none));
+      }),
     )

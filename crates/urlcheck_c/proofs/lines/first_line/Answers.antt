@@ -1,7 +1,8 @@
 -- What is before the first LF is the first line.
-use Rattle.std.proofs.Common.{◌∙◌, ◌+◌, ◌∷◌, ℕ, List, ap, arith, drop, length, sym, take}
+use Rattle.std.proofs.Common.{◌∙◌, ◌+◌, ◌∷◌, ℕ, List, ap, arith, drop, length, subst, sym, take}
 use Rattle.uv_lines.specs.Lines.{lines_of}
-use Rattle.urlcheck_c.proofs.NextLineLemmas.{closed_first, closed_text}
+use Rattle.urlcheck_c.specs.NextLine.{IsLineEnd}
+use Rattle.urlcheck_c.proofs.NextLineLemmas.{closed_end, closed_first, closed_text}
 use Rattle.urlcheck_c.proofs.lines.first_line.Goals as goal
 
 pub returns-in-Some : goal.returns-in-Some
@@ -15,6 +16,7 @@ returns-in-Some c =
       first = closed_first rest end found.1 found.2
           ∙ ap (λ (t : List ℕ). t ∷ lines_of (drop (end + 1) rest)) (sym text);
       text = text ∙ closed_text rest end (omega (arith, within)) ∙ ap (λ (t : List ℕ). take (length t) rest) (sym text);
+      ended = subst (λ (t : List ℕ). IsLineEnd rest (length t) (end + 1)) (sym text) (closed_end rest end within found.2);
       some = omega arith;
       within = omega (arith, within);
     }

@@ -20,8 +20,8 @@ returns-in-None-clause-held c = λ number is.
       ap (λ (m : Mended). m.kind) none,
       ap (λ (m : Mended). m.length) none,
       refl,
-      subst (λ (finding : Finding). IsUnchecked number (Some c.args.base_text.now) c.args.text.now finding)
+      inl (subst (λ (finding : Finding). IsUnchecked number (Some c.args.base_text.now) c.args.text.now finding)
           (sym (ap (λ (m : Mended). m.found) none))
           (c.unread.ensures.held number c.args.base_text.now is
-          (c.in-None.ensures.held number c.args.base_text.now is)),
+          (c.in-None.ensures.held number c.args.base_text.now is))),
     )

@@ -1,5 +1,5 @@
 -- The bytes that are resolved are the text's.
-use Rattle.std.proofs.Common.{ℕ, List, inr, subst}
+use Rattle.std.proofs.Common.{ℕ, List, inl, inr, refl, subst}
 use Rattle.urlcheck_c.specs.Resolved.{IsRecordAnswer}
 use Rattle.urlcheck_c.proofs.records.record_answer.Goals as goal
 
@@ -13,3 +13,6 @@ returns-in-Ok c =
           c.request_resolved.new.out c.request_resolved.result)
           c.in-Ok.ensures.0 c.request_resolved.ensures,
     )
+
+pub returns-in-Err : goal.returns-in-Err
+returns-in-Err c = inl (refl, refl, c.in-Err.ensures)

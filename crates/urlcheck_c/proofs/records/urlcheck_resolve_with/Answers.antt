@@ -15,6 +15,6 @@ returns-in-None-clause-held c = λ number is.
     inl (
       refl,
       refl,
-      c.unread.ensures.held number c.args.base_text.now is
-          (c.in-None.ensures.held number c.args.base_text.now is),
+      inl (c.unread.ensures.held number c.args.base_text.now is
+          (c.in-None.ensures.held number c.args.base_text.now is)),
     )

@@ -1,15 +1,6 @@
 -- A text that takes no memory never wants it.
-use Rattle.std.proofs.Common.{inr, subst}
-use Rattle.std.specs.Prelude.{Option}
-use Rattle.std.specs.Str.{chars}
-use Rattle.uv_model.specs.Records.Url.{Url}
-use Rattle.uv_grammar.specs.NoMemory.{TakesNoMemoryAgainst}
+use Rattle.std.proofs.Common.{inr}
 use Rattle.urlcheck_c.proofs.validity.is_known_valid.Goals as goal
 
 pub returns-in-Err : goal.returns-in-Err
-returns-in-Err c =
-    inr (
-    subst (λ (base : Option Url). ¬ (TakesNoMemoryAgainst c.args.request.now.profile base
-    (chars c.args.request.now.text.now)))
-    c.as_ref.ensures.value (λ takes. let e = c.in-Err.ensures.memory takes in cc)
-    )
+returns-in-Err c = inr (λ takes. let e = c.in-Err.ensures.memory takes in cc)

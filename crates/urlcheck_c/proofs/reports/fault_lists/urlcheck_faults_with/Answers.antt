@@ -12,9 +12,9 @@ returns-in-Ok-clause-held c = λ number bytes is.
       read.1.1,
       subst
           (λ (text : List ℕ).
-          IsFaultsChecked c.in-Ok.request.base.profile (Some read.1.0) text c.args.out.now c.checked_with.new.out
-          c.checked_with.result)
-          read.0 (c.checked_with.ensures read.1.0 read.1.2),
+          IsFaultsChecked c.in-Ok.request.base.profile (Some read.1.0) text c.args.out.now c.listed_with.new.out
+          c.listed_with.result)
+          read.0 (c.listed_with.ensures read.1.0 read.1.2),
     )
 
 pub returns-in-Err-clause-held : goal.returns-in-Err-clause-held
