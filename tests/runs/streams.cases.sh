@@ -15,6 +15,12 @@ for words in 'check urn:a' 'check x' 'links'; do
     ends_with 3 "$(cat "$room/status")" '' "$words to a closed pipe, SIGPIPE ignored"
 done
 
+# A file that may not get larger, where the signal that says so is ignored. (Standard error is no file then.)
+if has prlimit 1; then
+    (trap '' XFSZ; ulimit -f 0; exec "$program" check urn:a 2>&1 >"$room/written") | cat >"$room/err"
+    ends_with 3 "${PIPESTATUS[0]}" "urlcheck: standard output: can't be written: the file may not get larger\\nwrite\\n" 'check to a file of no bytes'
+fi
+
 # Help and the version, into a full device and to a closed pipe.
 for words in '--help' 'help' 'check --help' 'help lint' '--version'; do
     "$program" $words >/dev/full 2>"$room/err"
@@ -56,4 +62,4 @@ ends_early 13 1 '1 ok urn:a\n2 bad 7 host-missing\nlinks 2 ok 1 bad 1 differs 0\
 ends_early 16 1 '1 ok urn:a\n2 bad 0 not-utf8\nlinks 2 ok 1 bad 1 differs 0\n'
 ends_early 17 0 '1 ok urn:a\n2 ok http://h/%C3%A9\nlinks 2 ok 2 bad 0 differs 0\n'
 
-all_cases 32
+all_cases 33

@@ -316,6 +316,13 @@ while read -r option takers; do
     grep -qxF -- "urlcheck: $option is an option of $takers" "$room/err" || fail "$option: of $takers: $(cat "$room/err")"
 done <"$room/options"
 
+# Each of them is the nearest to its name without the last letter.
+for command in check lint links mend explain; do
+    for option in $("$program" help $command | sed -n '/^Options:$/,/^$/p' | grep -o -e '--[a-z0-9-]*' | grep -vx -e --help | awk '!seen[$0]++'); do
+        nearest_is "$option" $command "${option%?}"
+    done
+done
+
 # The text and the base are taken as they are given.
 expect 1 'refused 0 no-scheme\n' '' check ''
 expect 0 'valid\nscheme http\nhost domain h\nsegment \n' '' check --base http://h ''
@@ -412,4 +419,4 @@ expect 0 'valid\nscheme file\nhost domain h\nsegment C:\nsegment x\n' '' check -
 expect 0 'valid\nscheme urn\nopaque a b\nfragment f\n' '' check --profile parser --base 'urn:a b' '#f'
 expect 2 '' "$(no_base 5 code-point 'U+0020 SPACE is not allowed in a URL')" check --wide --base 'urn:a b' '#f'
 expect 2 '' "$(no_base 7 host-number 'the host that begins here ends in a number, and is no IPv4 address')" check --profile parser --base http://256/ x
-all_cases 300
+all_cases 322
