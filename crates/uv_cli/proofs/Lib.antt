@@ -1,6 +1,5 @@
 mod CheckLemmas
 mod LintLemmas
 mod ListLemmas
-mod LookLemmas
 mod MendLemmas
 mod ProgramLemmas

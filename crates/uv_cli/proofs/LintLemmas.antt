@@ -1,8 +1,8 @@
 -- Files that were linted: a source, and one file after others.
-use Rattle.std.proofs.Common.{◌≡◌, ◌∙◌, ◌+◌, ◌≤◌, ℕ, Bool, true, false, List, [], ◌∷◌, ◌++◌, Option, Some, None}
+use Rattle.std.proofs.Common.{◌≡◌, ◌∙◌, ◌+◌, ◌<◌, ◌≤◌, ℕ, Bool, true, false, List, [], ◌∷◌, ◌++◌, Option, Some, None}
 use Rattle.std.proofs.Common.{Result, Ok, Err, IfErr, OnOk, String, Global, refl, sym, subst, ap, arith, inl, inr}
-use Rattle.std.proofs.Common.{is_some, length, map, take, string_bytes}
-use Rattle.std.proofs.lemmas.List.{take_all}
+use Rattle.std.proofs.Common.{get_or, is_some, length, map, take, string_bytes}
+use Rattle.std.proofs.lemmas.List.{map_more, take_all}
 use Rattle.std.specs.Borrow.{Bor}
 use Rattle.std.specs.Io.KnownBytes.{Consumes, IsAtEnd}
 use Rattle.uv_lint.specs.declared.counts.LintCounts.{LintCounts}
@@ -56,6 +56,14 @@ all_more setting [] file before middle after input between rest old part new all
 )
 all_more setting (x ∷ xs) file before middle after input between rest old part new (one, read, wrote, first, all) next =
     (one, read, wrote, first, all_more setting xs file one middle after read between rest wrote part new all next)
+
+-- the names up to the next file's
+pub files_more : (files : List (String Global)) (at : ℕ) (file : String Global)
+    → at < length files → file ≡ get_or files at file
+    → map string_bytes (take (at + 1) files) ≡ map string_bytes (take at files) ++ string_bytes file ∷ []
+files_more files at file within here =
+    map_more string_bytes files at file within
+    ∙ ap (λ f. map string_bytes (take at files) ++ string_bytes f ∷ []) (sym here)
 
 -- the names of all files
 pub files_all : (files : List (String Global)) (at : ℕ) → length files ≤ at

@@ -1,5 +1,5 @@
 -- What a job has done with its streams, by the end that it gave.
-use Rattle.std.specs.Prelude.{◌≡◌, ◌≢◌, ℕ, ◌+◌, false, List, Option, String, map, option_map, string_bytes}
+use Rattle.std.specs.Prelude.{◌≡◌, ◌≢◌, ℕ, ◌+◌, false, List, Option, String, option_map, string_bytes}
 use Rattle.std.specs.Borrow.{Bor}
 use Rattle.std.specs.Io.KnownBytes.{Consumes, IsAtEnd}
 use Rattle.std.specs.Str.{chars}
@@ -19,7 +19,6 @@ use Rattle.uv_words.specs.declared.words.FilterJob.{FilterJob}
 use Rattle.uv_words.specs.declared.words.Job.{Job}
 use Rattle.uv_words.specs.declared.words.Job.TheVariants as job
 use Rattle.uv_words.specs.declared.words.LintJob.{LintJob}
-use Rattle.uv_words.specs.declared.words.Told.{Told}
 use Rattle.uv_cli.specs.declared.check.CheckEnd.TheVariants as check
 use Rattle.uv_cli.specs.declared.explain.ExplainEnd.TheVariants as explain
 use Rattle.uv_cli.specs.declared.fault.CliFault.TheVariants as cli
@@ -27,7 +26,7 @@ use Rattle.uv_cli.specs.declared.ends.End.{End}
 use Rattle.uv_cli.specs.declared.ends.End.TheVariants as end
 use Rattle.uv_cli.specs.Check.{HasWritten, HasWrittenPrefix, RunsAgainst}
 use Rattle.uv_cli.specs.Stream.{Stream}
-use Rattle.uv_cli.specs.Explain.{HasExplained, HasExplainedPrefix}
+use Rattle.uv_cli.specs.Explain.{HasExplained, HasWrittenText}
 use Rattle.uv_cli.specs.Lint.{HasLinted}
 use Rattle.uv_cli.specs.Filter.{HasFiltered}
 use Rattle.uv_cli.specs.Mend.{HasMended}
@@ -110,16 +109,16 @@ HasRunVectors bytes _ old new = ⊥
 
 -- ---- an explanation
 
--- what was written of the rules with these names, or of each rule: so much of each is told
-abbrev pub HasRunExplain : Told → List (List ℕ) → End → Stream → Stream → Type 0
-HasRunExplain told rules end.Shown old new =
-    HasExplained told rules explain.Explained old.bytes new.bytes × (new.failed ≡ old.failed)
-HasRunExplain told rules end.UnknownRule old new =
-    HasExplained told rules explain.Unknown old.bytes new.bytes × (new ≡ old)
-HasRunExplain told rules (end.Fault cli.Memory) old new = new ≡ old
-HasRunExplain told rules (end.Fault cli.Write) old new =
-    HasExplainedPrefix told rules old.bytes new.bytes × (new.failed ≡ old.failed + 1)
-HasRunExplain told rules _ old new = ⊥
+-- what was written of the rules with these names, or of each rule
+abbrev pub HasRunExplain : List (String Global) → End → Stream → Stream → Type 0
+HasRunExplain rules end.Shown old new =
+    HasExplained rules explain.Explained old.bytes new.bytes × (new.failed ≡ old.failed)
+HasRunExplain rules end.UnknownRule old new =
+    HasExplained rules explain.Unknown old.bytes new.bytes × (new ≡ old)
+HasRunExplain rules (end.Fault cli.Memory) old new = new ≡ old
+HasRunExplain rules (end.Fault cli.Write) old new =
+    HasWrittenText rules old.bytes new.bytes × (new.failed ≡ old.failed + 1)
+HasRunExplain rules _ old new = ⊥
 
 -- ---- a job
 
@@ -155,6 +154,6 @@ HasDone job.LintUnnamed bytes ended input rest old new = (ended ≡ end.Words) �
 HasDone job.FilterOfText bytes ended input rest old new = (ended ≡ end.Words) × (rest ≡ input) × (new ≡ old)
 HasDone (job.Vectors file) bytes end input rest old new = HasRunVectors bytes end old new × (rest ≡ input)
 HasDone (job.Explain rules told) bytes end input rest old new =
-    HasRunExplain told (map string_bytes rules.items) end old new × (rest ≡ input)
+    HasRunExplain rules.items end old new × (rest ≡ input)
 HasDone (job.UnknownProfile name) bytes ended input rest old new =
     (ended ≡ end.UnknownProfile) × (rest ≡ input) × (new ≡ old)

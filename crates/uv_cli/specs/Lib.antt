@@ -4,17 +4,11 @@ pub mod Stream
 pub mod Ends
 pub mod Explain
 pub mod Flushed
-pub mod Hints
 pub mod Jobs
 pub mod Lint
 pub mod Linted
 pub mod Mend
 pub mod Filtered
 pub mod Filter
-pub mod Look
-pub mod Contents
 pub mod Program
-pub mod Reasons
-pub mod Unchecked
-pub mod Unknown
 pub mod VectorFile

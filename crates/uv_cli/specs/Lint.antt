@@ -1,6 +1,6 @@
 -- What a lint of files has read and written, and what it has come to.
 use Rattle.std.specs.Prelude.{◌≡◌, ◌≢◌, ℕ, ◌+◌, ◌-◌, ◌^◌, Bool, true, false, List, [], ◌∷◌, ◌⊎◌, Option, Some, None}
-use Rattle.std.specs.Prelude.{Result, Ok, Err, ◌++◌, codes, map, string_bytes, take, if◌then◌else◌}
+use Rattle.std.specs.Prelude.{Result, Ok, Err, codes, map, string_bytes, take, if◌then◌else◌}
 use Rattle.std.specs.Borrow.{Bor}
 use Rattle.std.specs.Io.KnownBytes.{Appends, Consumes, IsAtEnd}
 use Rattle.std.specs.Option.{option_map_or}
@@ -29,11 +29,7 @@ use Rattle.uv_cli.specs.declared.ends.End.{End}
 use Rattle.uv_cli.specs.declared.ends.End.TheVariants as end
 use Rattle.uv_cli.specs.declared.fault.CliFault.TheVariants as cli
 use Rattle.uv_cli.specs.declared.linted.Linted.{Linted}
-use Rattle.uv_messages.specs.FileNames.{has_document_end}
-use Rattle.uv_messages.specs.Hints.{file_hint}
 use Rattle.uv_cli.specs.Stream.{Stream}
-use Rattle.uv_messages.specs.Unread.{unread_text}
-use Rattle.uv_messages.specs.declared.unread.Unread.{Unread}
 use Rattle.uv_cli.specs.Linted.{completion_of, is_clean, is_stopped, is_writable, no_file, with_fault, with_file}
 
 -- ---- what the job asks for
@@ -140,13 +136,14 @@ LintsNamed false setting is_first counts answer input rest old new =
     (LintsOpened setting is_first counts answer old new
     ⊎ (LintsNothing counts old new × IsUnopened answer)) × (rest ≡ input)
 
--- the next file was linted, by its name
+-- the next file was linted, by its name, which looks like that of a document or not
 pub record LintsFile (file : List ℕ) (setting : FileSetting) (before after : Linted)
     (input rest old new : Stream) : Type 0 where
   pub counts : LintCounts
   pub answer : Result (Unit {0}) LintFault
+  pub is_document : Bool
   pub named : LintsNamed (is_input file) setting (is_clean before) counts answer input rest old new
-  pub is_after : after ≡ with_file before (is_input file) (has_document_end file) counts answer
+  pub is_after : after ≡ with_file before (is_input file) is_document counts answer
 
 -- nothing is done after what stopped the lint
 pub record StaysStopped (before after : Linted) (input rest old new : Stream) : Type 0 where
@@ -232,8 +229,3 @@ HasLinted asked base name unit (end.Linted linted) input rest old new =
     × AreNamed name unit format columns true
     × HasLintedAgainst asked url format columns (end.Linted linted) input rest old new
 HasLinted asked base name unit _ input rest old new = ⊥
-
--- what is reported of a file, with a hint, where a read of it failed for this reason
-abbrev pub failed_read_text : List ℕ → Result (Unit {0}) LintFault → Unread → List ℕ
-failed_read_text file (Err Read) why = unread_text file why ++ file_hint file why
-failed_read_text file answer why = []

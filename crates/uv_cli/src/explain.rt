@@ -1,8 +1,7 @@
 //! The command `explain`: what rules ask, their sections of the URL Standard, and an example, of some rules or of each;
 //! or the addresses of the pages about them.
-ghost use Rattle.std.specs.Prelude.{◌≡◌, ◌+◌, ◌-◌, ◌^◌, ◌<◌, IfOk, OnOk, map, string_bytes};
-ghost use Rattle.uv_messages.specs.Explanations.{explained};
-ghost use Rattle.uv_cli.specs.Explain.{HasExplained, HasExplainedPrefix};
+ghost use Rattle.std.specs.Prelude.{◌≡◌, ◌+◌, ◌-◌, ◌^◌, ◌<◌, IfOk, OnOk};
+ghost use Rattle.uv_cli.specs.Explain.{HasExplained, HasWrittenText};
 
 use crate::fault::CliFault;
 use std::alloc::Global;
@@ -32,13 +31,13 @@ pub fn run_explain<S: Sink>(
     out: &mut S,
 ) -> Result<ExplainEnd, CliFault>
     requires { S.failed out.old < 2 ^ 64 - 1 }
-    ensures written { IfOk result (λ end. HasExplained told (map string_bytes rules.now) end
+    ensures written { IfOk result (λ end. HasExplained rules.now end
         (S.contents out.old) (S.contents out.new)) }
     ensures unknown { result ≡ Ok ExplainEnd.Unknown → out.new ≡ out.old }
     ensures quiet { OnOk result (S.failed out.new ≡ S.failed out.old) }
     ensures memory { result ≡ Err CliFault.Memory → out.new ≡ out.old }
     ensures prefix { result ≡ Err CliFault.Write →
-        HasExplainedPrefix told (map string_bytes rules.now) (S.contents out.old) (S.contents out.new) }
+        HasWrittenText rules.now (S.contents out.old) (S.contents out.new) }
     ensures failed { result ≡ Err CliFault.Write → S.failed out.new ≡ S.failed out.old + 1 }
 {
     let Some(text) = explained(alloc, rules, told)? else {

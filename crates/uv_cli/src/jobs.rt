@@ -1,5 +1,5 @@
 //! A job and the run that it asks for, over any reader and writer.
-ghost use Rattle.std.specs.Prelude.{◌≡◌, ◌-◌, ◌^◌, ◌<◌, chars, map, string_bytes};
+ghost use Rattle.std.specs.Prelude.{◌≡◌, ◌-◌, ◌^◌, ◌<◌, chars};
 ghost use Rattle.uv_cli.specs.Check.{RunsAgainst};
 ghost use Rattle.uv_cli.specs.Jobs.{HasChecked, HasDone, HasDoneFilter, HasDoneLint, HasRunExplain};
 ghost use Rattle.uv_cli.specs.Jobs.{HasRunVectors};
@@ -12,10 +12,11 @@ use crate::filter::filter_lines;
 use crate::links::list_links;
 use crate::lint::lint_files;
 use crate::mend::run_mend;
-use crate::unchecked::report_unchecked;
+use crate::unchecked::said_of_vectors;
 use std::alloc::Global;
 use std::fs::Files;
 use uv_io::{Sink, Source};
+use uv_messages::messages::say;
 use uv_model::{Extent, Profile};
 use uv_vectors::run_cases;
 use uv_words::{FilterJob, Job, LintJob, Told};
@@ -136,7 +137,7 @@ fn mend_text<S: Sink>(
 // Tells so much of the rules with these names, or of each rule.
 fn explained<S: Sink>(alloc: Global, rules: &[String], told: Told, out: &mut S) -> End
     requires { S.failed out.old < 2 ^ 64 - 1 }
-    ensures { HasRunExplain told (map string_bytes rules.now) result
+    ensures { HasRunExplain rules.now result
         (record { bytes = S.contents out.old; failed = S.failed out.old })
         (record { bytes = S.contents out.new; failed = S.failed out.new }) }
 {
@@ -157,7 +158,7 @@ fn vectors_run<R: Eprint + AllocGlobal, S: Sink>(
 {
     let gave = run_cases(rt.alloc(), file, out);
     if let Ok(end) = &gave {
-        report_unchecked(rt, name, end);
+        say(rt, said_of_vectors(rt.alloc(), name, end));
     }
     end_of_vectors(&gave)
 }

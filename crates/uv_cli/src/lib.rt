@@ -2,13 +2,11 @@
 #![tactic(auto)]
 
 mod check;
-mod contents;
 mod ends;
 mod explain;
 mod fault;
 mod filter;
 mod filtered;
-mod hints;
 mod jobs;
 mod links;
 mod lint;
@@ -16,9 +14,8 @@ mod linted;
 mod look;
 mod mend;
 pub mod program;
-mod reasons;
+mod said;
 mod unchecked;
-mod unknown;
 mod vector_file;
 mod watched;
 

@@ -1,18 +1,16 @@
 //! The command `lint`: a report on the lines of files, in a format that people or tools read.
-ghost use Rattle.std.specs.Prelude.{◌≡◌, ◌++◌, ◌-◌, ◌^◌, ◌<◌, ◌⊎◌, IfOk, map, option_copied, string_bytes, true};
+ghost use Rattle.std.specs.Prelude.{◌≡◌, ◌-◌, ◌^◌, ◌<◌, ◌⊎◌, IfOk, map, option_copied, string_bytes, true};
 ghost use Rattle.uv_lint.specs.LineViolations.{file_setting};
 ghost use Rattle.uv_report.specs.Report.{begin_text};
-ghost use Rattle.uv_messages.specs.Hints.{file_hint};
 ghost use Rattle.uv_cli.specs.Lint.{HasLinted, HasLintedAgainst, LintsAll, LintsNamed, LintsNext, LintsNothing};
-ghost use Rattle.uv_cli.specs.Lint.{LintsOpened, IsUnopened, IsWhyUnopened, WritesPiece, columns_of, failed_read_text};
+ghost use Rattle.uv_cli.specs.Lint.{LintsOpened, IsUnopened, IsWhyUnopened, WritesPiece, columns_of};
 ghost use Rattle.uv_cli.specs.Lint.{form_of, format_of, input_name, is_input, reported_name};
 ghost use Rattle.uv_cli.specs.Linted.{is_stopped, is_writable};
-ghost use Rattle.uv_messages.specs.Unread.{unread_of, unread_text};
 
-use crate::contents::found_content;
 use crate::ends::End;
 use crate::fault::CliFault;
 use crate::linted::Linted;
+use crate::said::{Seen, said_of_file, said_of_unread};
 use crate::watched::WatchedReader;
 use std::alloc::{AllocError, Global};
 use std::fs;
@@ -20,11 +18,8 @@ use std::fs::Files;
 use std::io::ErrorKind;
 use uv_io::{DeviceFault, FromReader, Sink, Source, write_whole};
 use uv_lint::{LineForm, LintCounts, LintFault, LintSetting, run_lint};
-use uv_messages::contents::{Content, content_hint};
 use uv_messages::file_names::has_document_end;
-use uv_messages::hints::file_hint;
-use uv_messages::messages::{message_line, say};
-use uv_messages::unread::{Unread, unread_line};
+use uv_messages::messages::{Message, say};
 use uv_model::Record;
 use uv_report::{Columns, Format, end_of, push_begin};
 use uv_resolve::{ResolveFault, resolve_base};
@@ -308,58 +303,23 @@ fn lint_opened<R: Files + Eprint + AllocGlobal, S: Sink>(
             let mut source = FromReader::new(WatchedReader::new(opened));
             let answer = run_lint(rt.alloc(), &mut source, out, file, is_first, setting);
             let reader = source.into_reader();
-            report_failed_read(rt, file, answer.1, reader.fault());
-            report_content(rt, file, found_content(answer.0, reader.content()));
+            let seen = Seen {
+                read: reader.fault(),
+                written: None,
+                content: reader.content(),
+            };
+            say(rt, said_of_file(rt.alloc(), file, answer.0, answer.1, seen));
             answer
         }
         Err(error) => (NONE_COUNTED, Err(unopened(rt, file, error.kind()))),
     }
 }
 
-// Reports that a file wasn't read to its end, where a read of it failed, by the kind of the error, if it is known.
-fn report_failed_read<R: Eprint + AllocGlobal>(
-    rt: &R,
-    file: &str,
-    answer: Result<(), LintFault>,
-    kind: Option<ErrorKind>,
-) {
-    say(rt, failed_read_lines(rt.alloc(), file, answer, kind));
-}
-
-// Reports what a file looks like that isn't a list of links.
-fn report_content<R: Eprint + AllocGlobal>(rt: &R, file: &str, content: Option<Content>) {
-    say(rt, content_hint(rt.alloc(), file, content, "lint -"));
-}
-
-// What is reported of a file that wasn't read to its end, where a read of it failed, or nothing.
-fn failed_read_lines(
-    alloc: Global,
-    file: &str,
-    answer: Result<(), LintFault>,
-    kind: Option<ErrorKind>,
-) -> Result<String, AllocError>
-    ensures { IfOk result (λ lines. string_bytes lines ≡ failed_read_text file.now answer (unread_of kind)) }
-{
-    match answer {
-        Err(LintFault::Read) => unread_lines(alloc, file, Unread::of(kind)),
-        _ => Ok(String::new(alloc)),
-    }
-}
-
-// What is reported of a file that isn't read for this reason, with a hint.
-fn unread_lines(alloc: Global, file: &str, why: Unread) -> Result<String, AllocError>
-    ensures { IfOk result (λ lines. string_bytes lines ≡ unread_text file.now why ++ file_hint file.now why) }
-{
-    let mut lines = unread_line(alloc, file, why)?;
-    lines.push_str(file_hint(file, why))?;
-    Ok(lines)
-}
-
 // A file whose name isn't UTF-8 is never read, which is reported.
 fn unnamed<R: Eprint + AllocGlobal>(rt: &R, said: &str) -> LintFault
     ensures { result ≡ LintFault.Read }
 {
-    say(rt, message_line(rt.alloc(), said));
+    say(rt, Message::of(rt.alloc(), said));
     LintFault::Read
 }
 
@@ -371,6 +331,6 @@ fn unopened<R: Eprint + AllocGlobal>(rt: &R, file: &str, kind: ErrorKind) -> Lin
     if kind == ErrorKind::OutOfMemory {
         return LintFault::Memory;
     }
-    say(rt, unread_lines(rt.alloc(), file, Unread::of(Some(kind))));
+    say(rt, said_of_unread(rt.alloc(), file, Some(kind)));
     LintFault::Read
 }

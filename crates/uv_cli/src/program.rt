@@ -7,15 +7,12 @@ ghost use Rattle.uv_cli.specs.Ends.{status_of};
 ghost use Rattle.uv_cli.specs.Flushed.{ended_after, open_end};
 ghost use Rattle.uv_cli.specs.Program.{HasAnswered, HasEndedJob, HasFile, HasRun, HasShown, IsStatus};
 
-use crate::contents::input_hint;
 use crate::ends::{
     End, end_after_output, end_without_file, end_without_job, fixed_line, numbered_line, status,
 };
 use crate::fault::CliFault;
-use crate::hints::job_hint;
 use crate::jobs::run_job;
-use crate::reasons::{base_of, profile_of, report_reasons};
-use crate::unknown::unknown_lines;
+use crate::said::{Seen, said_at_end};
 use crate::vector_file::{FileFault, read_vector_file};
 use crate::watched::{WatchedReader, WatchedWriter};
 use std::alloc::{AllocError, Global};
@@ -24,11 +21,9 @@ use std::io;
 use std::io::{ErrorKind, Write};
 use std::rt::Env;
 use uv_io::{FromReader, Source, ToWriter};
-use uv_messages::hints::{near_hint, words_hint};
-use uv_messages::messages::{message_line, message_lines, say};
-use uv_messages::options::unknown_option;
-use uv_messages::unread::report_unread;
-use uv_model::Profile;
+use uv_messages::messages::{Message, say};
+use uv_messages::refused_words::refused_words;
+use uv_messages::unread::{unread, unwritten};
 use uv_words::arguments::{OwnArguments, refused, words_of};
 use uv_words::{Job, WordsFault, read_words};
 
@@ -93,7 +88,7 @@ fn answered<R: Files + Input + Print + Eprint + AllocGlobal>(
 fn refusal<R: Eprint + AllocGlobal>(rt: &R, why: &str) -> Ended
     ensures { result ≡ open_end End.Words }
 {
-    say(rt, message_line(rt.alloc(), why));
+    say(rt, Message::of(rt.alloc(), why));
     open(End::Words)
 }
 
@@ -119,11 +114,12 @@ fn done<R: Files + Input + Print + Eprint + AllocGlobal>(rt: &R, job: &Job) -> E
     let (ended, out) = done_over(rt, job, file.as_slice(), &mut input, io::writer(rt));
     if !ended.is_closed {
         let reader = input.into_reader();
-        let read = reader.fault();
-        let profile = profile_of(job);
-        report_reasons(rt, profile, base_of(job), ended.end, read, out.fault());
-        say(rt, job_hint(rt.alloc(), job, ended.end));
-        say(rt, input_hint(rt.alloc(), job, ended.end, reader.content()));
+        let seen = Seen {
+            read: reader.fault(),
+            written: out.fault(),
+            content: reader.content(),
+        };
+        say(rt, said_at_end(rt.alloc(), job, ended.end, seen));
     }
     ended
 }
@@ -144,7 +140,6 @@ fn done_over<R: Files + Eprint + AllocGlobal, I: Source, W: Write + Drop>(
 {
     let mut out = ToWriter::new(WatchedWriter::new(writer));
     let end = run_job(rt, job, file, input, &mut out);
-    say(rt, unknown_lines(rt.alloc(), job, end));
     let mut out = out.into_writer();
     let ended = finished(end, &mut out);
     (ended, out)
@@ -159,7 +154,7 @@ fn file_of<R: Files + Eprint + AllocGlobal>(rt: &R, job: &Job) -> Result<Vec<u8>
     };
     let read = read_vector_file(rt, file.as_str());
     if let Err(FileFault::Unread(why)) = &read {
-        report_unread(rt, file.as_str(), *why);
+        say(rt, unread(rt.alloc(), file.as_str(), Some(*why)));
     }
     read
 }
@@ -195,19 +190,7 @@ fn shown<R: Print + Eprint + AllocGlobal>(rt: &R, words: &[&str], fault: &WordsF
     if fault.asks_to_show() {
         return printed(rt, end, error.print(rt));
     }
-    // (before the command is the program's name)
-    let command = words.get(1).copied();
-    let option = unknown_option(words, error.kind());
-    let hint = near_hint(rt.alloc(), command, option, error.kind());
-    let has_hint = matches!(&hint, Ok(line) if !line.is_empty());
-    say(rt, clap_lines(rt.alloc(), error, has_hint));
-    say(rt, hint);
-    if option.is_none() && !has_hint {
-        say(
-            rt,
-            words_hint(rt.alloc(), command, words.last().copied(), error.kind()),
-        );
-    }
+    say(rt, refused_words(rt.alloc(), words, error));
     open(end)
 }
 
@@ -225,16 +208,11 @@ fn printed<R: Eprint + AllocGlobal>(rt: &R, end: End, answer: io::Result<()>) ->
                 is_closed: is_closed_by(kind),
             };
             if !ended.is_closed {
-                report_reasons(rt, Profile::Standard, "", ended.end, None, kind);
+                say(rt, unwritten(rt.alloc(), kind));
             }
             ended
         }
     }
-}
-
-// The lines of an error of `clap`, without its tips where a hint is in their place.
-fn clap_lines(alloc: Global, error: &clap::Error, has_hint: bool) -> Result<String, AllocError> {
-    message_lines(alloc, error.to_string(alloc)?.as_str(), has_hint)
 }
 
 // Says on standard error how the program ends, and gives the exit status. A failed write there has nowhere to be
@@ -251,15 +229,20 @@ fn end_with<R: Eprint + AllocGlobal>(rt: &R, end: End) -> u8
     }
 }
 
-// Says a line, or that there was no memory for it, and gives the exit status: that of the end, or that of no memory.
+// Says the last line, or that there was no memory for it, and gives the exit status: that of the end, or that of no
+// memory.
 fn said<R: Eprint>(rt: &R, end: End, line: Result<String, AllocError>) -> u8
     ensures { MatchResult line (λ text. result ≡ status_of end)
         (λ fault. result ≡ status_of (End.Fault CliFault.Memory)) }
 {
-    let status = match &line {
-        Ok(_) => status(end),
-        Err(AllocError) => status(End::Fault(CliFault::Memory)),
-    };
-    say(rt, line);
-    status
+    match line {
+        Ok(line) => {
+            let _ = rt.eprint(line.as_str());
+            status(end)
+        }
+        Err(AllocError) => {
+            let _ = rt.eprintln("memory");
+            status(End::Fault(CliFault::Memory))
+        }
+    }
 }

@@ -4,7 +4,6 @@ ghost use Rattle.uv_cli.specs.VectorFile.{IsFault};
 use std::fs;
 use std::fs::Files;
 use std::io::{self, ErrorKind, Read};
-use uv_messages::unread::Unread;
 use uv_vectors::MOST_BYTES;
 
 /// Why there are no bytes of a file.
@@ -12,8 +11,8 @@ use uv_vectors::MOST_BYTES;
 pub(crate) enum FileFault {
     /// Memory ran out.
     Memory,
-    /// It can't be opened, or a read failed, for this reason.
-    Unread(Unread),
+    /// It can't be opened, or a read failed, by an error of this kind.
+    Unread(ErrorKind),
 }
 
 impl FileFault {
@@ -23,7 +22,7 @@ impl FileFault {
     {
         match kind {
             ErrorKind::OutOfMemory => FileFault::Memory,
-            kind => FileFault::Unread(Unread::of(Some(kind))),
+            kind => FileFault::Unread(kind),
         }
     }
 }

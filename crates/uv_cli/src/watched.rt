@@ -1,11 +1,9 @@
 //! Readers and writers that keep why a call of them failed, where the product's own keep only that one did. A reader
 //! keeps what is seen of its bytes too.
-ghost use Rattle.std.specs.Prelude.{◌≡◌, [], MatchResult, false, is_ok, take};
+ghost use Rattle.std.specs.Prelude.{◌≡◌, false, is_ok};
 ghost use Rattle.std.specs.Io.{ReadsAtMost, WritesAtMost};
 ghost use Rattle.std.specs.Io.KnownBytes.{Keeps, ReadConsumes, WriteAppends};
 ghost use Rattle.uv_cli.specs.Calls.{fault_after};
-ghost use Rattle.uv_messages.specs.Contents.{content_of};
-ghost use Rattle.uv_cli.specs.Look.{Sees, SeesMore};
 
 use crate::look::Look;
 use std::io::{self, ErrorKind, Read, Write};
@@ -25,7 +23,6 @@ impl<R> WatchedReader<R> {
     pub(crate) fn new(reader: R) -> WatchedReader<R>
         ensures reader { result.reader ≡ reader }
         ensures fault { result.fault ≡ None }
-        ensures look { Sees result.look [] }
     {
         WatchedReader {
             reader,
@@ -42,9 +39,7 @@ impl<R> WatchedReader<R> {
     }
 
     /// What the bytes that were read look like, where they don't look like lines of links.
-    pub(crate) fn content(&self) -> Option<Content>
-        ensures { result ≡ content_of self.now.look.first.items self.now.look.ends }
-    {
+    pub(crate) fn content(&self) -> Option<Content> {
         self.look.content()
     }
 }
@@ -56,8 +51,6 @@ impl<R: Read> Read for WatchedReader<R> {
         ensures bound { ReadsAtMost result buf.new }
         ensures bytes { ReadConsumes (R.remaining self.old.reader) (R.remaining self.new.reader) result buf.new }
         ensures fault { self.new.fault ≡ fault_after self.old.fault result }
-        ensures look { MatchResult result (λ given. SeesMore self.old.look self.new.look (take given buf.new))
-            (λ error. self.new.look ≡ self.old.look) }
     {
         match self.reader.read(buf) {
             Ok(given) => {

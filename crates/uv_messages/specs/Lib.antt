@@ -1,10 +1,3 @@
 pub mod CheckText
-pub mod Contents
 pub mod Explanations
-pub mod FileNames
-pub mod Hints
 pub mod Messages
-pub mod Names
-pub mod Options
-pub mod Pages
-pub mod Unread

@@ -3,8 +3,7 @@ use Rattle.std.proofs.Common.{◌∙◌, arith, string_bytes}
 use Rattle.uv_lint.specs.LineViolations.{file_setting}
 use Rattle.uv_cli.specs.Lint.{LintsNext, reported_name}
 use Rattle.uv_cli.specs.Linted.{is_stopped}
-use Rattle.uv_cli.proofs.LintLemmas.{all_more, files_all, next_quiet}
-use Rattle.uv_messages.proofs.NameLemmas.{names_more}
+use Rattle.uv_cli.proofs.LintLemmas.{all_more, files_all, files_more, next_quiet}
 use Rattle.uv_cli.proofs.lint.lint_each.Goals as goal
 
 pub loop-file-preserved : goal.loop-file-preserved
@@ -25,7 +24,7 @@ loop-file-preserved g c =
     let after = next_quiet _ _ _ _ _ _ _ _ next in
     record {
       all =
-          rw (names_more c.args.files.now c.loop-file.file-index c.file-item.result c.loop-file-test.true
+          rw (files_more c.args.files.now c.loop-file.file-index c.file-item.result c.loop-file-test.true
           c.file-item.is)
           (all_more (λ file. file_setting (reported_name c.args.name.now file) c.args.setting)
           _ _ _ _ _ _ _ _ _ _ _ c.loop-file.invariant.all next);

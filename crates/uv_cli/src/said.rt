@@ -1,0 +1,217 @@
+//! What is said on standard error before the last line: of how a job has ended, and of a file that a lint has read.
+
+use crate::ends::End;
+use crate::fault::CliFault;
+use crate::filtered::Filtered;
+use crate::linted::Linted;
+use std::alloc::{AllocError, Global};
+use std::io::ErrorKind;
+use uv_filter::FilterFault;
+use uv_links::LinkFault;
+use uv_lint::{LintCounts, LintFault};
+use uv_messages::contents::{Content, content_line};
+use uv_messages::hints::{Hint, file_hint, text_hint};
+use uv_messages::messages::Message;
+use uv_messages::unknown::{
+    refused_unit, unknown_format, unknown_kind, unknown_profile, unknown_rules, unknown_unit,
+};
+use uv_messages::unread::{unread, unwritten, unwritten_line};
+use uv_model::{Profile, Refusal, Rule};
+use uv_report::{Format, LineViolation, push_message};
+use uv_words::Job;
+
+// How standard input is named.
+const INPUT: &str = "standard input";
+
+// What is said where standard input has a name, and isn't read.
+const OF_INPUT: &str = "--stdin-name is the name of standard input: one of the FILEs has to be -";
+
+// What is said where standard input has an empty name.
+const OF_NO_NAME: &str = "--stdin-name is the name of standard input, and may not be empty";
+
+// What is said where one text is to be mended as lines are.
+const OF_LINES: &str = "--only and --quiet are for the lines of standard input, not for a TEXT";
+
+/// What was seen of a job's streams, or of a file.
+#[derive(Clone, Copy)]
+pub(crate) struct Seen {
+    /// The kind of the last error of a read, if one failed.
+    pub(crate) read: Option<ErrorKind>,
+    /// The kind of the last error of a write or a flush, if one failed.
+    pub(crate) written: Option<ErrorKind>,
+    /// What the bytes that were read look like, where they don't look like lines of links.
+    pub(crate) content: Option<Content>,
+}
+
+/// What is said of a job that ended so: of a name that none has, of a stream that failed, of a base that is refused,
+/// and of what was likely meant.
+pub(crate) fn said_at_end(
+    alloc: Global,
+    job: &Job,
+    end: End,
+    seen: Seen,
+) -> Result<Message, AllocError> {
+    match end {
+        End::Refused => said_of_refused(alloc, job, seen.content),
+        End::BaseRefused(refusal) => said_of_base(alloc, job, refusal),
+        End::Linted(linted) => said_of_linted(alloc, linted, seen),
+        End::Filtered(filtered) => said_of_filtered(alloc, filtered, seen),
+        End::Stopped(LinkFault::Read) => unread(alloc, INPUT, seen.read),
+        End::Stopped(LinkFault::Write) | End::Fault(CliFault::Write) => {
+            unwritten(alloc, seen.written)
+        }
+        _ => said_of_names(alloc, job, end),
+    }
+}
+
+// What is said of a job that names what there is none of, or asks for what doesn't go together; else nothing.
+fn said_of_names(alloc: Global, job: &Job, end: End) -> Result<Message, AllocError> {
+    match (job, end) {
+        (Job::LintWithoutInput, _) => Message::of(alloc, OF_INPUT),
+        (Job::LintUnnamed, _) => Message::of(alloc, OF_NO_NAME),
+        (Job::FilterOfText, _) => Message::of(alloc, OF_LINES),
+        (Job::UnknownProfile { name }, _) => unknown_profile(alloc, name.as_str()),
+        (Job::Explain { rules, .. }, End::UnknownRule) => unknown_rules(alloc, rules.as_slice()),
+        (Job::Filter(asked), End::UnknownKind) => unknown_kind(alloc, or_empty(&asked.only)),
+        (Job::Lint(asked), End::UnknownFormat) => unknown_format(alloc, or_empty(&asked.format)),
+        (Job::Lint(asked), End::UnknownColumns) => unknown_unit(alloc, or_empty(&asked.columns)),
+        (Job::Lint(asked), End::ColumnsRefused) => refused_unit(
+            alloc,
+            Format::of_name(or_empty(&asked.format)).unwrap_or(Format::Gnu),
+            or_empty(&asked.columns),
+        ),
+        _ => Ok(Message::nothing(alloc)),
+    }
+}
+
+// A name, or an empty text where none is given.
+fn or_empty(name: &Option<String>) -> &str {
+    name.as_deref().unwrap_or("")
+}
+
+// What is said where a text is refused, or a line of a list of links; nothing where it is as it was likely meant.
+fn said_of_refused(
+    alloc: Global,
+    job: &Job,
+    content: Option<Content>,
+) -> Result<Message, AllocError> {
+    let (text, base, of_input, of_list) = match job {
+        Job::Check { text, base, .. } => (text, base, Hint::InputOfCheck, Hint::ListOfCheck),
+        Job::Mend { text, base, .. } => (text, base, Hint::InputOfMend, Hint::ListOfMend),
+        _ => {
+            let mut said = Message::nothing(alloc);
+            push_content(alloc, &mut said, INPUT, content, "links")?;
+            return Ok(said);
+        }
+    };
+    text_hint(alloc, text.as_str(), base.is_some(), of_input, of_list)
+}
+
+// Why the job's base is refused: it is checked alone, so that it needs a scheme.
+fn said_of_base(alloc: Global, job: &Job, refusal: Refusal) -> Result<Message, AllocError> {
+    let (base, profile) = base_of(job);
+    let place = refusal.place;
+    let mut line = format!(in alloc; "the base is refused at place {place}: ")?;
+    match refusal.rule {
+        Rule::NoScheme => line.push_str("it has no scheme")?,
+        _ => push_message(
+            alloc,
+            &mut line,
+            profile,
+            base,
+            LineViolation::Refused(refusal),
+        )?,
+    }
+    Message::of(alloc, line.as_str())
+}
+
+// The text of the job's base, and by which profile it is checked.
+fn base_of(job: &Job) -> (&str, Profile) {
+    let (base, profile) = match job {
+        Job::Check { base, profile, .. }
+        | Job::Links { base, profile }
+        | Job::Mend { base, profile, .. } => (base, *profile),
+        Job::Lint(asked) => (&asked.base, asked.profile),
+        Job::Filter(asked) => (&asked.base, asked.profile),
+        _ => return ("", Profile::Standard),
+    };
+    (base.as_deref().unwrap_or(""), profile)
+}
+
+// What is said of a lint: that standard input wasn't read, or the report not written, and what its files look like.
+fn said_of_linted(alloc: Global, linted: Linted, seen: Seen) -> Result<Message, AllocError> {
+    let mut said = if linted.is_input_unread {
+        unread(alloc, INPUT, seen.read)?
+    } else {
+        Message::nothing(alloc)
+    };
+    if linted.stopped == Some(LintFault::Write) {
+        said.push(alloc, unwritten_line(alloc, seen.written)?.as_str())?;
+    }
+    if linted.is_document_refused && !linted.is_quiet && !linted.is_stopped() {
+        said.push(alloc, Hint::Document.text())?;
+    }
+    if !linted.is_clean() {
+        push_content(alloc, &mut said, INPUT, seen.content, "lint -")?;
+    }
+    Ok(said)
+}
+
+// What is said of a filter: that a stream failed, and what its input looks like.
+fn said_of_filtered(alloc: Global, filtered: Filtered, seen: Seen) -> Result<Message, AllocError> {
+    let mut said = match filtered.stopped {
+        Some(FilterFault::Read) => unread(alloc, INPUT, seen.read)?,
+        Some(FilterFault::Write) => unwritten(alloc, seen.written)?,
+        _ => Message::nothing(alloc),
+    };
+    if !filtered.is_clean() {
+        push_content(alloc, &mut said, INPUT, seen.content, "mend")?;
+    }
+    Ok(said)
+}
+
+/// What is said of a file with this name that a lint has read: that it wasn't to its end, and where a line of it is
+/// refused what it looks like, if it doesn't look like a list of links.
+pub(crate) fn said_of_file(
+    alloc: Global,
+    file: &str,
+    counts: LintCounts,
+    answer: Result<(), LintFault>,
+    seen: Seen,
+) -> Result<Message, AllocError> {
+    let mut said = match answer {
+        Err(LintFault::Read) => said_of_unread(alloc, file, seen.read)?,
+        _ => Message::nothing(alloc),
+    };
+    if counts.refused > 0 {
+        push_content(alloc, &mut said, file, seen.content, "lint -")?;
+    }
+    Ok(said)
+}
+
+/// What is said of a file that a lint can't read, by the kind of the error, if it is known: why, and a hint.
+pub(crate) fn said_of_unread(
+    alloc: Global,
+    file: &str,
+    why: Option<ErrorKind>,
+) -> Result<Message, AllocError> {
+    let mut said = unread(alloc, file, why)?;
+    if let Some(hint) = file_hint(file, why) {
+        said.push(alloc, hint.text())?;
+    }
+    Ok(said)
+}
+
+// Pushes what a list with this name looks like, if it doesn't look like one of links, for the command that reads it.
+fn push_content(
+    alloc: Global,
+    said: &mut Message,
+    name: &str,
+    content: Option<Content>,
+    reader: &str,
+) -> Result<(), AllocError> {
+    match content {
+        Some(content) => said.push(alloc, content_line(alloc, name, content, reader)?.as_str()),
+        None => Ok(()),
+    }
+}

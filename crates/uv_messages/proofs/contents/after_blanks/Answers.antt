@@ -1,6 +1,0 @@
--- What is left without the blanks.
-use Rattle.std.proofs.lemmas.Str.Ascii.{trim_ascii_start_is}
-use Rattle.uv_messages.proofs.contents.after_blanks.Goals as goal
-
-pub returns : goal.returns
-returns c = trim_ascii_start_is c.args.bytes.now c.trim_ascii_start.result.now c.trim_ascii_start.ensures.value
