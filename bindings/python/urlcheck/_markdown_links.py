@@ -77,9 +77,10 @@ class _Reader:
     """Collects the links of the tokens."""
 
     def __init__(self, source: Source, is_gfm: bool, inlines: Inlines) -> None:
-        from markdown_it import MarkdownIt, helpers, rules_inline
+        from markdown_it import MarkdownIt, helpers, rules_block, rules_inline
 
         self.markdown: Any = MarkdownIt("commonmark")
+        self.markdown.block.ruler.at("reference", _near(rules_block.reference))
         # (the inside of a block is read here, once for all blocks that are the same)
         self.markdown.core.ruler.disable(["inline"])
         self.inlines = inlines
@@ -230,6 +231,33 @@ class _Reader:
         within, written = content.strip(), self._seen.line(line + number).rstrip()
         start = len(written) - len(within) if written.endswith(within) else written.find(within)
         return None if start < 0 else start - (len(content) - len(content.lstrip()))
+
+
+_AHEAD = 4
+"""How many lines a definition is looked for in at first."""
+
+
+def _near(rule: Callable[..., bool]) -> Callable[..., bool]:
+    """The rule of definitions, by the lines next to one where that is enough: it looks at all lines of a block for each
+    definition, and so takes time by the square of their number."""
+
+    def near(state: Any, start: int, end: int, silent: bool) -> bool:
+        last = state.lineMax
+        if start + _AHEAD < last and not _may_have_title(state, start):
+            state.lineMax = start + _AHEAD
+            is_found = rule(state, start, end, silent)
+            state.lineMax = last
+            if is_found:
+                return True
+        return rule(state, start, end, silent)
+
+    return near
+
+
+def _may_have_title(state: Any, start: int) -> bool:
+    """Whether after this line one begins as the title of a definition does, which may have any number of lines."""
+    begins = (state.bMarks[line] + state.tShift[line] for line in range(start + 1, start + _AHEAD + 1))
+    return any(state.src[at : at + 1] in ("'", '"', "(") for at in begins)
 
 
 _AT = "at"

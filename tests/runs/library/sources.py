@@ -4,6 +4,7 @@ of a link. What has to be found was worked out by hand. The package is on PYTHON
 import importlib.util
 import io
 import json
+import resource
 import unittest
 import zipfile
 
@@ -86,6 +87,16 @@ class Markdown(Texts):
                     self.write("a.html", '<a href="{}">'.format(text[4:-1]))
                     words = [self.run_on("-q", "--gfm", "--check", name)[1].split(" ", 1)[1] for name in ("a.md", "a.html")]
                     self.assertEqual(words[0], words[1])
+
+    @has("markdown_it")
+    def test_many_definitions(self):
+        """A block of many definitions takes time by their number, and not by its square; a title may have many lines."""
+        self.write("a.md", "".join("[a{0}]: http://h/{0}\n".format(number) for number in range(8_000)) + "[b]: http://h/^\n")
+        before = resource.getrusage(resource.RUSAGE_CHILDREN).ru_utime
+        self.checks("a.md", [("8001:15", "code-point")])
+        self.assertLess(resource.getrusage(resource.RUSAGE_CHILDREN).ru_utime - before, 12)
+        self.finds("b.md", "[a]: b\n'c\nd\ne\nf\ng'\n[h]: i\n", "1:6:b\n7:6:i\n")
+        self.finds("b.md", "[a]: b 'c\nd\ne\nf\n\n[h]: i\n[j]:\nk\n'l\nm\nn\no\n\n[p]: q\n", "6:6:i\n8:1:k\n14:6:q\n")
 
     @has("markdown_it")
     def test_front_matter(self):
