@@ -1,6 +1,7 @@
 /* The module: what it is handed of the package, and the calls over one text. */
 #include "native.h"
 
+#include <stdio.h>
 #include <stdlib.h>
 #include <string.h>
 
@@ -129,7 +130,8 @@ int is_checked(state *state, urlcheck_finding found) {
 }
 
 /* An object of a class whose fields are those of a dictionary, which is taken over. (A frozen class takes none by its own
- * `__setattr__`, and a call of it costs more than the check.) */
+ * `__setattr__`, and a call of it costs more than the check.) Its fields are texts, numbers and members of an enumeration, so
+ * that it is in no cycle, and the collector needn't look at it: to look at a million answers takes longer than to check. */
 static PyObject *made(PyObject *type, state *state, PyObject *fields) {
     newfunc make = (newfunc)PyType_GetSlot((PyTypeObject *)type, Py_tp_new);
     PyObject *object = fields ? make((PyTypeObject *)type, state->no_words, NULL) : NULL;
@@ -137,6 +139,10 @@ static PyObject *made(PyObject *type, state *state, PyObject *fields) {
     if (object && PyObject_GenericSetAttr(object, state->dict, fields) < 0) {
         Py_DECREF(object);
         object = NULL;
+    }
+    if (object && PyType_GetFlags((PyTypeObject *)type) & Py_TPFLAGS_HAVE_GC) {
+        PyObject_GC_UnTrack(object);
+        PyObject_GC_UnTrack(fields);
     }
     Py_XDECREF(fields);
     return object;
@@ -536,11 +542,24 @@ static int clear_all(PyObject *module) {
 
 static void free_all(void *module) { clear_all(module); }
 
-static PyModuleDef_Slot slots[] = {{Py_mod_exec, (void *)begin}, {0, NULL}};
+/* From 3.12 on a module says whether it may be imported where an interpreter has a lock of its own. Older versions, which the
+ * stable ABI is for, refuse a slot that they don't know. */
+enum { MULTIPLE_INTERPRETERS = 3, OWN_LOCK = 2 };
+
+static PyModuleDef_Slot slots[] = {{Py_mod_exec, (void *)begin}, {0, NULL}, {0, NULL}};
 
 static struct PyModuleDef definition = {
     PyModuleDef_HEAD_INIT, "urlcheck._native", "The library, called from Python.", sizeof(state), methods, slots,
     visit_all,             clear_all,          free_all,
 };
 
-__attribute__((visibility("default"))) PyMODINIT_FUNC PyInit__native(void) { return PyModuleDef_Init(&definition); }
+static int has_own_locks(void) {
+    int major = 0, minor = 0;
+
+    return sscanf(Py_GetVersion(), "%d.%d", &major, &minor) == 2 && (major > 3 || minor >= 12);
+}
+
+__attribute__((visibility("default"))) PyMODINIT_FUNC PyInit__native(void) {
+    if (has_own_locks()) slots[1] = (PyModuleDef_Slot){MULTIPLE_INTERPRETERS, (void *)(intptr_t)OWN_LOCK};
+    return PyModuleDef_Init(&definition);
+}

@@ -150,7 +150,7 @@ class BaseRefused(ValueError):
 class Base:
     """A base that is checked once, for many texts: the functions take it in the place of the base's text.
 
-    A text is checked against it by its profile. Beside it ``WIDE`` or ``PARSER`` raises ``ValueError`` where the base
+    Two bases are equal whose texts and profiles are. A text is checked against it by its profile. Beside it ``WIDE`` or ``PARSER`` raises ``ValueError`` where the base
     was checked by another one, and ``STANDARD`` says nothing, as where no profile is given. Raises ``BaseRefused`` where
     the base isn't valid alone, and else what ``check`` raises of a text.
     """
@@ -168,6 +168,14 @@ class Base:
 
     def __repr__(self) -> str:
         return "Base({!r}, Profile.{})".format(self.text, self.profile.name)
+
+    def __eq__(self, other: object) -> bool:
+        if not isinstance(other, Base):
+            return NotImplemented
+        return (self.text, self.profile) == (other.text, other.profile)
+
+    def __hash__(self) -> int:
+        return hash((self.text, self.profile))
 
 
 AnyBase = Union[str, Base, None]

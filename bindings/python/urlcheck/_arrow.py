@@ -61,10 +61,10 @@ class Column:
 
     @staticmethod
     def joined(columns: List["Column"], texts: object) -> Any:
+        """The columns as what these texts are: of another library than pyarrow in one piece."""
         if type(texts).__module__.partition(".")[0] != "pyarrow":
-            if len(columns) != 1:
-                raise TypeError("an array in one piece is wanted: its answers are columns in {}".format(len(columns)))
-            return columns[0]
+            (column,) = columns
+            return column
         import pyarrow
 
         made = [_imported(pyarrow, column) for column in columns]

@@ -4,6 +4,7 @@ numpy, pandas and pyarrow are imported only where what came in is theirs.
 """
 
 import sys
+from array import array as Numbers
 from typing import Any, Iterable, List, NamedTuple, Optional, Tuple
 
 from . import AnyBase, Profile
@@ -41,8 +42,8 @@ def check_many(texts: Iterable[Optional[str]], base: AnyBase = None, profile: Pr
 
     The texts are a list or another iterable, a numpy array of objects, a pandas Series, or an Arrow array of strings,
     which isn't copied. Columns of the same kind are given: lists; arrays of numpy, where a place is -1 and a rule ``None``
-    for a valid text; Series with the same index; arrays of Arrow. ``None``, and in columns NaN and ``pandas.NA``, is a
-    missing text. Other threads run while texts are checked.
+    for a valid text; Series with the same index; arrays of Arrow. ``None``, NaN and ``pandas.NA`` are missing texts. Other
+    threads run while texts are checked.
 
     Raises what ``check`` raises, and ``ValueError`` for an Arrow array that is broken.
     """
@@ -65,10 +66,13 @@ def mend_many(texts: Iterable[Optional[str]], base: AnyBase = None, profile: Pro
     return Mendings(*_kind_of(texts).write(texts, base, profile, True))
 
 
+def _missing() -> Tuple[Any, ...]:
+    """What stands for a missing text: that of pandas only where it was imported."""
+    return None, getattr(sys.modules.get("pandas"), "NA", None)
+
+
 class _Lists:
     """Lists, and what else is iterated over."""
-
-    missing: Tuple[Any, ...] = (None,)
 
     def listed(self, texts: Any) -> List[Any]:
         if isinstance(texts, (str, bytes)):
@@ -77,7 +81,7 @@ class _Lists:
 
     def found(self, texts: Any, base: AnyBase, profile: Profile, is_all: bool) -> Tuple[bytearray, ...]:
         """The verdicts of the texts, and of all the rules and the places too."""
-        return native.check_texts(self.listed(texts), self.missing, base, profile, is_all)
+        return native.check_texts(self.listed(texts), _missing(), base, profile, is_all)
 
     def check(self, texts: Any, base: AnyBase, profile: Profile) -> Findings:
         verdicts, rules, places = self.found(texts, base, profile, True)
@@ -92,7 +96,7 @@ class _Lists:
         return _truths(self.found(texts, base, profile, False)[0])
 
     def write(self, texts: Any, base: AnyBase, profile: Profile, mends: bool) -> Tuple[Any, Any]:
-        return native.write_texts(self.listed(texts), self.missing, base, profile, mends)
+        return native.write_texts(self.listed(texts), _missing(), base, profile, mends)
 
 
 _TRUTHS: List[Optional[bool]] = [True] + [False] * (_MISSING - 1) + [None]
@@ -151,12 +155,10 @@ class _Series(_Lists):
     """Columns of pandas, with their index."""
 
     def found(self, texts: Any, base: AnyBase, profile: Profile, is_all: bool) -> Tuple[bytearray, ...]:
-        import pandas
-
         array = _arrow_of(texts)
         if array is not None:
             return _Arrow().found(array, base, profile, is_all)
-        return native.check_texts(texts.tolist(), (None, pandas.NA), base, profile, is_all)
+        return native.check_texts(texts.tolist(), _missing(), base, profile, is_all)
 
     def truths(self, texts: Any, verdicts: bytearray) -> Any:
         import numpy
@@ -188,7 +190,7 @@ class _Series(_Lists):
             written, kinds = _Arrow().write(array, base, profile, mends)
             columns = [pandas.array(written, texts.dtype), pandas.Categorical(kinds.to_pylist(), _KINDS)]
         else:
-            listed = native.write_texts(texts.tolist(), (None, pandas.NA), base, profile, mends)
+            listed = native.write_texts(texts.tolist(), _missing(), base, profile, mends)
             written, kinds = _objects(listed)
             columns = [pandas.array(written, texts.dtype), pandas.Categorical(kinds, _KINDS)]
         made = [pandas.Series(column, index=texts.index, name=texts.name) for column in columns]
@@ -228,9 +230,23 @@ class _Arrow(_Lists):
     def write(self, texts: Any, base: AnyBase, profile: Profile, mends: bool) -> Tuple[Any, Any]:
         chunks = Column.chunks(texts)
         parts = [native.write_arrow(schema, array, base, profile, mends) for schema, array in chunks]
+        if not parts or not hasattr(texts, "chunks"):
+            parts = [_whole(parts)]
         made = [Column.texts(*part) for part in parts]
         kinds = [Column.names(_lowered(marks), _KINDS) for _, _, marks in parts]
         return Column.joined(made, texts), Column.joined(kinds, texts)
+
+
+def _whole(parts: List[Tuple[bytes, bytearray, bytearray]]) -> Tuple[bytes, bytearray, bytearray]:
+    """One column of several: the texts, where each begins and the last one ends, and their marks."""
+    if len(parts) == 1:
+        return parts[0]
+    starts = Numbers("q", [0])
+    for _, offsets, _ in parts:
+        own, before = Numbers("q", bytes(offsets)), starts[-1]
+        starts.extend(before + offset for offset in own[1:])
+    data, marks = b"".join(it[0] for it in parts), bytearray().join(it[2] for it in parts)
+    return data, bytearray(starts.tobytes()), marks
 
 
 def _lowered(marks: bytearray) -> bytearray:

@@ -88,6 +88,29 @@ class Explanation(NamedTuple):
     """A valid text that its author may have meant."""
 
 
+_MOST = 2**32 - 1
+"""The largest line or column."""
+
+
+def _numbered(*numbers: int) -> None:
+    """Raises ``ValueError`` where one of these is no line or column."""
+    if not all(1 <= number <= _MOST for number in numbers):
+        raise ValueError("a line or a column isn't from 1 to {}".format(_MOST))
+
+
+def _placed(text: str, place: int) -> int:
+    """The place, where the text has it or ends there; else a number that is none."""
+    return place if 0 <= place <= len(text) else -1
+
+
+def _within(region: Region) -> Tuple[int, int]:
+    """The columns of a region. Raises ``ValueError`` where it is none."""
+    _numbered(*region)
+    if (region.last_line, region.end_column) < (region.line, region.column):
+        raise ValueError("a region ends before it begins")
+    return region.column, region.end_column
+
+
 def message(text: str, found: Union[Refused, Fault, BaseRefused], profile: Profile = Profile.STANDARD) -> str:
     """What is wrong with a text, as its refusal or one of its faults says by this profile: a sentence without its end,
     which names the code point. Of a ``BaseRefused`` the text is the base.
@@ -96,7 +119,7 @@ def message(text: str, found: Union[Refused, Fault, BaseRefused], profile: Profi
     """
     if not isinstance(text, str):
         raise TypeError("a text is a str, not {}".format(type(text).__name__))
-    return native.message(text, _profile(profile), _NUMBERS[found.rule], found.place)
+    return native.message(text, _profile(profile), _NUMBERS[found.rule], _placed(text, found.place))
 
 
 def explain(rule: str) -> Explanation:
@@ -111,7 +134,8 @@ def column(text: str, place: int, unit: str = "code-points", start: int = 1) -> 
     """The column of a place of a text, which is counted in code points, where the text begins in the column ``start`` of
     its line. ``unit`` is one of ``UNITS``. Raises ``ValueError`` for another name, where the place is after the text's
     end, and where ``start`` isn't from 1 to 4294967295."""
-    return native.column(text, _named(unit, UNITS, "column unit"), start, place)
+    _numbered(start)
+    return native.column(text, _named(unit, UNITS, "column unit"), start, _placed(text, place))
 
 
 def report(
@@ -123,7 +147,7 @@ def report(
     ``format`` is one of ``FORMATS``, and ``columns``, one of ``UNITS``, says what the columns count: without it the first
     of them for which the format has a word, code points as a rule. ``is_whole`` is false where a file couldn't be read to
     its end. Raises ``ValueError`` for another name, for a unit for which the format has no
-    word, and at the text on a diagnostic whose place, line or column is none.
+    word, and at the text on a diagnostic whose place, line, column or region is none.
     """
     unit = own_unit(format) if columns is None else columns
     if not takes_unit(format, unit):
@@ -181,8 +205,9 @@ def said(format: str, it: Diagnostic, is_first: bool, unit: str = "code-points")
     """What is said of a text that is refused: whole lines. After another one it begins with what is between both."""
     number = _named(format, FORMATS, "format")
     kind, mended = (0, None) if it.mended is None else (_KINDS[it.mended.kind], it.mended.text)
-    region = (0, 0) if it.region is None else (it.region.column, it.region.end_column)
-    place = it.profile, _NUMBERS[it.rule], it.place, it.line, it.column, _end_of(it, unit)
+    _numbered(it.line, it.column, *(() if it.end is None else (it.end,)))
+    region = (0, 0) if it.region is None else _within(it.region)
+    place = it.profile, _NUMBERS[it.rule], _placed(it.text, it.place), it.line, it.column, _end_of(it, unit)
     written = native.diagnostic(number, is_first, it.file, place, it.text, kind, mended, region)
     if mended is not None and it.region is not None:
         written = _over_lines(format, written, it.line, it.region)

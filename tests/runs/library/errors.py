@@ -1,9 +1,12 @@
 """Tests of the package's errors and types: what is raised, that it can be sent to another process, and several texts."""
 
 import copy
+import gc
 import multiprocessing
 import pickle
+import sys
 import unittest
+import weakref
 
 import urlcheck
 
@@ -57,7 +60,11 @@ class Errors(unittest.TestCase):
         self.assertEqual(urlcheck.check("../x", base).path, "../x")
         self.assertEqual(urlcheck.resolve("../x", base), "http://h_/x")
         self.assertFalse(urlcheck.is_valid("a b", base))
+        self.assertNotEqual(base, urlcheck.Base("http://h_/b", urlcheck.Profile.WIDE))
+        self.assertNotEqual(base, urlcheck.Base("http://h_/a", urlcheck.Profile.PARSER))
+        self.assertNotEqual(base, "http://h_/a")
         for other in (pickle.loads(pickle.dumps(base)), copy.copy(base), copy.deepcopy(base)):
+            self.assertEqual((other, hash(other)), (base, hash(base)))
             self.assertEqual((other.text, other.profile), (base.text, base.profile))
             self.assertTrue(urlcheck.is_valid("//x_/y", other, urlcheck.Profile.WIDE))
         with self.assertRaises(urlcheck.BaseRefused) as refused:
@@ -164,6 +171,60 @@ class Errors(unittest.TestCase):
 
     def test_the_version(self):
         self.assertEqual(urlcheck.__version__, urlcheck.version())
+
+    def test_numbers_that_are_none(self):
+        """Of a place, a line, a column or a region, however large or small."""
+        said = {
+            "place": "the place is after the end of the text", "number": "a line or a column isn't from 1 to 4294967295",
+            "region": "a region ends before it begins",
+        }
+        mended = urlcheck.Mended("a%20b", urlcheck.MendKind.SAME)
+        for number in (-1, 4, 1 << 63, 1 << 64, (1 << 64) + 1, -(1 << 80)):
+            with self.subTest(number=number), self.assertRaisesRegex(ValueError, said["place"]):
+                urlcheck.column("a b", number)
+            with self.subTest(number=number), self.assertRaisesRegex(ValueError, said["place"]):
+                urlcheck.message("a b", urlcheck.Refused("code-point", number))
+            with self.subTest(number=number), self.assertRaisesRegex(ValueError, said["place"]):
+                list(urlcheck.report([urlcheck.Diagnostic("f", 1, 1, "a b", "code-point", number)]))
+        wrong = [{field: number} for field in ("line", "column", "end") for number in (-1, 0, 1 << 32, 1 << 64, (1 << 64) + 1)]
+        regions = [((1, 1, 1, 4)[:at] + (number,) + (1, 1, 1, 4)[at + 1 :], "number")
+                   for at in range(4) for number in (-2, 0, 1 << 32, (1 << 64) + 4)]
+        regions += [((2, 1, 1, 4), "region"), ((1, 3, 1, 2), "region")]
+        wrong += [{"region": urlcheck.Region(*region), "why": why} for region, why in regions]
+        for given in wrong:
+            given = dict(given)
+            why = given.pop("why", "number")
+            fields = {"file": "f", "line": 1, "column": 1, "text": "a b", "rule": "code-point", "place": 1, "mended": mended, **given}
+            for name in urlcheck.FORMATS:
+                with self.subTest(name=name, given=given), self.assertRaisesRegex(ValueError, said[why]):
+                    list(urlcheck.report([urlcheck.Diagnostic(**fields)], name))
+        for start in (-1, 0, 1 << 32, (1 << 64) + 1):
+            with self.subTest(start=start), self.assertRaisesRegex(ValueError, said["number"]):
+                urlcheck.column("a b", 1, start=start)
+
+    def test_answers_are_in_no_cycle(self):
+        """So the collector doesn't look at them, and they go as soon as nothing holds them."""
+        answers = [urlcheck.check("http://h/a"), urlcheck.check("x"), urlcheck.mend("http://h/a b"), urlcheck.faults("x")[0]]
+        for answer in answers:
+            self.assertFalse(gc.is_tracked(answer))
+            self.assertEqual(copy.deepcopy(answer), answer)
+        gone = weakref.ref(answers.pop())
+        del answer
+        self.assertIsNone(gone())
+
+    @unittest.skipUnless(sys.version_info >= (3, 12), "interpreters have one lock")
+    def test_interpreters_with_a_lock_of_their_own(self):
+        try:
+            import _interpreters as interpreters
+        except ImportError:
+            import _xxsubinterpreters as interpreters
+        run = "import sys; sys.path[:] = {!r}; import urlcheck; assert urlcheck.is_valid_many(['http://h/', 'x', None]) == [True, False, None]; "
+        run += "assert urlcheck.mend('http://h/a b') == urlcheck.Mended('http://h/a%20b', urlcheck.MendKind.SAME)"
+        for _ in range(3):
+            made = interpreters.create()
+            self.assertIsNone(interpreters.run_string(made, run.format(sys.path)))
+            interpreters.destroy(made)
+        self.assertTrue(urlcheck.check("http://h/"))
 
 
 if __name__ == "__main__":

@@ -117,6 +117,13 @@ class Lists(Compared):
         made = urlcheck.resolve_many([text, None])
         self.assertEqual((len(made[0]), made[1]), (100_000_009, None))
 
+    @unittest.skipUnless(pandas, "no pandas")
+    def test_what_is_missing(self):
+        """In a list too, `pandas.NA` is a missing text."""
+        texts = ["http://h/", pandas.NA, None, float("nan"), "x"]
+        self.assertEqual(urlcheck.is_valid_many(texts), [True, None, None, None, False])
+        self.assertEqual(urlcheck.resolve_many(texts), ["http://h/", None, None, None, None])
+
     def test_bad_arguments(self):
         for call in (urlcheck.check_many, urlcheck.is_valid_many, urlcheck.resolve_many, urlcheck.mend_many):
             for words, error, said in (
@@ -376,6 +383,40 @@ class Handed:
                 new(ctypes.addressof(self.array), b"arrow_array", None))
 
 
+class Streamed:
+    """Arrays of texts as a stream, by the same interface."""
+
+    class Stream(ctypes.Structure):
+        pass
+
+    TAKE = ctypes.CFUNCTYPE(ctypes.c_int, ctypes.c_void_p, ctypes.c_void_p)
+    SAY = ctypes.CFUNCTYPE(ctypes.c_char_p, ctypes.c_void_p)
+    Stream._fields_ = [("get_schema", TAKE), ("get_next", TAKE), ("get_last_error", SAY), ("release", ctypes.c_void_p),
+                       ("private_data", ctypes.c_void_p)]
+
+    def __init__(self, pieces):
+        self.handed = [Handed(piece) for piece in pieces]
+        self.schema = Handed([]).schema
+
+    def __arrow_c_stream__(self, requested_schema=None):
+        left = iter(self.handed)
+
+        def get_schema(_, out):
+            ctypes.memmove(out, ctypes.addressof(self.schema), ctypes.sizeof(self.schema))
+            return 0
+
+        def get_next(_, out):
+            array = next((it.array for it in left), None) or Handed.Array()
+            ctypes.memmove(out, ctypes.addressof(array), ctypes.sizeof(array))
+            return 0
+
+        release = ctypes.cast(Handed.RELEASE, ctypes.c_void_p)
+        self.stream = self.Stream(self.TAKE(get_schema), self.TAKE(get_next), self.SAY(lambda _: None), release, None)
+        new = ctypes.pythonapi.PyCapsule_New
+        new.restype, new.argtypes = ctypes.py_object, [ctypes.c_void_p, ctypes.c_char_p, ctypes.c_void_p]
+        return new(ctypes.addressof(self.stream), b"arrow_array_stream", None)
+
+
 def read(column):
     """The values of an array that is handed out, read by its buffers."""
     get = ctypes.pythonapi.PyCapsule_GetPointer
@@ -424,6 +465,16 @@ class Arrow(Compared):
                 self.assertEqual(read(urlcheck.is_valid_many(array)), one_by_one(here)[0])
                 self.assertEqual(read(urlcheck.resolve_many(array)), resolved(here))
                 self.assertEqual(tuple(map(read, urlcheck.mend_many(array))), mended(here))
+
+    def test_streams(self):
+        """A stream of any number of arrays is answered in one piece, by each call."""
+        for pieces in ([], [[]], [MIXED], [MIXED[:9], [], MIXED[9:20], [None], MIXED[20:]]):
+            texts = [text for piece in pieces for text in piece]
+            for base, profile in SETTINGS:
+                self.assertEqual(tuple(map(read, urlcheck.check_many(Streamed(pieces), base, profile))), one_by_one(texts, base, profile))
+                self.assertEqual(read(urlcheck.resolve_many(Streamed(pieces), base, profile)), resolved(texts, base, profile))
+                self.assertEqual(tuple(map(read, urlcheck.mend_many(Streamed(pieces), base, profile))), mended(texts, base, profile))
+            self.assertEqual(read(urlcheck.is_valid_many(Streamed(pieces))), one_by_one(texts)[0])
 
     def test_broken_arrays(self):
         for call in (urlcheck.check_many, urlcheck.is_valid_many, urlcheck.resolve_many, urlcheck.mend_many):
@@ -476,7 +527,9 @@ class PyArrow(Compared):
                 self.assertEqual(tuple(map(listed, urlcheck.mend_many(array))), mended(texts))
                 found.valid.validate(full=True)
                 found.rule.validate(full=True)
-        self.assertEqual(len(urlcheck.check_many(pyarrow.chunked_array([], pyarrow.string())).valid), 0)
+        none = pyarrow.chunked_array([], pyarrow.string())
+        self.assertEqual(len(urlcheck.check_many(none).valid), 0)
+        self.assertEqual((len(urlcheck.resolve_many(none)), *map(len, urlcheck.mend_many(none))), (0, 0, 0))
 
     def test_sparks_batches(self):
         import urlcheck.spark as spark
