@@ -209,6 +209,8 @@ class Lines(Compared):
         from urlcheck._native import check_lines
 
         data = b"".join(text.encode().replace(b"\n", b"") + end for text, end in zip(TEXTS, 1000 * [b"\n", b"\r\n", b"\r\r\n"]))
+        # (the longest line that is checked, with each end, and one of a byte more)
+        data += b"\n" + 65_536 * b"a" + b"\n" + 65_536 * b"a" + b"\r\n" + 65_537 * b"a"
         data += b"\n\r\n\xff\n" + 70_000 * b"a" + b"\nhttp://h/ b"
         wanted, start = [], 0
         for number, line in enumerate(data.split(b"\n")):
@@ -355,7 +357,7 @@ class Handed:
 
     RELEASE = ctypes.CFUNCTYPE(None, ctypes.c_void_p)(lambda _: None)
 
-    def __init__(self, texts, layout=b"u", first=0, offsets=None, count=None, dictionary=None):
+    def __init__(self, texts, layout=b"u", first=0, offsets=None, count=None, dictionary=None, missing=None):
         width = 8 if layout in (b"U", b"Z") else 4
         pieces = [b"" if text is None else text if isinstance(text, bytes) else text.encode() for text in texts]
         starts = [0]
@@ -373,7 +375,8 @@ class Handed:
             self.buffers[0] = None
         release = ctypes.cast(self.RELEASE, ctypes.c_void_p)
         self.schema = self.Schema(layout, b"", None, 2, 0, None, dictionary, release, None)
-        self.array = self.Array(len(texts) - first if count is None else count, texts[first:].count(None), first, 3, 0,
+        missing = texts[first:].count(None) if missing is None else missing
+        self.array = self.Array(len(texts) - first if count is None else count, missing, first, 3, 0,
                                 ctypes.addressof(self.buffers), None, None, release, None)
 
     def __arrow_c_array__(self, requested_schema=None):
@@ -476,11 +479,23 @@ class Arrow(Compared):
                 self.assertEqual(tuple(map(read, urlcheck.mend_many(Streamed(pieces), base, profile))), mended(texts, base, profile))
             self.assertEqual(read(urlcheck.is_valid_many(Streamed(pieces))), one_by_one(texts)[0])
 
+    def test_missing_texts_that_nobody_counted(self):
+        """An array may say that it doesn't know how many texts are missing, by -1: its bits say which are."""
+        for texts, layout, first in ((MIXED, b"u", 0), (MIXED, b"U", 3), ([None] * 9, b"z", 0), (TEXTS, b"u", 0)):
+            array, here = Handed(texts, layout, first, missing=-1), texts[first:]
+            for base, profile in SETTINGS:
+                self.assertEqual(tuple(map(read, urlcheck.check_many(array, base, profile))), one_by_one(here, base, profile))
+            self.assertEqual(read(urlcheck.resolve_many(array)), resolved(here))
+            self.assertEqual(tuple(map(read, urlcheck.mend_many(array))), mended(here))
+
     def test_broken_arrays(self):
+        broken = (([0, 9, 3, 9], 1), ([0, -1, 9, 9], 0), ([-5, 0, 9, 9], 0), ([9, 0, 0, 0], 0), ([0, 9, 9, 3], 2))
         for call in (urlcheck.check_many, urlcheck.is_valid_many, urlcheck.resolve_many, urlcheck.mend_many):
-            for offsets in ([0, 9, 3, 9], [0, -1, 9, 9], [-5, 0, 9, 9], [9, 0, 0, 0]):
-                with self.subTest(offsets=offsets), self.assertRaisesRegex(ValueError, "the offsets of text [012] descend"):
-                    call(Handed(["http://h/", "", ""], offsets=offsets))
+            for offsets, row in broken:
+                said = "^the array is broken: the offsets of text {} descend$".format(row)
+                for layout, base in ((b"u", None), (b"U", None), (b"u", "http://h/")):
+                    with self.subTest(offsets=offsets, base=base), self.assertRaisesRegex(ValueError, said):
+                        call(Handed(["http://h/", "", ""], layout, offsets=offsets), base)
             with self.assertRaisesRegex(ValueError, "it has no length"):
                 call(Handed(["x"], count=-1))
             with self.assertRaisesRegex(TypeError, "an array of strings is wanted, not one of the Arrow format l"):

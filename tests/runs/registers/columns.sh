@@ -63,7 +63,10 @@ many.c|s/return texts->present \&\& !(.*);/(void)bit; return 0;/
 many.c|s/memset(piece->present, 0, sizeof piece->present);//
 many.c|s/if (from < 0 || to < from) return -2;//
 arrow.c|s/texts->first = (size_t)array->offset;/texts->first = 0;/
+arrow.c|s/array->null_count == 0/array->null_count <= 0/
+many.c|s/while (at + 1 < texts->count/while (at + 2 < texts->count/
 lines.c|s/size--;/size -= 0;/
+lines.c|s/length > most/length >= most/
 EDITS
         ran+=('spoiled copies fail')
     else

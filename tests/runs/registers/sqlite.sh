@@ -78,6 +78,8 @@ sqlite/functions.c|s/found.place + 1); break/found.place); break/
 sqlite/given.c|s/asked->held = &asked->own;/asked->held = NULL;/
 sqlite/given.c|s/held && held->profile == asked->profile/held/
 sqlite/tables.c|s/held->rows = answer.count;/held->rows = answer.count \/ 2;/
+sqlite/tables.c|s/if (answer.count <= room) break;/if (answer.count <= room + 1) break;/
+sqlite/functions.c|s/(length <= MOST)/(length <= MOST + 1)/
 sqlite/functions.c|s/"url_port", PARTS + 2/"url_port", PARTS + 1/
 EDITS
         from='from its shell and from Python, spoiled copies fail'

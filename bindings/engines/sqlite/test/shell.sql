@@ -22,3 +22,6 @@ SELECT url_require('http://h/a b');
 SELECT url_require('https://h/%s');
 SELECT url_rule(CAST(x'687474703a2f2f682fff' AS TEXT)), url_place(CAST(x'687474703a2f2f682fff' AS TEXT));
 SELECT sum(url_is_valid(u)) = count(url_resolve(u)), sum(url_is_valid(u)) = count(url_host(u, 'http://b/')), count(url_mend(u)) FROM (SELECT 'http://h/' || char(32 + value % 400) || value AS u FROM (WITH RECURSIVE s(value) AS (SELECT 1 UNION ALL SELECT value + 1 FROM s WHERE value < 2000) SELECT value FROM s));
+SELECT length(url_resolve(u)), url_resolve(u) = u FROM (WITH RECURSIVE s(n) AS (SELECT 502 UNION ALL SELECT n + 1 FROM s WHERE n < 505) SELECT 'http://h/' || substr(printf('%.600c', 'x'), 1, n) AS u FROM s);
+SELECT length(url_mend(u)), url_mend(u) = replace(u, ' ', '%20') FROM (WITH RECURSIVE s(n) AS (SELECT 499 UNION ALL SELECT n + 1 FROM s WHERE n < 502) SELECT 'http://h/ ' || substr(printf('%.600c', 'x'), 1, n) AS u FROM s);
+SELECT n, count(*), min(place), max(place), sum(place) FROM (WITH RECURSIVE s(n) AS (SELECT 15 UNION ALL SELECT n + 1 FROM s WHERE n < 18) SELECT n FROM s), url_faults('http://h/' || substr(printf('%.600c', ' '), 1, n)) GROUP BY n;
