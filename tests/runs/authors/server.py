@@ -293,6 +293,17 @@ class Served(unittest.TestCase):
         self.assertEqual(client.open(uri, "<http://a_b/>"), [])
         client.end()
 
+    def test_gfm_that_changes(self):
+        """What blocks of Markdown were read as is kept for one choice of ``gfm``: of the text of code none is a link by it."""
+        client = self.start()
+        uri = "file:///nowhere/a.md"
+        found = client.open(uri, "`http://h/^a` http://h/^b [x](y^)")
+        for gfm, places in ((False, [31]), (True, [23, 31]), (False, [31])):
+            client.tell("workspace/didChangeConfiguration", {"settings": {"urlcheck": {"gfm": gfm}}})
+            found = client.diagnostics(uri)
+            self.assertEqual([it["range"]["start"]["character"] for it in found], places)
+        self.assertEqual(client.end(), 0)
+
     def test_a_project(self):
         if not any(map(importlib.util.find_spec, ("tomllib", "tomli"))):
             self.skipTest("nothing reads TOML")
