@@ -306,6 +306,9 @@ const tests = {
     }
     assert.throws(() => report.fileBegin('\ud800'), TypeError)
     assert.throws(() => report.end('ended'), TypeError)
+    const junit = urlcheck.report('junit')
+    assert.deepEqual([undefined, 'whole', 'unread', 'stopped'].map(it => junit.end(it).match(/can't be read|the run stopped/)?.[0]),
+      [undefined, undefined, "can't be read", 'the run stopped'])
     assert.equal(report.diagnostic(told), line)
     // A comma is before each result of SARIF but the first, and a long text is written whole.
     const sarif = urlcheck.report('sarif')

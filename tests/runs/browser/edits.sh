@@ -109,6 +109,8 @@ script 'a place after the end let through' calls memory.js '/=== NO_PLACE/d'
 script 'a line of a report that is any number' calls reports.js "s/wholeNumber(line, 'line', 1)/line/"
 script 'each diagnostic taken for the first' calls reports.js 's/^    this.#isFirst = false$//'
 script 'a mended text that is left out' reports reports.js "s/mended?.text ?? ''/''/"
+script 'two ends of a report that are swapped' calls reports.js "s/'whole', 'unread', 'stopped'\]/'whole', 'stopped', 'unread']/"
+script 'a sentence by another profile' reports urlcheck.js 's/exports.message(room.textLength, profile,/exports.message(room.textLength, 0,/'
 script 'a report by another profile' reports reports.js 's/this.#numbers.ofProfile(profile)/0/'
 script 'a report in another unit' reports reports.js 's/diagnostic(this.#format, this.#unit/diagnostic(this.#format, 0/'
 script 'a mended text of another kind' reports reports.js 's/this.#numbers.ofKind(mended.kind)/3/'

@@ -32,6 +32,14 @@ function reported(name, format, unit, options) {
   return [...pieces, report.fileEnd(), report.end()].join('')
 }
 
+/** The sentences of lint's report for compilers are those of the checker on each line, by the profile of the options. */
+function areSentencesOf(report, options) {
+  const wanted = report.split('\n').filter(line => line !== '').map(line => line.replace(/^.*?: error: (.*) \[[a-z0-9-]+\]$/s, '$1'))
+  const found = urlcheck.checkMany(bytes, options).refused.map(({ start, end, rule, place }) =>
+    urlcheck.message(decoder.decode(bytes.subarray(start, end)), { rule, place }, options))
+  return wanted.length > 100 && wanted.length === found.length && wanted.every((line, at) => line === found[at])
+}
+
 const room = mkdtempSync(join(tmpdir(), 'reports'))
 let [compared, failed] = [0, 0]
 try {
@@ -50,6 +58,10 @@ try {
           said = error instanceof TypeError && ended.status === 2 ? ended.stdout.toString() : String(error)
         }
         compared++
+        if (format === 'gnu' && !areSentencesOf(ended.stdout.toString(), { profile, base })) {
+          console.log(`FAILED: the sentences by the profile ${profile}`)
+          failed++
+        }
         if (said === ended.stdout.toString() && (ended.status === 2 || said.length > 1000)) continue
         const [one, other] = [said.split('\n'), ended.stdout.toString().split('\n')]
         const at = one.findIndex((line, number) => line !== other[number])
