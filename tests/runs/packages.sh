@@ -124,9 +124,9 @@ for completions in urlcheck urlcheck-documents; do
 done
 # The metadata of the wheel are such that the tool of registries takes it.
 if command -v twine >/dev/null; then
-    mkdir "$room/wheel"
-    (cd "$library/python" && quietly python3 -B -c 'import sys, wheel_backend; wheel_backend.build_wheel(sys.argv[1])' "$room/wheel")
-    quietly twine check --strict "$room"/wheel/*.whl
+    mkdir "$room/wheels"
+    (cd "$library/python" && quietly python3 -B -c 'import sys, wheel_backend; wheel_backend.build_wheel(sys.argv[1])' "$room/wheels")
+    quietly twine check --strict "$room"/wheels/*.whl
 else
     echo "packages: the wheel's metadata are left out, since twine isn't installed"
 fi
