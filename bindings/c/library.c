@@ -121,6 +121,9 @@ static uint8_t *written_to(uint8_t *bytes) { return bytes ? bytes : no_bytes; }
 static const urlcheck_base *held_in(const urlcheck_base *base) { return base ? base : &no_base; }
 static urlcheck_fault *listed_in(urlcheck_fault *faults) { return faults ? faults : no_faults; }
 
+/* How much room there is: a name or a column that is left out has none, whatever the caller says. */
+static size_t room_at(const void *out, size_t room) { return out ? room : 0; }
+
 #ifdef ONE_BUILD
 
 EXPORT urlcheck_answer urlcheck_check(const uint8_t *text, size_t length, uint32_t profile) {
@@ -224,18 +227,18 @@ EXPORT urlcheck_fault_count urlcheck_faults_with(const uint8_t *text, size_t len
 }
 
 EXPORT size_t urlcheck_rule_name(uint32_t rule, uint8_t *out, size_t room) {
-    return CALL(urlcheck_rule_name, rule, written_to(out), room);
+    return CALL(urlcheck_rule_name, rule, written_to(out), room_at(out, room));
 }
 
 EXPORT size_t urlcheck_rule_sentence(uint32_t rule, uint8_t *out, size_t room) {
-    return CALL(urlcheck_rule_sentence, rule, written_to(out), room);
+    return CALL(urlcheck_rule_sentence, rule, written_to(out), room_at(out, room));
 }
 
 EXPORT uint32_t urlcheck_version(void) { return CALL(urlcheck_version); }
 
 /*
- * The calls from here on answer URLCHECK_NULL where a null pointer stands for bytes, offsets or a struct. A column that
- * is left out is one of no elements, as the proved functions take it.
+ * The calls from here on answer URLCHECK_NULL where a null pointer stands for bytes, offsets or a violation. A column
+ * that is left out is one of no elements, as the proved functions take it, and a null base is one of zeros.
  */
 static int lacks(const void *it, size_t length) { return !it && length; }
 
@@ -251,17 +254,14 @@ static urlcheck_written null_written(void) {
 
 static uint64_t no_places[1];
 
-/* How many elements a column has of so many. */
-static size_t column_room(const void *column, size_t count) { return column ? count : 0; }
-
 #define CHECK_MANY(name, offset)                                                                                       \
     EXPORT urlcheck_batch name(const uint8_t *texts, size_t length, const offset *offsets, size_t count,               \
                                uint32_t profile, uint8_t *verdicts, uint8_t *rules, uint64_t *places) {                \
         static const offset no_offsets[1];                                                                             \
         if (lacks(texts, length) || lacks(offsets, count)) return null_batch();                                        \
         return CALL(name, read_from(texts), length, offsets ? offsets : no_offsets, offsets ? count + 1 : 1, profile,  \
-                    written_to(verdicts), column_room(verdicts, count), written_to(rules), column_room(rules, count),  \
-                    places ? places : no_places, column_room(places, count));                                          \
+                    written_to(verdicts), room_at(verdicts, count), written_to(rules), room_at(rules, count),          \
+                    places ? places : no_places, room_at(places, count));                                              \
     }
 
 CHECK_MANY(urlcheck_check_many, uint64_t)
@@ -275,9 +275,9 @@ CHECK_MANY(urlcheck_check_many_32, uint32_t)
         size_t rows = offsets ? count : 0;                                                                             \
         if (lacks(texts, length) || lacks(offsets, count) || lacks(out, room)) return null_batch();                    \
         return CALL(name, read_from(texts), length, offsets ? offsets : no_offsets, rows + 1, profile,                 \
-                    written_to(verdicts), column_room(verdicts, rows), written_to(rules), column_room(rules, rows),    \
-                    places ? places : no_places, column_room(places, rows), ends ? ends : no_places,                   \
-                    column_room(ends, rows + 1), written_to(out), room);                                               \
+                    written_to(verdicts), room_at(verdicts, rows), written_to(rules), room_at(rules, rows),            \
+                    places ? places : no_places, room_at(places, rows), ends ? ends : no_places,                       \
+                    room_at(ends, rows + 1), written_to(out), room);                                                   \
     }
 
 RESOLVE_MANY(urlcheck_resolve_many, uint64_t)
@@ -394,15 +394,15 @@ EXPORT urlcheck_bool urlcheck_takes_unit(uint32_t format, uint32_t unit) {
 }
 
 EXPORT size_t urlcheck_format_name(uint32_t format, uint8_t *out, size_t room) {
-    return CALL(urlcheck_format_name, format, written_to(out), out ? room : 0);
+    return CALL(urlcheck_format_name, format, written_to(out), room_at(out, room));
 }
 
 EXPORT size_t urlcheck_unit_name(uint32_t unit, uint8_t *out, size_t room) {
-    return CALL(urlcheck_unit_name, unit, written_to(out), out ? room : 0);
+    return CALL(urlcheck_unit_name, unit, written_to(out), room_at(out, room));
 }
 
 EXPORT size_t urlcheck_explain(uint32_t rule, uint32_t part, uint8_t *out, size_t room) {
-    return CALL(urlcheck_explain, rule, part, written_to(out), out ? room : 0);
+    return CALL(urlcheck_explain, rule, part, written_to(out), room_at(out, room));
 }
 
 EXPORT size_t urlcheck_example_place(uint32_t rule) { return CALL(urlcheck_example_place, rule); }

@@ -56,6 +56,8 @@ gcc -std=c99 -D_XOPEN_SOURCE=600 "${strict[@]}" "${sanitized[@]}" -I "$include" 
 gcc -std=c99 "${strict[@]}" "${sanitized[@]}" -I "$include" lint.c "$archive" -o "$room/lint"
 gcc -std=c99 "${strict[@]}" "${sanitized[@]}" -I "$include" calls.c "$archive" -o "$room/calls"
 "$room/calls"
+gcc -std=c99 "${strict[@]}" "${sanitized[@]}" -I "$include" refusals.c "$archive" -o "$room/refusals"
+"$room/refusals"
 formats=(gnu caret json github sarif checkstyle junit gitlab rdjson) units=(code-points bytes utf16 screen) reports=0
 for format in "${!formats[@]}"; do
     for unit in "${!units[@]}"; do
@@ -67,6 +69,28 @@ for format in "${!formats[@]}"; do
     done
 done
 echo "library: $reports reports as \`lint\` writes them, by the calls of the library"
+
+# answering WANTED EXPORTS [COMMAND..] : of the two builds that one answers by these exports, where the command runs them
+answering() {
+    gcc -std=gnu11 "${strict[@]}" -I "$include" -I "$top/bindings/c" builds.c "$2" -no-pie \
+        -Wl,--unresolved-symbols=ignore-all -o "$room/builds" || { echo "FAILED: $2 isn't compiled"; exit 1; }
+    "${@:3}" "$room/builds" | cmp -s - <(echo "$1 $1 $1 $1")
+}
+# (what x86-64-v2 needs, as the kernel names it)
+wanted=2
+for flag in cx16 lahf_lm pni popcnt sse4_1 sse4_2 ssse3; do grep -qw "$flag" /proc/cpuinfo || wanted=1; done
+exports=$top/bindings/c/library.c
+answering $wanted "$exports" || { echo "FAILED: the build with the number $wanted doesn't answer"; exit 1; }
+if command -v qemu-x86_64 >/dev/null; then
+    answering 1 "$exports" qemu-x86_64 -cpu qemu64 || { echo 'FAILED: the plain build does not answer on an old processor'; exit 1; }
+fi
+for edit in 's/if (!is_x86_64_v2()) return;/if (is_x86_64_v2()) return;/' 's/(&is_newer, 1, /(\&is_newer, 0, /' \
+    's/(&check_here, urlcheck_check_x86_64_v2,/(\&check_here, urlcheck_check_x86_64,/'; do
+    sed "$edit" "$exports" >"$room/exports.c"
+    ! cmp -s "$exports" "$room/exports.c" || { echo "FAILED: the edit $edit changes nothing"; exit 1; }
+    ! answering $wanted "$room/exports.c" || [ $wanted = 1 ] || { echo "FAILED: a spoiled choice passes: $edit"; exit 1; }
+done
+echo "library: the build with the number $wanted answers here, and spoiled choices are found"
 
 gcc -std=c99 -D_XOPEN_SOURCE=600 "${strict[@]}" -I "$include" threads.c "$archive" -lpthread -o "$room/threads"
 "$room/threads"
@@ -86,7 +110,7 @@ if command -v g++ >/dev/null; then
 fi
 python3 "$room/page.py" | cmp - "$room/page.py.out"
 python3 "$room/report.py" | cmp - "$room/report.py.out"
-python3 "$room/start.py" | cmp - <(echo 'example.com /a http://h/x')
+for name in start wheel; do python3 "$room/$name.py" | cmp - <(sed -n 's/^print.*# //p' "$room/$name.py"); done
 
 # The lines by which the guide on C builds a program, in a folder that has the program and the library.
 mkdir "$room/build"

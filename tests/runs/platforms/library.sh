@@ -62,7 +62,7 @@ answers_by 'the static library'
 compiled answers "$shared"
 answers_by 'the shared library'
 places_and_mended_texts
-for name in batches calls lint; do compiled $name -static "$archive"; done
+for name in batches calls refusals lint; do compiled $name -static "$archive"; done
 calls_and_reports
 
 compiled threads -static "$archive" -lpthread

@@ -32,6 +32,7 @@ calls_and_reports() {
     local format unit name reports=0
     run batches "$room/lines"
     run calls
+    run refusals
     for format in 0-gnu 1-caret 2-json 3-github 4-sarif 5-checkstyle 6-junit 7-gitlab 8-rdjson; do
         unit=0 name=code-points
         [ $format != 8-rdjson ] || unit=1 name=bytes

@@ -60,7 +60,7 @@ for library in liburlcheck.a liburlcheck.dll.a; do
     answers_by $library
 done
 places_and_mended_texts
-for name in batches calls lint; do compiled $name "$built/lib/liburlcheck.dll.a"; done
+for name in batches calls refusals lint; do compiled $name "$built/lib/liburlcheck.dll.a"; done
 calls_and_reports
 
 compiled threads "$built/lib/liburlcheck.dll.a"
