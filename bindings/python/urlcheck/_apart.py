@@ -6,7 +6,11 @@ import subprocess
 import sys
 from typing import BinaryIO, Callable, Iterator, NamedTuple, Optional, Sequence, Tuple
 
+from typing import BinaryIO, Callable, Iterator, List, NamedTuple, Optional, Tuple
+
 from . import _limits
+from ._baseline import Known
+from ._fixing import Fixed
 from ._started import hand_on, started
 from ._streams import reason_of, write_nowhere
 
@@ -27,6 +31,14 @@ class Fault(NamedTuple):
         return ": " + self.reason if self.line is None else ":{}:{}: {}".format(self.line, self.column, self.reason)
 
 
+class Counted(NamedTuple):
+    """A fault of a document, as it is counted, or kept as one that is known."""
+
+    rule: str
+    text: str
+    known: Known
+
+
 class Taken(NamedTuple):
     """What a part of a document has given."""
 
@@ -40,17 +52,26 @@ class Taken(NamedTuple):
     """Why it wasn't read to its end, if it wasn't."""
     notes: Tuple[str, ...] = ()
     """What its reader passed over."""
+    counted: Tuple[Counted, ...] = ()
+    """Its faults, where they are counted."""
+    known: Tuple[str, ...] = ()
+    """The fingerprints of its faults that are known, and not reported."""
+    fixed: Optional[Fixed] = None
+    """The document with other texts in the place of links, which the others are of then; in the first part alone."""
 
 
 class Part:
     """A part of a document that is being taken."""
 
-    def __init__(self, documents: int) -> None:
+    def __init__(self, documents: int, fixed: Optional[Fixed] = None) -> None:
         self._documents = documents
         self._links = 0
         self._refused = 0
         self._ignored = 0
         self._lines = bytearray()
+        self._counted: List[Counted] = []
+        self._known: List[str] = []
+        self._fixed = fixed
 
     def add(self, lines: str, is_checked: bool) -> None:
         """Adds a link, of which these lines are said: none where it is checked and valid."""
@@ -63,13 +84,24 @@ class Part:
         self._links += 1
         self._ignored += 1
 
+    def add_counted(self, counted: Counted) -> None:
+        """Adds a fault to those that are counted."""
+        self._counted.append(counted)
+
+    def add_known(self, fingerprint: str) -> None:
+        """Adds a link whose fault is known."""
+        self._links += 1
+        self._known.append(fingerprint)
+
     def is_full(self) -> bool:
-        """Whether it has as many bytes as a part is to have."""
-        return len(self._lines) >= _ENOUGH
+        """Whether it has as much as a part is to have."""
+        return len(self._lines) >= _ENOUGH or len(self._counted) + len(self._known) >= _MOST_COUNTED
 
     def taken(self, fault: Optional[Fault] = None, notes: Tuple[str, ...] = ()) -> Taken:
         """What it has given."""
-        return Taken(self._documents, self._links, self._refused, self._ignored, bytes(self._lines), fault, notes)
+        numbers = self._documents, self._links, self._refused, self._ignored
+        more = tuple(self._counted), tuple(self._known), self._fixed
+        return Taken(*numbers, bytes(self._lines), fault, notes, *more)
 
 
 _ENOUGH = 256 * 1024
@@ -77,6 +109,9 @@ _ENOUGH = 256 * 1024
 
 MOST_GROWN = 64 * 1024 * 1024
 """How many bytes of memory documents may have taken, before another process takes those after them."""
+
+_MOST_COUNTED = 4096
+"""How many faults a part has that are counted or known, before the next one begins."""
 
 Parts = Callable[[], Iterator[Taken]]
 """What takes a document part by part."""

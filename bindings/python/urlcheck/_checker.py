@@ -1,11 +1,12 @@
 """What is wrong with the links of documents."""
 
 import re
-from typing import Dict, List, NamedTuple, Optional, Protocol, Tuple
+from typing import Dict, List, NamedTuple, Optional, Protocol, Tuple, Union
 
-from . import Base, BaseRefused, Diagnostic, Mended, Profile, Region, check, mend, message, resolve
+from . import Base, BaseRefused, Diagnostic, Fault, Mended, Profile, Refused, Region, check, faults, mend, message, resolve
 from ._finding import Finding
 from ._rules import EMPTY, OF_ASKS, OF_FORMATS
+from ._selected import Selected
 from ._source import Asks, Link, NamedBase
 
 SOMEWHERE = "https://example.com/"
@@ -52,12 +53,14 @@ class Checker:
         is_empty_taken: bool = False,
         verdicts: Optional[Verdicts] = None,
         is_of_lists: bool = False,
+        selected: Selected = Selected(),
     ) -> None:
         # (the lines of a list have no base but the caller's)
         self._outer = None if is_of_lists and base is None else Base(base or SOMEWHERE, profile)
         self._profile = profile
         self._has_mended = has_mended
         self._is_empty_taken = is_empty_taken
+        self._selected = selected
         self._bases: Dict[NamedBase, Base] = {}
         self._verdicts: Verdicts = {} if verdicts is None else verdicts
 
@@ -113,6 +116,8 @@ class Checker:
     def _checked(self, text: str, asks: Asks, base: Optional[Base]) -> Optional[Wrong]:
         if asks is Asks.ANOTHER or (asks is Asks.SOME and not text and not self._is_empty_taken):
             rule = OF_FORMATS[OF_ASKS[asks]]
+            if not self._selected.has(rule.name):
+                return None
             place = 0 if rule.name == EMPTY else text.find(" ")
             return Wrong(rule.name, place, rule.sentence, None if rule.name == EMPTY else self._mended(text, base))
         if asks is Asks.ABSOLUTE:
@@ -122,8 +127,17 @@ class Checker:
         answer = check(text, base, self._profile)
         if answer:
             return None
-        said = message(text, answer, self._profile)
-        return Wrong(answer.rule, answer.place, said, self._mended(text, base))
+        fault = self._reported(text, base, answer)
+        if fault is None:
+            return None
+        return Wrong(fault.rule, fault.place, message(text, fault, self._profile), self._mended(text, base))
+
+    def _reported(self, text: str, base: Optional[Base], refused: Refused) -> Union[Refused, Fault, None]:
+        """The first fault of a refused text whose rule is one that is reported."""
+        if self._selected.has(refused.rule):
+            return refused
+        found = faults(text, base, self._profile)
+        return next((it for it in found if self._selected.has(it.rule)), None)
 
     def _mended(self, text: str, base: Optional[Base]) -> Optional[Mended]:
         """What to write in place of a refused link, where that is wanted and there is such a text."""

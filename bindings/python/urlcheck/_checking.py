@@ -20,6 +20,7 @@ from ._limits import MOST_SECONDS, ended_by, limit_memory, limit_time
 from ._markdown_links import Inlines
 from ._readers import LIST, Found, Reading, Unread, found_in
 from ._report import is_offered
+from ._selected import Selected
 from ._source import Foreign, Link
 from ._started import started
 
@@ -43,19 +44,21 @@ class Asked(NamedTuple):
     is_empty_taken: bool = False
     name: str = ""
     """Which document it is."""
+    selected: Selected = Selected()
+    """The rules that are reported."""
 
 
 class Kept:
     """What is kept from one text to the next."""
 
     def __init__(self) -> None:
-        self._verdicts: Dict[Tuple[Profile, bool], Verdicts] = {}
+        self._verdicts: Dict[Tuple[Profile, bool, Selected], Verdicts] = {}
         self._of_inlines: Tuple[str, bool] = ("", False)
         self._inlines = Inlines()
 
     def verdicts(self, asked: Asked) -> Verdicts:
         """What is known of links."""
-        return self._verdicts.setdefault((asked.profile, asked.is_empty_taken), {})
+        return self._verdicts.setdefault((asked.profile, asked.is_empty_taken, asked.selected), {})
 
     def inlines(self, asked: Asked) -> Inlines:
         """What the blocks of the document were read as that was checked last."""
@@ -104,7 +107,8 @@ def _seen_in(asked: Asked, kept: Kept) -> Seen:
     links = 0
     try:
         for found in found_in(asked.text, asked.kind, Reading(asked.gfm, kept.inlines(asked))):
-            checker = Checker(asked.base, asked.profile, True, asked.is_empty_taken, kept.verdicts(asked), asked.kind == LIST)
+            settings = asked.is_empty_taken, kept.verdicts(asked), asked.kind == LIST, asked.selected
+            checker = Checker(asked.base, asked.profile, True, *settings)
             places = LinePlaces(found.source.text, asked.encoding)
             links += len(found.links)
             seen.mistakes.extend(_mistakes_in(asked, found, checker, places))

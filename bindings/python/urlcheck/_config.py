@@ -11,6 +11,7 @@ from typing import Any, Dict, List, NamedTuple, Optional, Tuple
 from . import BaseRefused, Profile, check
 from ._folders import Excluded
 from ._kinds import KINDS
+from ._selected import NoRule, Selected, selected
 from ._streams import reason_of
 
 OWN = ".urlcheck.toml"
@@ -37,6 +38,7 @@ class Configuration(NamedTuple):
     format: Optional[str] = None
     gfm: bool = False
     is_empty_taken: bool = False
+    selected: Selected = Selected()
     kinds: Dict[str, str] = {}
     """The kinds of documents by their names' ends, where these say another one or none."""
 
@@ -95,7 +97,7 @@ def _inner(file: str, read: Dict[str, Any]) -> Optional[Dict[str, Any]]:
     return found
 
 
-_KEYS = ("profile", "base", "ignore", "exclude", "format", "gfm", "no-empty", "kinds")
+_KEYS = ("profile", "base", "ignore", "exclude", "format", "gfm", "no-empty", "select", "ignore-rules", "kinds")
 
 
 def _read(file: str, table: Dict[str, Any]) -> Configuration:
@@ -117,6 +119,7 @@ def _read(file: str, table: Dict[str, Any]) -> Configuration:
         _text(file, table, "format"),
         _flag(file, table, "gfm"),
         _flag(file, table, "no-empty"),
+        _selected(file, table),
         _kinds(file, table),
     )
 
@@ -129,6 +132,13 @@ def _base(file: str, table: Dict[str, Any], profile: Optional[Profile]) -> Optio
     except BaseRefused as refused:
         raise Misconfigured("{}: {}".format(file, refused)) from None
     return base
+
+
+def _selected(file: str, table: Dict[str, Any]) -> Selected:
+    try:
+        return selected(_texts(file, table, "select") if "select" in table else None, _texts(file, table, "ignore-rules"))
+    except NoRule as no_rule:
+        raise Misconfigured("{}: {}".format(file, no_rule)) from None
 
 
 def _kinds(file: str, table: Dict[str, Any]) -> Dict[str, str]:

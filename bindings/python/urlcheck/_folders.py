@@ -93,12 +93,13 @@ def documents_of(
     excluded_of: Callable[[str], Tuple[Excluded, ...]],
     passed: Passed,
     is_by_git: bool = False,
-) -> Iterator[str]:
-    """The documents of these names, and those within a folder whose names' ends say a kind, in order, but for what is
-    left out of folders; then a folder of them that can't be read, and one that has no document in it. Raises ``NoGit``."""
+) -> Iterator[Tuple[str, Optional[str]]]:
+    """The documents of these names, and those within a folder whose names' ends say a kind, each with that folder, in
+    order, but for what is left out of folders; then a folder of them that can't be read, and one that has no document in
+    it. Raises ``NoGit``."""
     for name in names:
         if name == "-" or not os.path.isdir(name):
-            yield name
+            yield name, None
             continue
         excluded = excluded_of(name)
         count = 0
@@ -106,8 +107,9 @@ def documents_of(
         for path in _by_git(name, excluded) if is_by_git else _walked(name, excluded, passed, closed):
             if passed.takes(os.path.basename(path)):
                 count += 1
-                yield path
-        yield from closed or [name] * (count == 0)
+                yield path, name
+        for it in closed or [name] * (count == 0):
+            yield it, None
 
 
 def _walked(name: str, excluded: Tuple[Excluded, ...], passed: Passed, closed: List[str]) -> Iterator[str]:

@@ -22,6 +22,9 @@ KINDS: Dict[str, Tuple[str, ...]] = {
 NAMES = {"feed.json": "json-feed"}
 """The kinds by whole names, where their ends don't say it."""
 
+ARCHIVES = ("epub",)
+"""The kinds whose documents hold others."""
+
 _BY_END = {end: kind for kind, ends in KINDS.items() for end in ends}
 
 ENDS = tuple(_BY_END)

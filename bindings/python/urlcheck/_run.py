@@ -6,21 +6,27 @@ import re
 import stat
 import sys
 from collections import deque
-from typing import Callable, Deque, Iterator, List, Optional, Set, Tuple
+from typing import Deque, Iterable, Iterator, List, Optional, Set, Tuple
 
-from ._apart import Apart, Fault, Part, Taken, nothing
+from ._apart import Apart, Counted, Fault, Part, Parts, Taken, apart, nothing
+from ._baseline import Known, Numbered
+from ._checker import Checker
 from ._columns import Places
 from ._config import NONE, Configuration, configuration_of
-from ._finding import Report, lines_on, not_read
+from ._edits import Edit
+from ._finding import Finding, Report, lines_on, not_read
+from ._fixing import Fixed, Fixing, fixed, is_fixable
 from ._folders import configured_folder, no_document, with_slashes
-from ._checker import Checker
 from ._limits import has_come
-from ._kinds import PACKAGES, is_list, kind_of
+from ._kinds import ARCHIVES, PACKAGES, is_list, kind_of
 from ._readers import MOST_BYTES, Found, Reading, Unread, found_in, prepare
 from ._report import shows_mended
+from ._screen import Screen
 from ._source import Broken, Foreign, Link
-from ._streams import closed, named, reason_of, tell
+from ._statistics import Statistics
+from ._streams import closed, named, reason_of
 from ._words import Settings
+from ._writing import Unwritten, replace
 
 _URL = re.compile("[A-Za-z][A-Za-z0-9+.-]*://")
 """How a URL begins that is no name of a file."""
@@ -53,6 +59,9 @@ class Counts:
         self.links = 0
         self.refused = 0
         self.ignored = 0
+        self.known = 0
+        self.fixed = 0
+        self.shown = 0
         self.unread = 0
 
     def add(self, taken: Taken) -> None:
@@ -61,11 +70,12 @@ class Counts:
         self.links += taken.links
         self.refused += taken.refused
         self.ignored += taken.ignored
+        self.known += len(taken.known)
         self.unread += taken.fault is not None
 
     def status(self) -> int:
-        """2 where a document wasn't read, else 1 where a link is refused, else 0."""
-        return 2 if self.unread else 1 if self.refused else 0
+        """2 where a document wasn't read, else 1 where a link is refused, or would be if nothing were written, else 0."""
+        return 2 if self.unread else 1 if self.refused or self.shown else 0
 
 
 def located(name: str, places: Places, link: Link) -> str:
@@ -113,9 +123,12 @@ def _stopped(places: Places, found: Found) -> Optional[Fault]:
 class Document:
     """A document that is read: its name as it is shown, and what it is read and checked by."""
 
-    def __init__(self, settings: Settings, is_checked: bool, name: str) -> None:
+    def __init__(self, settings: Settings, is_checked: bool, name: str, folder: Optional[str] = None) -> None:
         self._settings = settings
-        self._path = name
+        self._is_checked = is_checked
+        self.path = name
+        self.folder = folder
+        """The folder in which it was found, if it wasn't named itself."""
         self.is_input = name == "-"
         # (a text of standard input may have the name of the file that an editor holds)
         given = settings.stdin_name if name == "-" else None
@@ -127,17 +140,24 @@ class Document:
         self._is_empty_taken = settings.is_empty_taken or config.is_empty_taken
         self._reading = Reading(settings.gfm or config.gfm)
         self._checker = self._checker_of(config) if is_checked else None
+        self._numbered = Numbered(self.name)
+
+    def unfixed(self) -> "Document":
+        """The same, as it is."""
+        return Document(self._settings._replace(fixing=None), self._is_checked, self.path, self.folder)
 
     def _checker_of(self, config: Configuration) -> Checker:
         settings = self._settings
         base = settings.base or config.base
         profile = config.profile if settings.is_profile_left and config.profile is not None else settings.profile
-        return Checker(base, profile, shows_mended(settings.format), self._is_empty_taken)
+        has_mended = shows_mended(settings.format) or settings.fixing is not None
+        selected = settings.selected.among(config.selected)
+        return Checker(base, profile, has_mended, self._is_empty_taken, selected=selected)
 
     def work(self) -> int:
         """About how much work it is: enough for a process of its own where it is no file, and so can't be read twice."""
         try:
-            found = os.stat(self._path)
+            found = os.stat(self.path)
         except OSError:
             return _ENOUGH if self.is_input else _LEAST
         if not stat.S_ISREG(found.st_mode):
@@ -147,8 +167,8 @@ class Document:
     def parts(self) -> Iterator[Taken]:
         """What the document gives, part by part."""
         try:
-            for number, found in enumerate(self._read()):
-                yield from self._parts_of(found, number)
+            for number, (found, fixed) in enumerate(self._found()):
+                yield from self._parts_of(found, Part(int(number == 0), fixed))
         except Unread as reason:
             yield nothing(str(reason))
         except Foreign as foreign:
@@ -158,29 +178,62 @@ class Document:
         except RecursionError:
             yield nothing("is nested too deeply")
 
-    def _parts_of(self, found: Found, number: int) -> Iterator[Taken]:
+    def _parts_of(self, found: Found, part: Part) -> Iterator[Taken]:
         places = Places(found.source, self._settings.unit)
         name = self.name + ("/" + found.inner if found.inner else "")
-        part = Part(int(number == 0))
         for link in found.links:
             if self._is_left_out(found, link):
                 part.add_ignored()
+            elif self._checker is None:
+                part.add(located(name, places, link) + "\n", False)
             else:
-                part.add(self._said(name, places, link), self._checker is not None)
+                self._add(part, self._checker.finding(name, places, link))
             if part.is_full():
                 yield part.taken()
                 part = Part(0)
         yield part.taken(_stopped(places, found), found.notes)
 
-    def _said(self, name: str, places: Places, link: Link) -> str:
-        """The lines on a link: none where a check finds it valid."""
-        if self._checker is None:
-            return located(name, places, link) + "\n"
-        finding = self._checker.finding(name, places, link)
-        return lines_on(self._settings.format, finding) if finding else ""
+    def _add(self, part: Part, finding: Optional[Finding]) -> None:
+        """Adds a link that is checked, and what is wrong with it, if something is."""
+        if finding is None:
+            part.add("", True)
+            return
+        it = finding.diagnostic
+        known = self._numbered.next(it.rule, it.place, it.text)
+        if known.fingerprint in self._settings.known:
+            part.add_known(known.fingerprint)
+            return
+        part.add(lines_on(self._settings.format, finding), True)
+        if self._settings.is_counted:
+            part.add_counted(Counted(it.rule, it.text, known))
 
-    def _read(self) -> Iterator[Found]:
-        name = self._path
+    def _found(self) -> Iterator[Tuple[Found, Optional[Fixed]]]:
+        """What is found in the document, or in each one that it holds; after its links are fixed, where that is asked for."""
+        data = self._read()
+        assert self.kind is not None
+        kind = self.kind
+        if self._settings.fixing is None or kind in ARCHIVES:
+            for found in found_in(data, kind, self._reading):
+                yield found, None
+            return
+        found, *_ = found_in(data, kind, self._reading)
+        edits = self._edits(found, self._settings.fixing)
+        fix = fixed(self.name, data, found, edits, lambda new: next(found_in(new, kind, self._reading)))
+        yield (found, None) if fix is None else (fix[1], fix[0])
+
+    def _edits(self, found: Found, fixing: Fixing) -> Iterator[Edit]:
+        """What is written in the place of wrong links."""
+        checker = self._checker
+        for link in found.links if checker is not None else ():
+            if checker is None or self._is_left_out(found, link) or not checker.may_be_written(link):
+                continue
+            wrong = checker.wrong(link)
+            if wrong and wrong.mended and is_fixable(link.text, wrong.mended, fixing.is_unsafe):
+                yield Edit(link.offset, link.offset + len(link.text), wrong.mended.text)
+
+    def _read(self) -> bytes:
+        """The document's bytes."""
+        name = self.path
         if os.path.isdir(name):
             raise Unread(no_document(name, not self._settings.excluded))
         if self.kind is None:
@@ -196,7 +249,7 @@ class Document:
             raise Unread("its name has what a located line would read as its line and column")
         data = read_document(name)
         has_come()
-        yield from found_in(data, self.kind, self._reading)
+        return data
 
     def _is_left_out(self, found: Found, link: Link) -> bool:
         """Whether a comment or a regular expression leaves a link out."""
@@ -208,22 +261,29 @@ class Document:
 class Run:
     """The documents read so far: what was asked for, and what was seen."""
 
-    def __init__(self, settings: Settings, is_checked: bool, is_quiet: bool, report: Report) -> None:
+    def __init__(self, settings: Settings, is_checked: bool, is_quiet: bool, report: Report, screen: Screen) -> None:
         self._settings = settings
         self._is_checked = is_checked
         self._is_quiet = is_quiet
         self._report = report
+        self._screen = screen
         self._noted: Set[str] = set()
+        self._paths: Set[str] = set()
         self._waiting: List[Document] = []
         self._work = 0
         self._kinds: Set[Optional[str]] = set()
         self._begun: Deque[Tuple[List[Document], Apart]] = deque()
         self.counts = Counts()
+        self.statistics = Statistics()
+        self.faults: List[Known] = []
+        """The faults, where they are counted."""
+        self.met: Set[str] = set()
+        """The fingerprints of the known faults that are there."""
 
-    def take(self, name: str) -> None:
-        """Takes a document, which is read with others in a process, and reports those before it for which there is no room.
-        Raises ``Misconfigured``."""
-        document = Document(self._settings, self._is_checked, name)
+    def take(self, name: str, folder: Optional[str] = None) -> None:
+        """Takes a document, which was found in that folder if it wasn't named itself. It is read with others in a process,
+        and those before it are reported for which there is no room. Raises ``Misconfigured``."""
+        document = Document(self._settings, self._is_checked, name, folder)
         work = document.work()
         if self._work + work >= _ENOUGH:
             self._begin()
@@ -246,7 +306,7 @@ class Run:
         for kind in {it.kind for it in documents} - self._kinds:
             self._kinds.add(kind)
             prepare(kind)
-        parts: List[Callable[[], Iterator[Taken]]] = [it.parts for it in documents]
+        parts: List[Parts] = [it.parts for it in documents]
         self._begun.append((documents, Apart(parts, documents[0].is_input)))
         while len(self._begun) >= self._settings.jobs:
             self._end_first()
@@ -260,23 +320,67 @@ class Run:
 
     def _end(self, document: Document, apart: Apart) -> None:
         """Writes the located links of a document or what is wrong with them."""
+        self._screen.at(self.counts.documents, self.counts.refused, document.name)
         is_passed = self._is_checked
-        for taken in apart.taken():
+        for taken in self._fixed(document, apart):
             self.counts.add(taken)
             self._report.add(taken.lines)
+            self._count(taken)
             is_passed = is_passed and not taken.lines and taken.fault is None
             for note in taken.notes:
                 self._note(document.name, note)
             if taken.fault is not None:
-                name = document.name + ("/" + taken.fault.inner if taken.fault.inner else "")
-                self._report.add(not_read(self._settings.format, name, taken.fault).encode("utf-8"))
-                is_input = name == "-" and taken.fault.line is None
-                tell(("standard input" if is_input else named(name) or "''") + taken.fault.after())
+                self._tell_fault(document, taken.fault)
         if is_passed:
             self._report.passed(document.name)
+
+    def _tell_fault(self, document: Document, fault: Fault) -> None:
+        name = document.name + ("/" + fault.inner if fault.inner else "")
+        self._report.add(not_read(self._settings.format, name, fault).encode("utf-8"))
+        is_input = name == "-" and fault.line is None
+        self._screen.tell(("standard input" if is_input else named(name) or "''") + fault.after())
+
+    def _count(self, taken: Taken) -> None:
+        for fault in taken.counted:
+            self.statistics.add(fault.rule, fault.text)
+            self.faults.append(fault.known)
+        self.met.update(taken.known)
+
+    def _fixed(self, document: Document, given: Apart) -> Iterable[Taken]:
+        """What a document gives, after what is fixed in it was written. Where that can't be it is read as it is."""
+        fixing = self._settings.fixing
+        if fixing is None:
+            return given.taken()
+        held = list(given.taken())
+        fix = held[0].fixed if held else None
+        if fix is None:
+            return held
+        # (a file that has several names is written once)
+        path = os.path.realpath(document.path)
+        is_new, is_whole = path not in self._paths, all(it.fault is None for it in held)
+        self._paths.add(path)
+        if is_new and is_whole and self._is_written(document, fix, fixing):
+            return held
+        return apart(document.unfixed().parts)
+
+    def _is_written(self, document: Document, fix: Fixed, fixing: Fixing) -> bool:
+        """Writes a document as it is fixed, or shows what would be written. Says where that can't be."""
+        if fixing.is_shown:
+            self._screen.write(fix.difference)
+            self.counts.shown += fix.texts
+            return True
+        try:
+            replace(document.path, fix.digest, fix.data, document.folder)
+        except (OSError, Unwritten) as error:
+            why = str(error) if isinstance(error, Unwritten) else "can't be written: " + reason_of(error)
+            self._screen.tell("{}: {}".format(named(document.name), why))
+            self.counts.unread += 1
+            return False
+        self.counts.fixed += fix.texts
+        return True
 
     def _note(self, name: str, note: str) -> None:
         """Says what a reader passed over, each once."""
         if not self._is_quiet and note not in self._noted:
             self._noted.add(note)
-            tell("{}: {}".format("standard input" if name == "-" else named(name) or "''", note))
+            self._screen.tell("{}: {}".format("standard input" if name == "-" else named(name) or "''", note))

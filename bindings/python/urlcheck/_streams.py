@@ -5,6 +5,7 @@ import io
 import os
 import re
 import sys
+from typing import Callable, Optional
 
 REASONS = {
     errno.ENOENT: "there is no such file",
@@ -79,16 +80,17 @@ _DRIVES = re.compile("[\x00-\x08\x0b-\x1f\x7f-\x9f\u061c\u200e\u200f\u2028-\u202
 """What drives a terminal: controls but the tab and the line feed, and what ends a line or turns a text's direction."""
 
 
-def write(lines: bytes) -> None:
-    """Writes whole lines, as they are; to a terminal what drives it is shown as U+FFFD."""
+def write(lines: bytes, paint: Optional[Callable[[str], str]] = None) -> None:
+    """Writes whole lines, as they are, or with colours; to a terminal what drives it is shown as U+FFFD."""
     if not lines:
         return
     # (there is none where it was closed before the start)
     if sys.stdout is None:
         raise closed()
-    if sys.stdout.isatty():
-        shown = _DRIVES.sub("\ufffd", lines.decode("utf-8", "surrogateescape"))
-        lines = shown.encode("utf-8", "surrogateescape")
+    if sys.stdout.isatty() or paint is not None:
+        shown = lines.decode("utf-8", "surrogateescape")
+        shown = _DRIVES.sub("\ufffd", shown) if sys.stdout.isatty() else shown
+        lines = (paint(shown) if paint else shown).encode("utf-8", "surrogateescape")
     sys.stdout.buffer.write(lines)
 
 

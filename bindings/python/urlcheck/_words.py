@@ -5,14 +5,18 @@ import os
 import re
 import sys
 import textwrap
-from typing import List, NamedTuple, Optional, Tuple
+from typing import FrozenSet, List, NamedTuple, Optional, Tuple
 
 from . import FORMATS, UNITS, Profile, version
-from ._config import Misconfigured
-from ._folders import Excluded, meant
+from . import _baseline
 from ._checker import SOMEWHERE
+from ._colours import WHENS
+from ._config import Misconfigured
+from ._fixing import Fixing
+from ._folders import Excluded, meant
 from ._kinds import ENDS, KINDS, listed
 from ._report import own_unit, takes_unit
+from ._selected import NoRule, Selected, are_rules, selected
 from ._source import Foreign, decoded
 from ._streams import flush, named, reason_of, stop, tell, write
 from ._wrong import Parser, chosen
@@ -47,6 +51,14 @@ class Settings(NamedTuple):
     """Whether a project's configuration counts."""
     jobs: int = 1
     """How many documents are read at once."""
+    selected: Selected = Selected()
+    """The rules that are reported."""
+    fixing: Optional[Fixing] = None
+    """What is written in the place of links, if something is."""
+    known: FrozenSet[str] = frozenset()
+    """The fingerprints of the faults that aren't reported."""
+    is_counted: bool = False
+    """Whether each fault is wanted beside its report, for what is counted of all or kept as known."""
 
 
 class Asked(NamedTuple):
@@ -56,6 +68,15 @@ class Asked(NamedTuple):
     settings: Settings
     is_checked: bool
     is_quiet: bool
+    has_statistics: bool = False
+    """Whether the numbers of faults are wanted in place of the faults."""
+    is_zero_for_refused: bool = False
+    """Whether the status is 0 also where links are refused."""
+    output: Optional[str] = None
+    """The file that the report is written into, if it isn't standard output."""
+    baseline: Optional[str] = None
+    """The file that the faults are to be written into, which are known from then on."""
+    colour: str = "auto"
 
 
 _PROFILES = [it.name.lower() for it in Profile]
@@ -101,13 +122,12 @@ def asked(words: List[str]) -> Asked:
     unit = _unit(given.columns, format)
     profile = "standard" if given.profile is None else chosen(given.profile, _PROFILES, "profile")
     kind = None if given.kind is None else chosen(given.kind, _KINDS, "kind")
-    if given.format is not None and not given.check:
-        parser.error("--format is for --check")
+    is_checked = _is_checked(parser, given)
     settings = Settings(
         kind,
         given.base,
         Profile[profile.upper()],
-        tuple(pattern for name in given.ignore for pattern in _patterns(name)),
+        tuple(pattern for name in given.ignore if not are_rules(name) for pattern in _patterns(name)),
         tuple(Excluded.by(it) for it in given.exclude),
         format,
         unit,
@@ -120,10 +140,54 @@ def asked(words: List[str]) -> Asked:
         given.git,
         not given.no_config,
         _jobs(parser, given.jobs),
+        _selected(given),
+        Fixing(given.unsafe_fixes, given.diff) if given.fix or given.diff else None,
+        frozenset() if given.baseline is None else _known(given.baseline),
+        given.statistics or given.write_baseline is not None,
     )
     if given.stdin_name is not None and "-" not in given.files:
         parser.error("--stdin-name is for standard input, which - is")
-    return Asked(given.files, settings, given.check, given.quiet)
+    colour = chosen(given.color, list(WHENS), "choice of colours")
+    more = given.statistics, given.exit_zero, given.output, given.write_baseline, colour
+    return Asked(given.files, settings, is_checked, given.quiet, *more)
+
+
+_OF_CHECKS = ("format", "select", "statistics", "exit_zero", "baseline", "write_baseline", "unsafe_fixes")
+"""What is said of links that are checked alone."""
+
+
+def _is_checked(parser: Parser, given: argparse.Namespace) -> bool:
+    """Whether links are checked: --check, --fix and --diff do it."""
+    is_checked: bool = given.check or given.fix or given.diff
+    for name in _OF_CHECKS:
+        if getattr(given, name) and not is_checked:
+            parser.error("--{} is for --check".format(name.replace("_", "-")))
+    if given.unsafe_fixes and not (given.fix or given.diff):
+        parser.error("--unsafe-fixes is for --fix and --diff")
+    if (given.fix or given.diff) and "-" in given.files:
+        parser.error("--fix and --diff are for files, and - is standard input")
+    if given.diff and (given.format or given.statistics):
+        parser.error("--diff shows what --fix would write, in place of a report")
+    return is_checked
+
+
+def _selected(given: argparse.Namespace) -> Selected:
+    """The rules that are reported. Raises ``SystemExit``."""
+    try:
+        return selected(given.select, [name for name in given.ignore if are_rules(name)])
+    except NoRule as no_rule:
+        raise SystemExit(stop(str(no_rule)))
+
+
+def _known(name: str) -> FrozenSet[str]:
+    """The fingerprints of a baseline. Raises ``SystemExit``."""
+    shown = named(name) or "''"
+    try:
+        return _baseline.read(name)
+    except OSError as error:
+        raise SystemExit(stop("{}: can't be read: {}".format(shown, reason_of(error))))
+    except _baseline.NoBaseline as no_baseline:
+        raise SystemExit(stop("{}: {}".format(shown, no_baseline)))
 
 
 def with_format(settings: Settings, name: Optional[str], is_checked: bool) -> Settings:
@@ -147,7 +211,10 @@ def _jobs(parser: Parser, word: str) -> int:
 
 def _processors() -> int:
     """How many processors the program may use."""
-    count = len(os.sched_getaffinity(0)) if sys.platform == "linux" else os.cpu_count() or 1
+    if sys.platform == "linux":
+        count = len(os.sched_getaffinity(0))
+    else:
+        count = os.cpu_count() or 1
     return min(count, _MOST_JOBS)
 
 
@@ -201,8 +268,27 @@ def _parser() -> Parser:
         action="append",
         default=[],
         metavar="FILE",
-        help="regular expressions, one a line, of links that are meant as they are; it may be given more than once",
+        help="regular expressions, one a line, of links that are meant as they are; or RULES, as for --select, that aren't "
+        "reported; it may be given more than once",
     )
+    add(
+        "--select",
+        action="append",
+        metavar="RULES",
+        help="report only what violates these rules, with commas between; it may be given more than once",
+    )
+    add("--fix", action="store_true", help="check, and write what is offered in the place of wrong links")
+    helped = "write also what may be another URL than was meant"
+    add("--unsafe-fixes", action="store_true", help=helped)
+    add("--diff", action="store_true", help="show what --fix would write, as a unified diff, and write nothing")
+    helped = "print how often each rule is violated, and the wrong links that are there more than once, and no report"
+    add("--statistics", action="store_true", help=helped)
+    add("--baseline", metavar="FILE", help="leave out the faults that FILE has, which --write-baseline wrote")
+    add("--write-baseline", metavar="FILE", help="write the faults into FILE, which are known from then on")
+    add("--exit-zero", action="store_true", help="end with 0 also where a link is refused")
+    add("--output", metavar="FILE", help="write the report into FILE")
+    helped = "whether gnu and caret have colours: {}; without it auto, at a terminal"
+    add("--color", default="auto", metavar="WHEN", help=helped.format(listed(list(WHENS))))
     add(
         "--exclude",
         action="append",

@@ -5,19 +5,23 @@ each link, as ``rg --vimgrep -o`` does; with ``--check`` it checks them, and rep
 those that ``urlcheck lint --located -`` reads, which checks them too.
 """
 
+import contextlib
 import os
 import signal
 import sys
-from typing import List, Optional, Tuple
+from typing import BinaryIO, Callable, Iterator, List, Optional, Tuple
 
-from . import BaseRefused, Profile, check, message
+from . import BaseRefused, Profile, _baseline, check, message
+from ._colours import COLOURED, are_wanted, coloured
 from ._config import NONE, Misconfigured, configuration_of
 from ._finding import Report
 from ._folders import Excluded, NoGit, Passed, configured_folder, documents_of
 from ._limits import limit_memory
+from ._progress import Progress
 from ._run import Counts, Run
-from ._streams import as_utf8, flush, is_closed_pipe, named, reason_of, stop, tell, write, write_nowhere
-from ._words import Asked, asked, with_format
+from ._screen import Paint, Screen
+from ._streams import as_utf8, flush, is_closed_pipe, named, reason_of, stop, tell, write_nowhere
+from ._words import Asked, Settings, asked, with_format
 
 
 def run(words: Optional[List[str]] = None) -> int:
@@ -37,29 +41,91 @@ def _run(given: Asked) -> int:
     settings = given.settings
     if settings.is_configured:
         settings = with_format(settings, configuration_of(configured_folder(None)).format, given.is_checked)
+    # (what is wrong with the configuration is said before anything is reported)
+    for name in given.files if settings.is_configured else ():
+        configuration_of(configured_folder(name))
+    if given.output is None:
+        return _run_into(None, given, settings)
+    with _written(given.output) as file:
+        return _run_into(file, given, settings)
 
+
+def _run_into(file: Optional[BinaryIO], given: Asked, settings: Settings) -> int:
+    """Runs it, with its report in this file, or on standard output."""
+    names, passed, no_git = _documents(given.files, settings)
+    progress = Progress(len(names), given.is_quiet)
+    screen = Screen(file, _paint(given, settings.format), progress)
+    # (a difference and counts are in the place of a report)
+    is_reported = not given.has_statistics and not (settings.fixing and settings.fixing.is_shown)
+    report = Report(settings.format, settings.unit, screen.write if is_reported else _leave)
+    seen = Run(settings, given.is_checked, given.is_quiet, report, screen)
+    report.begin()
+    for name, folder in names:
+        seen.take(name, folder)
+    seen.end()
+    progress.end()
+    if no_git is not None:
+        seen.counts.unread += 1
+        tell(named(no_git))
+    report.end(not seen.counts.unread)
+    if given.has_statistics:
+        screen.write(seen.statistics.said().encode("utf-8", "surrogateescape"))
+    flush()
+    return _ended(given, seen, passed)
+
+
+def _leave(_lines: bytes) -> None:
+    """Writes nothing."""
+
+
+def _documents(files: List[str], settings: Settings) -> Tuple[List[Tuple[str, Optional[str]]], Passed, Optional[str]]:
+    """The documents, each with the folder in which it was found; what was passed over; and why Git doesn't say more."""
+    names: List[Tuple[str, Optional[str]]] = []
+    passed = Passed()
+    try:
+        for it in documents_of(files, _excluded_by(settings), passed, settings.is_by_git):
+            names.append(it)
+    except NoGit as no_git:
+        return names, passed, str(no_git)
+    return names, passed, None
+
+
+def _excluded_by(settings: Settings) -> Callable[[str], Tuple[Excluded, ...]]:
     def excluded_of(name: str) -> Tuple[Excluded, ...]:
         config = configuration_of(configured_folder(name)) if settings.is_configured else NONE
         return settings.excluded + config.excluded
 
-    report = Report(settings.format, settings.unit, write)
-    seen, passed = Run(settings, given.is_checked, given.is_quiet, report), Passed()
-    # (what is wrong with the configuration is said before anything is reported)
-    for name in given.files if settings.is_configured else ():
-        configuration_of(configured_folder(name))
-    report.begin()
+    return excluded_of
+
+
+def _paint(given: Asked, format: str) -> Optional[Paint]:
+    """What gives a report its colours, if it has some."""
+    is_painted = given.is_checked and given.output is None and format in COLOURED and are_wanted(given.colour, sys.stdout)
+    return (lambda lines: coloured(format, lines)) if is_painted and not given.has_statistics else None
+
+
+@contextlib.contextmanager
+def _written(name: str) -> Iterator[BinaryIO]:
+    """The file of that name, to be written. What goes wrong is an ``OSError`` that has its name."""
     try:
-        for name in documents_of(given.files, excluded_of, passed, settings.is_by_git):
-            seen.take(name)
-    except NoGit as no_git:
-        seen.counts.unread += 1
-        tell(named(str(no_git)))
-    seen.end()
-    report.end(not seen.counts.unread)
-    flush()
+        with open(name, "wb") as file:
+            yield file
+    except OSError as error:
+        raise OSError(error.errno, error.strerror, name) from None
+
+
+def _ended(given: Asked, seen: Run, passed: Passed) -> int:
+    """Writes the baseline that is asked for, says what was seen, and gives the status."""
+    if given.baseline is not None:
+        with _written(given.baseline) as file:
+            file.write(_baseline.written(seen.faults))
+    gone = len(given.settings.known - seen.met)
+    if gone and not given.is_quiet:
+        tell("{} of the baseline {} gone".format(_number(gone, "fault"), "is" if gone == 1 else "are"))
     if not given.is_quiet:
-        tell(_counted(seen.counts, given.is_checked) + named(passed.said()))
-    return seen.counts.status()
+        tell(_counted(seen.counts, given) + named(passed.said()))
+    status = seen.counts.status()
+    return 0 if status == 1 and (given.is_zero_for_refused or given.baseline is not None) else status
 
 
 def _base_refused(base: Optional[str], profile: Profile) -> Optional[str]:
@@ -75,11 +141,14 @@ def _base_refused(base: Optional[str], profile: Profile) -> Optional[str]:
     return None
 
 
-def _counted(counts: Counts, is_checked: bool) -> str:
+def _counted(counts: Counts, given: Asked) -> str:
     """The counts, as standard error ends with them."""
-    documents, links = _number(counts.documents, "document"), _number(counts.links, "link")
-    refused = ", {} refused".format(counts.refused) if is_checked else ""
-    return "{}, {}{}, {} ignored".format(documents, links, refused, counts.ignored)
+    said = [_number(counts.documents, "document"), _number(counts.links, "link")]
+    said += ["{} refused".format(counts.refused)] * given.is_checked
+    said += ["{} ignored".format(counts.ignored)]
+    said += ["{} known".format(counts.known)] * (given.settings.known != frozenset())
+    said += ["{} fixed".format(counts.fixed)] * (given.settings.fixing is not None)
+    return ", ".join(said)
 
 
 def _number(count: int, noun: str) -> str:
@@ -101,7 +170,8 @@ def main() -> None:
     except OSError as error:
         write_nowhere(1)
         if not is_closed_pipe(error):
-            tell("standard output: can't be written: {}".format(reason_of(error)))
+            name = "standard output" if error.filename is None else named(str(error.filename))
+            tell("{}: can't be written: {}".format(name, reason_of(error)))
         status = 3
     sys.exit(status)
 

@@ -292,6 +292,7 @@ class Server(MethodDispatcher):  # type: ignore[misc]
             options.gfm or config.gfm,
             options.is_empty_taken or config.is_empty_taken,
             document.uri,
+            config.selected,
         )
         try:
             seen = self._checking.check(asked, is_superseded)

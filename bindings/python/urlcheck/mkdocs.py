@@ -48,7 +48,8 @@ class Plugin(_PLUGINS.BasePlugin):  # type: ignore[misc]
             name = self.config["profile"]
             profile = Profile[name.upper()] if name else project.profile or Profile.STANDARD
             base = self.config["base"] or project.base or config["site_url"] or None
-            self._checker = Checker(base, profile, False, self.config["no_empty"] or project.is_empty_taken)
+            is_empty_taken = self.config["no_empty"] or project.is_empty_taken
+            self._checker = Checker(base, profile, False, is_empty_taken, selected=project.selected)
             self._ignored = tuple(re.compile(it) for it in self.config["ignore"]) + project.ignored
             self._is_gfm = self.config["gfm"] or project.gfm
         except BaseRefused as refused:

@@ -64,7 +64,8 @@ def _settings(app: Any) -> _Settings:
         if name is not None and name not in [it.name.lower() for it in Profile]:
             raise failed("urlcheck_profile is one of {}".format(", ".join(it.name.lower() for it in Profile)))
         profile = Profile[name.upper()] if name is not None else project.profile or Profile.STANDARD
-        checker = Checker(config.urlcheck_base or project.base, profile, False, config.urlcheck_no_empty or project.is_empty_taken)
+        is_empty_taken = config.urlcheck_no_empty or project.is_empty_taken
+        checker = Checker(config.urlcheck_base or project.base, profile, False, is_empty_taken, selected=project.selected)
         ignored = tuple(re.compile(it) for it in config.urlcheck_ignore) + project.ignored
     except BaseRefused as refused:
         raise failed("urlcheck_base: {}".format(refused)) from None

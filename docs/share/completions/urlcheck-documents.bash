@@ -10,9 +10,10 @@ _urlcheck_documents() {
         --format) words='gnu caret json github sarif checkstyle junit gitlab rdjson' ;;
         --columns) words='code-points bytes utf16 screen' ;;
         --type) words='html xml markdown rst notebook epub css json-feed' ;;
-        --ignore) takes_files=yes ;;
-        --base | --exclude | --stdin-name | --jobs) ;;
-        *) words='--check --format --columns --base --profile --type --ignore --exclude --git --gfm --no-empty --no-config --stdin-name --jobs --quiet -q --help -h --version -V'
+        --color) words='auto always never' ;;
+        --ignore | --baseline | --write-baseline | --output) takes_files=yes ;;
+        --base | --select | --exclude | --stdin-name | --jobs) ;;
+        *) words='--check --format --columns --base --profile --type --select --ignore --exclude --git --gfm --no-empty --no-config --stdin-name --fix --unsafe-fixes --diff --statistics --baseline --write-baseline --exit-zero --output --color --jobs --quiet -q --help -h --version -V'
            takes_files=yes ;;
     esac
     mapfile -t COMPREPLY < <(compgen -P "$option" -W "$words" -- "$word")

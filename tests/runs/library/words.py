@@ -253,7 +253,7 @@ class Words(Texts):
         shown = [re.match(r"--([a-z-]+) [A-Z]+ .*?: (.*); without it ", " ".join(it.split())) for it in helped]
         wanted = {it.group(1): set(re.split(", | or ", it.group(2))) for it in shown if it}
         self.assertEqual(wanted["columns"], {"code-points", "bytes", "utf16", "screen"})
-        self.assertEqual({"columns", "format", "profile", "type"}, set(wanted))
+        self.assertEqual({"color", "columns", "format", "profile", "type"}, set(wanted))
         for path, pattern in (
             ("docs/share/completions/urlcheck-documents.bash", r"--([a-z]+)\) words='(.*?)'"),
             ("docs/share/completions/_urlcheck-documents", r"--([a-z]+)=\[.*?\]:[A-Z]+:\((.*?)\)"),

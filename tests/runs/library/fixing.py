@@ -1,0 +1,165 @@
+"""Tests of what urlcheck.documents writes in the place of links: --fix, --diff and --unsafe-fixes. The package is on PYTHONPATH."""
+
+import os
+import shutil
+import stat
+import subprocess
+import sys
+import time
+import unittest
+
+from room import PROGRAM, Texts
+
+PAGE = (
+    "<!doctype html>\r\n<a href='http://h/a b'>1</a> <a href=http:\\\\h\\x>2</a>\r\n"
+    '<a href="http://h/{{ id }}">template</a> <a href="http://192.168.010.1/a b">octal</a>\n'
+    '<a href="https://http://h/x">two</a> <a href="http://h/&amp;a b">reference</a>\n'
+    '<!-- urlcheck: ignore -->\n<a href="http://h/meant so">left</a>\n\u00e9 <img src="p q.png" srcset="r^.png 1x, s.png 2x">'
+)
+
+FIXED = (
+    "<!doctype html>\r\n<a href='http://h/a%20b'>1</a> <a href=http://h/x>2</a>\r\n"
+    '<a href="http://h/{{ id }}">template</a> <a href="http://192.168.010.1/a b">octal</a>\n'
+    '<a href="https://http://h/x">two</a> <a href="http://h/&amp;a b">reference</a>\n'
+    '<!-- urlcheck: ignore -->\n<a href="http://h/meant so">left</a>\n\u00e9 <img src="p%20q.png" srcset="r%5E.png 1x, s.png 2x">'
+)
+
+# A document of each kind with one wrong link, and that as it is fixed.
+KINDS = {
+    "a.xml": ('<?xml version="1.0"?>\n<rss><channel><link>http://h/a b</link></channel></rss>', "http://h/a%20b"),
+    "a.css": ('a { b: url("http://h/a b") }\n', "http://h/a%20b"),
+    "a.jsonfeed": ('{"version": "https://jsonfeed.org/version/1.1", "home_page_url": "http://h/a b"}', "http://h/a%20b"),
+    "a.md": ("# T\n\n[x](<http://h/a b>) and `[y](<http://h/a b>)`\n", "http://h/a%20b"),
+    "a.rst": ("T\n=\n\n`x <http://h/a^b>`__ and ``http://h/a^b``\n", "http://h/a%5Eb"),
+    "a.ipynb": (
+        '{"cells": [{"cell_type": "markdown", "metadata": {}, "source": ["[x](<http://h/a b>)"]}], "metadata": {},\n'
+        ' "nbformat": 4, "nbformat_minor": 5}\n',
+        "http://h/a%20b",
+    ),
+}
+
+
+class Fixing(Texts):
+    def read(self, name):
+        with open(os.path.join(self.room, name), "rb") as file:
+            return file.read()
+
+    def test_only_what_is_offered_is_written(self):
+        for mark in (b"", b"\xef\xbb\xbf"):
+            self.write("page.html", mark + PAGE.encode())
+            status, out, said = self.run_on("--fix", "page.html")
+            self.assertEqual(self.read("page.html"), mark + FIXED.encode())
+            places = [line.split(": ")[0] for line in out.splitlines()]
+            self.assertEqual((status, places), (1, ["page.html:3:19", "page.html:3:58", "page.html:4:24", "page.html:4:62"]))
+            self.assertTrue(said.endswith(": 1 document, 10 links, 4 refused, 1 ignored, 4 fixed\n"), said)
+        # a second time there is nothing left to write
+        before = os.stat(os.path.join(self.room, "page.html"))
+        status, _, said = self.run_on("--fix", "page.html")
+        after = os.stat(os.path.join(self.room, "page.html"))
+        self.assertEqual((status, after.st_ino, after.st_mtime_ns), (1, before.st_ino, before.st_mtime_ns))
+        self.assertTrue(said.endswith("1 ignored, 0 fixed\n"), said)
+
+    def test_unsafe(self):
+        self.write("page.html", "<a href=https:example.com/a>x</a> <a href=\"http://h/{{ a b }}\">y</a><a href=http://h:80x/>z</a>")
+        offered = self.run_on("--check", "--format", "json", "page.html")[1].count('"offered":true')
+        self.run_on("--fix", "--unsafe-fixes", "page.html")
+        left = self.run_on("--check", "--format", "json", "page.html")[1]
+        self.assertGreater(offered, 0)
+        self.assertEqual(left.count('"offered":true'), 0)
+        self.assertIn(b"{{ a b }}", self.read("page.html"))
+
+    def test_each_kind(self):
+        packages = {"a.css": "tinycss2", "a.md": "markdown_it", "a.ipynb": "markdown_it", "a.rst": "docutils"}
+        for name, (text, wanted) in KINDS.items():
+            try:
+                __import__(packages.get(name, "sys"))
+            except ImportError:
+                continue
+            with self.subTest(name):
+                wrong = wanted.replace("%20", " ").replace("%5E", "^")
+                self.write(name, text)
+                self.assertEqual(self.run_on("--fix", name)[:2], (0, ""))
+                self.assertEqual(self.read(name).decode(), text.replace(wrong, wanted, 1))
+
+    def test_difference(self):
+        lines = ["<p>{}</p>\n".format(number) for number in range(60)]
+        for at in (0, 5, 20, 21, 28, 50, 59):
+            lines[at] = '<a href="http://h/{} b">x</a>\n'.format(at)
+        lines[35] = '<a href="http://h/x\n y">two lines</a>\n'
+        for end in ("\n", ""):
+            text = "".join(lines).rstrip("\n") + end
+            self.write("page.html", text)
+            status, out, said = self.run_on("--diff", "page.html")
+            self.assertEqual((status, self.read("page.html").decode()), (1, text))
+            self.assertTrue(out.startswith("--- page.html\n+++ page.html\n@@ -1,"), out)
+            self.run_on("--fix", "page.html")
+            fixed = self.read("page.html")
+            self.assertEqual(fixed.count(b"%20"), 8)
+            if shutil.which("patch"):
+                self.write("page.html", text)
+                subprocess.run(["patch", "-s", "-p0"], input=out.encode(), cwd=self.room, check=True)
+                self.assertEqual(self.read("page.html"), fixed)
+        self.assertEqual(self.run_on("--diff", "page.html")[:2], (0, ""))
+
+    def test_modes_and_links(self):
+        self.write("d/page.html", '<a href="http://h/a b">')
+        self.write("out.html", '<a href="http://h/a b">')
+        os.chmod(os.path.join(self.room, "d/page.html"), 0o640)
+        os.symlink("page.html", os.path.join(self.room, "d", "same.html"))
+        os.symlink("../out.html", os.path.join(self.room, "d", "other.html"))
+        status, _, said = self.run_on("--fix", "d")
+        self.assertEqual(status, 2)
+        self.assertIn("d/other.html: is a symbolic link out of the folder, and isn't written\n", said)
+        self.assertEqual(self.read("out.html"), b'<a href="http://h/a b">')
+        self.assertEqual(self.read("d/page.html"), b'<a href="http://h/a%20b">')
+        self.assertEqual(stat.S_IMODE(os.stat(os.path.join(self.room, "d/page.html")).st_mode), 0o640)
+        self.assertTrue(os.path.islink(os.path.join(self.room, "d", "same.html")))
+        # what is named itself is written, wherever it leads
+        self.assertEqual(self.run_on("--fix", "d/other.html")[0], 0)
+        self.assertEqual(self.read("out.html"), b'<a href="http://h/a%20b">')
+        self.assertEqual(sorted(os.listdir(self.room)), ["d", "out.html"])
+        self.assertEqual(sorted(os.listdir(os.path.join(self.room, "d"))), ["other.html", "page.html", "same.html"])
+
+    def test_what_cant_be_written_stays_whole(self):
+        self.write("d/page.html", '<a href="http://h/a b">')
+        os.chmod(os.path.join(self.room, "d"), 0o555)
+        self.addCleanup(os.chmod, os.path.join(self.room, "d"), 0o755)
+        program = PROGRAM if os.getuid() else ["setpriv", "--reuid=65534", "--regid=65534", "--clear-groups", *PROGRAM]
+        os.chmod(self.room, 0o755)
+        ran = subprocess.run([*program, "--fix", "d/page.html"], cwd=self.room, capture_output=True, check=False)
+        self.assertEqual((ran.returncode, ran.stdout.count(b"\n")), (2, 1), ran)
+        self.assertIn(b"d/page.html: can't be written: permission denied\n", ran.stderr)
+        self.assertEqual(self.read("d/page.html"), b'<a href="http://h/a b">')
+
+    def test_broken_documents_are_left(self):
+        text = '<rss><channel><link>http://h/a b</link>&broken'
+        self.write("a.xml", text)
+        status, _, said = self.run_on("--fix", "--type", "xml", "a.xml")
+        self.assertEqual((status, self.read("a.xml").decode()), (2, text))
+        self.assertIn("can't be read from here on", said)
+
+    def test_killed_at_any_moment_no_file_is_broken(self):
+        wrong = ('<a href="http://h/a b">x</a>\n' * 2000).encode()
+        fixed = wrong.replace(b"a b", b"a%20b")
+        for wait in range(8):
+            for number in range(6):
+                self.write("d/{}.html".format(number), wrong)
+            run = subprocess.Popen([*PROGRAM, "-q", "--fix", "d"], cwd=self.room, stdout=subprocess.DEVNULL, stderr=subprocess.DEVNULL)
+            time.sleep(0.05 + wait * 0.07)
+            run.kill()
+            run.wait()
+            for number in range(6):
+                self.assertIn(self.read("d/{}.html".format(number)), (wrong, fixed))
+
+    def test_words(self):
+        for words, said in (
+            (["--fix", "-"], "--fix and --diff are for files, and - is standard input"),
+            (["--unsafe-fixes", "--check", "a.html"], "--unsafe-fixes is for --fix and --diff"),
+            (["--diff", "--format", "json", "a.html"], "--diff shows what --fix would write, in place of a report"),
+        ):
+            status, out, err = self.run_on(*words)
+            self.assertEqual((status, out, err.splitlines()[-1]), (2, "", "urlcheck-documents: " + said))
+
+
+if __name__ == "__main__":
+    unittest.main()
