@@ -103,18 +103,23 @@ walk_whole class parts text segmented listed same is denoted =
 
 -- ---- no path after an authority
 
-root-text : (class : Class) → IsTextOf (authority_path class []) (encoded false (serial_segments (authority_path class [])))
+root-text : (class : Class)
+    → IsTextOf (authority_path class []) (encoded false (serial_segments (authority_path class [])))
 unfolding encoded
 root-text SpecialNotFile = slashed-text []
 root-text File = slashed-text []
-root-text Other = record { path = record { ascii = IsAscii-from_test [] refl; start = λ some. absurd (some refl) }; after = refl }
+root-text Other = record {
+  path = record { ascii = IsAscii-from_test [] refl; start = λ some. absurd (some refl) };
+  after = refl;
+}
 
 root-unmarked : (class : Class) → serial_authority None None (Segments (authority_path class [])) ≡ []
 root-unmarked SpecialNotFile = refl
 root-unmarked File = refl
 root-unmarked Other = refl
 
-root-chars : (class : Class) → chars (serial_segments (authority_path class [])) ≡ serial_segments (authority_path class [])
+root-chars : (class : Class)
+    → chars (serial_segments (authority_path class [])) ≡ serial_segments (authority_path class [])
 root-chars class = chars-IsAscii _ (ascii class)
   where
     ascii : (class : Class) → IsAscii (serial_segments (authority_path class []))

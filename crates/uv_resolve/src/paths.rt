@@ -36,8 +36,8 @@ pub(crate) fn path_of(
     }
 }
 
-/// The text whose encoding is that of the path, where the path begins anew at a `/`, with which the next segment doesn't
-/// begin, and no segment begins as a dot segment does. So are the paths of most links. None says nothing.
+/// The text whose encoding is that of the path, where the path begins anew at a `/`, after which no second one stands,
+/// and no segment begins as a dot segment does. So are the paths of most links. None says nothing.
 #[inline(always)]
 pub(crate) fn whole_path<'t>(class: Class, parts: &Parts<'t>) -> Option<&'t str>
     ensures { IfSome result (λ text. IsWholePath class parts.now (chars text.now)) }

@@ -26,7 +26,7 @@ returns-then-is_without_dots c =
             ∙ c.if-not-begins_with_slash.true;
         no_dots =
             no_dots-chars false text c.utf8.text
-            (ap (has_no_dots false) (sym c.as_bytes-then-not-begins_with_slash.ensures.value) ∙ sym c.is_without_dots.ensures
-            ∙ c.if-is_without_dots.true);
+            (ap (has_no_dots false) (sym c.as_bytes-then-not-begins_with_slash.ensures.value)
+            ∙ sym c.is_without_dots.ensures ∙ c.if-is_without_dots.true);
       },
     )
