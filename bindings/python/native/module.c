@@ -130,8 +130,9 @@ int is_checked(state *state, urlcheck_finding found) {
 }
 
 /* An object of a class whose fields are those of a dictionary, which is taken over. (A frozen class takes none by its own
- * `__setattr__`, and a call of it costs more than the check.) Its fields are texts, numbers and members of an enumeration, so
- * that it is in no cycle, and the collector needn't look at it: to look at a million answers takes longer than to check. */
+ * `__setattr__`, and a call of it costs more than the check.) Its fields are texts, numbers and members of an
+ * enumeration, so that it is in no cycle, and the collector needn't look at it: to look at a million answers takes longer
+ * than to check. */
 static PyObject *made(PyObject *type, state *state, PyObject *fields) {
     newfunc make = (newfunc)PyType_GetSlot((PyTypeObject *)type, Py_tp_new);
     PyObject *object = fields ? make((PyTypeObject *)type, state->no_words, NULL) : NULL;
@@ -542,8 +543,8 @@ static int clear_all(PyObject *module) {
 
 static void free_all(void *module) { clear_all(module); }
 
-/* From 3.12 on a module says whether it may be imported where an interpreter has a lock of its own. Older versions, which the
- * stable ABI is for, refuse a slot that they don't know. */
+/* From 3.12 on a module says whether it may be imported where an interpreter has a lock of its own. Older versions, which
+ * the stable ABI is for, refuse a slot that they don't know. */
 enum { MULTIPLE_INTERPRETERS = 3, OWN_LOCK = 2 };
 
 static PyModuleDef_Slot slots[] = {{Py_mod_exec, (void *)begin}, {0, NULL}, {0, NULL}};

@@ -150,9 +150,10 @@ class BaseRefused(ValueError):
 class Base:
     """A base that is checked once, for many texts: the functions take it in the place of the base's text.
 
-    Two bases are equal whose texts and profiles are. A text is checked against it by its profile. Beside it ``WIDE`` or ``PARSER`` raises ``ValueError`` where the base
-    was checked by another one, and ``STANDARD`` says nothing, as where no profile is given. Raises ``BaseRefused`` where
-    the base isn't valid alone, and else what ``check`` raises of a text.
+    Two bases are equal whose texts and profiles are. A text is checked against it by its profile. Beside it ``WIDE``
+    or ``PARSER`` raises ``ValueError`` where the base was checked by another one, and ``STANDARD`` says nothing, as
+    where no profile is given. Raises ``BaseRefused`` where the base isn't valid alone, and else what ``check`` raises
+    of a text.
     """
 
     __slots__ = ("text", "profile", "_data", "_held")

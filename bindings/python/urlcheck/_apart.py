@@ -125,8 +125,8 @@ def nothing(reason: str) -> Taken:
 class Apart:
     """Documents that are taken one after another in a process of their own, which begins at once. Where memory is short
     Python may do anything, also go on without an end: so the process is ended from without, and only the parts that it
-    gave whole are taken. Another process goes on where one ends; with the same document, unless that was its first or took
-    too long: so what is said of a document is never owed to those before it."""
+    gave whole are taken. Another process goes on where one ends; with the same document, unless that was its first or
+    took too long: so what is said of a document is never owed to those before it."""
 
     def __init__(self, documents: Sequence[Parts], is_input: bool = False) -> None:
         self._documents = documents
@@ -280,8 +280,8 @@ def _whole(pipe: BinaryIO) -> Iterator[Optional[Taken]]:
 
 
 def _give(documents: Sequence[Parts], writer: int) -> None:
-    """Writes the parts of documents to this file, and ends the process: with 0 where all of each were written whole. Where
-    they have taken much memory the others are left to another process."""
+    """Writes the parts of documents to this file, and ends the process: with 0 where all of each were written whole.
+    Where they have taken much memory the others are left to another process."""
     ended = 1
     try:
         write_nowhere(2)
@@ -303,7 +303,8 @@ def _give(documents: Sequence[Parts], writer: int) -> None:
 
 
 def _put(part: Optional[Taken], pipe: BinaryIO) -> None:
-    """Writes a part, or that a document ends. (What isn't written out is lost where the next document ends the process.)"""
+    """Writes a part, or that a document ends. (What isn't written out is lost where the next document ends the
+    process.)"""
     pickle.dump(part, pipe)
     pipe.flush()
 

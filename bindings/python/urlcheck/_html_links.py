@@ -1,5 +1,6 @@
-"""The links of an HTML document: each attribute that the HTML Standard gives a URL. Tags, comments and what is no markup are
-told apart as the Standard's tokenizer does it (section 13.2.5), everywhere as in HTML, also within SVG and MathML."""
+"""The links of an HTML document: each attribute that the HTML Standard gives a URL. Tags, comments and what is no
+markup are told apart as the Standard's tokenizer does it (section 13.2.5), everywhere as in HTML, also within SVG and
+MathML."""
 
 import re
 from html.entities import html5
@@ -28,9 +29,9 @@ _RAW_END = {
 _SCRIPT = re.compile(
     "(?P<open><!--)|(?P<close>-->)|<(?P<slash>/?)script(?=[ \t\n\f\r/>])", re.IGNORECASE | re.ASCII
 )
-# What begins there: a tag, by its name; a comment; or what ends with the first `>`. Tags of which nothing is taken are passed
-# over where that is plain: each of their few attributes has a space before it, and no value or one in quotes without `<`. So the
-# next `<` is after them.
+# What begins there: a tag, by its name; a comment; or what ends with the first `>`. Tags of which nothing is taken
+# are passed over where that is plain: each of their few attributes has a space before it, and no value or one in
+# quotes without `<`. So the next `<` is after them.
 _NEXT = re.compile(
     "<(?!/?(?!(?i:{raw})[{space}/>])[A-Za-z]{name}*"
     "(?:[{space}]+(?!(?i:{taken}|content)[{space}/>=]){name}+(?:=\"[^\"<]*\"|='[^'<]*')?){{0,20}}[{space}]*/?>)"
@@ -65,8 +66,8 @@ def links_of(source: Source) -> Tuple[List[Link], Set[int], Tuple[str, ...]]:
 
 
 class _Reader:
-    """Collects the links of the start tags. What has no end reaches to the document's end, as in the Standard's tokenizer; so
-    nothing is read twice."""
+    """Collects the links of the start tags. What has no end reaches to the document's end, as in the Standard's
+    tokenizer; so nothing is read twice."""
 
     def __init__(self, source: Source) -> None:
         self.links: List[Link] = []
@@ -179,7 +180,8 @@ class _Reader:
 
 
 def _end_of_script(text: str, start: int) -> int:
-    """Where a script's text ends that begins there, by the states of the Standard's tokenizer in which it is escaped."""
+    """Where a script's text ends that begins there, by the states of the Standard's tokenizer in which it is
+    escaped."""
     is_escaped = is_inner = False
     found = _SCRIPT.search(text, start)
     while found is not None:

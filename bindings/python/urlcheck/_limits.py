@@ -87,7 +87,8 @@ _LATE = (LATE, -getattr(signal, "SIGALRM", -LATE))
 _SLOW = tuple(-getattr(signal, it, -_OUT_OF_QUOTA) for it in ("SIGPROF", "SIGXCPU"))
 """The statuses of processes that took too much processor time."""
 
-_FROM_OUTSIDE = {-getattr(signal, it): it for it in ("SIGKILL", "SIGTERM", "SIGHUP", "SIGINT", "SIGQUIT") if hasattr(signal, it)}
+_ENDING = ("SIGKILL", "SIGTERM", "SIGHUP", "SIGINT", "SIGQUIT")
+_FROM_OUTSIDE = {-getattr(signal, it): it for it in _ENDING if hasattr(signal, it)}
 """The statuses of processes that another one ended, with the signals by which it did."""
 
 

@@ -51,8 +51,8 @@ class Literals:
         return None if given is None else (given, False)
 
     def block(self, path: str, line: int, text: str) -> Optional[Callable[[int], int]]:
-        """What says where a place of these lines is in a source, which may be indented there: they are found as a link is,
-        and each occurrence once."""
+        """What says where a place of these lines is in a source, which may be indented there: they are found as a
+        link is, and each occurrence once."""
         source = self.source(path)
         if source is None or not text.strip():
             return None
@@ -154,7 +154,8 @@ def _places(source: Source, text: str, begin: int) -> Callable[[int], int]:
         number, column = lines.position(at)
         own, other = lines.line(number), source.line(line + number)
         start = begin - source.offset(line + first, 0) if number == first else len(other) - len(other.lstrip())
-        return min(source.offset(line + number, max(start + column - 1 - len(own) + len(own.lstrip()), 0)), len(source.text))
+        shift = start - len(own) + len(own.lstrip())
+        return min(source.offset(line + number, max(shift + column - 1, 0)), len(source.text))
 
     return place_of
 

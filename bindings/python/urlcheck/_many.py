@@ -42,8 +42,8 @@ def check_many(texts: Iterable[Optional[str]], base: AnyBase = None, profile: Pr
 
     The texts are a list or another iterable, a numpy array of objects, a pandas Series, or an Arrow array of strings,
     which isn't copied. Columns of the same kind are given: lists; arrays of numpy, where a place is -1 and a rule ``None``
-    for a valid text; Series with the same index; arrays of Arrow. ``None``, NaN and ``pandas.NA`` are missing texts. Other
-    threads run while texts are checked.
+    for a valid text; Series with the same index; arrays of Arrow. ``None``, NaN and ``pandas.NA`` are missing texts.
+    Other threads run while texts are checked.
 
     Raises what ``check`` raises, and ``ValueError`` for an Arrow array that is broken.
     """

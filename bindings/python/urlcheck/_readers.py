@@ -75,13 +75,18 @@ def found_in(given: Union[bytes, str], kind: str, reading: Reading = Reading()) 
         raise Unread("its reader failed: {!r}".format(error)) from None
 
 
-_SMALL = {"markdown": b"[a](b)\n", "notebook": b'{"cells": []}', "rst": b"`a <http://h/>`_\n", "css": b"a { b: url(c) }"}
+_SMALL = {
+    "markdown": b"[a](b)\n",
+    "notebook": b'{"cells": []}',
+    "rst": b"`a <http://h/>`_\n",
+    "css": b"a { b: url(c) }",
+}
 """A small document of each kind that a package reads."""
 
 
 def prepare(kind: Optional[str]) -> None:
-    """Has the package imported that reads a kind of document, if it is installed, so that no process that begins as a copy of
-    this one has to do it."""
+    """Has the package imported that reads a kind of document, if it is installed, so that no process that begins as a
+    copy of this one has to do it."""
     if kind in _SMALL and hasattr(os, "fork"):
         with contextlib.suppress(Unread):
             # (what is wrong is said of each document)

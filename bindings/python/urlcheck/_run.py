@@ -1,4 +1,5 @@
-"""A run over documents: they are read and checked in processes of their own, some in each, and reported in their order."""
+"""A run over documents: they are read and checked in processes of their own, some in each, and reported in their
+order."""
 
 import errno
 import os
@@ -155,7 +156,8 @@ class Document:
         return Checker(base, profile, has_mended, self._is_empty_taken, selected=selected)
 
     def work(self) -> int:
-        """About how much work it is: enough for a process of its own where it is no file, and so can't be read twice."""
+        """About how much work it is: enough for a process of its own where it is no file, and so can't be read
+        twice."""
         try:
             found = os.stat(self.path)
         except OSError:

@@ -211,10 +211,9 @@ def _jobs(parser: Parser, word: str) -> int:
 
 def _processors() -> int:
     """How many processors the program may use."""
+    count = os.cpu_count() or 1
     if sys.platform == "linux":
         count = len(os.sched_getaffinity(0))
-    else:
-        count = os.cpu_count() or 1
     return min(count, _MOST_JOBS)
 
 

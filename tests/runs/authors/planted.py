@@ -1,8 +1,8 @@
-"""Wrong links planted into reStructuredText of others: planted.py --alone|--sphinx FOLDER.., of which each document is read. Into each
-third of what seems to be a link a word of its own is written, and before it a ^ or a space. What docutils reads as a link with
-that word has to be refused at that place, and nothing else that was planted. ``--sphinx`` is for documents with roles and
-directives of Sphinx, which docutils leaves out and the package reads through: there more may be refused. The package is on
-PYTHONPATH, and so is docutils."""
+"""Wrong links planted into reStructuredText of others: planted.py --alone|--sphinx FOLDER.., of which each document
+is read. Into each third of what seems to be a link a word of its own is written, and before it a ^ or a space. What
+docutils reads as a link with that word has to be refused at that place, and nothing else that was planted.
+``--sphinx`` is for documents with roles and directives of Sphinx, which docutils leaves out and the package reads
+through: there more may be refused. The package is on PYTHONPATH, and so is docutils."""
 
 import glob
 import gzip
@@ -20,7 +20,8 @@ EACH = 3
 """Into which of the links of a text a fault is planted."""
 
 LINK = re.compile(
-    r"(?P<enclosed>(?<=<)https?://[\w./-]+(?=>`_)|(?<=: )https?://[\w./-]+$|(?<=:: )[\w./-]+\.(?:png|gif)$)|https?://[\w.]+/[\w/-]+",
+    r"(?P<enclosed>(?<=<)https?://[\w./-]+(?=>`_)|(?<=: )https?://[\w./-]+$|(?<=:: )[\w./-]+\.(?:png|gif)$)"
+    r"|https?://[\w.]+/[\w/-]+",
     re.MULTILINE,
 )
 """What seems to be a link: in a reference, a target or an image, within which a space may be written, or bare."""
@@ -93,7 +94,8 @@ def tried(folder: str, is_sphinx: bool) -> int:
         missed, more = read - seen, set() if is_sphinx else seen & places - read
         if missed or more:
             failed = True
-            print("FAILED: {}: not refused {}, refused though docutils reads no link there {}".format(name, sorted(missed), sorted(more)))
+            said = "FAILED: {}: not refused {}, refused though docutils reads no link there {}"
+            print(said.format(name, sorted(missed), sorted(more)))
     if failed:
         sys.exit(1)
     return sum(len(read) for _, _, read in wanted.values())

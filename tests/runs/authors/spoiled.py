@@ -34,6 +34,9 @@ PLACES = ("server.py", "Served.test_kinds_and_places")
 CHANGES = ("server.py", "Served.test_changes_actions_and_hover")
 PAGES = ("server.py", "Served.test_pages_of_the_rules")
 SPHINX = ("builds.py", "Sphinx.test_each_link_at_its_place")
+ENDED = ("../library/limits.py", "Limits.test_documents_of_one_process")
+GREW = ("../library/limits.py", "Limits.test_a_process_ends_that_grew")
+TOKENS = ("../library/documents.py", "Documents.test_tokens_of_html")
 SPACED = ("builds.py", "Sphinx.test_a_space_beside_the_same_link")
 
 COPIES = (
@@ -70,6 +73,16 @@ COPIES = (
     Spoiled("a link is sought outside of its markup", "_literal.py", 'if markup not in ("", link):', "if not link:", SPACED, ("sphinx",)),
     Spoiled("the links of HTML are sought in the whole text", "_literal.py", "return _places(source, text, begin)", "return None",
             SPACED, ("sphinx",)),
+    Spoiled("the end of a document isn't written out", "_apart.py", "    pickle.dump(part, pipe)\n    pipe.flush()\n",
+            "    pickle.dump(part, pipe)\n    if part is not None:\n        pipe.flush()\n", ENDED),
+    Spoiled("a document is blamed for those before it", "_apart.py", "if self._first == self._next or", "if True or", GREW),
+    Spoiled("a part is given again", "_apart.py", "if number >= given:", "if True:", GREW),
+    Spoiled("a script within a comment of a script is none", "_html_links.py", "is_escaped, at = True, at - 2", "at = at - 2", TOKENS),
+    Spoiled("what has a quote in its name is no tag", "_html_links.py", "[^ \\t\\n\\f\\r/>][^ ", "[^ '\\t\\n\\f\\r/>][^ ", TOKENS),
+    Spoiled("a broken link counts twice", "_bare_links.py", "_merged(covered + [it.span() for it in spaced])", "_merged(covered)",
+            ("../library/sources.py", "Markdown.test_a_broken_link_counts_once"), ("markdown_it",)),
+    Spoiled("names have ./ before them in formats for programs", "_finding.py", '_HERE.sub("", name)', "name",
+            ("../library/projects.py", "Several.test_names_of_the_current_folder")),
     Spoiled("front matter isn't counted in MkDocs", "mkdocs.py", "text = source if source is not None and is_written else Source(markdown)", "text = Source(markdown)", ("builds.py", "MkDocs.test_each_link_at_its_place"), ("mkdocs",)),
 )
 

@@ -135,8 +135,8 @@ class Documents(Texts):
                 self.finds("a.html", "<a href='x{}y'>".format(written), "1:10:x{}y\n".format(read))
 
     def test_tokens_of_html(self):
-        """Tags, comments and what is no markup, as the HTML Standard's tokenizer tells them apart, sections 13.2.5.1 to 13.2.5.71:
-        where a link is there is a number, and where none is there is `no`."""
+        """Tags, comments and what is no markup, as the HTML Standard's tokenizer tells them apart, sections 13.2.5.1
+        to 13.2.5.71: where a link is there is a number, and where none is there is `no`."""
         for text in (
             "<script><!--<script></script><a href=no></script><a href=1>", "<script><!--<script>--></script><a href=1>",
             "<script><!--><script></script><a href=1></script>", "<script><!--</script><a href=1>", "<script>x</script y='<a href=no>'><a href=1>",

@@ -175,7 +175,8 @@ class Errors(unittest.TestCase):
     def test_numbers_that_are_none(self):
         """Of a place, a line, a column or a region, however large or small."""
         said = {
-            "place": "the place is after the end of the text", "number": "a line or a column isn't from 1 to 4294967295",
+            "place": "the place is after the end of the text",
+            "number": "a line or a column isn't from 1 to 4294967295",
             "region": "a region ends before it begins",
         }
         mended = urlcheck.Mended("a%20b", urlcheck.MendKind.SAME)
@@ -186,7 +187,8 @@ class Errors(unittest.TestCase):
                 urlcheck.message("a b", urlcheck.Refused("code-point", number))
             with self.subTest(number=number), self.assertRaisesRegex(ValueError, said["place"]):
                 list(urlcheck.report([urlcheck.Diagnostic("f", 1, 1, "a b", "code-point", number)]))
-        wrong = [{field: number} for field in ("line", "column", "end") for number in (-1, 0, 1 << 32, 1 << 64, (1 << 64) + 1)]
+        large = (-1, 0, 1 << 32, 1 << 64, (1 << 64) + 1)
+        wrong = [{field: number} for field in ("line", "column", "end") for number in large]
         regions = [((1, 1, 1, 4)[:at] + (number,) + (1, 1, 1, 4)[at + 1 :], "number")
                    for at in range(4) for number in (-2, 0, 1 << 32, (1 << 64) + 4)]
         regions += [((2, 1, 1, 4), "region"), ((1, 3, 1, 2), "region")]
@@ -194,7 +196,8 @@ class Errors(unittest.TestCase):
         for given in wrong:
             given = dict(given)
             why = given.pop("why", "number")
-            fields = {"file": "f", "line": 1, "column": 1, "text": "a b", "rule": "code-point", "place": 1, "mended": mended, **given}
+            fields = {"file": "f", "line": 1, "column": 1, "text": "a b", "rule": "code-point", "place": 1}
+            fields = {**fields, "mended": mended, **given}
             for name in urlcheck.FORMATS:
                 with self.subTest(name=name, given=given), self.assertRaisesRegex(ValueError, said[why]):
                     list(urlcheck.report([urlcheck.Diagnostic(**fields)], name))
@@ -204,7 +207,8 @@ class Errors(unittest.TestCase):
 
     def test_answers_are_in_no_cycle(self):
         """So the collector doesn't look at them, and they go as soon as nothing holds them."""
-        answers = [urlcheck.check("http://h/a"), urlcheck.check("x"), urlcheck.mend("http://h/a b"), urlcheck.faults("x")[0]]
+        answers = [urlcheck.check("http://h/a"), urlcheck.check("x"), urlcheck.mend("http://h/a b")]
+        answers += urlcheck.faults("x")
         for answer in answers:
             self.assertFalse(gc.is_tracked(answer))
             self.assertEqual(copy.deepcopy(answer), answer)
@@ -218,7 +222,8 @@ class Errors(unittest.TestCase):
             import _interpreters as interpreters
         except ImportError:
             import _xxsubinterpreters as interpreters
-        run = "import sys; sys.path[:] = {!r}; import urlcheck; assert urlcheck.is_valid_many(['http://h/', 'x', None]) == [True, False, None]; "
+        run = "import sys; sys.path[:] = {!r}; import urlcheck; "
+        run += "assert urlcheck.is_valid_many(['http://h/', 'x', None]) == [True, False, None]; "
         run += "assert urlcheck.mend('http://h/a b') == urlcheck.Mended('http://h/a%20b', urlcheck.MendKind.SAME)"
         for _ in range(3):
             made = interpreters.create()

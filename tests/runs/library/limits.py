@@ -265,7 +265,7 @@ class Limits(Texts):
     @unittest.skipUnless(importlib.util.find_spec("markdown_it"), "markdown-it-py isn't installed")
     def test_memory_of_markdown(self):
         """A document that takes all memory is reported, and the next one is read."""
-        self.write("a.md", "[a](<b c>)\n\n" * 200_000)
+        self.write("a.md", "[a](<b c>)\n\n" * 600_000)
         self.write("b.html", "<a href='x y'>")
         status, out, said = self.run_on("--check", "a.md", "b.html")
         self.assertEqual((status, out.count("\n")), (2, 1))
@@ -325,8 +325,8 @@ class Limits(Texts):
         self.assertRegex(fault.after(), "^: takes more than 1 seconds (of processor time )?to read$")
 
     def test_documents_of_one_process(self):
-        """What ends a process is said of the document that did it, and the others are read: of each is said what is said of
-        it alone."""
+        """What ends a process is said of the document that did it, and the others are read: of each is said what is
+        said of it alone."""
         def good():
             _limits.has_come()
             yield PART
@@ -367,13 +367,15 @@ class Limits(Texts):
         rest = ", and isn't reported to its end"
         slow, memory = "takes more than 1 seconds", "needs more than 480 MiB of memory"
         said = {
-            good: (1, None), endless: (1, slow + " of processor time" + rest), silent: (0, slow + " of processor time to read"),
-            waiting: (0, slow + " to read"), without_memory: (2, memory + rest), failing: (1, "its reader failed: ValueError('x')"),
+            good: (1, None), endless: (1, slow + " of processor time" + rest),
+            silent: (0, slow + " of processor time to read"), waiting: (0, slow + " to read"),
+            without_memory: (2, memory + rest), failing: (1, "its reader failed: ValueError('x')"),
             killed: (0, "lost its process to SIGKILL"), left: (1, memory + rest),
         }
         bad = [it for it in said if it is not good]
         with mock.patch.object(_limits, "MOST_SECONDS", 1):
-            for documents in ([it for each in bad for it in (good, each)] + [good], bad, bad[::-1], [killed] * 3, [good] * 100):
+            between = [it for each in bad for it in (good, each)] + [good]
+            for documents in (between, bad, bad[::-1], [killed] * 3, [good] * 100):
                 apart = _apart.Apart(documents)
                 for number, document in enumerate(documents):
                     parts = list(apart.taken())
@@ -387,8 +389,8 @@ class Limits(Texts):
             os.wait()
 
     def test_a_process_ends_that_grew(self):
-        """Documents are read in one process until they have taken much memory; a part is given once, also where its document
-        is read again."""
+        """Documents are read in one process until they have taken much memory; a part is given once, also where its
+        document is read again."""
         kept = []
 
         def numbered(length, is_killed=False):
@@ -428,13 +430,15 @@ class Limits(Texts):
             "4a.xml:2:28: can't be read from here on: mismatched tag",
             "5a.html: takes more than 2 seconds of processor time to read",
         )] + ["urlcheck-documents: 7 documents, 7 links, 7 refused, 0 ignored\n"]
-        places = ["0c.html:1:11", "1c.html:1:11", "2c.html:1:11", "3c.html:1:11", "4a.xml:2:15", "4c.html:1:11", "5c.html:1:11"]
+        places = ["{}c.html:1:11".format(number) for number in range(6)]
+        places[4:4] = ["4a.xml:2:15"]
         run = "from urlcheck import _limits, documents; _limits.MOST_SECONDS = 2; _limits.MOST_MEMORY = 160 << 20; "
         run += "import sys; sys.argv[1:] = ['--check', '--jobs', sys.argv[1], 'd']; documents.main()"
         for jobs in ("1", "2", "4"):
             ran = subprocess.run([sys.executable, "-c", run, jobs], cwd=self.room, capture_output=True)
             found = [it.partition(": error")[0] for it in ran.stdout.decode().splitlines()]
-            self.assertEqual((ran.returncode, found, ran.stderr.decode()), (2, ["d/" + it for it in places], "".join(faults)), jobs)
+            given = ran.returncode, found, ran.stderr.decode()
+            self.assertEqual(given, (2, ["d/" + it for it in places], "".join(faults)), jobs)
 
     def test_processes_that_begin_anew(self):
         """Where the system copies no process, several documents are read by one all the same, and reported alike."""

@@ -90,7 +90,8 @@ class Markdown(Texts):
 
     @has("markdown_it")
     def test_many_definitions(self):
-        """A block of many definitions takes time by their number, and not by its square; a title may have many lines."""
+        """A block of many definitions takes time by their number, and not by its square; a title may have many
+        lines."""
         self.write("a.md", "".join("[a{0}]: http://h/{0}\n".format(number) for number in range(8_000)) + "[b]: http://h/^\n")
         before = resource.getrusage(resource.RUSAGE_CHILDREN).ru_utime
         self.checks("a.md", [("8001:15", "code-point")])
@@ -152,7 +153,8 @@ class Rst(Texts):
 
     @has("docutils")
     def test_a_space_beside_the_same_link(self):
-        """A link with a space has its own place, also where the same one without it, a literal, code or HTML is before it."""
+        """A link with a space has its own place, also where the same one without it, a literal, code or HTML is
+        before it."""
         spaced = "Para `space <http://h/a b>`_ end.\n"
         for before, places in (
             ("Good `ok <http://h/ab>`_.\n\n", ["6:24"]),

@@ -1,6 +1,6 @@
-/* The attributes that gumbo reads in documents, against which tokens.py compares those of urlcheck.documents. A document is its
- * length in bytes and a line feed, then its bytes; of each attribute of a tag a line is written, and of each document's end an
- * empty one. */
+/* The attributes that gumbo reads in documents, against which tokens.py compares those of urlcheck.documents. A document is
+ * its length in bytes and a line feed, then its bytes; of each attribute of a tag a line is written, and of each document's
+ * end an empty one. */
 #include <gumbo.h>
 #include <stdio.h>
 #include <stdlib.h>

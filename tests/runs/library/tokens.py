@@ -1,5 +1,5 @@
-"""Made-up documents of HTML, whose attributes another reader finds where urlcheck.documents does: tokens.py READER COUNT SEED, of
-which the reader is made of tokens.c. The package is on PYTHONPATH."""
+"""Made-up documents of HTML, whose attributes another reader finds where urlcheck.documents does: tokens.py READER
+COUNT SEED, of which the reader is made of tokens.c. The package is on PYTHONPATH."""
 
 import random
 import subprocess
@@ -8,7 +8,8 @@ import sys
 from urlcheck import _html_links
 from urlcheck._source import Source
 
-# Tags that no tree leaves out, and what a tokenizer looks at, but for `&` and U+0000, with which gumbo has other names and places.
+# Tags that no tree leaves out, and what a tokenizer looks at, but for `&` and U+0000, with which gumbo has other
+# names and places.
 TAGS = "a A b p div span img x-y script Script style textarea title xmp iframe noembed noframes".split()
 PIECES = ["<", "</", ">", "/>", "<!--", "-->", "--!>", "<!-->", "<!--->", "<!", "<?", "<!DOCTYPE x", "<![CDATA[", "]]>", "--", "-", "!",
           " ", "\n", "\t", "\f", "/", "=", "= ", '"', "'", '=""', "='x>y'", '="<a href=z>"', "=q", "x", "\u00e9", "\u212a",
@@ -35,7 +36,8 @@ def document(chance):
 
 
 class Reader(_html_links._Reader):
-    """Keeps the attributes that are looked at, each with where its name and its value are, and takes no links of them."""
+    """Keeps the attributes that are looked at, each with where its name and its value are, and takes no links of
+    them."""
 
     def _take_all(self, tag, attributes):
         for name, found in attributes.items():
@@ -47,7 +49,8 @@ class Reader(_html_links._Reader):
 
 
 def read(text):
-    """The attributes that the package reads: name, place, and the place and the length of a value that isn't empty, in bytes."""
+    """The attributes that the package reads: name, place, and the place and the length of a value that isn't empty,
+    in bytes."""
     reader = Reader(Source(text))
     reader.read()
     found = set()

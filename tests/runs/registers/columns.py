@@ -474,9 +474,12 @@ class Arrow(Compared):
         for pieces in ([], [[]], [MIXED], [MIXED[:9], [], MIXED[9:20], [None], MIXED[20:]]):
             texts = [text for piece in pieces for text in piece]
             for base, profile in SETTINGS:
-                self.assertEqual(tuple(map(read, urlcheck.check_many(Streamed(pieces), base, profile))), one_by_one(texts, base, profile))
-                self.assertEqual(read(urlcheck.resolve_many(Streamed(pieces), base, profile)), resolved(texts, base, profile))
-                self.assertEqual(tuple(map(read, urlcheck.mend_many(Streamed(pieces), base, profile))), mended(texts, base, profile))
+                found = urlcheck.check_many(Streamed(pieces), base, profile)
+                self.assertEqual(tuple(map(read, found)), one_by_one(texts, base, profile))
+                found = urlcheck.resolve_many(Streamed(pieces), base, profile)
+                self.assertEqual(read(found), resolved(texts, base, profile))
+                found = urlcheck.mend_many(Streamed(pieces), base, profile)
+                self.assertEqual(tuple(map(read, found)), mended(texts, base, profile))
             self.assertEqual(read(urlcheck.is_valid_many(Streamed(pieces))), one_by_one(texts)[0])
 
     def test_missing_texts_that_nobody_counted(self):
