@@ -1,9 +1,8 @@
 -- Bytes that are in the rows of plain ones, with no dot after a slash, are plain.
-use Rattle.std.proofs.Common.{◌≡◌, ◌∙◌, ℕ, suc, ◌+◌, ◌<◌, ◌≤◌, true, false, not, ◌&&◌, ◌||◌, ◌==◌, All, List, [], ◌∷◌, ap}
-use Rattle.std.proofs.Common.{arith, get_or, inl, inr, length, refl, subst, take, take_all}
-use Rattle.std.proofs.Math.ListN.{get_or-eq_default}
+use Rattle.std.proofs.Common.{◌≡◌, ℕ, suc, ◌+◌, ◌<◌, true, false, not, ◌==◌, All, List, [], ◌∷◌}
+use Rattle.std.proofs.Common.{arith, get_or, inl, inr, length, refl, subst, take_all}
 use Rattle.std.specs.List.{prefix_len}
-use Rattle.std.proofs.lemmas.Bool.{agree_below_at, and_from, cases_eq, cases_lt, ne_eqb, or_parts, or_right}
+use Rattle.std.proofs.lemmas.Bool.{agree_below_at, and_from, cases_eq, ne_eqb, or_parts, or_right}
 use Rattle.url.specs.Ascii.{dot, percent_sign, slash}
 use Rattle.url.specs.Path.{dot_len}
 use Rattle.url.proofs.InputLemmas.{All-take-prefix_len, Passes}
