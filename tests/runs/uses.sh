@@ -82,6 +82,7 @@ python python tests/runs/library/programs.py
 c c tests/runs/library/programs.py
 c cpp tests/runs/library/programs.py
 c sh tests/runs/library.sh
+c cmake tests/runs/packages.sh
 rattle rust tests/runs/library/programs.py
 javascript js tests/runs/browser.sh
 sphinx python -
