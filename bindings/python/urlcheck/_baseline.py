@@ -61,7 +61,7 @@ def read(name: str) -> FrozenSet[str]:
     for number, line in enumerate(lines[1:], 2):
         fingerprint = line.partition(" ")[0]
         if line and (len(fingerprint) != _DIGITS or set(fingerprint) - set("0123456789abcdef")):
-            raise NoBaseline("line {} is none of a baseline".format(number))
+            raise NoBaseline("line {} is no fingerprint and fault".format(number))
         found += [fingerprint] * (line != "")
     return frozenset(found)
 

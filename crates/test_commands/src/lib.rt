@@ -13,6 +13,8 @@ mod jobs;
 #[cfg(test)]
 mod lint;
 #[cfg(test)]
+mod messages;
+#[cfg(test)]
 mod program;
 #[cfg(test)]
 mod streams;

@@ -1,6 +1,7 @@
 -- The first line of bytes, and the lines after it.
 use Rattle.std.proofs.Common.{◌≡◌, ◌∙◌, ℕ, suc, ◌+◌, ◌-◌, ◌≤◌, ◌<◌, ◌==◌, Bool, true, false, List, [], ◌∷◌, ◌++◌}
-use Rattle.std.proofs.Common.{length, take, drop, map, refl, sym, ap, subst, arith, if◌then◌else◌, append_assoc, inl, inr}
+use Rattle.std.proofs.Common.{length, take, drop, map, refl, sym, ap, subst, arith, if◌then◌else◌, append_assoc, inl}
+use Rattle.std.proofs.Common.{inr}
 use Rattle.std.specs.Prelude.{slice_index, slice_range, zero}
 use Rattle.std.specs.Str.Lines.{strip_carriage_return}
 use Rattle.std.proofs.Math.Seq.{drop-length}

@@ -16,7 +16,8 @@ returns-in-Some c =
       first = closed_first rest end found.1 found.2
           ∙ ap (λ (t : List ℕ). t ∷ lines_of (drop (end + 1) rest)) (sym text);
       text = text ∙ closed_text rest end (omega (arith, within)) ∙ ap (λ (t : List ℕ). take (length t) rest) (sym text);
-      ended = subst (λ (t : List ℕ). IsLineEnd rest (length t) (end + 1)) (sym text) (closed_end rest end within found.2);
+      ended = subst (λ (t : List ℕ). IsLineEnd rest (length t) (end + 1)) (sym text)
+          (closed_end rest end within found.2);
       some = omega arith;
       within = omega (arith, within);
     }

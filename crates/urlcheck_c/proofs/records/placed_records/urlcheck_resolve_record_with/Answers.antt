@@ -19,7 +19,8 @@ returns-in-None-clause-held c = λ number is.
     let found = ap (λ (r : PlacedRecord). r.found) none in
     inl (
       (none ∙ ap no_record (sym found), refl),
-      inl (subst (λ (finding : Finding). IsUnchecked number (Some c.args.base_text.now) c.args.text.now finding) (sym found)
+      inl (subst (λ (finding : Finding). IsUnchecked number (Some c.args.base_text.now) c.args.text.now finding)
+          (sym found)
           (c.unread.ensures.held number c.args.base_text.now is
           (c.in-None.ensures.held number c.args.base_text.now is))),
     )
