@@ -40,7 +40,7 @@ def planted(text: str) -> Tuple[str, Dict[str, Place]]:
         nonlocal count
         count += 1
         fault = " " if found["enclosed"] and count % 2 else "^"
-        return found[0] if count % EACH else "{}{}zq{}zq{}".format(found[0][:-1], fault, count, found[0][-1])
+        return found[0] if count % EACH else "{}/q{}zq{}zq".format(found[0].rstrip("/"), fault, count)
 
     whole = LINK.sub(with_fault, text)
     places = {}
