@@ -1,5 +1,5 @@
 #!/usr/bin/env python3
-"""Has each allocation of each call refused in turn, and compares what it finds with docs/ALLOCATIONS.md.
+"""Has each allocation of each call refused in turn, and compares what it finds with bench/failed_allocations.tsv.
 
     bench/failed_allocations.py            compares the record, and fails where it differs
     bench/failed_allocations.py --write    writes it
@@ -8,6 +8,11 @@ It runs the crate `failed_allocations` by `rt try --fail-alloc 200 --cases`, onc
 from 1: the 200th allocation of the process fails, and the driver makes 200 - n allocations before the call, so it is the call's
 nth. A run without memory ends with the status 3 and has written whole lines of the answer or nothing; from the first n
 on at which no allocation is refused, each run gives the answer that is written here.
+
+The record has a row for each call: the number of its allocations, and its answer, with `\\n` for a line feed. A base is
+resolved first, and its allocations count. `run_check` and `run_faults` write to room that they don't allocate. The
+interpreter of `rt try` can't run programs that read standard input, so these are runs of the code as it is compiled with
+checks.
 """
 import pathlib
 import re
@@ -21,7 +26,8 @@ MOST = {"domain": 10, "check": 12, "faults": 14, "resolve": 16, "run_check": 20,
         "run_cases": 50}
 MORE = 2
 ROOT = pathlib.Path(__file__).resolve().parent.parent
-RECORD = ROOT / "docs" / "ALLOCATIONS.md"
+RECORD = ROOT / "bench" / "failed_allocations.tsv"
+HEADER = "call", "profile", "base", "text", "allocations", "answer"
 
 # The profiles; a text that the wide one takes the parser's one takes too, with the same answers.
 PROFILES = "standard", "wide", "parser"
@@ -159,43 +165,36 @@ def allocations_of(runs, want, what):
 def main():
     asked = list(calls())
     written = recorded()
-    tries = [range(1, written.get(cells(*it[:4]), MOST[it[0]]) + MORE + 1) for it in asked]
+    tries = [range(1, written.get(row(*it[:4]), MOST[it[0]]) + MORE + 1) for it in asked]
     cases = {f"{k:03}.{n:03}": f"{FAILS - n}\n{call}\n{profile}\n{base}\n{text}"
              for k, (call, profile, base, text, _) in enumerate(asked) for n in tries[k]}
     found = tried(cases)
     counts = {}
-    lines = [RECORD.read_text().split("\n| Call |")[0].rstrip("\n"), "",
-             "| Call | Profile | Base | Text | Allocations | Answer |", "|---|---|---|---|---|---|"]
+    rows = [HEADER]
     for k, (call, profile, base, text, want) in enumerate(asked):
         runs = [found[f"{k:03}.{n:03}"] for n in tries[k]]
         count = counts[call, profile, text] = allocations_of(runs, want, f"{call} of {text!r}, {profile}")
-        lines.append(f"| {cells(call, profile, base, text)} | {count} | {json_like(want)} |")
+        rows.append(row(call, profile, base, text, str(count), want))
     for profile in PROFILES:
         if counts["resolve", profile, "http://h/a b"] != counts["check", profile, "http://h/a b"]:
             sys.exit("failed_allocations: resolve makes allocations of its own for a refused text")
-    record = "\n".join(lines) + "\n"
+    record = "".join("\t".join(cells) + "\n" for cells in rows)
     if "--write" in sys.argv[1:]:
         RECORD.write_text(record)
     elif record != RECORD.read_text():
-        sys.exit("failed_allocations: docs/ALLOCATIONS.md differs: bench/failed_allocations.py --write writes it anew")
+        sys.exit("failed_allocations: the record differs: bench/failed_allocations.py --write writes it anew")
     print(f"failed_allocations: {len(asked)} calls, {len(cases)} runs")
 
 
 def recorded():
     """The number of allocations of each call in the record, by the call's cells."""
-    rows = re.findall(r"^\| (`\w+` \| .*) \| (\d+) \| .* \|$", RECORD.read_text(), re.M)
-    return {row: int(count) for row, count in rows}
+    rows = [line.split("\t") for line in RECORD.read_text().splitlines()[1:]]
+    return {tuple(cells[:4]): int(cells[4]) for cells in rows}
 
 
-def cells(call, profile, base, text):
-    """The cells of the table that name a call."""
-    return f"`{call}` | {profile} | {json_like(base)} | {json_like(text)}"
-
-
-def json_like(text):
-    """A text in one cell of a table."""
-    text = text.rstrip("\n").replace("\u00ad", "U+00AD").replace("|", "\\|")
-    return " / ".join(f"`{line}`" if line else "empty" for line in text.split("\n")) if text else ""
+def row(*texts):
+    """The cells of a row: each text on one line, with every code point of it to be seen."""
+    return tuple(text.replace("\n", "\\n").replace("\u00ad", "\\u00ad") for text in texts)
 
 
 main()
