@@ -1,19 +1,15 @@
-# The explanations of the rules: they and the two tables of docs/RULES.md say the same, and each example is refused and
-# mended as its explanation says.
+# The explanations of the rules: they and the table of docs/rules/README.md, which is written by hand, say the same, and
+# each example is refused and mended as its explanation says.
 
 top=$(dirname "$(dirname "$here")")
 "$program" explain >"$room/explained" 2>"$room/err"
 ends_with 0 $? '' 'explain'
 
-# names_sections FILE : the names and the sections of the rules in the numbered table
-names_sections() {
-    awk -F ' *[|] *' '$2 ~ /^[0-9]+$/ { gsub(/`/, "", $3); print $3 "\t" $4 }' "$1"
-}
-
-# names_sentences FILE : the names of the rules, and what is wrong at the place, in the other table
-names_sentences() {
-    awk -F ' *[|] *' '/^[|] Rule [|] What is wrong / { within = 1; next } !/^[|]/ { within = 0 }
-        within && $2 !~ /^-/ { gsub(/`/, "", $2); gsub(/`/, "", $3); print $2 "\t" $3 }' "$1"
+# tabled COLUMN FILE : the names in the table of rules, each with its text in this column; the first column counts the rules
+tabled() {
+    awk -F ' *[|] *' -v column="$1" '$2 ~ /^[0-9]+$/ {
+        if ($2 != ++number) exit
+        gsub(/`/, ""); name = $3; sub(/^\[/, "", name); sub(/\].*/, "", name); print name "\t" $column }' "$2"
 }
 
 # explained KEY FILE : the names of the rules, and their lines that begin with the key
@@ -24,26 +20,28 @@ explained() {
 # holds_together EXPLAINED RULES : they have the same rules in the same order, with one text each
 holds_together() {
     [ "$(explained rule "$1" | wc -l)" = 14 ] &&
-        names_sections "$2" | cmp -s - <(explained section "$1") &&
-        names_sentences "$2" | cmp -s - <(explained means "$1")
+        tabled 4 "$2" | cmp -s - <(explained means "$1") &&
+        tabled 5 "$2" | cmp -s - <(explained section "$1")
 }
 
+listed=$top/docs/rules/README.md
 count=$((count + 1))
-holds_together "$room/explained" "$top/docs/RULES.md" || fail 'explain and docs/RULES.md differ'
+holds_together "$room/explained" "$listed" || fail 'explain and docs/rules/README.md differ'
 
 # A table that says something else is found: another section, another sentence, a row less, two rows in another order.
 differs() {
     count=$((count + 1))
-    if cmp -s "$top/docs/RULES.md" "$2"; then fail "$1: the table stayed as it was"; fi
+    if cmp -s "$listed" "$2"; then fail "$1: the table stayed as it was"; fi
     ! holds_together "$room/explained" "$2" || fail "explain and a table with $1 are the same"
 }
-sed 's/4\.3, URL units/4.3, URL code points/' "$top/docs/RULES.md" >"$room/table"
+sed 's/4\.3, URL units/4.3, URL code points/' "$listed" >"$room/table"
 differs 'another section' "$room/table"
-sed 's/two hex digits have to/two digits have to/' "$top/docs/RULES.md" >"$room/table"
+sed 's/two hex digits have to/two digits have to/' "$listed" >"$room/table"
 differs 'another sentence' "$room/table"
-sed '/^| 14 |/d' "$top/docs/RULES.md" >"$room/table"
+sed '/^| 14 |/d' "$listed" >"$room/table"
 differs 'a row less' "$room/table"
-awk '/^[|] `code-point`/ { row = $0; next } { print } /^[|] `percent`/ { print row }' "$top/docs/RULES.md" >"$room/table"
+awk -F '[|]' -v OFS='|' '$2 == " 13 " { row = $0; next } $2 == " 14 " { $2 = " 13 "; print; $0 = row; $2 = " 14 " } { print }' \
+    "$listed" >"$room/table"
 differs 'two rows in another order' "$room/table"
 
 # mended_text BASE.. -- TEXT : the text that mend writes in place of another one, or nothing

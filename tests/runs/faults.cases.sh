@@ -1,5 +1,5 @@
 # All that is wrong with texts: `check --all` by each profile, alone and against a base. Each place and rule is worked out by
-# hand from the rules of docs/RULES.md.
+# hand from the rules of docs/rules/README.md.
 
 # faulty TEXT FAULTS WORD.. : with these words the text is refused by these places and rules, in pairs
 faulty() {

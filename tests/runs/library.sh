@@ -181,10 +181,10 @@ else
     echo "library: the package's types left out, since mypy isn't installed"
 fi
 python3 -c 'import doctest, sys, urlcheck; sys.exit(doctest.testmod(urlcheck).failed)'
-python3 - "$top/docs/RULES.md" <<'END'
+python3 - "$top/docs/rules/README.md" <<'END'
 import sys, urlcheck
 table = open(sys.argv[1], encoding="utf-8").read().replace("`", "")
-missing = [rule for rule in urlcheck.RULES if "| {} | {} |".format(rule, urlcheck.sentence(rule)) not in table]
-sys.exit("FAILED: other sentences in docs/RULES.md of {}".format(missing) if missing else 0)
+missing = [rule for rule in urlcheck.RULES if "[{0}]({0}.md) | {1} |".format(rule, urlcheck.sentence(rule)) not in table]
+sys.exit("FAILED: other sentences in docs/rules/README.md of {}".format(missing) if missing else 0)
 END
 echo 'library: the programs of the pages'

@@ -28,8 +28,8 @@ done
 
 # The page of each rule is what tools/make-rules makes of it.
 if command -v node >/dev/null; then
-    "$top/tools/make-rules" "$program" "$room/made" && diff -r "$room/made/docs/rules" "$top/docs/rules" ||
-        { echo 'FAILED: docs/rules is old; tools/make-rules makes it anew'; failed=1; }
+    "$top/tools/make-rules" "$program" "$room/made" && diff -r -x README.md "$room/made/docs/rules" "$top/docs/rules" ||
+        { echo 'FAILED: docs/rules is old; tools/make-rules makes its pages anew'; failed=1; }
 else
     echo "pages: that docs/rules is as tools/make-rules makes it is left out, since node isn't installed"
 fi

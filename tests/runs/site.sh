@@ -36,7 +36,7 @@ spoiled() {
 }
 spoiled 'a link to nowhere' "which isn't there" index.html 's/"docs\/COMMANDS.html"/"docs\/COMMAND.html"/'
 spoiled 'an anchor to nowhere' 'no such anchor' docs/GLOSSARY.html 's/id="words"/id="word"/'
-spoiled 'a font from elsewhere' 'it loads https:' docs/RULES.html \
+spoiled 'a font from elsewhere' 'it loads https:' docs/ERRORS.html \
     's/<\/head>/<link rel="stylesheet" href="https:\/\/fonts.example\/a.css"><\/head>/'
 spoiled 'a backslash in a table' 'a table shows' index.html "s/'LINK' | urlcheck/'LINK' \\\\| urlcheck/"
 if [ -n "$browser" ]; then

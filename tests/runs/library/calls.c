@@ -1,7 +1,7 @@
 /*
  * The calls of reports, columns, explanations, records and held bases on texts that are written out: what they give, and what
  * they answer to a number of nothing, a place after the end, a column out of range, bytes that are no UTF-8 and null
- * pointers. Expected texts are those of docs/COMMANDS.md and docs/RULES.md, places and columns are counted by hand.
+ * pointers. Expected texts are those of docs/COMMANDS.md and docs/rules/, places and columns are counted by hand.
  */
 #include "urlcheck.h"
 
