@@ -23,7 +23,7 @@ MOST_WORDS = 30
 GUIDE_LINES = 120
 GLOSSARY = pathlib.Path("docs/GLOSSARY.md")
 # How the first line of a page begins, by its section in docs/README.md.
-FIRST_LINES = {"Start": "For ", "Guides": "For ", "Reference": "Reference for ", "What lies below": "For "}
+FIRST_LINES = {"Start": "For ", "Guides": "For ", "Reference": "Reference for ", "Background": "For "}
 # What pages are allowed beyond this, and why: how many longer sentences, and how many avoided words.
 HISTORY = "what a version said isn't rewritten"
 ALLOWED = {
