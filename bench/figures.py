@@ -60,8 +60,17 @@ TEXTS = {
     "`file:` link": "file",
     "reference, the base kept": "reference",
 }
-CHECK_HEAD = "| Texts | `check` | Ada | ratio | `is_valid` | ratio |"
+# The rows on a call from C: the end of the kind, after `c_`.
+FROM_C = {
+    "plain": "plain",
+    "mixed": "mixed",
+    "plain, the base kept": "plain_base",
+    "reference, the base kept": "reference",
+    "reference with its own base": "own_base",
+}
+CHECK_HEAD = "| Texts | `check` | Ada | ratio |"
 TEXT_HEAD = "| Texts | Ada | resolve | ratio | record | ratio |"
+C_HEAD = "| Texts | from C | Ada | ratio |"
 # The sentences with figures: the page, and the words with the names of figures in braces.
 SENTENCES = (
     ("README.md", "costs {mixed} times the instructions of Ada's `can_parse`"),
@@ -94,11 +103,8 @@ def ratio(costs: Costs, kind: str, call: str) -> str:
 
 
 def check_cells(costs: Costs, kind: str, call: str) -> List[str]:
-    """The cells of a row on a check, after the first."""
-    cells = [whole(costs[kind][call]), whole(costs[kind]["ada"]), ratio(costs, kind, call)]
-    if "is_valid" not in costs[kind]:
-        return cells + ["", ""]
-    return cells + [whole(costs[kind]["is_valid"]), ratio(costs, kind, "is_valid")]
+    """The cells of a row on a check, or on a call from C, after the first."""
+    return [whole(costs[kind][call]), whole(costs[kind]["ada"]), ratio(costs, kind, call)]
 
 
 def text_cells(costs: Costs, end: str) -> List[str]:
@@ -109,15 +115,16 @@ def text_cells(costs: Costs, end: str) -> List[str]:
 
 
 def row(cells: List[str]) -> str:
-    """A row of a table; an empty cell is one space."""
-    return "|" + "|".join(" {} ".format(cell) if cell else " " for cell in cells) + "|"
+    """A row of a table."""
+    return "| {} |".format(" | ".join(cells))
 
 
 def tables(costs: Costs) -> Dict[str, Dict[str, str]]:
     """The tables of docs/SPEED.md by their heads: each row by its first cell."""
     checks = {name: row([name, *check_cells(costs, *of)]) for name, of in CHECKS.items()}
     texts = {name: row([name, *text_cells(costs, end)]) for name, end in TEXTS.items()}
-    return {CHECK_HEAD: checks, TEXT_HEAD: texts}
+    calls = {name: row([name, *check_cells(costs, "c_" + end, "from_c")]) for name, end in FROM_C.items()}
+    return {CHECK_HEAD: checks, TEXT_HEAD: texts, C_HEAD: calls}
 
 
 def named(costs: Costs) -> Dict[str, str]:
