@@ -144,6 +144,7 @@ def check_index(top, pages, texts, wrong):
 
 INDEX = pathlib.Path("docs/README.md")
 PROVED = pathlib.Path("docs/PROVED.md")
+CONTRACTS = pathlib.Path("docs/contracts.md")
 LIBRARY = pathlib.Path("docs/LIBRARY.md")
 
 
@@ -161,25 +162,47 @@ def rows_of(section):
             yield re.findall(r"`([^`]+)`", cells[0]), re.findall(r"`([^`]+)`", cells[1]) if len(cells) > 2 else []
 
 
-def check_names(top, text, wrong):
-    """Each function and each clause that docs/PROVED.md names is in its crate, and each law is named."""
-    sections = re.split(r"^## `(\w+)`.*$", text, flags=re.M)
-    for crate, section in zip(sections[1::2], sections[2::2]):
-        code = sources_of(top, crate)
-        if not code:
-            wrong.append("{}: no crate {}".format(PROVED, crate))
-        for functions, clauses in rows_of(section):
-            for name in functions:
-                if not re.search(r"\b(fn|struct|enum|trait) {}\b".format(name.split("::")[-1]), code):
-                    wrong.append("{}: {} has no `{}`".format(PROVED, crate, name))
-            for clause in clauses:
-                if not re.search(r"\b(ensures|fn) {0}\b|^ +{0}\(".format(clause), code, flags=re.M):
-                    wrong.append("{}: {} has no clause `{}`".format(PROVED, crate, clause))
-    for file in sorted((top / "crates").glob("uv_*/src/**/*.rt")) + sorted((top / "crates").glob("urlcheck_c/src/**/*.rt")):
-        if file.stem in ("laws", "silence_laws", "step_counts", "round_trip"):
-            for law in re.findall(r"^pub fn (\w+)", file.read_text(encoding="utf-8"), flags=re.M):
-                if not law.endswith("_rows") and "{}`".format(law) not in text:
-                    wrong.append("{}: the law {} of {} isn't named".format(PROVED, law, file.relative_to(top)))
+def contracts_of(text):
+    """The rows of docs/contracts.md: the names of the clauses of each function, by its crate and its name."""
+    sections = re.split(r"^## `(\w+)`$", text, flags=re.M)
+    return {
+        (crate, name.split("::")[-1]): clauses
+        for crate, section in zip(sections[1::2], sections[2::2])
+        for names, clauses in rows_of(section)
+        for name in names
+    }
+
+
+def check_claims(top, text, contracts, wrong):
+    """Each row of docs/PROVED.md names functions and clauses of docs/contracts.md, and its command that function."""
+    known = contracts_of(contracts)
+    claims = re.findall(r"^\|(?: [^|]* \|)? `(\w+)` \| (`[^|]*`) \|([^|]*)\|(.*)\|$", text, flags=re.M)
+    for crate, functions, clauses, rest in claims:
+        for function in re.findall(r"`(\w+)`", functions):
+            for clause in re.findall(r"`(\w+)`", clauses):
+                if clause not in known.get((crate, function), [clause]):
+                    wrong.append("{}: `{}` of {} has no clause `{}`".format(PROVED, function, crate, clause))
+            if (crate, function) not in known:
+                wrong.append("{}: {} has no `{}`".format(PROVED, crate, function))
+        for path in re.findall(r"`rt check --only ([\w:]+)`", rest):
+            module, _, function = path.rpartition("::")
+            file = top / "crates" / crate / "src" / "{}.rt".format(module.replace("::", "/"))
+            code = file.read_text(encoding="utf-8") if file.exists() else ""
+            if "`{}`".format(function) not in functions or not re.search(r"\bfn {}\b".format(function), code):
+                wrong.append("{}: no function {} is in {}".format(PROVED, path, crate))
+    if len(claims) < 10:
+        wrong.append("{}: there are {} rows of claims alone".format(PROVED, len(claims)))
+
+
+def check_lengths(top, text, wrong):
+    """Each definition of which docs/PROVED.md gives the length has so many lines."""
+    lengths = re.findall(r"`(crates/[\w/]+\.antt)` \((\d+) lines\)", re.sub(r"\s+", " ", text))
+    for file, length in lengths:
+        lines = (top / file).read_text(encoding="utf-8").count("\n") if (top / file).exists() else 0
+        if lines != int(length):
+            wrong.append("{}: {} has {} lines, not {}".format(PROVED, file, lines, length))
+    if len(lengths) < 10:
+        wrong.append("{}: there are {} definitions to read alone".format(PROVED, len(lengths)))
 
 
 def check_calls(top, text, wrong):
@@ -254,7 +277,8 @@ def check_texts(top):
         check_paths(top, page, text, wrong)
     check_readme(top, texts[pathlib.Path("README.md")], wrong)
     check_index(top, pages, texts, wrong)
-    check_names(top, texts[PROVED], wrong)
+    check_claims(top, texts[PROVED], texts[CONTRACTS], wrong)
+    check_lengths(top, texts[PROVED], wrong)
     if HEADLINE not in re.sub(r"\s+", " ", texts[PROVED]):
         wrong.append("{}: the headline isn't there, word for word".format(PROVED))
     check_calls(top, texts[LIBRARY], wrong)

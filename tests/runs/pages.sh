@@ -34,8 +34,11 @@ else
     echo "pages: that docs/rules is as tools/make-rules makes it is left out, since node isn't installed"
 fi
 
+# The list of contracts is what tools/make-contracts makes of the sources.
+"$top/tools/make-contracts" --check || failed=1
+
 # The checks, each with its words.
-texts='tests/runs/pages.py texts' commands="tests/runs/pages.py commands $program" prose=tests/runs/prose.py
+contracts='tools/make-contracts --check' texts='tests/runs/pages.py texts' commands="tests/runs/pages.py commands $program" prose=tests/runs/prose.py
 
 # spoiled WHAT SAID CHECK FILE SED : in a copy where this edit of a page changed something the check, a script and its words, says so
 count=0
@@ -51,12 +54,11 @@ spoiled() {
     cp -r "$top/bench/kinds" "$top/bench/verdicts" "$room/copy/bench/"
     ln -s "$top"/bench/* "$room/copy/bench/" 2>/dev/null || true
     cp -r "$top"/docs/* "$room/copy/docs/"
-    # (of the crates a copy has the one file that is spoiled, if any)
+    # (where a file of a crate is spoiled, a copy has the code of all crates)
     case $file in
         crates/*)
             rm "$room/copy/crates"
-            mkdir -p "$room/copy/${file%/*}"
-            cp "$top/$file" "$room/copy/$file"
+            (cd "$top" && cp -r --parents crates/*/src "$room/copy")
             ;;
     esac
     sed -i "$5" "$room/copy/$file"
@@ -71,15 +73,19 @@ spoiled 'a long README' 'lines, and at most' "$texts" README.md '$a \\nA line mo
 spoiled 'a link to nowhere' 'a link to docs/COMMAND.md' "$texts" README.md 's/(docs\/COMMANDS.md)/(docs\/COMMAND.md)/'
 spoiled 'an anchor to nowhere' 'no heading makes' "$texts" docs/COMMANDS.md 's/(#vectors)/(#vector)/'
 spoiled 'a path to nowhere' 'librarian' "$texts" docs/TRUST.md 's/runs\/library.sh`/runs\/librarian.sh`/'
-spoiled 'a name of no function' 'no `fault_list`' "$texts" docs/PROVED.md 's/^| `faults` |/| `fault_list` |/'
-spoiled 'a clause that is none' 'no clause `reported`' "$texts" docs/PROVED.md 's/^| `run_links` | `report`/| `run_links` | `reported`/'
+spoiled 'a name of no function' 'no `fault_list`' "$texts" docs/PROVED.md 's/| `faults` |/| `fault_list` |/'
+spoiled 'a clause that is none' 'no clause `reported`' "$texts" docs/PROVED.md 's/| `run_links` | `report`/| `run_links` | `reported`/'
+spoiled 'a command for no function' 'no function checks::check' "$texts" docs/PROVED.md 's/--only checker::check/--only checks::check/'
+spoiled 'another length of a definition' 'Valid.antt has' "$texts" docs/PROVED.md 's/Valid.antt` (23/Valid.antt` (13/'
+spoiled 'a contract that the list lacks' 'contracts.md is old' "$contracts" docs/contracts.md '/^| `faults` |/d'
+spoiled 'a clause of another name' 'contracts.md is old' "$contracts" crates/uv_grammar/src/checker.rt 's/ensures answer {/ensures answered {/'
+spoiled 'a contract that is taken away' 'contracts.md is old' "$contracts" crates/uv_grammar/src/laws.rt '/ensures { PartsAreTheText }/d'
 spoiled 'a name of nothing' 'the name of nothing' "$texts" docs/ARCHITECTURE.md \
     's/`links::plain::plain_rest`/`links::plain::plain_''nest`/'
 spoiled 'a call with other arguments' 'isn.t in `uv_resolve`' "$texts" docs/LIBRARY.md \
     's/`resolve(alloc, text, base, profile)`/`resolve(alloc, base, text, profile)`/'
 spoiled 'a link that is no URL string' 'a link of the pages' "$commands" docs/guides/hook.md \
     's/(https:\/\/pre-commit.com)/(https:\/pre-commit.com)/'
-spoiled 'no word on a law' 'isn.t named' "$texts" docs/PROVED.md '/`step_counts::runs_keep_their_end`/d'
 spoiled 'a page that the navigation lacks' 'its navigation has no' "$texts" mkdocs.yml '/guides\/feed.md/d'
 spoiled 'a long sentence' 'a sentence of ' "$prose" docs/START.md \
     '$a A word and another one, '"$(printf 'and one more %.0s' {1..12})"'at the end.'

@@ -163,7 +163,9 @@ def main():
     if len(rest) > 1 or (rest and rest[0].startswith("-")):
         sys.exit(__doc__)
     top = pathlib.Path(rest[0]).resolve() if rest else pathlib.Path(__file__).resolve().parents[2]
-    pattern, wrong, kinds, found = avoided(top), [], kinds_of(top), pages.pages_of(top)
+    pattern, wrong, kinds = avoided(top), [], kinds_of(top)
+    # (a page that is made from comments is read as those are)
+    found = [page for page in pages.pages_of(top) if page != pages.CONTRACTS]
     means, most, longer, avoided_words = [], 0, 0, 0
     for page in found:
         text = (top / page).read_text(encoding="utf-8")
