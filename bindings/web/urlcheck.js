@@ -1,6 +1,6 @@
 /**
  * The checker of valid URL strings (WHATWG URL Standard, sections 3.4 and 4.3) for JavaScript: `urlcheck.wasm`, made of
- * proved code, and this module, which puts texts into its memory and reads its answers. docs/BROWSER.md says more.
+ * proved code, and this module, which puts texts into its memory and reads its answers. docs/JAVASCRIPT.md says more.
  *
  *     import { load } from './urlcheck.js'
  *     const urlcheck = await load()

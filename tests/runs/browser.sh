@@ -47,7 +47,7 @@ example() {
     echo "browser: the example of $name"
 }
 cp -r "$folder" "$room/example"
-example "$top/docs/BROWSER.md" "$room/example"
+example "$top/docs/JAVASCRIPT.md" "$room/example"
 
 # What a release hands out: the package, which npm installs and would make of the same files, and the page.
 "$top/release/pack-page" "$folder" "$room/packed"

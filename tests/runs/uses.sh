@@ -64,19 +64,15 @@ mend console tests/runs/pages.py
 sphinx shell-session tests/runs/authors/pages.py
 mkdocs shell-session tests/runs/authors/pages.py
 markdown shell-session tests/runs/authors/pages.py
-restructuredtext shell-session tests/runs/authors/pages.py
+other-documents shell-session tests/runs/authors/pages.py
 feed shell-session tests/runs/authors/pages.py
-notebook shell-session tests/runs/authors/pages.py
-epub shell-session tests/runs/authors/pages.py
-asciidoc-latex shell-session tests/runs/authors/pages.py
 editor lua tests/runs/authors/recipes.py
 editor elisp tests/runs/authors/recipes.py
 editor vim tests/runs/authors/recipes.py
-other-editors toml tests/runs/authors/recipes.py
-other-editors json tests/runs/authors/recipes.py
-postgresql sql tests/runs/registers/postgresql.sh
-sqlite sql tests/runs/registers/sqlite.sh
-duckdb sh tests/runs/registers/duckdb.sh
+editor toml tests/runs/authors/recipes.py
+editor json tests/runs/authors/recipes.py
+database sql tests/runs/registers/page.py
+database bash tests/runs/registers/duckdb.sh
 dataframe python tests/runs/registers/page.py
 python python tests/runs/library/programs.py
 c c tests/runs/library/programs.py
@@ -87,10 +83,12 @@ rattle rust tests/runs/library/programs.py
 javascript js tests/runs/browser.sh
 sphinx python -
 mkdocs yaml -
+database sh -
 cluster sh -
 cluster scala -
 javascript sh -'
-# (the lines for conf.py and mkdocs.yml are those that the commands of their guides write; the others need a cluster, Spark and npm)
+# (the lines for conf.py and mkdocs.yml are those that the commands of their guides write; the extension for DuckDB is built by its run;
+# the others need a cluster, Spark and npm)
 
 # Each block of the guides is taken, by a line of this file or by another run; a run that is named names the guides.
 while IFS=$'\t' read -r guide language number; do
@@ -410,8 +408,8 @@ cfirst
 call writefile([printf('%d entries, line %d, at the tab %d', len(getqflist()), line('.'), getline('.')[col('.') - 1] ==# "\t")], 'place')
 qall!
 VIM
-    recipe editor-lists vim >bytes.vimrc
-    recipe editor-lists vim 2 >screen.vimrc
+    recipe editor vim 2 >bytes.vimrc
+    sed 's/bytes/screen/; s/%c/%v/' bytes.vimrc >screen.vimrc
     for settings in bytes screen; do
         ends 0 "vim, by $settings" timeout 60 \
             vim -Nu $settings.vimrc -i NONE -n -es -c 'edit two\ words.links' -c 'source check.vim'
@@ -420,7 +418,7 @@ VIM
     done
 fi
 if has emacs; then
-    recipe editor-lists elisp >settings.el
+    recipe editor elisp 2 >settings.el
     cat >check.el <<'LISP'
 (require 'compile)
 (when (equal (getenv "SETTINGS") "yes") (load (expand-file-name "settings.el") nil t))
@@ -444,7 +442,7 @@ LISP
 fi
 
 # The task of an editor that runs a command and matches each line it writes.
-recipe editor-lists json >tasks.json
+recipe editor json 3 >tasks.json
 cat >task.py <<'PYTHON'
 import json, re, subprocess, sys
 task, = json.load(open("tasks.json"))["tasks"]

@@ -1,4 +1,4 @@
-"""The recipes of the guides on editors: recipes.py LANGUAGE WORD writes the one block in that language that has a word, as a user
+"""The recipes of the guide on editors: recipes.py LANGUAGE WORD writes the one block in that language that has a word, as a user
 would copy it, and recipes.py alone reads those of the editors that no run starts."""
 
 import importlib.util
@@ -9,16 +9,14 @@ import sys
 from typing import List
 
 GUIDES = os.path.join(os.path.dirname(os.path.abspath(__file__)), "..", "..", "..", "docs", "guides")
-PAGES = ("editor.md", "other-editors.md")
+PAGE = "editor.md"
 SERVER = "urlcheck-language-server"
 
 
 def blocks_of(language: str, word: str = "") -> List[str]:
     """The blocks in a language that have a word."""
-    found: List[str] = []
-    for name in PAGES:
-        with open(os.path.join(GUIDES, name), encoding="utf-8") as page:
-            found += re.findall("^```{}\n(.*?)^```$".format(language), page.read(), re.M | re.S)
+    with open(os.path.join(GUIDES, PAGE), encoding="utf-8") as page:
+        found = re.findall("^```{}\n(.*?)^```$".format(language), page.read(), re.M | re.S)
     return [it for it in found if word in it]
 
 
@@ -26,7 +24,7 @@ def block_of(language: str, word: str) -> str:
     """The one block in a language that has a word."""
     found = blocks_of(language, word)
     if len(found) != 1:
-        sys.exit("FAILED: docs/guides: editor.md and other-editors.md have {} blocks in {} with {}".format(len(found), language, word))
+        sys.exit("FAILED: docs/guides/{} has {} blocks in {} with {}".format(PAGE, len(found), language, word))
     return found[0]
 
 

@@ -1,4 +1,4 @@
-"""The picture of docs/BROWSER.md, drawn by Chromium: what the page shows of a text with two faults.
+"""The picture of docs/JAVASCRIPT.md, drawn by Chromium: what the page shows of a text with two faults.
 
     picture.py FOLDER PICTURE            draws it
     picture.py FOLDER PICTURE --check    fails where the page shows another text today than the picture

@@ -35,7 +35,7 @@ else
     grep -qx 'bases checked: 5' "$room/found" || fail "duckdb: a base is checked anew: $(cat "$room/found")"
     mkdir "$room/duckdb/links"
     duckdb -c "COPY (SELECT * FROM (VALUES ('http://h/'), ('http://h/ b')) v(url)) TO '$room/duckdb/links/1.parquet'" >"$room/said"
-    python3 "$top/tests/runs/registers/page.py" sh duckdb >"$room/page"
+    python3 "$top/tests/runs/registers/page.py" bash database DuckDB >"$room/page"
     (cd "$room/duckdb" && bash -e "$room/page") >"$room/said" 2>&1 || fail "duckdb: the commands of the page: $(cat "$room/said")"
     grep -q 'U+0020 SPACE is not allowed in a URL' "$room/said" || fail "duckdb: the commands of the page: $(cat "$room/said")"
     while IFS='|' read -r file edit; do

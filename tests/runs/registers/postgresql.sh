@@ -67,9 +67,9 @@ dumped() {
 page() {
     sql -c 'CREATE DATABASE page'
     local guide=$top/tests/runs/registers/page.py
-    python3 "$guide" sql postgresql | "$tree$bin/psql" -X -q -d page >"$room/page" 2>&1 || true
-    grep -E '^(ERROR|DETAIL|HINT): ' "$room/page" | diff <(python3 "$guide" errors postgresql) - ||
-        fail 'postgresql: the statements of docs/guides/postgresql.md'
+    python3 "$guide" sql database PostgreSQL | "$tree$bin/psql" -X -q -d page >"$room/page" 2>&1 || true
+    grep -E '^(ERROR|DETAIL|HINT): ' "$room/page" | diff <(python3 "$guide" errors database PostgreSQL) - ||
+        fail 'postgresql: the statements of docs/guides/database.md'
     says 'SELECT url, made_by = urlcheck_version() FROM register' 'http://h/b|t' page
 }
 

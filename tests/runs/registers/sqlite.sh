@@ -53,7 +53,7 @@ else
             SELECT count(url_resolve('a' || n, ${base%:*})) FROM s" 2>&1 | LC_ALL=C sort)
         [ "$found" = $'100\nbases checked: '"${base##*:}" ] || fail "sqlite: a base is checked anew: $base: $found"
     done
-    python3 "$top/tests/runs/registers/page.py" sql sqlite >"$room/page"
+    python3 "$top/tests/runs/registers/page.py" sql database SQLite >"$room/page"
     LD_LIBRARY_PATH=$room/sqlite quietly sqlite3 -init /dev/null -batch -bail :memory: ".read $room/page"
     python=$(sqlite_python)
     if [ -n "$python" ]; then
