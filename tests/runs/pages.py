@@ -205,21 +205,15 @@ def check_lengths(top, text, wrong):
         wrong.append("{}: there are {} definitions to read alone".format(PROVED, len(lengths)))
 
 
-def check_calls(top, text, wrong):
-    """Each call that docs/LIBRARY.md names for callers is in its crate, with these arguments."""
-    callers = text.partition("\n## For callers")[2]
-    for crates, section in re.findall(r"^### (.*)\n((?:(?!### ).*\n)*)", callers, flags=re.M):
-        code = "\n".join(sources_of(top, crate) for crate in re.findall(r"`(\w+)`", crates))
-        for names, _ in rows_of(section):
-            for name in names:
-                call, _, arguments = name.rstrip(")").partition("(")
-                word = call.split("::")[-1]
-                given = re.findall(r"\bfn {}(?:<[^>]*>)?\(([^)]*(?:\([^)]*\)[^)]*)*)\)".format(word), code)
-                taken = [", ".join(re.findall(r"(\w+): ", each)) for each in given]
-                if arguments and arguments not in taken:
-                    wrong.append("{}: `{}` isn't in {}, which takes: {}".format(LIBRARY, name, crates, taken))
-                if not given and not re.search(r"\b(?:struct|enum|trait) {0}\b|^ +{0}[,({{]".format(word), code, re.M):
-                    wrong.append("{}: {} has no `{}`".format(LIBRARY, crates, name))
+def check_header(top, text, wrong):
+    """docs/LIBRARY.md names each function of the header for C, and each verdict with its number."""
+    header = re.sub(r"/\*.*?\*/", "", (top / "bindings/c/include/urlcheck.h").read_text(encoding="utf-8"), flags=re.S)
+    for name in dict.fromkeys(re.findall(r"\b(urlcheck_\w+)\(", header)):
+        if "`{}`".format(name) not in text and not re.search(r"\b{}\(".format(name), text):
+            wrong.append("{}: no word on `{}`".format(LIBRARY, name))
+    for name, number in re.findall(r"(\w+) = (\d+)", header.partition("enum urlcheck_outcome {")[2].partition("}")[0]):
+        if "| `{}` | {} |".format(name, number) not in text:
+            wrong.append("{}: no verdict `{}` with the number {}".format(LIBRARY, name, number))
 
 
 def words_of_code(top):
@@ -281,7 +275,7 @@ def check_texts(top):
     check_lengths(top, texts[PROVED], wrong)
     if HEADLINE not in re.sub(r"\s+", " ", texts[PROVED]):
         wrong.append("{}: the headline isn't there, word for word".format(PROVED))
-    check_calls(top, texts[LIBRARY], wrong)
+    check_header(top, texts[LIBRARY], wrong)
     check_words(top, texts, wrong)
     check_notice(top, wrong)
     return wrong, "{} pages".format(len(pages))

@@ -82,15 +82,15 @@ spoiled 'a clause of another name' 'contracts.md is old' "$contracts" crates/uv_
 spoiled 'a contract that is taken away' 'contracts.md is old' "$contracts" crates/uv_grammar/src/laws.rt '/ensures { PartsAreTheText }/d'
 spoiled 'a name of nothing' 'the name of nothing' "$texts" docs/ARCHITECTURE.md \
     's/`links::plain::plain_rest`/`links::plain::plain_''nest`/'
-spoiled 'a call with other arguments' 'isn.t in `uv_resolve`' "$texts" docs/LIBRARY.md \
-    's/`resolve(alloc, text, base, profile)`/`resolve(alloc, base, text, profile)`/'
+spoiled 'no word on a function for C' 'no word on `urlcheck_next_refused`' "$texts" docs/LIBRARY.md '/`urlcheck_next_refused`/d'
+spoiled 'another number of a verdict' 'no verdict `URLCHECK_DONE`' "$texts" docs/LIBRARY.md 's/`URLCHECK_DONE` | 9/`URLCHECK_DONE` | 8/'
 spoiled 'a link that is no URL string' 'a link of the pages' "$commands" docs/guides/hook.md \
     's/(https:\/\/pre-commit.com)/(https:\/pre-commit.com)/'
 spoiled 'a page that the navigation lacks' 'its navigation has no' "$texts" mkdocs.yml '/guides\/feed.md/d'
 spoiled 'a long sentence' 'a sentence of ' "$prose" docs/START.md \
     '$a A word and another one, '"$(printf 'and one more %.0s' {1..12})"'at the end.'
-spoiled 'long sentences' 'words a sentence, and at most' "$prose" docs/guides/epub.md \
-    '$a '"$(for _ in {1..9}; do printf 'A word %sat the end. ' "$(printf 'and another %.0s' {1..12})"; done)"
+spoiled 'long sentences' 'words a sentence, and at most' "$prose" docs/guides/rattle.md \
+    '$a '"$(for _ in {1..30}; do printf 'A word %sat the end. ' "$(printf 'and another %.0s' {1..12})"; done)"
 spoiled 'a word that the glossary avoids' "the glossary avoids 'judges'" "$prose" docs/QUESTIONS.md 's/checks lists with a link/judges lists with a link/'
 spoiled 'a message with such a word' "a message has 'judges'" "$prose" crates/uv_messages/src/hints.rt 's/TEXT checks one text/TEXT judges one text/'
 spoiled 'a glossary without its table' 'the table of avoided words is missing' "$prose" docs/GLOSSARY.md '/^| `/d'
