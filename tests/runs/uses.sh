@@ -61,6 +61,7 @@ in_folder() {
 # What else takes blocks of the guides: the guide, the language, and the run; `-` where no run does, with a reason below.
 elsewhere='list console tests/runs/pages.py
 mend console tests/runs/pages.py
+mend shell-session tests/runs/authors/pages.py
 sphinx shell-session tests/runs/authors/pages.py
 mkdocs shell-session tests/runs/authors/pages.py
 markdown shell-session tests/runs/authors/pages.py
