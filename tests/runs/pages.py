@@ -148,12 +148,6 @@ CONTRACTS = pathlib.Path("docs/contracts.md")
 LIBRARY = pathlib.Path("docs/LIBRARY.md")
 
 
-def sources_of(top, crate):
-    """The code of a crate, without its tests."""
-    files = sorted((top / "crates" / crate / "src").rglob("*.rt"))
-    return "\n".join(file.read_text(encoding="utf-8") for file in files if "tests" not in file.parts)
-
-
 def rows_of(section):
     """The rows of the tables of a section: the words of code in the first cell, and those in the second."""
     for line in section.split("\n"):
