@@ -127,7 +127,7 @@ completes 'made' lint --quiet -- ma
 completes '' lint -- --format sa
 . "$share/completions/urlcheck-documents.bash"
 completer=_urlcheck_documents
-completes '--exclude' --ex
+completes '--exclude' --exc
 completes '-q' -q
 completes 'made' --check ma
 completes 'made' --ignore ma
@@ -141,4 +141,6 @@ completes 'html xml markdown rst notebook epub css json-feed' --type =
 completes 'code-points bytes utf16 screen' --check --columns =
 completes 'screen' --columns s
 completes '--type=xml' --type=x
-all_cases 63
+completes 'auto always never' --color =
+completes 'made' --baseline ma
+all_cases 65
