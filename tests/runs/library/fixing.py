@@ -1,6 +1,7 @@
 """Tests of what urlcheck.documents writes in the place of links: --fix, --diff and --unsafe-fixes. The package is on PYTHONPATH."""
 
 import os
+import resource
 import shutil
 import stat
 import subprocess
@@ -121,15 +122,23 @@ class Fixing(Texts):
         self.assertEqual(sorted(os.listdir(os.path.join(self.room, "d"))), ["other.html", "page.html", "same.html"])
 
     def test_what_cant_be_written_stays_whole(self):
-        self.write("d/page.html", '<a href="http://h/a b">')
-        os.chmod(os.path.join(self.room, "d"), 0o555)
-        self.addCleanup(os.chmod, os.path.join(self.room, "d"), 0o755)
-        program = PROGRAM if os.getuid() else ["setpriv", "--reuid=65534", "--regid=65534", "--clear-groups", *PROGRAM]
-        os.chmod(self.room, 0o755)
-        ran = subprocess.run([*program, "--fix", "d/page.html"], cwd=self.room, capture_output=True, check=False)
+        text = '<a href="http://h/a b">' + " " * 200
+        self.write("d/page.html", text)
+
+        def limited():
+            resource.setrlimit(resource.RLIMIT_FSIZE, (64, 64))
+
+        command = [*PROGRAM, "--fix", "d/page.html"]
+        ran = subprocess.run(command, cwd=self.room, capture_output=True, preexec_fn=limited, check=False)
         self.assertEqual((ran.returncode, ran.stdout.count(b"\n")), (2, 1), ran)
-        self.assertIn(b"d/page.html: can't be written: permission denied\n", ran.stderr)
-        self.assertEqual(self.read("d/page.html"), b'<a href="http://h/a b">')
+        self.assertIn(b"d/page.html: can't be written: the file may not get larger\n", ran.stderr)
+        self.assertEqual(self.read("d/page.html").decode(), text)
+        self.assertEqual(os.listdir(os.path.join(self.room, "d")), ["page.html"])
+        # (root may write what permits it to nobody)
+        if os.getuid():
+            os.chmod(os.path.join(self.room, "d/page.html"), 0o444)
+            self.assertIn("d/page.html: can't be written: permission denied\n", self.run_on("--fix", "d")[2])
+            self.assertEqual(self.read("d/page.html").decode(), text)
 
     def test_broken_documents_are_left(self):
         text = '<rss><channel><link>http://h/a b</link>&broken'
