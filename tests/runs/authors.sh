@@ -136,7 +136,7 @@ python=$(python_with pylsp_jsonrpc markdown_it docutils tinycss2 sphinx mkdocs) 
 "$python" tests/runs/authors/spoiled.py || failed=1
 # Faults planted into documentation in reStructuredText, as Debian has it.
 documentations=()
-for folder in /usr/share/doc/docutils-doc/docs /usr/share/doc/python3*/html/_sources; do
+for folder in /usr/share/doc/docutils-doc/docs /usr/share/doc/python3*-doc/html/_sources; do
     [ ! -d "$folder" ] || documentations+=("$folder")
 done
 if [ ${#documentations[@]} -gt 0 ] && python=$(python_with docutils); then
