@@ -5,8 +5,7 @@ pub mod Rules
 pub mod Escaping
 pub mod Places
 pub mod Sentences
-pub mod Json
-pub mod Entry
+pub mod Found
 pub mod Format
 pub mod Formats
 pub mod Report

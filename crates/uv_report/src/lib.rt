@@ -4,11 +4,10 @@
 
 mod completion;
 mod diagnostic;
-mod entry;
 mod escaping;
 mod format;
 mod formats;
-mod json_text;
+mod found;
 pub mod laws;
 mod line_violation;
 mod located_fault;
@@ -30,6 +29,7 @@ pub use places::column_counter::ColumnCounter;
 pub use places::seen_text::SeenText;
 pub use report::{
     end_of, push_begin, push_diagnostic, push_file_begin, push_file_end, push_seen_diagnostic,
+    put_diagnostic, put_seen_diagnostic,
 };
 pub use rules::explanation::{Explanation, explain};
 pub use rules::page::rule_page;
