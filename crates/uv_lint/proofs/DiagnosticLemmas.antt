@@ -1,5 +1,5 @@
 -- The text of a diagnostic is that of its texts, wherever those are.
-use Rattle.std.proofs.Common.{◌≡◌, ℕ, Bool, true, false, if◌then◌else◌, List, [], ◌∷◌, ◌++◌, Option, Some, None, refl}
+use Rattle.std.proofs.Common.{◌≡◌, ℕ, Bool, false, List, [], ◌∷◌, ◌++◌, Option, Some, None, refl}
 use Rattle.std.proofs.Common.{sym, ap, ◌∙◌}
 use Rattle.std.proofs.Common.{◌+◌, ◌<◌, append_assoc, append-nil, get_or, inl, inr, length, take}
 use Rattle.std.specs.Borrow.{Bor}
@@ -9,20 +9,7 @@ use Rattle.uv_report.specs.declared.places.column.Columns.{Columns}
 use Rattle.uv_report.specs.declared.diagnostic.Diagnostic.{Diagnostic}
 use Rattle.uv_report.specs.declared.line_violation.LineViolation.{LineViolation}
 use Rattle.uv_report.specs.declared.format.Format.{Format}
-use Rattle.uv_report.specs.declared.format.Format.TheVariants.{Gnu, Caret, Json, Github, Sarif, Checkstyle}
-use Rattle.uv_report.specs.declared.format.Format.TheVariants.{Junit, Gitlab, Rdjson}
 use Rattle.uv_report.specs.declared.mended.Mended.{Mended}
-use Rattle.uv_report.specs.Formats.Caret.{caret_text}
-use Rattle.uv_report.specs.Formats.Checkstyle.{checkstyle_text, error_place}
-use Rattle.uv_report.specs.Formats.Fingerprint.{place_key}
-use Rattle.uv_report.specs.Formats.Github.{github_text, command_place}
-use Rattle.uv_report.specs.Formats.Gitlab.{gitlab_text, issue_text}
-use Rattle.uv_report.specs.Formats.Gnu.{gnu_text, gnu_position}
-use Rattle.uv_report.specs.Formats.Json.{json_text}
-use Rattle.uv_report.specs.Sentences.Intention.{is_offered}
-use Rattle.uv_report.specs.Formats.Junit.{case_begin, junit_text}
-use Rattle.uv_report.specs.Formats.Rdjson.{object_text, rdjson_line, rdjson_text}
-use Rattle.uv_report.specs.Formats.Sarif.{sarif_text, sarif_with}
 use Rattle.uv_report.specs.Places.Column.{column_at}
 use Rattle.uv_report.specs.LineViolation.{violation_end, violation_place}
 use Rattle.uv_report.specs.Report.{diagnostic_text}
@@ -46,51 +33,14 @@ diagnostic_in file text line column end profile violation mended = record {
   mended = mended;
 }
 
--- a result of SARIF is the same so, whether the mended text is offered or not
-sarif_lent : (offered is_first : Bool) (file text : Bor (List ℕ)) (line column end : ℕ) (profile : Profile)
-    (violation : LineViolation) (mended : Mended)
-    → sarif_with is_first (diagnostic_in file text line column end profile violation (Some mended))
-    (if offered then Some mended else None)
-    ≡ sarif_with is_first
-    (diagnostic_in (lent file.now) (lent text.now) line column end profile violation (lent_if_mended (Some mended)))
-    (if offered then lent_if_mended (Some mended) else None)
-sarif_lent true is_first file text line column end profile violation mended = refl
-sarif_lent false is_first file text line column end profile violation mended = refl
-
--- so is a diagnostic of reviewdog
-rdjson_lent : (offered is_first : Bool) (file text : Bor (List ℕ)) (line column end : ℕ) (profile : Profile)
-    (violation : LineViolation) (mended : Mended)
-    → rdjson_line is_first (diagnostic_in file text line column end profile violation (Some mended))
-    (if offered then Some mended else None)
-    ≡ rdjson_line is_first
-    (diagnostic_in (lent file.now) (lent text.now) line column end profile violation (lent_if_mended (Some mended)))
-    (if offered then lent_if_mended (Some mended) else None)
-rdjson_lent true is_first file text line column end profile violation mended = refl
-rdjson_lent false is_first file text line column end profile violation mended = refl
-
 -- a diagnostic's text is the same with its texts after other references
 pub diagnostic_text-lent : (format : Format) (is_first : Bool) (file text : Bor (List ℕ)) (line column end : ℕ)
     (profile : Profile) (violation : LineViolation) (mended : Option Mended)
     → diagnostic_text format is_first (diagnostic_in file text line column end profile violation mended)
     ≡ diagnostic_text format is_first
     (diagnostic_in (lent file.now) (lent text.now) line column end profile violation (lent_if_mended mended))
-unfolding gnu_text gnu_position caret_text json_text github_text command_place sarif_text checkstyle_text error_place
-    junit_text case_begin gitlab_text issue_text place_key rdjson_text object_text
-diagnostic_text-lent Gnu is_first file text line column end profile violation mended = refl
-diagnostic_text-lent Caret is_first file text line column end profile violation None = refl
-diagnostic_text-lent Caret is_first file text line column end profile violation (Some mended) = refl
-diagnostic_text-lent Json is_first file text line column end profile violation None = refl
-diagnostic_text-lent Json is_first file text line column end profile violation (Some mended) = refl
-diagnostic_text-lent Github is_first file text line column end profile violation mended = refl
-diagnostic_text-lent Sarif is_first file text line column end profile violation None = refl
-diagnostic_text-lent Sarif is_first file text line column end profile violation (Some mended) =
-    sarif_lent (is_offered text.now mended.text.now) is_first file text line column end profile violation mended
-diagnostic_text-lent Checkstyle is_first file text line column end profile violation mended = refl
-diagnostic_text-lent Junit is_first file text line column end profile violation mended = refl
-diagnostic_text-lent Gitlab is_first file text line column end profile violation mended = refl
-diagnostic_text-lent Rdjson is_first file text line column end profile violation None = refl
-diagnostic_text-lent Rdjson is_first file text line column end profile violation (Some mended) =
-    rdjson_lent (is_offered text.now mended.text.now) is_first file text line column end profile violation mended
+diagnostic_text-lent format is_first file text line column end profile violation None = refl
+diagnostic_text-lent format is_first file text line column end profile violation (Some mended) = refl
 
 -- a text after two references
 abbrev pub reported_of : Bor (List ℕ) → Bor (List ℕ) → ℕ → ℕ → ReportedText

@@ -22,7 +22,7 @@ use uv_lines::{ReportFault, end_part};
 use uv_model::Profile;
 use uv_report::{
     ColumnCounter, Diagnostic, LineViolation, Mended, SeenText, push_file_begin, push_file_end,
-    push_seen_diagnostic, put_seen_diagnostic,
+    push_seen_diagnostic,
 };
 
 /// A line, or the link of one, with the place where it is.
@@ -232,12 +232,12 @@ fn put_framed(
         diagnostic.now.file.now (diagnostic_text setting.entry.format is_first diagnostic.now)) }
 {
     let format = setting.format;
+    reported.clear();
     match setting.form {
-        LineForm::Plain => {
-            put_seen_diagnostic(alloc, reported, format, diagnostic, seen, is_first)
-        }
+        LineForm::Plain => push_seen_diagnostic(
+            alloc, reported, format, diagnostic, seen, is_first,
+        ),
         LineForm::Located => {
-            reported.clear();
             push_file_begin(alloc, reported, format, diagnostic.file)?;
             push_seen_diagnostic(alloc, reported, format, diagnostic, seen, is_first)?;
             push_file_end(reported, format)

@@ -5,7 +5,8 @@ pub mod Rules
 pub mod Escaping
 pub mod Places
 pub mod Sentences
-pub mod Found
+pub mod Json
+pub mod Entry
 pub mod Format
 pub mod Formats
 pub mod Report

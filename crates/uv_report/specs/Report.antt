@@ -7,12 +7,13 @@ use Rattle.uv_report.specs.declared.diagnostic.Diagnostic.{Diagnostic}
 use Rattle.uv_report.specs.declared.format.Format.{Format}
 use Rattle.uv_report.specs.declared.format.Format.TheVariants.{Gnu, Caret, Json, Github, Sarif, Checkstyle}
 use Rattle.uv_report.specs.declared.format.Format.TheVariants.{Junit, Gitlab, Rdjson}
+use Rattle.uv_report.specs.Entry.{EntryView, entry_of}
 use Rattle.uv_report.specs.Formats.Caret.{caret_text}
 use Rattle.uv_report.specs.Formats.Checkstyle.{checkstyle_text, document_begin, document_end, file_begin, file_end}
 use Rattle.uv_report.specs.Formats.Github.{github_text}
 use Rattle.uv_report.specs.Formats.Gitlab.{gitlab_begin, gitlab_end, gitlab_text}
 use Rattle.uv_report.specs.Formats.Gnu.{gnu_text}
-use Rattle.uv_report.specs.Formats.Json.{json_text}
+use Rattle.uv_report.specs.Formats.Json.{json_line}
 use Rattle.uv_report.specs.Formats.Junit.{junit_begin, junit_end, junit_text, suite_begin, suite_end}
 use Rattle.uv_report.specs.Formats.Rdjson.{rdjson_begin, rdjson_end, rdjson_text}
 use Rattle.uv_report.specs.Formats.Sarif.{sarif_begin, sarif_end, sarif_text}
@@ -32,17 +33,21 @@ file_begin_text Checkstyle file = file_begin file
 file_begin_text Junit file = suite_begin file
 file_begin_text _ file = []
 
--- a diagnostic, which is the first one of the report or isn't
+-- a diagnostic with its texts, which is the first one of the report or isn't
+abbrev pub entry_text : Format → Bool → EntryView → List ℕ
+entry_text Gnu is_first entry = gnu_text entry
+entry_text Caret is_first entry = caret_text entry
+entry_text Json is_first entry = json_line entry
+entry_text Github is_first entry = github_text entry
+entry_text Sarif is_first entry = sarif_text is_first entry
+entry_text Checkstyle is_first entry = checkstyle_text entry
+entry_text Junit is_first entry = junit_text entry
+entry_text Gitlab is_first entry = gitlab_text is_first entry
+entry_text Rdjson is_first entry = rdjson_text is_first entry
+
+-- a diagnostic
 abbrev pub diagnostic_text : Format → Bool → Diagnostic → List ℕ
-diagnostic_text Gnu is_first diagnostic = gnu_text diagnostic
-diagnostic_text Caret is_first diagnostic = caret_text diagnostic
-diagnostic_text Json is_first diagnostic = json_text diagnostic
-diagnostic_text Github is_first diagnostic = github_text diagnostic
-diagnostic_text Sarif is_first diagnostic = sarif_text is_first diagnostic
-diagnostic_text Checkstyle is_first diagnostic = checkstyle_text diagnostic
-diagnostic_text Junit is_first diagnostic = junit_text diagnostic
-diagnostic_text Gitlab is_first diagnostic = gitlab_text is_first diagnostic
-diagnostic_text Rdjson is_first diagnostic = rdjson_text is_first diagnostic
+diagnostic_text format is_first diagnostic = entry_text format is_first (entry_of diagnostic)
 
 -- what is after the diagnostics of a file
 abbrev pub file_end_text : Format → List ℕ

@@ -1,6 +1,4 @@
 //! Texts as the formats write them: with escapes where code points may not appear as they are.
 pub(crate) mod escapes;
-pub(crate) mod plain;
 pub(crate) mod printable;
-pub(crate) mod quoted;
 pub(crate) mod uri;

@@ -6,7 +6,7 @@ pub(crate) mod fingerprint;
 pub(crate) mod github;
 pub(crate) mod gitlab;
 pub(crate) mod gnu;
-pub(crate) mod json;
+pub(crate) mod json_lines;
 pub(crate) mod junit;
 pub(crate) mod rdjson;
 pub(crate) mod sarif;

@@ -4,10 +4,11 @@
 
 mod completion;
 mod diagnostic;
+mod entry;
 mod escaping;
 mod format;
 mod formats;
-mod found;
+mod json_text;
 pub mod laws;
 mod line_violation;
 mod located_fault;
@@ -29,7 +30,6 @@ pub use places::column_counter::ColumnCounter;
 pub use places::seen_text::SeenText;
 pub use report::{
     end_of, push_begin, push_diagnostic, push_file_begin, push_file_end, push_seen_diagnostic,
-    put_diagnostic, put_seen_diagnostic,
 };
 pub use rules::explanation::{Explanation, explain};
 pub use rules::page::rule_page;

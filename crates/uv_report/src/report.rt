@@ -1,24 +1,30 @@
 //! Reports in any format. A report is a beginning, then for each file its own beginning, its diagnostics and its end,
 //! and then an end.
-ghost use Rattle.std.specs.Prelude.{◌≡◌, ◌++◌, [], IfOk, OnErr, OnOk, string_bytes};
-ghost use Rattle.uv_report.specs.Found.{told};
-ghost use Rattle.uv_report.specs.Report.{begin_text, diagnostic_text, end_text, file_begin_text, file_end_text};
+ghost use Rattle.std.specs.Prelude.{◌≡◌, ◌++◌, IfOk, OnErr, OnOk, string_bytes};
+ghost use Rattle.uv_report.specs.Entry.{entry_view};
+ghost use Rattle.uv_report.specs.LineViolation.{violation_place};
+ghost use Rattle.uv_report.specs.Places.Window as shown;
+ghost use Rattle.uv_report.specs.Report.{begin_text, diagnostic_text, end_text, entry_text, file_begin_text};
+ghost use Rattle.uv_report.specs.Report.{file_end_text};
+ghost use Rattle.uv_report.specs.Sentences.Message as spec;
 
 use crate::completion::Completion;
 use crate::diagnostic::Diagnostic;
+use crate::entry::{Entry, fix_of};
 use crate::format::Format;
 use crate::formats::caret::push_caret;
 use crate::formats::checkstyle::{push_checkstyle, push_checkstyle_file};
 use crate::formats::github::push_github;
 use crate::formats::gitlab::push_gitlab;
 use crate::formats::gnu::push_gnu;
-use crate::formats::json::push_json;
+use crate::formats::json_lines::push_json;
 use crate::formats::junit::{JUNIT_BEGIN, junit_end, push_junit, push_junit_file};
 use crate::formats::rdjson::{push_rdjson, push_rdjson_begin};
 use crate::formats::sarif::{push_sarif, push_sarif_begin, sarif_end};
-use crate::found::Found;
 use crate::places::column::Columns;
 use crate::places::seen_text::SeenText;
+use crate::places::window::carried;
+use crate::sentences::message::message;
 use std::alloc::{AllocError, Global};
 
 /// Pushes what a report begins with. In SARIF that says what columns count, where SARIF has a word for it. Where an
@@ -105,11 +111,14 @@ pub fn push_diagnostic(
     ensures err { OnErr result (string_bytes text.new ≡ string_bytes text.old) }
 {
     let seen = SeenText::new(diagnostic.text);
-    push_seen_diagnostic(alloc, text, format, diagnostic, &seen, is_first)
+    let mut reported = String::new(alloc);
+    push_seen_diagnostic(alloc, &mut reported, format, diagnostic, &seen, is_first)?;
+    text.push_str(reported.as_str())
 }
 
 /// The same of a diagnostic whose text was seen. Several diagnostics on one text take no more time than the text and
 /// what is written of it, where they come in the order of their places, and the text is led to each place before.
+/// Where an allocation fails, a beginning of it was pushed.
 pub fn push_seen_diagnostic(
     alloc: Global,
     text: &mut String,
@@ -119,103 +128,80 @@ pub fn push_seen_diagnostic(
     is_first: bool,
 ) -> Result<(), AllocError>
     requires { seen.now ≡ diagnostic.now.text.now }
-    ensures ok { OnOk result (string_bytes text.new
-        ≡ string_bytes text.old ++ diagnostic_text format is_first diagnostic.now) }
-    ensures err { OnErr result (string_bytes text.new ≡ string_bytes text.old) }
-{
-    let mut reported = String::new(alloc);
-    put_seen_diagnostic(alloc, &mut reported, format, diagnostic, seen, is_first)?;
-    text.push_str(reported.as_str())
-}
-
-/// Puts a diagnostic in the place of what is in a text, whose memory is kept for it. Where an allocation fails, the
-/// text is empty.
-pub fn put_diagnostic(
-    alloc: Global,
-    text: &mut String,
-    format: Format,
-    diagnostic: &Diagnostic<'_>,
-    is_first: bool,
-) -> Result<(), AllocError>
-    ensures ok { OnOk result (string_bytes text.new ≡ diagnostic_text format is_first diagnostic.now) }
-    ensures err { OnErr result (string_bytes text.new ≡ []) }
-{
-    let seen = SeenText::new(diagnostic.text);
-    put_seen_diagnostic(alloc, text, format, diagnostic, &seen, is_first)
-}
-
-/// The same of a diagnostic whose text was seen, as `push_seen_diagnostic` takes it.
-pub fn put_seen_diagnostic(
-    alloc: Global,
-    text: &mut String,
-    format: Format,
-    diagnostic: &Diagnostic<'_>,
-    seen: &SeenText<'_>,
-    is_first: bool,
-) -> Result<(), AllocError>
-    requires { seen.now ≡ diagnostic.now.text.now }
-    ensures ok { OnOk result (string_bytes text.new ≡ diagnostic_text format is_first diagnostic.now) }
-    ensures err { OnErr result (string_bytes text.new ≡ []) }
-{
-    text.clear();
-    match push_seen(alloc, text, format, diagnostic, seen, is_first) {
-        Ok(()) => Ok(()),
-        Err(AllocError) => {
-            text.clear();
-            Err(AllocError)
-        }
-    }
-}
-
-// Pushes a diagnostic whose text was seen. Where an allocation fails, a beginning of it was pushed.
-fn push_seen(
-    alloc: Global,
-    text: &mut String,
-    format: Format,
-    diagnostic: &Diagnostic<'_>,
-    seen: &SeenText<'_>,
-    is_first: bool,
-) -> Result<(), AllocError>
-    requires { seen.now ≡ diagnostic.now.text.now }
     ensures { OnOk result (string_bytes text.new
         ≡ string_bytes text.old ++ diagnostic_text format is_first diagnostic.now) }
 {
-    let found = Found {
+    let violation = diagnostic.violation;
+    let said = message(alloc, diagnostic.profile, seen, violation)?;
+    let kept = carried(alloc, seen, violation.place())?;
+    push_made(
+        alloc,
+        text,
+        format,
+        diagnostic,
+        seen,
+        said.as_str(),
+        kept.as_str(),
+        is_first,
+    )
+}
+
+// Pushes a diagnostic of which this is reported, and whose text is carried so.
+fn push_made<'x>(
+    alloc: Global,
+    text: &mut String,
+    format: Format,
+    diagnostic: &'x Diagnostic<'x>,
+    seen: &'x SeenText<'x>,
+    message: &'x str,
+    carried: &'x str,
+    is_first: bool,
+) -> Result<(), AllocError>
+    requires seen { seen.now ≡ diagnostic.now.text.now }
+    requires message { message.now
+        ≡ spec.message diagnostic.now.profile diagnostic.now.text.now diagnostic.now.violation }
+    requires carried { carried.now ≡ shown.carried diagnostic.now.text.now (violation_place diagnostic.now.violation) }
+    ensures { OnOk result (string_bytes text.new
+        ≡ string_bytes text.old ++ diagnostic_text format is_first diagnostic.now) }
+{
+    let entry = Entry {
         file: diagnostic.file,
         line: diagnostic.line,
         column: diagnostic.column,
         end: diagnostic.end,
-        profile: diagnostic.profile,
         violation: diagnostic.violation,
+        message,
         text: seen,
-        mended: diagnostic.mended,
+        carried,
+        fix: fix_of(seen, diagnostic.mended),
     };
-    push_piecewise(alloc, text, format, &found, is_first)
+    push_entry(alloc, text, format, &entry, is_first)?;
+    Ok(())
 }
 
-// Pushes a diagnostic piece by piece. Where an allocation fails, a beginning of it was pushed.
-fn push_piecewise(
+// Pushes a diagnostic as data. Where an allocation fails, a beginning of it was pushed.
+fn push_entry(
     alloc: Global,
     text: &mut String,
     format: Format,
-    diagnostic: &Found<'_>,
+    entry: &Entry<'_>,
     is_first: bool,
 ) -> Result<(), AllocError>
     ensures { OnOk result (string_bytes text.new
-        ≡ string_bytes text.old ++ diagnostic_text format is_first (told diagnostic.now)) }
+        ≡ string_bytes text.old ++ entry_text format is_first (entry_view entry.now)) }
 {
     // Room for most diagnostics: what grows piece by piece is moved at many of them.
     text.reserve(1_000)?;
     match format {
-        Format::Gnu => push_gnu(alloc, text, diagnostic),
-        Format::Caret => push_caret(alloc, text, diagnostic),
-        Format::Json => push_json(alloc, text, diagnostic),
-        Format::Github => push_github(alloc, text, diagnostic),
-        Format::Sarif => push_sarif(alloc, text, diagnostic, is_first),
-        Format::Checkstyle => push_checkstyle(alloc, text, diagnostic),
-        Format::Junit => push_junit(alloc, text, diagnostic),
-        Format::Gitlab => push_gitlab(alloc, text, diagnostic, is_first),
-        Format::Rdjson => push_rdjson(alloc, text, diagnostic, is_first),
+        Format::Gnu => push_gnu(alloc, text, entry),
+        Format::Caret => push_caret(alloc, text, entry),
+        Format::Json => push_json(alloc, text, entry),
+        Format::Github => push_github(alloc, text, entry),
+        Format::Sarif => push_sarif(alloc, text, entry, is_first),
+        Format::Checkstyle => push_checkstyle(alloc, text, entry),
+        Format::Junit => push_junit(alloc, text, entry),
+        Format::Gitlab => push_gitlab(alloc, text, entry, is_first),
+        Format::Rdjson => push_rdjson(alloc, text, entry, is_first),
     }
 }
 

@@ -1,4 +1,3 @@
-//! What is said of each rule: what it asks, its page, and its texts in JSON and SARIF.
+//! What is said of each rule: what it asks, and its page.
 pub(crate) mod explanation;
 pub(crate) mod page;
-pub(crate) mod rule_texts;

@@ -6,14 +6,12 @@ use Rattle.std.specs.List.{flat_map}
 use Rattle.std.specs.Str.{chars}
 use Rattle.uv_model.specs.declared.mend_kind.MendKind.{MendKind}
 use Rattle.uv_model.specs.declared.mend_kind.MendKind.TheVariants.{Same, Escaped, Changed}
-use Rattle.uv_report.specs.declared.diagnostic.Diagnostic.{Diagnostic}
+use Rattle.uv_report.specs.Entry.{EntryView, FixView}
 use Rattle.uv_report.specs.declared.escaping.escapes.Escapes.TheVariants.{Shown}
 use Rattle.uv_report.specs.declared.line_violation.LineViolation.{LineViolation}
 use Rattle.uv_report.specs.declared.line_violation.LineViolation.TheVariants.{Refused}
-use Rattle.uv_report.specs.declared.mended.Mended.{Mended}
 use Rattle.uv_report.specs.Places.Column.{shown_width}
 use Rattle.uv_report.specs.Escaping.Escapes.{escaped}
-use Rattle.uv_report.specs.Sentences.Intention.{is_offered}
 use Rattle.uv_report.specs.LineViolation.{violation_place}
 use Rattle.uv_report.specs.Formats.Gnu.{gnu_text}
 use Rattle.uv_report.specs.Places.Window.{window, window_place}
@@ -59,14 +57,12 @@ help_words false kind = named_as kind
 unfoldable pub help_line : List ℕ → ℕ → List ℕ → List ℕ
 help_line words place mended = words ++ (escaped Shown (window mended place) ++ codes "\n")
 
--- the line of what to write in place of a line, where there is such a text
-abbrev pub help_text : List ℕ → ℕ → Option Mended → List ℕ
-help_text line place None = []
-help_text line place (Some mended) =
-    help_line (help_words (is_offered line mended.text.now) mended.kind) place mended.text.now
+-- the line of what to write in place of a line of which this place is reported, where that is to be said
+abbrev pub help_text : ℕ → Option FixView → List ℕ
+help_text place None = []
+help_text place (Some fix) = help_line (help_words fix.is_offered fix.kind) place fix.text
 
 -- the line of the format `gnu`, these two, and that one
-unfoldable pub caret_text : Diagnostic → List ℕ
-caret_text diagnostic =
-    gnu_text diagnostic ++ (shown_lines diagnostic.violation diagnostic.text.now
-    ++ help_text diagnostic.text.now (violation_place diagnostic.violation) diagnostic.mended)
+unfoldable pub caret_text : EntryView → List ℕ
+caret_text entry =
+    gnu_text entry ++ (shown_lines entry.violation entry.text ++ help_text (violation_place entry.violation) entry.fix)

@@ -1,12 +1,9 @@
 -- A diagnostic as an element of a document of Checkstyle, in XML 1.0.
 use Rattle.std.specs.Prelude.{ℕ, List, ◌++◌, codes, decimal}
-use Rattle.uv_model.specs.declared.profile.Profile.{Profile}
-use Rattle.uv_report.specs.declared.diagnostic.Diagnostic.{Diagnostic}
 use Rattle.uv_report.specs.declared.escaping.escapes.Escapes.TheVariants.{Attribute}
-use Rattle.uv_report.specs.declared.line_violation.LineViolation.{LineViolation}
+use Rattle.uv_report.specs.Entry.{EntryView}
 use Rattle.uv_report.specs.Escaping.Escapes.{escaped}
 use Rattle.uv_report.specs.LineViolation.{violation_name}
-use Rattle.uv_report.specs.Sentences.Message.{message}
 
 -- what a document begins with
 abbrev pub document_begin : List ℕ
@@ -24,19 +21,9 @@ file_begin file = codes "<file name=\"" ++ (escaped Attribute file ++ codes "\">
 abbrev pub file_end : List ℕ
 file_end = codes "</file>\n"
 
--- the element of a diagnostic up to its message
-unfoldable pub error_place : Diagnostic → List ℕ
-error_place diagnostic =
-    codes "<error line=\"" ++ (decimal diagnostic.line ++ (codes "\" column=\""
-    ++ (decimal diagnostic.column ++ codes "\" severity=\"error\" message=\"")))
-
--- its message and what it comes from
-unfoldable pub error_text : Profile → List ℕ → LineViolation → List ℕ
-error_text profile line violation =
-    escaped Attribute (message profile line violation) ++ (codes "\" source=\"urlcheck."
-    ++ (escaped Attribute (violation_name violation) ++ codes "\"/>\n"))
-
--- the element of a diagnostic
-unfoldable pub checkstyle_text : Diagnostic → List ℕ
-checkstyle_text diagnostic =
-    error_place diagnostic ++ error_text diagnostic.profile diagnostic.text.now diagnostic.violation
+-- the element of a diagnostic: the line, the column, the message and what it comes from
+unfoldable pub checkstyle_text : EntryView → List ℕ
+checkstyle_text entry =
+    codes "<error line=\"" ++ (decimal entry.line ++ (codes "\" column=\"" ++ (decimal entry.column
+    ++ (codes "\" severity=\"error\" message=\"" ++ (escaped Attribute entry.message ++ (codes "\" source=\"urlcheck."
+    ++ (escaped Attribute (violation_name entry.violation) ++ codes "\"/>\n")))))))

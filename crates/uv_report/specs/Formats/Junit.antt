@@ -1,15 +1,11 @@
 -- A diagnostic as a failed test of a document of JUnit, in XML 1.0, and the tests that are round it.
 use Rattle.std.specs.Prelude.{ℕ, List, ◌++◌, codes, decimal}
-use Rattle.uv_model.specs.declared.profile.Profile.{Profile}
 use Rattle.uv_report.specs.declared.completion.Completion.{Completion}
 use Rattle.uv_report.specs.declared.completion.Completion.TheVariants.{Whole, Unread, Stopped}
-use Rattle.uv_report.specs.declared.diagnostic.Diagnostic.{Diagnostic}
 use Rattle.uv_report.specs.declared.escaping.escapes.Escapes.TheVariants.{Attribute}
-use Rattle.uv_report.specs.declared.line_violation.LineViolation.{LineViolation}
+use Rattle.uv_report.specs.Entry.{EntryView}
 use Rattle.uv_report.specs.Escaping.Escapes.{escaped}
-use Rattle.uv_report.specs.LineViolation.{violation_name, violation_place}
-use Rattle.uv_report.specs.Sentences.Message.{message}
-use Rattle.uv_report.specs.Places.Window.{carried}
+use Rattle.uv_report.specs.LineViolation.{violation_name}
 
 -- ---- the document
 
@@ -44,20 +40,19 @@ suite_end = codes "</testsuite>\n"
 -- ---- a diagnostic
 
 -- the start tag of its test, which is named by the place and the rule
-unfoldable pub case_begin : Diagnostic → List ℕ
-case_begin diagnostic =
-    codes "<testcase classname=\"" ++ (escaped Attribute diagnostic.file.now ++ (codes "\" name=\""
-    ++ (decimal diagnostic.line ++ (codes ":" ++ (decimal diagnostic.column ++ (codes " "
-    ++ (violation_name diagnostic.violation ++ codes "\">")))))))
+unfoldable pub case_begin : EntryView → List ℕ
+case_begin entry =
+    codes "<testcase classname=\"" ++ (escaped Attribute entry.file ++ (codes "\" name=\""
+    ++ (decimal entry.line ++ (codes ":" ++ (decimal entry.column ++ (codes " "
+    ++ (violation_name entry.violation ++ codes "\">")))))))
 
 -- the failure: its rule, its message, and the text that is wrong, as far as a report carries it
-unfoldable pub failure : Profile → List ℕ → LineViolation → List ℕ
-failure profile text violation =
-    codes "<failure type=\"" ++ (violation_name violation ++ (codes "\" message=\""
-    ++ (escaped Attribute (message profile text violation) ++ (codes "\">"
-    ++ (escaped Attribute (carried text (violation_place violation)) ++ codes "</failure></testcase>\n")))))
+unfoldable pub failure : EntryView → List ℕ
+failure entry =
+    codes "<failure type=\"" ++ (violation_name entry.violation ++ (codes "\" message=\""
+    ++ (escaped Attribute entry.message ++ (codes "\">"
+    ++ (escaped Attribute entry.carried ++ codes "</failure></testcase>\n")))))
 
 -- the test
-unfoldable pub junit_text : Diagnostic → List ℕ
-junit_text diagnostic =
-    case_begin diagnostic ++ failure diagnostic.profile diagnostic.text.now diagnostic.violation
+unfoldable pub junit_text : EntryView → List ℕ
+junit_text entry = case_begin entry ++ failure entry

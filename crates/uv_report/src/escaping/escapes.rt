@@ -1,11 +1,11 @@
 //! Texts in which some code points may not be as they are.
-ghost use Rattle.std.specs.Prelude.{◌≡◌, ◌++◌, OnOk, string_bytes, encode_utf8, unwrap_or};
+ghost use Rattle.std.specs.Prelude.{◌≡◌, ◌++◌, IfOk, OnOk, string_bytes, encode_utf8, unwrap_or};
 ghost use Rattle.std.specs.Option.{option_copied};
 ghost use Rattle.uv_report.specs.Escaping.Escapes as spec;
 ghost use Rattle.uv_report.specs.Escaping.Escapes.{escape, escaped, shown_text};
 
 use crate::escaping::printable::is_printable_text;
-use std::alloc::AllocError;
+use std::alloc::{AllocError, Global};
 
 /// Which code points may not be as they are, and what is in their place.
 #[derive(Clone, Copy)]
@@ -45,6 +45,15 @@ pub(crate) fn push_escaped(
         push_escape(text, c, escapes)?;
     }
     Ok(())
+}
+
+/// A text with its escapes.
+pub(crate) fn escaped(alloc: Global, source: &str, escapes: Escapes) -> Result<String, AllocError>
+    ensures { IfOk result (λ text. string_bytes text ≡ escaped escapes source.now) }
+{
+    let mut text = String::new(alloc);
+    push_escaped(&mut text, source, escapes)?;
+    Ok(text)
 }
 
 // Pushes a code point, or what is in its place.

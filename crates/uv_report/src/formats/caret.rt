@@ -1,24 +1,22 @@
 //! Diagnostics with the line that they are about, a caret below the place, and what to write in place of the line.
-ghost use Rattle.std.specs.Prelude.{◌≡◌, ◌++◌, OnOk, replicate, string_bytes, take};
+ghost use Rattle.std.specs.Prelude.{◌≡◌, ◌++◌, OnOk, option_map, replicate, string_bytes, take};
 ghost use Rattle.std.specs.List.{flat_map};
 ghost use Rattle.std.specs.Str.{chars};
 ghost use Rattle.uv_report.specs.Escaping.Escapes.{shown_text};
-ghost use Rattle.uv_report.specs.Found.{told};
+ghost use Rattle.uv_report.specs.Entry.{entry_view, fix_view};
 ghost use Rattle.uv_report.specs.Places.Window.{window};
 ghost use Rattle.uv_report.specs.Formats.Caret.{below, caret_lines, caret_text, help_line, help_text, help_words};
 ghost use Rattle.uv_report.specs.Formats.Caret.{named_as};
 ghost use Rattle.uv_report.specs.Formats.Caret.{padding, shown_lines, shows_line, window_lines};
 
+use crate::entry::{Entry, Fix};
 use crate::escaping::escapes::push_shown as push_shown_text;
 use crate::escaping::printable::is_printable_text;
 use crate::formats::gnu::push_gnu;
-use crate::found::Found;
 use crate::line_violation::LineViolation;
-use crate::mended::Mended;
 use crate::places::column::shown_width;
 use crate::places::seen_text::SeenText;
 use crate::places::window::cut_out;
-use crate::sentences::intention::is_offered;
 use std::alloc::{AllocError, Global};
 use uv_model::MendKind;
 
@@ -32,19 +30,13 @@ const SPACES: &str =
 pub(crate) fn push_caret(
     alloc: Global,
     text: &mut String,
-    diagnostic: &Found<'_>,
+    entry: &Entry<'_>,
 ) -> Result<(), AllocError>
-    ensures { OnOk result (string_bytes text.new ≡ string_bytes text.old ++ caret_text (told diagnostic.now)) }
+    ensures { OnOk result (string_bytes text.new ≡ string_bytes text.old ++ caret_text (entry_view entry.now)) }
 {
-    push_gnu(alloc, text, diagnostic)?;
-    push_shown(alloc, text, diagnostic.text, diagnostic.violation)?;
-    push_help(
-        alloc,
-        text,
-        diagnostic.text,
-        diagnostic.violation.place(),
-        diagnostic.mended,
-    )?;
+    push_gnu(alloc, text, entry)?;
+    push_shown(alloc, text, entry.text, entry.violation)?;
+    push_help(alloc, text, entry.violation.place(), entry.fix)?;
     Ok(())
 }
 
@@ -93,20 +85,20 @@ fn push_window(
     }
 }
 
-// Pushes what to write in place of a line of which this place is reported, where there is such a text.
+// Pushes what to write in place of a line of which this place is reported, where that is to be said.
 fn push_help(
     alloc: Global,
     text: &mut String,
-    line: &SeenText<'_>,
     place: usize,
-    mended: Option<Mended<'_>>,
+    fix: Option<Fix<'_>>,
 ) -> Result<(), AllocError>
-    ensures { OnOk result (string_bytes text.new ≡ string_bytes text.old ++ help_text line.now place mended.entry) }
+    ensures { OnOk result (string_bytes text.new
+        ≡ string_bytes text.old ++ help_text place (option_map fix_view fix.entry)) }
 {
-    match mended {
-        Some(mended) => {
-            let words = help_words(is_offered(line, mended.text), mended.kind);
-            push_help_line(alloc, text, words, place, mended.text)
+    match fix {
+        Some(fix) => {
+            let words = help_words(fix.is_offered, fix.kind);
+            push_help_line(alloc, text, words, place, fix.text)
         }
         None => Ok(()),
     }

@@ -1,39 +1,31 @@
 //! What tells one diagnostic from another, in any run: by what is wrong with which text, or also by where that is.
 ghost use Rattle.std.specs.Prelude.{◌≡◌, ◌++◌, IfOk, OnOk, string_bytes};
-ghost use Rattle.uv_report.specs.Found.{told};
+ghost use Rattle.json.specs.Json.{string};
+ghost use Rattle.uv_report.specs.Entry.{entry_view};
 ghost use Rattle.uv_report.specs.Formats.Fingerprint as spec;
-ghost use Rattle.uv_report.specs.Places.Window.{carried};
+ghost use Rattle.uv_report.specs.Json.{json_text};
 
-use crate::escaping::quoted::push_quoted;
-use crate::formats::gnu::push_number;
-use crate::found::Found;
-use crate::line_violation::LineViolation;
-use crate::places::seen_text::SeenText;
-use crate::places::window::window;
+use crate::entry::Entry;
+use crate::json_text::JsonText;
 use sha2::{Digest, Sha256};
 use std::alloc::{AllocError, Global};
 
 /// The fingerprint of what is wrong with a text: of the rule, the place, and what a report carries of the text. It is
 /// the same wherever the text is.
-pub(crate) fn text_fingerprint(
-    alloc: Global,
-    violation: LineViolation,
-    text: &SeenText<'_>,
-) -> Result<String, AllocError>
-    ensures { IfOk result (λ digits. string_bytes digits ≡ spec.text_fingerprint violation text.now) }
+#[tactic(auto, unfolding(crate::specs::Formats::Fingerprint::text_fingerprint))]
+pub(crate) fn text_fingerprint(alloc: Global, entry: &Entry<'_>) -> Result<String, AllocError>
+    ensures { IfOk result (λ digits. string_bytes digits ≡ spec.text_fingerprint (entry_view entry.now)) }
 {
-    let mut key = String::new(alloc);
-    push_text_key(alloc, &mut key, violation, text)?;
+    let key = text_key(alloc, entry)?;
     digest(alloc, key.as_bytes())
 }
 
 /// The fingerprint of a diagnostic: the same, and the file, the line and the column. Two diagnostics of one report have
 /// the same one only where they say the same of one place of a file.
-pub(crate) fn place_fingerprint(alloc: Global, diagnostic: &Found<'_>) -> Result<String, AllocError>
-    ensures { IfOk result (λ digits. string_bytes digits ≡ spec.place_fingerprint (told diagnostic.now)) }
+pub(crate) fn place_fingerprint(alloc: Global, entry: &Entry<'_>) -> Result<String, AllocError>
+    ensures { IfOk result (λ digits. string_bytes digits ≡ spec.place_fingerprint (entry_view entry.now)) }
 {
-    let mut key = String::new(alloc);
-    push_place_key(alloc, &mut key, diagnostic)?;
+    let key = place_key(alloc, entry)?;
     digest(alloc, key.as_bytes())
 }
 
@@ -44,53 +36,36 @@ fn digest(alloc: Global, bytes: &[u8]) -> Result<String, AllocError>
     hex::encode(alloc, Sha256::digest(bytes))
 }
 
-// Pushes what a fingerprint says of a violation and its text.
+// What a fingerprint says of a violation and its text.
 #[tactic(auto, unfolding(crate::specs::Formats::Fingerprint::text_key))]
-fn push_text_key(
-    alloc: Global,
-    key: &mut String,
-    violation: LineViolation,
-    text: &SeenText<'_>,
-) -> Result<(), AllocError>
-    ensures { OnOk result (string_bytes key.new ≡ string_bytes key.old ++ spec.text_key violation text.now) }
+fn text_key(alloc: Global, entry: &Entry<'_>) -> Result<String, AllocError>
+    ensures { IfOk result (λ key. string_bytes key ≡ spec.text_key (entry_view entry.now)) }
 {
-    key.push_str(violation.name())?;
-    key.push_str("\n")?;
-    push_number(key, violation.place() as u64)?;
-    key.push_str("\n")?;
-    push_carried(alloc, key, text, violation.place())?;
-    Ok(())
+    let rule = entry.violation.name();
+    let place = entry.violation.place();
+    let carried = entry.carried;
+    format!(in alloc; "{rule}\n{place}\n{carried}")
 }
 
-/// Pushes what a report carries of a text of which this place is reported.
-#[tactic(auto, unfolding(crate::specs::Places::Window::carried))]
-pub(crate) fn push_carried(
-    alloc: Global,
-    text: &mut String,
-    line: &SeenText<'_>,
-    place: usize,
-) -> Result<(), AllocError>
-    ensures { OnOk result (string_bytes text.new ≡ string_bytes text.old ++ carried line.now place) }
-{
-    if line.is_cut() {
-        let shown = window(alloc, line, place)?;
-        text.push_str(shown.as_str())
-    } else {
-        text.push_str(line.as_str())
-    }
-}
-
-// Pushes what a fingerprint says of a diagnostic.
+// What a fingerprint says of a diagnostic.
 #[tactic(auto, unfolding(crate::specs::Formats::Fingerprint::place_key))]
-fn push_place_key(alloc: Global, key: &mut String, diagnostic: &Found<'_>) -> Result<(), AllocError>
-    ensures { OnOk result (string_bytes key.new ≡ string_bytes key.old ++ spec.place_key (told diagnostic.now)) }
+fn place_key(alloc: Global, entry: &Entry<'_>) -> Result<String, AllocError>
+    ensures { IfOk result (λ key. string_bytes key ≡ spec.place_key (entry_view entry.now)) }
 {
-    push_number(key, diagnostic.line)?;
-    key.push_str("\n")?;
-    push_number(key, diagnostic.column)?;
-    key.push_str("\n")?;
-    push_quoted(alloc, key, diagnostic.file)?;
-    key.push_str("\n")?;
-    push_text_key(alloc, key, diagnostic.violation, diagnostic.text)?;
-    Ok(())
+    let line = entry.line;
+    let column = entry.column;
+    let file = quoted(alloc, entry.file)?;
+    let rest = text_key(alloc, entry)?;
+    format!(in alloc; "{line}\n{column}\n{file}\n{rest}")
+}
+
+// A text as a string of JSON.
+fn quoted(alloc: Global, value: &str) -> Result<String, AllocError>
+    ensures { IfOk result (λ text. string_bytes text ≡ json_text (string value.now)) }
+{
+    let mut text = String::new(alloc);
+    let mut json = JsonText::new(alloc)?;
+    json.string(value)?;
+    json.push_to(&mut text)?;
+    Ok(text)
 }

@@ -1,21 +1,12 @@
 //! Diagnostics as a document of JUnit, in XML.
 ghost use Rattle.std.specs.Prelude.{◌≡◌, ◌++◌, OnOk, string_bytes};
-ghost use Rattle.uv_report.specs.Found.{told};
-ghost use Rattle.uv_report.specs.declared.escaping.escapes.Escapes.TheVariants.{Attribute};
-ghost use Rattle.uv_report.specs.Escaping.Escapes.{escaped};
+ghost use Rattle.uv_report.specs.Entry.{entry_view};
 ghost use Rattle.uv_report.specs.Formats.Junit as spec;
-ghost use Rattle.uv_report.specs.Places.Window.{carried};
 
 use crate::completion::Completion;
-use crate::escaping::escapes::{Escapes, push_escaped};
-use crate::formats::fingerprint::push_carried;
-use crate::formats::gnu::push_number;
-use crate::found::Found;
-use crate::line_violation::LineViolation;
-use crate::places::seen_text::SeenText;
-use crate::sentences::message::push_escaped_message;
+use crate::entry::Entry;
+use crate::escaping::escapes::{Escapes, escaped, push_escaped};
 use std::alloc::{AllocError, Global};
-use uv_model::Profile;
 
 /// What the document begins with.
 pub(crate) const JUNIT_BEGIN: &str =
@@ -61,70 +52,41 @@ pub(crate) fn push_junit_file(text: &mut String, file: &str) -> Result<(), Alloc
 pub(crate) fn push_junit(
     alloc: Global,
     text: &mut String,
-    diagnostic: &Found<'_>,
+    entry: &Entry<'_>,
 ) -> Result<(), AllocError>
-    ensures { OnOk result (string_bytes text.new ≡ string_bytes text.old ++ spec.junit_text (told diagnostic.now)) }
+    ensures { OnOk result (string_bytes text.new ≡ string_bytes text.old ++ spec.junit_text (entry_view entry.now)) }
 {
-    push_case(text, diagnostic)?;
-    push_failure(
-        alloc,
-        text,
-        diagnostic.profile,
-        diagnostic.text,
-        diagnostic.violation,
-    )?;
+    push_case(alloc, text, entry)?;
+    push_failure(alloc, text, entry)?;
     Ok(())
 }
 
 // Pushes the start tag of the test.
 #[tactic(auto, unfolding(crate::specs::Formats::Junit::case_begin))]
-fn push_case(text: &mut String, diagnostic: &Found<'_>) -> Result<(), AllocError>
-    ensures { OnOk result (string_bytes text.new ≡ string_bytes text.old ++ spec.case_begin (told diagnostic.now)) }
+fn push_case(alloc: Global, text: &mut String, entry: &Entry<'_>) -> Result<(), AllocError>
+    ensures { OnOk result (string_bytes text.new ≡ string_bytes text.old ++ spec.case_begin (entry_view entry.now)) }
 {
+    let line = entry.line;
+    let column = entry.column;
+    let rule = entry.violation.name();
     text.push_str("<testcase classname=\"")?;
-    push_escaped(text, diagnostic.file, Escapes::Attribute)?;
-    text.push_str("\" name=\"")?;
-    push_number(text, diagnostic.line)?;
-    text.push_str(":")?;
-    push_number(text, diagnostic.column)?;
-    text.push_str(" ")?;
-    text.push_str(diagnostic.violation.name())?;
-    text.push_str("\">")?;
+    push_escaped(text, entry.file, Escapes::Attribute)?;
+    let name = format!(in alloc; "\" name=\"{line}:{column} {rule}\">")?;
+    text.push_str(name.as_str())?;
     Ok(())
 }
 
 // Pushes the failure, and the test's end tag.
 #[tactic(auto, unfolding(crate::specs::Formats::Junit::failure))]
-fn push_failure(
-    alloc: Global,
-    text: &mut String,
-    profile: Profile,
-    line: &SeenText<'_>,
-    violation: LineViolation,
-) -> Result<(), AllocError>
-    ensures { OnOk result (string_bytes text.new ≡ string_bytes text.old ++ spec.failure profile line.now violation) }
+fn push_failure(alloc: Global, text: &mut String, entry: &Entry<'_>) -> Result<(), AllocError>
+    ensures { OnOk result (string_bytes text.new ≡ string_bytes text.old ++ spec.failure (entry_view entry.now)) }
 {
-    text.push_str("<failure type=\"")?;
-    text.push_str(violation.name())?;
-    text.push_str("\" message=\"")?;
-    push_escaped_message(alloc, text, profile, line, violation, Escapes::Attribute)?;
-    text.push_str("\">")?;
-    push_link(alloc, text, line, violation.place())?;
-    text.push_str("</failure></testcase>\n")?;
+    let rule = entry.violation.name();
+    let message = escaped(alloc, entry.message, Escapes::Attribute)?;
+    let carried = escaped(alloc, entry.carried, Escapes::Attribute)?;
+    let failure = format!(in alloc;
+        "<failure type=\"{rule}\" message=\"{message}\">{carried}</failure></testcase>\n"
+    )?;
+    text.push_str(failure.as_str())?;
     Ok(())
-}
-
-// Pushes what is carried of the text that is wrong.
-fn push_link(
-    alloc: Global,
-    text: &mut String,
-    line: &SeenText<'_>,
-    place: usize,
-) -> Result<(), AllocError>
-    ensures { OnOk result (string_bytes text.new
-        ≡ string_bytes text.old ++ escaped Attribute (carried line.now place)) }
-{
-    let mut link = String::new(alloc);
-    push_carried(alloc, &mut link, line, place)?;
-    push_escaped(text, link.as_str(), Escapes::Attribute)
 }

@@ -1,27 +1,23 @@
 //! Diagnostics as a document of SARIF 2.1.0, which is written result by result.
-ghost use Rattle.std.specs.Prelude.{◌≡◌, ◌++◌, IfOk, OnOk, Some, codes, flat_map, string_bytes};
-ghost use Rattle.serde_json.specs.Data.{boolean, string};
-ghost use Rattle.serde_json.specs.View.{view};
-ghost use Rattle.serde_json.specs.Written.{compact_text};
-ghost use Rattle.uv_report.specs.Found.{told};
-ghost use Rattle.uv_report.specs.Formats.Fingerprint.{text_fingerprint};
-ghost use Rattle.uv_report.specs.Rules.Page as pages;
-ghost use Rattle.uv_report.specs.Escaping.Quoted.{quoted};
+ghost use Rattle.json.specs.Json.{member, object};
+ghost use Rattle.json.specs.Token.{begin_array, begin_object, end_array, end_object, key};
+ghost use Rattle.json.specs.Tree.{json_tokens, members_tokens};
+ghost use Rattle.std.specs.Prelude.{◌≡◌, ◌∷◌, ◌++◌, [], IfOk, OnOk, codes, flat_map, string_bytes};
+ghost use Rattle.uv_report.specs.Entry.{entry_view, fix_view, offered};
+ghost use Rattle.uv_report.specs.Escaping.Uri as uris;
+ghost use Rattle.uv_report.specs.Formats.Fingerprint as prints;
 ghost use Rattle.uv_report.specs.Formats.Sarif as spec;
+ghost use Rattle.uv_report.specs.Json.{single};
 
 use crate::completion::Completion;
+use crate::entry::{Entry, Fix};
 use crate::escaping::uri::push_uri_path;
 use crate::formats::fingerprint::text_fingerprint;
-use crate::formats::json::{push_link, push_message_member, push_number_member, push_text_member};
-use crate::found::Found;
+use crate::json_text::JsonText;
 use crate::line_violation::LineViolation;
 use crate::located_fault::LocatedFault;
-use crate::mended::Mended;
 use crate::places::column::Columns;
 use crate::rules::page::{ADDRESS, rule_page};
-use crate::rules::rule_texts::result_end;
-use crate::sentences::intention::is_offered;
-use serde_json::{Value, json};
 use std::alloc::{AllocError, Global};
 use uv_model::{MendKind, Refusal, Rule};
 
@@ -124,55 +120,34 @@ fn push_next_rule(alloc: Global, text: &mut String, rule: Rule) -> Result<(), Al
 }
 
 // Pushes what the document says of a violation's rule.
+#[tactic(auto, unfolding(crate::specs::Formats::Sarif::rule_text))]
 fn push_rule(alloc: Global, text: &mut String, violation: LineViolation) -> Result<(), AllocError>
     ensures { OnOk result (string_bytes text.new ≡ string_bytes text.old ++ spec.rule_text violation) }
 {
-    let rule = rule_text(alloc, violation)?;
-    text.push_str(rule.as_str())
+    let mut json = JsonText::new(alloc)?;
+    write_rule(alloc, &mut json, violation)?;
+    json.push_to(text)?;
+    Ok(())
 }
 
-// What the document says of it.
-#[tactic(auto, unfolding(crate::specs::Formats::Sarif::rule_text))]
-fn rule_text(alloc: Global, violation: LineViolation) -> Result<String, AllocError>
-    ensures { IfOk result (λ text. string_bytes text ≡ spec.rule_text violation) }
-{
-    rule_object(alloc, violation)?.to_string(alloc)
-}
-
-// A rule, with what is wrong where it is violated, what it asks, its page, and where it is in the URL Standard.
-fn rule_object(alloc: Global, violation: LineViolation) -> Result<Value, AllocError>
-    ensures { IfOk result (λ value. view value ≡ spec.rule_value violation) }
-{
-    json!(in alloc; {
-        "fullDescription": worded(alloc, violation.help())?,
-        "help": worded(alloc, violation.help())?,
-        "helpUri": page(alloc, violation)?,
-        "id": violation.name(),
-        "properties": section(alloc, violation)?,
-        "shortDescription": worded(alloc, violation.sentence())?
-    })
-}
-
-// The address of its page.
-fn page(alloc: Global, violation: LineViolation) -> Result<Value, AllocError>
-    ensures { IfOk result (λ value. view value ≡ string (pages.rule_page violation)) }
+// Writes a rule, with what is wrong where it is violated, what it asks, its page, and where it is in the URL Standard.
+fn write_rule(
+    alloc: Global,
+    json: &mut JsonText,
+    violation: LineViolation,
+) -> Result<(), AllocError>
+    ensures { OnOk result (json.new ≡ json.old ++ json_tokens (spec.rule_value violation)) }
 {
     let page = rule_page(alloc, violation)?;
-    Value::try_from_str(alloc, page.as_str())
-}
-
-// An object with a text alone.
-fn worded(alloc: Global, text: &str) -> Result<Value, AllocError>
-    ensures { IfOk result (λ value. view value ≡ spec.message text.now) }
-{
-    json!(in alloc; {"text": text})
-}
-
-// Where what a rule asks is in the URL Standard.
-fn section(alloc: Global, violation: LineViolation) -> Result<Value, AllocError>
-    ensures { IfOk result (λ value. view value ≡ spec.section_value violation) }
-{
-    json!(in alloc; {"section": violation.uri()})
+    json.begin_object()?;
+    json.object_of("fullDescription", "text", violation.help())?;
+    json.object_of("help", "text", violation.help())?;
+    json.text("helpUri", page.as_str())?;
+    json.text("id", violation.name())?;
+    json.object_of("properties", "section", violation.uri())?;
+    json.object_of("shortDescription", "text", violation.sentence())?;
+    json.end_object()?;
+    Ok(())
 }
 
 /// Pushes a result, and before it a comma where it isn't the first one.
@@ -180,78 +155,17 @@ fn section(alloc: Global, violation: LineViolation) -> Result<Value, AllocError>
 pub(crate) fn push_sarif(
     alloc: Global,
     text: &mut String,
-    diagnostic: &Found<'_>,
+    entry: &Entry<'_>,
     is_first: bool,
 ) -> Result<(), AllocError>
     ensures { OnOk result (string_bytes text.new
-        ≡ string_bytes text.old ++ spec.sarif_text is_first (told diagnostic.now)) }
+        ≡ string_bytes text.old ++ spec.sarif_text is_first (entry_view entry.now)) }
 {
-    push_result(alloc, text, diagnostic, is_first)?;
-    text.push('\n')?;
-    Ok(())
-}
-
-// Pushes the result of a diagnostic, with a fix where a mended text is offered, and before it a comma where it isn't
-// the first one. What is between two values is pushed at once, since each piece costs a call.
-fn push_result(
-    alloc: Global,
-    text: &mut String,
-    diagnostic: &Found<'_>,
-    is_first: bool,
-) -> Result<(), AllocError>
-    ensures { OnOk result (string_bytes text.new ≡ string_bytes text.old
-        ++ (spec.separator is_first ++ compact_text (spec.result_value (told diagnostic.now)))) }
-{
-    push_result_begin(alloc, text, diagnostic, is_first)?;
-    push_uri_path(text, diagnostic.file)?;
-    push_region(text, diagnostic)?;
-    push_message_member(
-        alloc,
-        text,
-        "}}}],\"message\":{\"text\":",
-        diagnostic.profile,
-        diagnostic.text,
-        diagnostic.violation,
-    )?;
-    push_fingerprint(alloc, text, diagnostic)?;
-    push_link(
-        alloc,
-        text,
-        cut_begin(diagnostic.text.is_cut()),
-        diagnostic.text,
-        diagnostic.violation,
-    )?;
-    text.push_str(result_end(diagnostic.violation))?;
-    Ok(())
-}
-
-// Pushes between which columns of which line a diagnostic is.
-fn push_region(text: &mut String, diagnostic: &Found<'_>) -> Result<(), AllocError>
-    ensures { OnOk result (string_bytes text.new ≡ string_bytes text.old ++ spec.region_pieces (told diagnostic.now)) }
-{
-    push_number_member(text, "\"},\"region\":{\"endColumn\":", diagnostic.end)?;
-    push_number_member(text, ",\"startColumn\":", diagnostic.column)?;
-    push_number_member(text, ",\"startLine\":", diagnostic.line)?;
-    Ok(())
-}
-
-// Pushes the fingerprint of what is wrong with the text, after the end of what is reported.
-fn push_fingerprint(
-    alloc: Global,
-    text: &mut String,
-    diagnostic: &Found<'_>,
-) -> Result<(), AllocError>
-    ensures { OnOk result (string_bytes text.new ≡ string_bytes text.old
-        ++ (codes "},\"partialFingerprints\":{\"urlcheckText/v1\":"
-        ++ quoted (text_fingerprint diagnostic.now.violation diagnostic.now.text.now))) }
-{
-    let fingerprint = text_fingerprint(alloc, diagnostic.violation, diagnostic.text)?;
-    push_text_member(
-        alloc,
-        text,
-        "},\"partialFingerprints\":{\"urlcheckText/v1\":",
-        fingerprint.as_str(),
-    )?;
+    let mut json = JsonText::new(alloc)?;
+    write_result(alloc, &mut json, entry)?;
+    text.push_str(separator(is_first))?;
+    json.push_to(text)?;
+    text.push_str("\n")?;
     Ok(())
 }
 
@@ -262,100 +176,184 @@ pub(crate) fn separator(is_first: bool) -> &'static str
     if is_first { "" } else { "," }
 }
 
-// Pushes what a result begins with up to the path of the file's name: its fix, where a mended text is offered.
-fn push_result_begin(
-    alloc: Global,
-    text: &mut String,
-    diagnostic: &Found<'_>,
-    is_first: bool,
-) -> Result<(), AllocError>
-    ensures { OnOk result (string_bytes text.new ≡ string_bytes text.old ++ (spec.separator is_first
-        ++ (spec.result_begin (told diagnostic.now) (spec.offered_in diagnostic.now.text.now diagnostic.now.mended)
-        ++ spec.location_begin))) }
+// Writes the result of a diagnostic.
+fn write_result(alloc: Global, json: &mut JsonText, entry: &Entry<'_>) -> Result<(), AllocError>
+    ensures { OnOk result (json.new ≡ json.old ++ json_tokens (spec.result_value (entry_view entry.now))) }
 {
-    match diagnostic.mended {
-        Some(mended) if is_offered(diagnostic.text, mended.text) => {
-            push_fix(alloc, text, diagnostic, is_first, mended)
-        }
-        _ => text.push_str(location_begin(is_first)),
+    let uri = uri_of(alloc, entry.file)?;
+    let fingerprint = text_fingerprint(alloc, entry)?;
+    match entry.offered() {
+        Some(fix) => write_fixed(json, entry, uri.as_str(), fingerprint.as_str(), fix),
+        None => write_plain(json, entry, uri.as_str(), fingerprint.as_str()),
     }
 }
 
-// What a result without a fix begins with up to the path of the file's name.
-fn location_begin(is_first: bool) -> &'static str
-    ensures { result.now ≡ spec.separator is_first ++ (codes "{" ++ spec.location_begin) }
+// The path of a file's name.
+fn uri_of(alloc: Global, file: &str) -> Result<String, AllocError>
+    ensures { IfOk result (λ uri. string_bytes uri ≡ uris.uri_path file.now) }
 {
-    if is_first {
-        "{\"level\":\"error\",\"locations\":[{\"physicalLocation\":{\"artifactLocation\":{\"uri\":\""
-    } else {
-        ",{\"level\":\"error\",\"locations\":[{\"physicalLocation\":{\"artifactLocation\":{\"uri\":\""
-    }
+    let mut uri = String::new(alloc);
+    push_uri_path(&mut uri, file)?;
+    Ok(uri)
 }
 
-// Pushes the fix that writes a mended text, alone in an array, and further members up to the path of the file's name.
-fn push_fix(
-    alloc: Global,
-    text: &mut String,
-    diagnostic: &Found<'_>,
-    is_first: bool,
-    mended: Mended<'_>,
+// Writes the result of a diagnostic without a fix.
+fn write_plain(
+    json: &mut JsonText,
+    entry: &Entry<'_>,
+    uri: &str,
+    fingerprint: &str,
 ) -> Result<(), AllocError>
-    ensures { OnOk result (string_bytes text.new ≡ string_bytes text.old ++ (spec.separator is_first
-        ++ (spec.result_begin (told diagnostic.now) (Some mended.entry) ++ spec.location_begin))) }
+    requires uri { uri.now ≡ uris.uri_path entry.now.file.now }
+    requires fingerprint { fingerprint.now ≡ prints.text_fingerprint (entry_view entry.now) }
+    ensures { OnOk result (json.new
+        ≡ json.old ++ json_tokens (object (spec.result_members (entry_view entry.now)))) }
 {
-    text.push_str(fix_begin(is_first))?;
-    push_uri_path(text, diagnostic.file)?;
-    push_number_member(
-        text,
-        "\"},\"replacements\":[{\"deletedRegion\":{\"endColumn\":",
-        mended.end,
-    )?;
-    push_number_member(text, ",\"startColumn\":", mended.start)?;
-    push_number_member(text, ",\"startLine\":", diagnostic.line)?;
-    push_text_member(alloc, text, "},\"insertedContent\":{\"text\":", mended.text)?;
-    text.push_str(fix_end(mended.kind))?;
+    json.begin_object()?;
+    write_members(json, entry, uri, fingerprint)?;
     Ok(())
 }
 
-// What a result with a fix begins with up to the path of the file's name.
-fn fix_begin(is_first: bool) -> &'static str
-    ensures { result.now ≡ spec.separator is_first ++ spec.fix_begin }
+// Writes the result of a diagnostic with this fix.
+fn write_fixed(
+    json: &mut JsonText,
+    entry: &Entry<'_>,
+    uri: &str,
+    fingerprint: &str,
+    fix: Fix<'_>,
+) -> Result<(), AllocError>
+    requires uri { uri.now ≡ uris.uri_path entry.now.file.now }
+    requires fingerprint { fingerprint.now ≡ prints.text_fingerprint (entry_view entry.now) }
+    ensures { OnOk result (json.new ≡ json.old ++ json_tokens (object (spec.members_with (entry_view entry.now)
+        (Some (fix_view fix.entry))))) }
 {
-    if is_first {
-        "{\"fixes\":[{\"artifactChanges\":[{\"artifactLocation\":{\"uri\":\""
-    } else {
-        ",{\"fixes\":[{\"artifactChanges\":[{\"artifactLocation\":{\"uri\":\""
-    }
+    json.begin_object()?;
+    write_fix(json, entry, uri, fix)?;
+    write_members(json, entry, uri, fingerprint)?;
+    Ok(())
 }
 
-// What follows the mended text in a fix: what it does, and further members up to the path of the file's name.
-fn fix_end(kind: MendKind) -> &'static str
-    ensures { result.now ≡ (codes "}}]}],\"description\":"
-        ++ (compact_text (spec.message (spec.fix_sentence kind)) ++ codes "}],")) ++ spec.location_begin }
+// Writes the members of each result, and ends it.
+fn write_members(
+    json: &mut JsonText,
+    entry: &Entry<'_>,
+    uri: &str,
+    fingerprint: &str,
+) -> Result<(), AllocError>
+    requires uri { uri.now ≡ uris.uri_path entry.now.file.now }
+    requires fingerprint { fingerprint.now ≡ prints.text_fingerprint (entry_view entry.now) }
+    ensures { OnOk result (json.new ≡ json.old ++ members_tokens (spec.result_members (entry_view entry.now))) }
+{
+    json.text("level", "error")?;
+    write_location(json, entry, uri)?;
+    json.object_of("message", "text", entry.message)?;
+    json.object_of("partialFingerprints", "urlcheckText/v1", fingerprint)?;
+    write_violation(json, entry)?;
+    Ok(())
+}
+
+// Writes the members of what is carried of the text, and of the violated rule, and ends the result.
+#[tactic(auto, unfolding(crate::specs::Formats::Sarif::violation_members))]
+fn write_violation(json: &mut JsonText, entry: &Entry<'_>) -> Result<(), AllocError>
+    ensures { OnOk result (json.new ≡ json.old ++ members_tokens (spec.violation_members (entry_view entry.now))) }
+{
+    json.begin_member("properties")?;
+    json.boolean("cut", entry.is_cut())?;
+    json.text("text", entry.carried)?;
+    json.end_object()?;
+    json.text("ruleId", entry.violation.name())?;
+    json.number("ruleIndex", entry.violation.index())?;
+    json.end_object()?;
+    Ok(())
+}
+
+// Writes the member of where a diagnostic is.
+fn write_location(json: &mut JsonText, entry: &Entry<'_>, uri: &str) -> Result<(), AllocError>
+    requires { uri.now ≡ uris.uri_path entry.now.file.now }
+    ensures { OnOk result (json.new ≡ json.old
+        ++ key (codes "locations") ∷ json_tokens (single (spec.location_value (entry_view entry.now)))) }
+{
+    json.begin_array("locations")?;
+    json.begin_object()?;
+    json.begin_member("physicalLocation")?;
+    json.object_of("artifactLocation", "uri", uri)?;
+    write_region(json, "region", entry.line, entry.column, entry.end)?;
+    json.end_object()?;
+    json.end_object()?;
+    json.end_array()?;
+    Ok(())
+}
+
+// Writes the member of a region: between which columns of the line with this number something is.
+fn write_region(
+    json: &mut JsonText,
+    name: &str,
+    line: u64,
+    start: u64,
+    end: u64,
+) -> Result<(), AllocError>
+    ensures { OnOk result (json.new ≡ json.old ++ key name.now ∷ json_tokens (spec.region_value line start end)) }
+{
+    json.begin_member(name)?;
+    json.number("endColumn", end)?;
+    json.number("startColumn", start)?;
+    json.number("startLine", line)?;
+    json.end_object()?;
+    Ok(())
+}
+
+// Writes the member of the fix that writes a mended text, alone in an array.
+fn write_fix(
+    json: &mut JsonText,
+    entry: &Entry<'_>,
+    uri: &str,
+    fix: Fix<'_>,
+) -> Result<(), AllocError>
+    requires { uri.now ≡ uris.uri_path entry.now.file.now }
+    ensures { OnOk result (json.new ≡ json.old ++ key (codes "fixes")
+        ∷ json_tokens (single (spec.fix_value (entry_view entry.now) (fix_view fix.entry)))) }
+{
+    json.begin_array("fixes")?;
+    json.begin_object()?;
+    write_change(json, entry, uri, fix)?;
+    json.object_of("description", "text", fix_sentence(fix.kind))?;
+    json.end_object()?;
+    json.end_array()?;
+    Ok(())
+}
+
+// Writes the member of the change, alone in an array: a mended text in place of all of the text.
+fn write_change(
+    json: &mut JsonText,
+    entry: &Entry<'_>,
+    uri: &str,
+    fix: Fix<'_>,
+) -> Result<(), AllocError>
+    requires { uri.now ≡ uris.uri_path entry.now.file.now }
+    ensures { OnOk result (json.new ≡ json.old ++ key (codes "artifactChanges")
+        ∷ json_tokens (single (spec.change_value (entry_view entry.now) (fix_view fix.entry)))) }
+{
+    json.begin_array("artifactChanges")?;
+    json.begin_object()?;
+    json.object_of("artifactLocation", "uri", uri)?;
+    json.begin_array("replacements")?;
+    json.begin_object()?;
+    write_region(json, "deletedRegion", entry.line, fix.start, fix.end)?;
+    json.object_of("insertedContent", "text", fix.text)?;
+    json.end_object()?;
+    json.end_array()?;
+    json.end_object()?;
+    json.end_array()?;
+    Ok(())
+}
+
+// What a fix does, by how the mended text is to the refused one.
+fn fix_sentence(kind: MendKind) -> &'static str
+    ensures { result.now ≡ spec.fix_sentence kind }
 {
     match kind {
-        MendKind::Same => {
-            "}}]}],\"description\":{\"text\":\"write the same URL as a valid URL string\"}}],\
-            \"level\":\"error\",\"locations\":[{\"physicalLocation\":{\"artifactLocation\":{\"uri\":\""
-        }
-        MendKind::Escaped => {
-            "}}]}],\"description\":{\"text\":\"percent-encode what is not allowed in a URL string\"}}],\
-            \"level\":\"error\",\"locations\":[{\"physicalLocation\":{\"artifactLocation\":{\"uri\":\""
-        }
-        MendKind::Changed => {
-            "}}]}],\"description\":{\"text\":\"write a valid URL string, which may be another URL\"}}],\
-            \"level\":\"error\",\"locations\":[{\"physicalLocation\":{\"artifactLocation\":{\"uri\":\""
-        }
-    }
-}
-
-// The end of what is reported, and whether the link is cut, up to the text of the link.
-fn cut_begin(cut: bool) -> &'static str
-    ensures { result.now ≡ (codes "},\"properties\":{\"cut\":" ++ compact_text (boolean cut)) ++ codes ",\"text\":" }
-{
-    if cut {
-        "},\"properties\":{\"cut\":true,\"text\":"
-    } else {
-        "},\"properties\":{\"cut\":false,\"text\":"
+        MendKind::Same => "write the same URL as a valid URL string",
+        MendKind::Escaped => "percent-encode what is not allowed in a URL string",
+        MendKind::Changed => "write a valid URL string, which may be another URL",
     }
 }

@@ -1,10 +1,12 @@
 //! What is shown of a line: all of it, or of a long one a window around a place.
 ghost use Rattle.std.specs.Prelude.{◌≡◌, ◌++◌, IfOk, OnOk, drop, encode_utf8, flat_map, slice_get, string_bytes, take};
+ghost use Rattle.std.specs.Cow.{cow_str_bytes};
 ghost use Rattle.std.specs.Str.{chars};
 ghost use Rattle.uv_report.specs.Places.Window as spec;
 
 use crate::places::seen_text::SeenText;
 use std::alloc::{AllocError, Global};
+use std::borrow::CowStr;
 use uv_model::{after_code_points, first_code_point};
 
 /// What is shown of a line of which a place is reported: the line, where it has at most 200 code points, else a window
@@ -17,6 +19,23 @@ pub(crate) fn window(alloc: Global, line: &SeenText<'_>, place: usize) -> Result
         cut_out(alloc, line, place.saturating_sub(99))
     } else {
         String::from_str(alloc, line.as_str())
+    }
+}
+
+/// What a report carries of a line of which a place is reported: the line, or of one with more than 2,000 code points
+/// what is shown of it.
+#[tactic(auto, unfolding(crate::specs::Places::Window::carried))]
+pub(crate) fn carried<'l>(
+    alloc: Global,
+    line: &SeenText<'l>,
+    place: usize,
+) -> Result<CowStr<'l>, AllocError>
+    ensures { IfOk result (λ text. cow_str_bytes text ≡ spec.carried line.now place) }
+{
+    if line.is_cut() {
+        Ok(CowStr::Owned(window(alloc, line, place)?))
+    } else {
+        Ok(CowStr::Borrowed(line.as_str()))
     }
 }
 

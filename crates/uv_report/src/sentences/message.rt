@@ -4,10 +4,8 @@
 ghost use Rattle.std.specs.Prelude.{◌≡◌, ◌≤◌, ◌++◌, ℕ, IfOk, OnOk, codes, drop, find, option_copied, string_bytes};
 ghost use Rattle.std.specs.Str.{chars};
 ghost use Rattle.uv_report.specs.Sentences.CodePoint.{point_text};
-ghost use Rattle.uv_report.specs.Escaping.Escapes.{escaped};
 ghost use Rattle.uv_report.specs.Sentences.Message as spec;
 
-use crate::escaping::escapes::{Escapes, push_escaped};
 use crate::line_violation::LineViolation;
 use crate::places::seen_text::SeenText;
 use crate::sentences::code_point::push_point;
@@ -68,22 +66,6 @@ pub(crate) fn push_seen_message(
         LineViolation::NotLocated(fault) => text.push_str(fault.sentence()),
         LineViolation::NotUtf8(_) | LineViolation::TooLong => text.push_str(violation.sentence()),
     }
-}
-
-/// Pushes what is reported of a line, with escapes.
-pub(crate) fn push_escaped_message(
-    alloc: Global,
-    text: &mut String,
-    profile: Profile,
-    line: &SeenText<'_>,
-    violation: LineViolation,
-    escapes: Escapes,
-) -> Result<(), AllocError>
-    ensures { OnOk result (string_bytes text.new
-        ≡ string_bytes text.old ++ escaped escapes (spec.message profile line.now violation)) }
-{
-    let message = message(alloc, profile, line, violation)?;
-    push_escaped(text, message.as_str(), escapes)
 }
 
 // Pushes what is reported of a refused line: what is wrong with it, and what it shows of its author's intention.

@@ -1,0 +1,24 @@
+-- The tokens, one after the other.
+use Rattle.std.proofs.Common.{append_assoc}
+use Rattle.uv_report.proofs.formats.json_lines.write_mended.Goals as goal
+
+pub returns : goal.returns
+returns c =
+    rw (
+      c.in_ok-end_object.ensures,
+      c.in_ok-text-6.ensures,
+      c.in_ok-text-5.ensures,
+      c.in_ok-boolean-2.ensures,
+      c.in_ok-text-4.ensures,
+      c.in_ok-text-3.ensures,
+      c.in_ok-number-2.ensures,
+      c.in_ok-text-2.ensures,
+      c.in_ok-text.ensures,
+      c.in_ok-boolean.ensures,
+      c.in_ok-number.ensures,
+      c.in_ok-begin_object.ensures,
+      c.is_cut.ensures,
+      c.name.ensures,
+      c.name-2.ensures,
+    )
+    (simp append_assoc)

@@ -1,0 +1,8 @@
+-- The tokens, one after the other.
+use Rattle.std.proofs.Common.{append_assoc}
+use Rattle.uv_report.proofs.formats.sarif.write_fixed.Goals as goal
+
+pub returns : goal.returns
+returns c =
+    rw (c.in_ok-write_members.ensures, c.in_ok-write_fix.ensures, c.in_ok-begin_object.ensures)
+    (simp append_assoc)

@@ -1,0 +1,21 @@
+-- The tokens, one after the other.
+use Rattle.std.proofs.Common.{append_assoc}
+use Rattle.uv_report.specs.Formats.Sarif.{violation_members}
+use Rattle.uv_report.proofs.formats.sarif.write_violation.Goals as goal
+
+pub returns : goal.returns
+unfolding violation_members
+returns c =
+    rw (
+      c.in_ok-end_object-2.ensures,
+      c.in_ok-number.ensures,
+      c.in_ok-text-2.ensures,
+      c.in_ok-end_object.ensures,
+      c.in_ok-text.ensures,
+      c.in_ok-boolean.ensures,
+      c.in_ok-begin_member.ensures,
+      c.is_cut.ensures,
+      c.name.ensures,
+      c.index.ensures,
+    )
+    (simp append_assoc)
