@@ -89,8 +89,9 @@ spoiled 'a link that is no URL string' 'a link of the pages' "$commands" docs/gu
 spoiled 'a page that the navigation lacks' 'its navigation has no' "$texts" mkdocs.yml '/guides\/feed.md/d'
 spoiled 'a long sentence' 'a sentence of ' "$prose" docs/START.md \
     '$a A word and another one, '"$(printf 'and one more %.0s' {1..12})"'at the end.'
-spoiled 'long sentences' 'words a sentence, and at most' "$prose" docs/guides/rattle.md \
-    '$a '"$(for _ in {1..30}; do printf 'A word %sat the end. ' "$(printf 'and another %.0s' {1..12})"; done)"
+spoiled 'an odd sentence' "'is no ..': write isn't a" "$prose" docs/guides/rattle.md '$a A page is no place for notes, as everyone knows.'
+spoiled 'a row of short sentences' 'sentences in a row of at most' "$prose" docs/guides/rattle.md \
+    '$a A page is short. Its words are few. Nobody reads it.'
 spoiled 'a word that the glossary avoids' "the glossary avoids 'judges'" "$prose" docs/QUESTIONS.md 's/checks lists with a link/judges lists with a link/'
 spoiled 'a message with such a word' "a message has 'judges'" "$prose" crates/uv_messages/src/hints.rt 's/TEXT checks one text/TEXT judges one text/'
 spoiled 'a glossary without its table' 'the table of avoided words is missing' "$prose" docs/GLOSSARY.md '/^| `/d'

@@ -1,6 +1,6 @@
 #!/usr/bin/env python3
-"""How the pages read: the length of sentences, words that docs/GLOSSARY.md avoids, first lines, lengths, and spelling. The
-messages of the programs avoid these words too.
+"""How the pages read: forms that a native writer would change, long sentences and rows of short ones, words that
+docs/GLOSSARY.md avoids, first lines, lengths, and spelling. The messages of the programs avoid these words too.
 
     tests/runs/prose.py [TOP]            sees that each page keeps to the limits below; 1 where one doesn't
     tests/runs/prose.py --table [TOP]    writes a row for each page: its words, its sentences, and what they are allowed
@@ -18,8 +18,20 @@ import tempfile
 
 import pages
 
-MEAN_WORDS = 20
 MOST_WORDS = 30
+# So many sentences of so few words, one after the other and with no word that joins them, read like a list of notes.
+SHORT_WORDS, SHORT_ROW = 9, 3
+JOINED = re.compile(r"\b(because|so|but|since|if|when|then|that|which|who|until|before|after|as)\b|[:?]", re.I)
+# Forms that make a sentence odd, each with what a writer does instead.
+ODD = (
+    (r"^Where [^,]*,", "'Where ..' at the start: write if, or when"),
+    (r"\b(only|fails|exactly|empty) where\b", "'where' for if or when"),
+    (r"^Of [^,]*, ", "'Of ..' at the start: begin with the subject"),
+    (r"(?<!there )\b(is|are|was|were) no(ne)?\b(?! longer\b)", "'is no ..': write isn't a .."),
+    (r"\b(that|those|the ones?|the same) of\b|\bthe (former|latter)\b", "a pronoun in place of a noun: repeat the noun"),
+    (r"(?<!checked )(?<!string )(?<!host )(?<!, )\balone\b(?! (or|and) against\b)", "'alone' for only"),
+    (r"\b(Standard|rules?|scheme|format|contract|header) asks?\b", "'asks' of a thing: write requires, or needs"),
+)
 GUIDE_LINES = 120
 GLOSSARY = pathlib.Path("docs/GLOSSARY.md")
 # How the first line of a page begins, by its section in docs/README.md.
@@ -56,6 +68,25 @@ def sentences_of(text):
                 if words > 2:
                     found.append((line, part.strip(), words))
     return found
+
+
+def odd_in(sentences):
+    """What makes sentences odd: the line of each, its words, and what a writer does instead."""
+    for line, sentence, _ in sentences:
+        for pattern, advice in ODD:
+            if re.search(pattern, sentence, re.I if pattern.startswith("(?<!there") else 0):
+                yield line, sentence, advice
+
+
+def short_rows(text):
+    """Where several short sentences follow each other in one paragraph: the line of the paragraph, and the first one."""
+    for line, unit in pages.units_of(text):
+        row = 0
+        for sentence in pages.sentences_of(unit):
+            is_short = sentence.endswith(".") and len(sentence.split()) <= SHORT_WORDS and not JOINED.search(sentence)
+            row = row + 1 if is_short else 0
+            if row == SHORT_ROW:
+                yield line, sentence
 
 
 def avoided_in(text, pattern):
@@ -125,11 +156,13 @@ def check_form(top, page, text, kind, wrong):
 
 def check_page(page, text, pattern, wrong):
     """The sentences and words of a page, beside what it is allowed."""
-    long_ones, words_allowed, _ = allowed_of(page)
+    long_ones, words_allowed, reason = allowed_of(page)
     sentences = sentences_of(text)
     mean = sum(words for _, _, words in sentences) / max(1, len(sentences))
-    if mean > MEAN_WORDS:
-        wrong.append("{}: {:.1f} words a sentence, and at most {} are wanted".format(page, mean, MEAN_WORDS))
+    if not reason:
+        wrong += ["{}:{}: {}: {} ..".format(page, line, advice, it[:60]) for line, it, advice in odd_in(sentences)]
+        row = "{}:{}: {} sentences in a row of at most {} words: .. {}"
+        wrong += [row.format(page, line, SHORT_ROW, SHORT_WORDS, it[:60]) for line, it in short_rows(text)]
     longer = [it for it in sentences if it[2] > MOST_WORDS]
     if len(longer) > long_ones:
         for line, sentence, words in longer:
