@@ -1,0 +1,91 @@
+#!/usr/bin/env bash
+# Runs the packages for C++, Rust, Go and Java over every file of vectors, in three profiles, and compares each answer
+# with that from C and with what the vectors want; then their own tests, linters and pages, what a caller may hand in by
+# mistake, and spoiled copies, which have to give other answers. The programs in Ruby, PHP, C#, Lua and Perl of the guide
+# run over the same texts as `urlcheck lint`. What isn't installed is left out, and a line says so. It needs no network.
+# Usage: tests/runs/languages.sh PROGRAM [LIBRARY]
+# LIBRARY is a folder that tools/build-library made; without it one is made.
+. "$(dirname "$(realpath "$0")")/start.sh"
+cd "$top/tests/runs/languages"
+needs languages gcc python3 pkg-config
+library=${2:-$room/installed}
+[ $# -gt 1 ] || "$top/tools/build-library" "$library" >"$room/built" 2>&1 || { cat "$room/built"; exit 1; }
+library=$(realpath "$library")
+include=$library/include
+export PYTHONDONTWRITEBYTECODE=1 LC_ALL=C.UTF-8
+export PKG_CONFIG_PATH=$library/lib/pkgconfig LD_LIBRARY_PATH=$library/lib
+
+# The answers from C, which tests/runs/library.sh compares with those of the program.
+python3 ../library/cases.py pack "$room/cases" "$top"/tests/vectors/*.json
+gcc -std=c99 -O2 -I "$include" ../library/answers.c "$library/lib/liburlcheck.a" -o "$room/answers_c"
+"$room/answers_c" "$room/cases" >"$room/answers"
+"$room/answers_c" "$room/cases" mended >"$room/mended"
+python3 vectors.py "$room/answers" "$top"/tests/vectors/*.json
+
+fail() {
+    echo "FAILED: $*"
+    exit 1
+}
+
+# quiet WHAT COMMAND.. : runs a command whose output is shown where it fails
+quiet() {
+    local what=$1
+    shift
+    "$@" >"$room/said" 2>&1 || { cat "$room/said"; fail "$what"; }
+}
+
+# same COMMAND.. : whether a program that answers the cases gives the answers and the mended texts of C
+same() {
+    "$@" "$room/cases" 2>/dev/null | cmp -s - "$room/answers" && "$@" "$room/cases" mended 2>/dev/null | cmp -s - "$room/mended"
+}
+
+# answering LANGUAGE COMMAND.. : sees that a program does, and counts the answers
+answering() {
+    local language=$1 different
+    shift
+    if ! same "$@"; then
+        different=$("$@" "$room/cases" | diff - "$room/answers" | grep -c '^<' || true)
+        fail "$language: $different of $(grep -c '' "$room/answers") answers differ, or a mended text does"
+    fi
+    echo "languages: $language gives $(grep -c '' "$room/answers") answers and mended texts, 0 different"
+}
+
+# copied FOLDER : a copy of the package in that folder of bindings/, in $room/FOLDER
+copied() {
+    rm -rf "${room:?}/$1"
+    cp -r "$top/bindings/$1" "$room/$1"
+}
+
+# spoiled LANGUAGE BUILD FOLDER FILE SED COMMAND.. : in a copy of the package where this edit changed something, and which
+# BUILD still builds, the program gives other answers. The copy is taken back.
+spoils=0
+spoiled() {
+    local language=$1 build=$2 file=$3/$4 edit=$5
+    shift 5
+    cp "$room/$file" "$room/kept"
+    sed -i "$edit" "$room/$file"
+    ! cmp -s "$room/$file" "$room/kept" || fail "$language: the edit $edit changes nothing in $file"
+    quiet "$language: a copy with the edit $edit isn't built" "$build"
+    ! same "$@" || fail "$language: a spoiled copy gives the same answers: $edit"
+    cp "$room/kept" "$room/$file"
+    spoils=$((spoils + 1))
+}
+
+# guide NAME LANGUAGE FOLDER FILE : makes a folder with the program of a guide, of this name, with what its lines name: the
+# folder `library`, and this repository as `urlcheck`. FOLDER.wanted is what it prints.
+guide() {
+    mkdir -p "$room/$3"
+    ln -sfn "$library" "$room/$3/library"
+    ln -sfn "$top" "$room/$3/urlcheck"
+    python3 guide.py "$top/docs/guides/$1.md" "$2" "$room/$3/$4" "$room/$3.wanted"
+}
+
+# as_told NAME FOLDER : runs the lines for a shell of a guide in a folder, whose output is to be that of the guide's program
+as_told() {
+    python3 guide.py "$top/docs/guides/$1.md" sh "$room/$2.sh"
+    (cd "$room/$2" && bash -e "$room/$2.sh" 2>"$room/said") | cmp - "$room/$2.wanted" ||
+        { cat "$room/said"; fail "docs/guides/$1.md: its lines print something else"; }
+}
+
+for language in cpp rust go java others; do . "./$language.sh"; done
+echo "languages: $spoils spoiled copies were found"

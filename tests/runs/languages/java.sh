@@ -1,0 +1,71 @@
+# Java: the package for Java 8 over JNA, and its class for Java 22 where there is such a JDK; its tests, javac and javadoc
+# without a warning. Sourced by tests/runs/languages.sh.
+
+# newer_jdk : the folder of a JDK of version 22 or later, the newest
+newer_jdk() {
+    local folder version
+    for folder in "${JAVA_HOME:-}" /usr/lib/jvm/*; do
+        [ -x "$folder/bin/javac" ] || continue
+        version=$("$folder/bin/javac" -version 2>&1 | sed 's/[^0-9]*\([0-9]*\).*/\1/')
+        [ "$version" -lt 22 ] || echo "$version $folder"
+    done | sort -n | tail -n 1 | cut -d' ' -f2
+}
+
+sources() {
+    find "$room/java/src/$1" -name '*.java'
+}
+
+# build_java : the classes of the copy of the package, those of its tests, and the answers. (A newer compiler says that
+# Java 8 is old.)
+build_java() {
+    rm -rf "$room/classes"
+    mapfile -t files < <(sources main/java)
+    javac --release 8 -Xlint:all,-options -Werror -cp "$jna" -d "$room/classes/8" "${files[@]}"
+    mapfile -t files < <(sources test)
+    javac -Xlint:all -Werror -cp "$room/classes/8:$junit" -d "$room/classes/tests" "${files[@]}" Answers.java
+    [ -n "$jdk" ] || return 0
+    mapfile -t files < <(sources main/java22)
+    "$jdk/bin/javac" --release 22 -Xlint:all -Werror -cp "$room/classes/8" -d "$room/classes/22" "${files[@]}"
+}
+
+# with_java FOLDER CLASSES WORD.. : runs a class by the Java of a folder, over these classes
+with_java() {
+    local folder=$1 classes=$2
+    shift 2
+    "${folder:+$folder/bin/}java" -Durlcheck.library="$library/lib/liburlcheck.so" \
+        -cp "$classes:$room/classes/8:$room/classes/tests:$junit" "$@"
+}
+
+jna=/usr/share/java/jna.jar
+junit=/usr/share/java/junit4.jar:/usr/share/java/hamcrest-core.jar
+jdk=$(newer_jdk)
+if ! command -v javac >/dev/null; then
+    echo 'languages: Java left out, since javac is not installed'
+elif [ ! -e $jna ] || [ ! -e "${junit%%:*}" ]; then
+    echo 'languages: Java left out, since libjna-java or junit4 is not installed'
+else
+    copied java
+    quiet 'javac' build_java
+    answering "Java $(java -version 2>&1 | sed -n '1s/.*"\([0-9]*\).*/\1/p') over JNA" with_java '' "$jna" Answers
+    quiet 'the tests of the package over JNA' with_java '' "$jna" org.junit.runner.JUnitCore \
+        example.yuccaeave.urlcheck.UrlCheckTest
+    mapfile -t files < <(sources main/java)
+    quiet 'javadoc' javadoc -quiet -Xdoclint:all -Werror -cp "$jna" -d "$room/javadoc" "${files[@]}"
+    if [ -n "$jdk" ]; then
+        foreign=(with_java "$jdk" "$room/classes/22" --enable-native-access=ALL-UNNAMED)
+        answering "Java $("$jdk/bin/java" -version 2>&1 | sed -n '1s/.*"\([0-9]*\).*/\1/p') over java.lang.foreign" \
+            "${foreign[@]}" Answers
+        quiet 'the tests of the package over java.lang.foreign' "${foreign[@]}" org.junit.runner.JUnitCore \
+            example.yuccaeave.urlcheck.UrlCheckTest
+    else
+        echo 'languages: Java over java.lang.foreign left out, since no JDK of version 22 or later is installed'
+    fi
+    package=src/main/java/example/yuccaeave/urlcheck
+    spoiled Java build_java java $package/Answer.java 's/number(places), number(places + 8), index/number(places + 8), number(places), index/' \
+        with_java '' "$jna" Answers
+    spoiled Java build_java java $package/Utf8.java 's/codePoint < 0x10000 ? 3 : 4/codePoint < 0x10000 ? 3 : 3/' \
+        with_java '' "$jna" Answers
+    quiet 'javac' build_java
+    guide java java guide_java Program.java
+    as_told java guide_java
+fi

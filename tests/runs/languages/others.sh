@@ -1,0 +1,51 @@
+# The programs of docs/guides/other-languages.md over the texts of the vectors, which they report as `urlcheck lint` does,
+# and over a text with a NUL. Sourced by tests/runs/languages.sh.
+
+# program_in LANGUAGE ENDING : the program of the guide in a language, of at most 25 lines, with the header where it is here
+program_in() {
+    python3 guide.py "$top/docs/guides/other-languages.md" "$1" "$room/other.$2"
+    [ "$(grep -c '' "$room/other.$2")" -le 25 ] || fail "the program in $1 has more than 25 lines"
+    sed -i "s|/usr/include/urlcheck.ffi.h|$include/urlcheck.ffi.h|" "$room/other.$2"
+}
+
+# reporting LANGUAGE COMMAND.. : sees that a program reports what `lint` does, and that a spoiled one doesn't
+reporting() {
+    local language=$1
+    shift
+    "$@" <"$room/texts" >"$room/reported" 2>"$room/said" || { cat "$room/said"; fail "the program in $language"; }
+    cmp "$room/reported" "$room/wanted" || fail "the program in $language reports something else"
+    echo "languages: the program in $language reports $(grep -c '' "$room/wanted") of $(grep -c '' "$room/texts") texts, as \`lint\`"
+}
+
+# here LANGUAGE TOOL : whether a tool of a language is installed, else says that it is left out
+here() {
+    command -v "$2" >/dev/null || { echo "languages: $1 left out, since $2 is not installed"; return 1; }
+}
+
+# Each text of a line is printed by \`lint\` with its column in bytes and its rule.
+python3 texts.py "$top"/tests/vectors/*.json >"$room/texts"
+"$program" lint --quiet --columns bytes "$room/texts" >"$room/linted" || [ $? = 1 ]
+sed -E 's/^[^:]*:([0-9]+:[0-9]+): error: .* \[([a-z0-9-]+)\]$/\1: \2/' "$room/linted" >"$room/wanted"
+[ "$(grep -c '' "$room/wanted")" -gt 1000 ] || fail '`lint` reports less'
+
+if here Ruby ruby && { ruby -e 'require "ffi"' 2>/dev/null || { echo 'languages: Ruby left out, since its gem ffi is not installed'; false; }; }; then
+    program_in ruby rb
+    reporting Ruby ruby "$room/other.rb"
+fi
+if here PHP php && { php -r 'exit(class_exists("FFI") ? 0 : 1);' || { echo 'languages: PHP left out, since its FFI is not installed'; false; }; }; then
+    program_in php php
+    reporting PHP php "$room/other.php"
+fi
+if here 'C#' mcs && here 'C#' mono; then
+    program_in csharp cs
+    quiet 'mcs' mcs -warnaserror -out:"$room/other.exe" "$room/other.cs"
+    reporting 'C#' mono "$room/other.exe"
+fi
+if here Lua luajit; then
+    program_in lua lua
+    reporting Lua luajit "$room/other.lua"
+fi
+if here Perl perl && { perl -MFFI::Platypus=2.00 -e 1 2>/dev/null || { echo 'languages: Perl left out, since FFI::Platypus is not installed'; false; }; }; then
+    program_in perl pl
+    reporting Perl perl "$room/other.pl"
+fi

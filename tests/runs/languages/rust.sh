@@ -1,0 +1,59 @@
+# Rust: the crate without a dependency, offline; its tests, those of its documentation, clippy, rustdoc, rustfmt; the
+# archive, and the shared library by pkg-config. Sourced by tests/runs/languages.sh.
+
+# build_rust : the answers by the copy of the crate
+build_rust() {
+    (cd "$room/rust" && cargo build --offline --example answers)
+}
+
+if command -v cargo >/dev/null; then
+    export CARGO_TARGET_DIR=$room/target URLCHECK_LIB_DIR=$library/lib
+    copied rust
+    mkdir -p "$room/rust/examples"
+    cp answers.rs "$room/rust/examples/"
+    answers_rust=$room/target/debug/examples/answers
+    quiet 'cargo build' build_rust
+    answering Rust "$answers_rust"
+    (
+        cd "$room/rust"
+        quiet 'the tests of the crate' cargo test --offline --tests
+        quiet 'the tests of its documentation' cargo test --offline --doc
+        for part in clippy fmt; do
+            cargo $part --version >/dev/null 2>&1 || echo "languages: cargo $part left out, since it is not installed"
+        done
+        ! cargo fmt --version >/dev/null 2>&1 || quiet 'rustfmt' cargo fmt --check
+        ! cargo clippy --version >/dev/null 2>&1 || quiet 'clippy' cargo clippy --offline --all-targets -- -D warnings
+        RUSTDOCFLAGS='-D warnings' quiet 'rustdoc' cargo doc --offline --no-deps
+    )
+    version=$(sed -n 's/^#define URLCHECK_VERSION //p' "$include/urlcheck.h")
+    grep -q "^version = \"$((version / 10000)).$((version / 100 % 100)).$((version % 100))\"$" "$top/bindings/rust/Cargo.toml" ||
+        fail 'the crate has another version than urlcheck.h'
+    spoiled Rust build_rust rust src/violation.rs \
+        's/byte_place: found.byte_place, place: found.place/byte_place: found.place, place: found.byte_place/' "$answers_rust"
+    spoiled Rust build_rust rust src/profile.rs 's/        self as u32/        self as u32 \& 1/' "$answers_rust"
+    spoiled Rust build_rust rust src/parts.rs 's/span.present.then(/(span.length > 0).then(/' "$answers_rust"
+
+    # Where no folder is named, pkg-config is asked; a folder without a library is refused.
+    (
+        cd "$room/rust"
+        env -u URLCHECK_LIB_DIR CARGO_TARGET_DIR="$room/shared" cargo build --offline --example answers >"$room/said" 2>&1
+        quiet 'the shared library' same "$room/shared/debug/examples/answers"
+        if URLCHECK_LIB_DIR=$room/rust cargo build --offline >"$room/said" 2>&1; then fail 'a folder without a library'; fi
+        grep -q 'URLCHECK_LIB_DIR: .* has no liburlcheck' "$room/said" || fail 'no word on a folder without a library'
+        if env -u URLCHECK_LIB_DIR PKG_CONFIG_PATH= cargo build --offline >"$room/said" 2>&1; then
+            pkg-config --exists urlcheck || fail 'no library at all'
+        else
+            grep -q 'pkg-config has no liburlcheck 0.4' "$room/said" || fail 'no word on a library that is missing'
+        fi
+    )
+    mkdir -p "$room/guide_rust/src"
+    guide rust rust guide_rust src/main.rs
+    python3 guide.py "$top/docs/guides/rust.md" toml "$room/dependency"
+    { printf '[package]\nname = "program"\nversion = "1.0.0"\nedition = "2021"\n\n' && cat "$room/dependency"; } \
+        >"$room/guide_rust/Cargo.toml"
+    unset URLCHECK_LIB_DIR
+    as_told rust guide_rust
+    unset CARGO_TARGET_DIR
+else
+    echo 'languages: Rust left out, since cargo is not installed'
+fi
