@@ -442,11 +442,11 @@ inline result<violations> violations_of(std::string_view text, const base &again
 inline text name(rule of) noexcept { return detail::fixed_text(URLCHECK_RULE_NAME, of); }
 // What is wrong at the place of a violation, without the code point that is there: `message` names it.
 inline text sentence(rule of) noexcept { return detail::fixed_text(URLCHECK_RULE_SENTENCE, of); }
-// The address of the page about the rule.
-inline text page(rule of) noexcept { return detail::fixed_text(URLCHECK_RULE_PAGE, of); }
+// The address of the section of the URL Standard that has the rule.
+inline text address(rule of) noexcept { return detail::fixed_text(URLCHECK_RULE_ADDRESS, of); }
 // What the rule requires of a text.
 inline text requires_of(rule of) noexcept { return detail::fixed_text(URLCHECK_RULE_REQUIRES, of); }
-// The section of the URL Standard that has the rule.
+// The number of that section, and what it calls what the rule is about.
 inline text section(rule of) noexcept { return detail::fixed_text(URLCHECK_RULE_SECTION, of); }
 
 // The sentence on a violation of a text that was checked by a profile, which names the code point at the place.

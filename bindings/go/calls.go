@@ -177,7 +177,7 @@ func message(text string, profile Profile, violation Violation) string {
 const (
 	ruleName     = C.URLCHECK_RULE_NAME
 	ruleSentence = C.URLCHECK_RULE_SENTENCE
-	rulePage     = C.URLCHECK_RULE_PAGE
+	ruleAddress  = C.URLCHECK_RULE_ADDRESS
 	ruleRequires = C.URLCHECK_RULE_REQUIRES
 	ruleSection  = C.URLCHECK_RULE_SECTION
 )

@@ -209,7 +209,7 @@ func TestMany(t *testing.T) {
 
 func TestNames(t *testing.T) {
 	for rule := NoScheme; rule <= Percent; rule++ {
-		if rule.Sentence() == "" || rule.Requires() == "" || rule.Section() == "" || !IsValid(rule.Page()) {
+		if rule.Sentence() == "" || rule.Requires() == "" || rule.Section() == "" || !IsValid(rule.Address()) {
 			t.Errorf("%v has no texts", rule)
 		}
 	}

@@ -34,11 +34,11 @@ func (r Rule) String() string {
 // Sentence says what is wrong at the place of a violation, without the code point that is there. Message names it.
 func (r Rule) Sentence() string { return fixedText(ruleSentence, r) }
 
-// Page gives the address of the page about the rule.
-func (r Rule) Page() string { return fixedText(rulePage, r) }
+// Address gives the address of the section of the URL Standard that has the rule.
+func (r Rule) Address() string { return fixedText(ruleAddress, r) }
 
 // Requires says what the rule requires of a text.
 func (r Rule) Requires() string { return fixedText(ruleRequires, r) }
 
-// Section gives the section of the URL Standard that has the rule.
+// Section gives the number of that section, and what it calls what the rule is about.
 func (r Rule) Section() string { return fixedText(ruleSection, r) }

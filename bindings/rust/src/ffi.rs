@@ -12,7 +12,7 @@ pub const DONE: u32 = 9;
 pub mod text {
     pub const RULE_NAME: u32 = 0;
     pub const RULE_SENTENCE: u32 = 1;
-    pub const RULE_PAGE: u32 = 2;
+    pub const RULE_ADDRESS: u32 = 2;
     pub const RULE_REQUIRES: u32 = 3;
     pub const RULE_SECTION: u32 = 4;
 }

@@ -76,10 +76,10 @@ impl Rule {
         self.text(ffi::text::RULE_SENTENCE)
     }
 
-    /// The address of the page about the rule.
+    /// The address of the section of the URL Standard that has the rule.
     #[must_use]
-    pub fn page(self) -> &'static str {
-        self.text(ffi::text::RULE_PAGE)
+    pub fn address(self) -> &'static str {
+        self.text(ffi::text::RULE_ADDRESS)
     }
 
     /// What the rule requires of a text.
@@ -88,7 +88,7 @@ impl Rule {
         self.text(ffi::text::RULE_REQUIRES)
     }
 
-    /// The section of the URL Standard that has the rule.
+    /// The number of that section, and what it calls what the rule is about.
     #[must_use]
     pub fn section(self) -> &'static str {
         self.text(ffi::text::RULE_SECTION)

@@ -139,7 +139,7 @@ fn names_are_read_back() {
     for rule in Rule::ALL {
         assert_eq!(rule.name().parse(), Ok(rule));
         assert!(!rule.sentence().is_empty() && !rule.requires().is_empty() && !rule.section().is_empty());
-        assert!(urlcheck::is_valid(rule.page()));
+        assert!(urlcheck::is_valid(rule.address()));
     }
     for profile in Profile::ALL {
         assert_eq!(profile.to_string().parse(), Ok(profile));

@@ -11,7 +11,7 @@ final class Calls {
     /** The texts of {@code urlcheck_text}. */
     static final int RULE_NAME = 0;
     static final int RULE_SENTENCE = 1;
-    static final int RULE_PAGE = 2;
+    static final int RULE_ADDRESS = 2;
     static final int RULE_REQUIRES = 3;
     static final int RULE_SECTION = 4;
 

@@ -53,12 +53,12 @@ public enum Rule {
     }
 
     /**
-     * The page about the rule.
+     * Where the section of the URL Standard is that has the rule.
      *
-     * @return the page's address
+     * @return the section's address
      */
-    public String page() {
-        return Calls.fixedText(Calls.RULE_PAGE, this);
+    public String address() {
+        return Calls.fixedText(Calls.RULE_ADDRESS, this);
     }
 
     /**
@@ -73,7 +73,7 @@ public enum Rule {
     /**
      * The section of the URL Standard that has the rule.
      *
-     * @return the section's number and its name
+     * @return the section's number, and what it calls what the rule is about
      */
     public String section() {
         return Calls.fixedText(Calls.RULE_SECTION, this);

@@ -181,7 +181,7 @@ public final class UrlCheckTest {
         for (Rule rule : Rule.values()) {
             assertEquals(rule.name().toLowerCase().replace('_', '-'), rule.toString());
             assertFalse(rule.sentence().isEmpty() || rule.requires().isEmpty() || rule.section().isEmpty());
-            assertTrue(UrlCheck.isValid(rule.page()));
+            assertTrue(UrlCheck.isValid(rule.address()));
         }
         assertEquals("wide", Profile.WIDE.toString());
     }
