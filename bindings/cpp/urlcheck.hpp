@@ -121,8 +121,15 @@ inline const std::uint8_t *bytes(std::string_view text) noexcept {
 
 inline std::uint32_t number(profile by) noexcept { return static_cast<std::uint32_t>(by); }
 
+// The reason of a verdict; that of a base is as that of a text.
+inline reason reason_of(std::uint32_t verdict) noexcept {
+    if (verdict == URLCHECK_BASE_REFUSED) return reason::refused;
+    if (verdict == URLCHECK_BASE_NO_UTF8) return reason::no_utf8;
+    return static_cast<reason>(verdict);
+}
+
 inline urlcheck::error error_of(const urlcheck_finding &found) noexcept {
-    return {static_cast<reason>(found.verdict), found.place, found.byte_place, found.rule};
+    return {reason_of(found.verdict), found.place, found.byte_place, found.rule};
 }
 
 inline urlcheck::error no_memory() noexcept { return {reason::no_memory, 0, 0, 0}; }

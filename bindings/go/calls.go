@@ -48,9 +48,9 @@ func errorOf(found *C.urlcheck_finding, profile Profile) error {
 	switch place, bytePlace := int(found.place), int(found.byte_place); found.verdict {
 	case C.URLCHECK_VALID:
 		return nil
-	case C.URLCHECK_REFUSED:
+	case C.URLCHECK_REFUSED, C.URLCHECK_BASE_REFUSED:
 		return &Refusal{Violation{Rule(found.rule), place, bytePlace}, profile}
-	case C.URLCHECK_NO_UTF8:
+	case C.URLCHECK_NO_UTF8, C.URLCHECK_BASE_NO_UTF8:
 		return &EncodingError{place, bytePlace}
 	case C.URLCHECK_NO_PROFILE:
 		return ErrProfile

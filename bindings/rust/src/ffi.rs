@@ -4,6 +4,7 @@ use std::mem::size_of;
 
 pub const VALID: u32 = 0;
 pub const REFUSED: u32 = 1;
+pub const BASE_REFUSED: u32 = 3;
 pub const MEMORY: u32 = 5;
 pub const MENDED: u32 = 8;
 pub const DONE: u32 = 9;

@@ -90,11 +90,11 @@ impl fmt::Display for Refusal {
 
 impl Error for Refusal {}
 
-/// What a finding says: nothing where it is of a valid text, else the refusal.
+/// What a finding of a text or of a base says: nothing where it is valid, else the refusal.
 pub(crate) fn read_finding(found: &ffi::Finding, profile: Profile) -> Result<(), Refusal> {
     match found.verdict {
         ffi::VALID => Ok(()),
-        ffi::REFUSED => {
+        ffi::REFUSED | ffi::BASE_REFUSED => {
             let rule = Rule::from_number(found.rule);
             let violation = Violation { byte_place: found.byte_place, place: found.place, rule };
             Err(Refusal { violation, profile })

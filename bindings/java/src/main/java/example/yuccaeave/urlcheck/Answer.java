@@ -9,6 +9,7 @@ import java.nio.ByteOrder;
 final class Answer {
     static final int VALID = 0;
     static final int REFUSED = 1;
+    static final int BASE_REFUSED = 3;
     static final int MEMORY = 5;
     static final int MENDED = 8;
     static final int DONE = 9;
@@ -63,7 +64,7 @@ final class Answer {
     /** Ends the call, but for a valid text: with the refusal of the text, or for want of memory. */
     void requireValid(String text, Profile profile) throws Refusal {
         int verdict = verdict();
-        if (verdict == REFUSED) {
+        if (verdict == REFUSED || verdict == BASE_REFUSED) {
             throw new Refusal(violation(4, 8, Utf8.index(text, 0, number(16))), profile);
         }
         require(verdict == VALID, verdict);
