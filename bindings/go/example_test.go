@@ -51,15 +51,14 @@ func ExampleMend() {
 }
 
 func ExampleViolations() {
-	text := "http://x_y/ ^"
+	text := "http://h/ ^"
 	found, _ := urlcheck.Violations(text)
 	for _, violation := range found {
 		fmt.Println(violation.Place, violation.Message(text, urlcheck.Standard))
 	}
 	// Output:
-	// 7 U+005F LOW LINE is not allowed in a domain
-	// 11 U+0020 SPACE is not allowed in a URL
-	// 12 U+005E CIRCUMFLEX ACCENT is not allowed in a URL
+	// 9 U+0020 SPACE is not allowed in a URL
+	// 10 U+005E CIRCUMFLEX ACCENT is not allowed in a URL
 }
 
 func ExampleChecker_CheckMany() {

@@ -16,11 +16,12 @@ export PYTHONDONTWRITEBYTECODE=1 LC_ALL=C.UTF-8
 export PKG_CONFIG_PATH=$library/lib/pkgconfig LD_LIBRARY_PATH=$library/lib
 
 # The answers from C, which tests/runs/library.sh compares with those of the program.
-python3 ../library/cases.py pack "$room/cases" "$top"/tests/vectors/*.json
+cases=$room/cases answers=$room/answers mended=$room/mended
+python3 ../library/cases.py pack "$cases" "$top"/tests/vectors/*.json
 gcc -std=c99 -O2 -I "$include" ../library/answers.c "$library/lib/liburlcheck.a" -o "$room/answers_c"
-"$room/answers_c" "$room/cases" >"$room/answers"
-"$room/answers_c" "$room/cases" mended >"$room/mended"
-python3 vectors.py "$room/answers" "$top"/tests/vectors/*.json
+"$room/answers_c" "$cases" >"$answers"
+"$room/answers_c" "$cases" mended >"$mended"
+python3 vectors.py "$answers" "$top"/tests/vectors/*.json
 
 fail() {
     echo "FAILED: $*"
@@ -36,7 +37,7 @@ quiet() {
 
 # same COMMAND.. : whether a program that answers the cases gives the answers and the mended texts of C
 same() {
-    "$@" "$room/cases" 2>/dev/null | cmp -s - "$room/answers" && "$@" "$room/cases" mended 2>/dev/null | cmp -s - "$room/mended"
+    "$@" "$cases" 2>/dev/null | cmp -s - "$answers" && "$@" "$cases" mended 2>/dev/null | cmp -s - "$mended"
 }
 
 # answering LANGUAGE COMMAND.. : sees that a program does, and counts the answers
@@ -44,10 +45,10 @@ answering() {
     local language=$1 different
     shift
     if ! same "$@"; then
-        different=$("$@" "$room/cases" | diff - "$room/answers" | grep -c '^<' || true)
-        fail "$language: $different of $(grep -c '' "$room/answers") answers differ, or a mended text does"
+        different=$("$@" "$cases" | diff - "$answers" | grep -c '^<' || true)
+        fail "$language: $different of $(grep -c '' "$answers") answers differ, or a mended text does"
     fi
-    echo "languages: $language gives $(grep -c '' "$room/answers") answers and mended texts, 0 different"
+    echo "languages: $language gives $(grep -c '' "$answers") answers and mended texts, 0 different"
 }
 
 # copied FOLDER : a copy of the package in that folder of bindings/, in $room/FOLDER
@@ -87,5 +88,21 @@ as_told() {
         { cat "$room/said"; fail "docs/guides/$1.md: its lines print something else"; }
 }
 
-for language in cpp rust go java others; do . "./$language.sh"; done
-echo "languages: $spoils spoiled copies were found"
+# Side by side, each in a folder of its own. LANGUAGES may name fewer of them.
+read -ra languages <<<"${LANGUAGES:-cpp rust go java others}"
+for language in "${languages[@]}"; do
+    mkdir "$room/$language"
+    (
+        room=$room/$language
+        . "./$language.sh"
+        [ $spoils = 0 ] || echo "languages: $spoils spoiled copies of $language were found"
+        : >"$room/passed"
+    ) >"$room/$language.said" 2>&1 &
+done
+wait
+failed=0
+for language in "${languages[@]}"; do
+    cat "$room/$language.said"
+    [ -e "$room/$language/passed" ] || failed=1
+done
+exit $failed

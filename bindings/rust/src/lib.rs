@@ -93,10 +93,9 @@ pub fn mend(text: &str) -> Result<Option<Mended>, Refusal> {
 /// All that is wrong with the text by the standard profile: see [`Checker::violations`].
 ///
 /// ```
-/// let text = "http://x_y/ ^";
-/// let said: Vec<_> = urlcheck::violations(text).iter().map(ToString::to_string).collect();
-/// assert_eq!(said[0], "at place 7: this is not a valid domain [host-domain]");
-/// assert_eq!(said.len(), 3);
+/// let violations = urlcheck::violations("http://x_y/ ^");
+/// let found: Vec<_> = violations.iter().map(|one| (one.place, one.rule.name())).collect();
+/// assert_eq!(found, [(7, "host-domain"), (11, "code-point"), (12, "code-point")]);
 /// ```
 #[must_use]
 pub fn violations(text: &str) -> Vec<Violation> {

@@ -4,14 +4,14 @@ warned=(-std=c++17 -Wall -Wextra -Wpedantic -Wconversion -Wsign-conversion -Wsha
 
 # build_cpp : the answers by the copy of the header
 build_cpp() {
-    g++ "${warned[@]}" -O1 -I "$room/cpp" -I "$include" answers.cpp "$library/lib/liburlcheck.a" -o "$room/answers_cpp"
+    g++ "${warned[@]}" -O0 -I "$room/cpp" -I "$include" answers.cpp "$library/lib/liburlcheck.a" -o "$room/answers_cpp"
 }
 
 if command -v g++ >/dev/null; then
     copied cpp
     for compiler in g++ clang++; do
         command -v $compiler >/dev/null || { echo "languages: C++ by $compiler left out, since it is not installed"; continue; }
-        quiet "$compiler on answers.cpp" $compiler "${warned[@]}" -O1 -g -fsanitize=address,undefined \
+        quiet "$compiler on answers.cpp" $compiler "${warned[@]}" -fsanitize=address,undefined \
             -fno-sanitize-recover=all -I "$room/cpp" -I "$include" answers.cpp "$library/lib/liburlcheck.a" \
             -o "$room/answers_sanitized"
         answering "C++17 by $compiler, under sanitizers," "$room/answers_sanitized"

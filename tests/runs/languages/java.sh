@@ -11,16 +11,23 @@ newer_jdk() {
     done | sort -n | tail -n 1 | cut -d' ' -f2
 }
 
+# java_version JAVA : the first number of the version of a Java
+java_version() {
+    "$1" -version 2>&1 | sed -n '1s/[^"]*"\([0-9]*\).*/\1/p'
+}
+
 sources() {
     find "$room/java/src/$1" -name '*.java'
 }
 
-# build_java : the classes of the copy of the package, those of its tests, and the answers. (A newer compiler says that
-# Java 8 is old.)
+# build_java : the classes of the copy of the package. (A newer compiler says that Java 8 is old.)
 build_java() {
-    rm -rf "$room/classes"
     mapfile -t files < <(sources main/java)
     javac --release 8 -Xlint:all,-options -Werror -cp "$jna" -d "$room/classes/8" "${files[@]}"
+}
+
+# build_more : its class for Java 22, its tests, and the answers
+build_more() {
     mapfile -t files < <(sources test)
     javac -Xlint:all -Werror -cp "$room/classes/8:$junit" -d "$room/classes/tests" "${files[@]}" Answers.java
     [ -n "$jdk" ] || return 0
@@ -46,14 +53,15 @@ elif [ ! -e $jna ] || [ ! -e "${junit%%:*}" ]; then
 else
     copied java
     quiet 'javac' build_java
-    answering "Java $(java -version 2>&1 | sed -n '1s/.*"\([0-9]*\).*/\1/p') over JNA" with_java '' "$jna" Answers
+    quiet 'javac for the tests and Java 22' build_more
+    answering "Java $(java_version java) over JNA" with_java '' "$jna" Answers
     quiet 'the tests of the package over JNA' with_java '' "$jna" org.junit.runner.JUnitCore \
         example.yuccaeave.urlcheck.UrlCheckTest
     mapfile -t files < <(sources main/java)
     quiet 'javadoc' javadoc -quiet -Xdoclint:all -Werror -cp "$jna" -d "$room/javadoc" "${files[@]}"
     if [ -n "$jdk" ]; then
         foreign=(with_java "$jdk" "$room/classes/22" --enable-native-access=ALL-UNNAMED)
-        answering "Java $("$jdk/bin/java" -version 2>&1 | sed -n '1s/.*"\([0-9]*\).*/\1/p') over java.lang.foreign" \
+        answering "Java $(java_version "$jdk/bin/java") over java.lang.foreign" \
             "${foreign[@]}" Answers
         quiet 'the tests of the package over java.lang.foreign' "${foreign[@]}" org.junit.runner.JUnitCore \
             example.yuccaeave.urlcheck.UrlCheckTest
@@ -65,7 +73,6 @@ else
         with_java '' "$jna" Answers
     spoiled Java build_java java $package/Utf8.java 's/codePoint < 0x10000 ? 3 : 4/codePoint < 0x10000 ? 3 : 3/' \
         with_java '' "$jna" Answers
-    quiet 'javac' build_java
     guide java java guide_java Program.java
     as_told java guide_java
 fi

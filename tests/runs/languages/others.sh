@@ -22,7 +22,7 @@ here() {
     command -v "$2" >/dev/null || { echo "languages: $1 left out, since $2 is not installed"; return 1; }
 }
 
-# Each text of a line is printed by \`lint\` with its column in bytes and its rule.
+# The line, the column in bytes and the rule of each report of `lint`.
 python3 texts.py "$top"/tests/vectors/*.json >"$room/texts"
 "$program" lint --quiet --columns bytes "$room/texts" >"$room/linted" || [ $? = 1 ]
 sed -E 's/^[^:]*:([0-9]+:[0-9]+): error: .* \[([a-z0-9-]+)\]$/\1: \2/' "$room/linted" >"$room/wanted"

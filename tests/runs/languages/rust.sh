@@ -7,7 +7,8 @@ build_rust() {
 }
 
 if command -v cargo >/dev/null; then
-    export CARGO_TARGET_DIR=$room/target URLCHECK_LIB_DIR=$library/lib
+    # (errors of programs that are meant to fail need no trace)
+    export CARGO_TARGET_DIR=$room/target URLCHECK_LIB_DIR=$library/lib RUST_BACKTRACE=0
     copied rust
     mkdir -p "$room/rust/examples"
     cp answers.rs "$room/rust/examples/"
@@ -53,7 +54,6 @@ if command -v cargo >/dev/null; then
         >"$room/guide_rust/Cargo.toml"
     unset URLCHECK_LIB_DIR
     as_told rust guide_rust
-    unset CARGO_TARGET_DIR
 else
     echo 'languages: Rust left out, since cargo is not installed'
 fi
