@@ -11,8 +11,9 @@ const ABSENT: u32 = u32::MAX;
 /// The texts of a file: each after its length in four bytes, lowest first.
 fn texts_of(mut data: &[u8]) -> Vec<Option<&str>> {
     let mut texts = Vec::new();
-    while let Some((front, rest)) = data.split_first_chunk::<4>() {
-        let length = u32::from_le_bytes(*front);
+    while !data.is_empty() {
+        let (front, rest) = data.split_at(4);
+        let length = u32::from_le_bytes(front.try_into().expect("four bytes"));
         let (text, rest) = rest.split_at(if length == ABSENT { 0 } else { length as usize });
         texts.push((length != ABSENT).then(|| std::str::from_utf8(text).expect("UTF-8")));
         data = rest;

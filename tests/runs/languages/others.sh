@@ -8,13 +8,26 @@ program_in() {
     sed -i "s|/usr/include/urlcheck.ffi.h|$include/urlcheck.ffi.h|" "$room/other.$2"
 }
 
-# reporting LANGUAGE COMMAND.. : sees that a program reports what `lint` does, and that a spoiled one doesn't
+# reporting LANGUAGE ENDING EDIT EDIT COMMAND.. : sees that a program reports what `lint` does, and that with either edit it
+# reports something else. The command runs the file $room/other.ENDING.
 reporting() {
-    local language=$1
-    shift
+    local language=$1 file=$room/other.$2 edit edits=("$3" "$4")
+    shift 4
     "$@" <"$room/texts" >"$room/reported" 2>"$room/said" || { cat "$room/said"; fail "the program in $language"; }
     cmp "$room/reported" "$room/wanted" || fail "the program in $language reports something else"
     echo "languages: the program in $language reports $(grep -c '' "$room/wanted") of $(grep -c '' "$room/texts") texts, as \`lint\`"
+    cp "$file" "$room/kept"
+    for edit in "${edits[@]}"; do
+        sed "$edit" "$room/kept" >"$file"
+        ! cmp -s "$file" "$room/kept" || fail "$language: the edit $edit changes nothing"
+        if "$@" <"$room/texts" 2>/dev/null | cmp -s - "$room/wanted"; then fail "$language: a spoiled program passes: $edit"; fi
+        spoils=$((spoils + 1))
+    done
+}
+
+# in_csharp : compiles the program in C#, and runs it
+in_csharp() {
+    mcs -warnaserror -out:"$room/other.exe" "$room/other.cs" && mono "$room/other.exe"
 }
 
 # here LANGUAGE TOOL : whether a tool of a language is installed, else says that it is left out
@@ -30,22 +43,22 @@ sed -E 's/^[^:]*:([0-9]+:[0-9]+): error: .* \[([a-z0-9-]+)\]$/\1: \2/' "$room/li
 
 if here Ruby ruby && { ruby -e 'require "ffi"' 2>/dev/null || { echo 'languages: Ruby left out, since its gem ffi is not installed'; false; }; }; then
     program_in ruby rb
-    reporting Ruby ruby "$room/other.rb"
+    reporting Ruby rb 's/answer\[:byte_place\]/answer[:place]/' 's/text.bytesize, 0/text.bytesize, 2/' ruby "$room/other.rb"
 fi
 if here PHP php && { php -r 'exit(class_exists("FFI") ? 0 : 1);' || { echo 'languages: PHP left out, since its FFI is not installed'; false; }; }; then
     program_in php php
-    reporting PHP php "$room/other.php"
+    reporting PHP php 's/found->byte_place/found->place/' 's/strlen($text), 0, null/strlen($text), 2, null/' php "$room/other.php"
 fi
 if here 'C#' mcs && here 'C#' mono; then
     program_in csharp cs
-    quiet 'mcs' mcs -warnaserror -out:"$room/other.exe" "$room/other.cs"
-    reporting 'C#' mono "$room/other.exe"
+    reporting 'C#' cs 's/answer.BytePlace/answer.Place/' 's/bytes.Length, 0/bytes.Length, 2/' in_csharp
 fi
 if here Lua luajit; then
     program_in lua lua
-    reporting Lua luajit "$room/other.lua"
+    reporting Lua lua 's/found.byte_place/found.place/' 's/#text, 0, nil/#text, 2, nil/' luajit "$room/other.lua"
 fi
 if here Perl perl && { perl -MFFI::Platypus=2.00 -e 1 2>/dev/null || { echo 'languages: Perl left out, since FFI::Platypus is not installed'; false; }; }; then
     program_in perl pl
-    reporting Perl perl "$room/other.pl"
+    reporting Perl pl 's/, $byte_place) = unpack/, $other) = unpack/; s/$place/$byte_place/' 's/($text), 0, undef/($text), 2, undef/' \
+        perl "$room/other.pl"
 fi
