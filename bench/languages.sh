@@ -1,9 +1,9 @@
 #!/usr/bin/env bash
-# What a call costs from Rust, Go, Java and C++ beside the language's own parser, over the same mixed links in one run: the
-# nanoseconds a link of the fastest of some rounds, and their ratio. The peers are the crate `url` (of Debian's
+# What a call costs from Rust, Go, Java and C++ beside the language's own parser, over the same mixed links in one run:
+# the nanoseconds a link of the fastest of some rounds, and their ratio. The peers are the crate `url` (of Debian's
 # librust-url-dev), net/url and java.net.URI; urlcheck.hpp is beside urlcheck.h. What isn't installed is left out, with
-# a line. It fails where a call accepts other links than those that are known to be valid. LIBRARY may name a folder that
-# tools/build-library wrote.
+# a line. It fails where a call accepts another number of links than are known to be valid. LIBRARY may name a folder
+# that tools/build-library wrote.
 # Usage: bench/languages.sh [--count COUNT] [--rounds ROUNDS] [--seed SEED]
 set -euo pipefail
 top=$(dirname "$(dirname "$(realpath "$0")")")
@@ -26,8 +26,8 @@ valid=$(grep -cvE '/(a b|a\|b|%zz|\[x\])$|^[A-Za-z]+://[^/]*//' "$room/links")
 in_rust() {
     mkdir -p "$room/rust/src" "$room/rust/.cargo"
     cp "$top/bench/languages/peer.rs" "$room/rust/src/main.rs"
-    printf '[package]\nname = "peer"\nversion = "0.1.0"\nedition = "2021"\n[dependencies]\nurl = "2"\nurlcheck = { path = "%s" }\n' \
-        "$top/bindings/rust" >"$room/rust/Cargo.toml"
+    printf '%s\n' '[package]' 'name = "peer"' 'version = "0.1.0"' 'edition = "2021"' '[dependencies]' 'url = "2"' \
+        "urlcheck = { path = \"$top/bindings/rust\" }" >"$room/rust/Cargo.toml"
     printf '[source.crates-io]\nreplace-with = "debian"\n[source.debian]\ndirectory = "%s"\n' "$registry" \
         >"$room/rust/.cargo/config.toml"
     (cd "$room/rust" && cargo build --release --offline --quiet) && "$room/target/release/peer" "$room/links" "$rounds"
@@ -36,8 +36,8 @@ in_rust() {
 in_go() {
     mkdir -p "$room/go"
     cp "$top/bench/languages/peer.go" "$room/go/"
-    printf 'module peer\n\ngo 1.19\n\nrequire yuccaeave.example/urlcheck v0.4.0\n\nreplace yuccaeave.example/urlcheck => %s\n' \
-        "$top/bindings/go" >"$room/go/go.mod"
+    printf '%s\n' 'module peer' 'go 1.19' 'require yuccaeave.example/urlcheck v0.4.0' \
+        "replace yuccaeave.example/urlcheck => $top/bindings/go" >"$room/go/go.mod"
     (cd "$room/go" && go build -o peer .) && "$room/go/peer" "$room/links" "$rounds"
 }
 

@@ -48,6 +48,7 @@ int main(int, char **words) {
     const figure peer = least(rounds, texts, checks_in_c);
     row("is_valid", least(rounds, texts, [](std::string_view text) { return urlcheck::is_valid(text); }), peer);
     row("check", least(rounds, texts, [](std::string_view text) { return urlcheck::check(text).has_value(); }), peer);
-    row("resolve", least(rounds, texts, [](std::string_view text) { return urlcheck::resolve(text).has_value(); }), peer);
+    const auto resolves = [](std::string_view text) { return urlcheck::resolve(text).has_value(); };
+    row("resolve", least(rounds, texts, resolves), peer);
     return 0;
 }

@@ -1,8 +1,9 @@
 #!/usr/bin/env bash
 # Runs the packages for C++, Rust, Go and Java over every file of vectors, in three profiles, and compares each answer
 # with that from C and with what the vectors want; then their own tests, linters and pages, what a caller may hand in by
-# mistake, and spoiled copies, which have to give other answers. The programs in Ruby, PHP, C#, Lua and Perl of the guide
-# run over the same texts as `urlcheck lint`. What isn't installed is left out, and a line says so. It needs no network.
+# mistake, and spoiled copies, which have to give other answers. The programs in Ruby, PHP, C#, Lua and Perl of the
+# guide report the same texts as `urlcheck lint`. What isn't installed is left out, and a line says so. It needs no
+# network.
 # Usage: tests/runs/languages.sh PROGRAM [LIBRARY]
 # LIBRARY is a folder that tools/build-library made; without it one is made.
 . "$(dirname "$(realpath "$0")")/start.sh"
@@ -26,6 +27,16 @@ python3 vectors.py "$answers" "$top"/tests/vectors/*.json
 fail() {
     echo "FAILED: $*"
     exit 1
+}
+
+# here WHAT TOOL : whether a tool is installed, else says what is left out
+here() {
+    command -v "$2" >/dev/null || { echo "languages: $1 left out, since $2 is not installed"; return 1; }
+}
+
+# with WHAT PART COMMAND.. : whether a part of a tool is installed, which the command sees, else says what is left out
+with() {
+    "${@:3}" >/dev/null 2>&1 || { echo "languages: $1 left out, since $2 is not installed"; return 1; }
 }
 
 # quiet WHAT COMMAND.. : runs a command whose output is shown where it fails
@@ -57,8 +68,8 @@ copied() {
     cp -r "$top/bindings/$1" "$room/$1"
 }
 
-# spoiled LANGUAGE BUILD FOLDER FILE SED COMMAND.. : in a copy of the package where this edit changed something, and which
-# BUILD still builds, the program gives other answers. The copy is taken back.
+# spoiled LANGUAGE BUILD FOLDER FILE SED COMMAND.. : in a copy of the package where this edit changed something, and
+# which BUILD still builds, the program gives other answers. The edit is taken back.
 spoils=0
 spoiled() {
     local language=$1 build=$2 file=$3/$4 edit=$5
@@ -72,8 +83,8 @@ spoiled() {
     spoils=$((spoils + 1))
 }
 
-# guide NAME LANGUAGE FOLDER FILE : makes a folder with the program of a guide, of this name, with what its lines name: the
-# folder `library`, and this repository as `urlcheck`. FOLDER.wanted is what it prints.
+# guide NAME LANGUAGE FOLDER FILE : makes a folder with the program of a guide as this file, and with what its lines
+# name: the folder `library`, and this repository as `urlcheck`. FOLDER.wanted is what the program prints.
 guide() {
     mkdir -p "$room/$3"
     ln -sfn "$library" "$room/$3/library"
@@ -81,7 +92,7 @@ guide() {
     python3 guide.py "$top/docs/guides/$1.md" "$2" "$room/$3/$4" "$room/$3.wanted"
 }
 
-# as_told NAME FOLDER : runs the lines for a shell of a guide in a folder, whose output is to be that of the guide's program
+# as_told NAME FOLDER : runs the lines for a shell of a guide in a folder, which have to print what its program prints
 as_told() {
     python3 guide.py "$top/docs/guides/$1.md" sh "$room/$2.sh"
     (cd "$room/$2" && bash -e "$room/$2.sh" 2>"$room/said") | cmp - "$room/$2.wanted" ||

@@ -71,7 +71,8 @@ public final class Answers {
         try {
             Url url = checker.check(text);
             ResolvedUrl resolved = checker.resolve(text);
-            require(!many.isPresent() && joined(resolved).equals(resolved.toString()), "the parts of the URL aren't it");
+            require(!many.isPresent(), "another verdict");
+            require(joined(resolved).equals(resolved.toString()), "the parts of the URL aren't it");
             Collections.addAll(fields, "0", shown(url.scheme()), shown(url.host()), shown(url.port()), "+" + url.path(),
                     shown(url.query()), shown(url.fragment()), resolved.toString());
         } catch (Refusal refusal) {

@@ -1,5 +1,5 @@
-# C++17: urlcheck.hpp with g++ and clang++, without a warning, under sanitizers, without exceptions, by CMake and pkg-config.
-# Sourced by tests/runs/languages.sh.
+# C++17: urlcheck.hpp with g++ and clang++, without a warning, under sanitizers, without exceptions, by CMake and by
+# pkg-config. Sourced by tests/runs/languages.sh.
 warned=(-std=c++17 -Wall -Wextra -Wpedantic -Wconversion -Wsign-conversion -Wshadow -Werror)
 
 # build_cpp : the answers by the copy of the header
@@ -7,10 +7,10 @@ build_cpp() {
     g++ "${warned[@]}" -O0 -I "$room/cpp" -I "$include" answers.cpp "$library/lib/liburlcheck.a" -o "$room/answers_cpp"
 }
 
-if command -v g++ >/dev/null; then
+if here C++ g++; then
     copied cpp
     for compiler in g++ clang++; do
-        command -v $compiler >/dev/null || { echo "languages: C++ by $compiler left out, since it is not installed"; continue; }
+        here "C++ by $compiler" $compiler || continue
         quiet "$compiler on answers.cpp" $compiler "${warned[@]}" -fsanitize=address,undefined \
             -fno-sanitize-recover=all -I "$room/cpp" -I "$include" answers.cpp "$library/lib/liburlcheck.a" \
             -o "$room/answers_sanitized"
@@ -19,18 +19,15 @@ if command -v g++ >/dev/null; then
         quiet "$compiler on the header, without exceptions" $compiler "${warned[@]}" -fno-exceptions -fno-rtti \
             -I "$room/cpp" -I "$include" -c "$room/header.cpp" -o "$room/header.o"
     done
-    if command -v clang-tidy >/dev/null; then
-        quiet 'clang-tidy on urlcheck.hpp' clang-tidy --quiet --config-file="$top/bindings/cpp/.clang-tidy" answers.cpp -- \
-            -std=c++17 -isystem "$include" -I "$room/cpp"
-    else
-        echo 'languages: clang-tidy on urlcheck.hpp left out, since it is not installed'
+    if here 'C++ by clang-tidy' clang-tidy; then
+        quiet 'clang-tidy on urlcheck.hpp' clang-tidy --quiet --config-file="$top/bindings/cpp/.clang-tidy" \
+            answers.cpp -- -std=c++17 -isystem "$include" -I "$room/cpp"
     fi
     quiet 'g++ on answers.cpp' build_cpp
-    spoiled C++ build_cpp cpp urlcheck.hpp 's/, found.place, found.byte_place, found.rule}/, found.byte_place, found.place, found.rule}/' \
-        "$room/answers_cpp"
-    spoiled C++ build_cpp cpp urlcheck.hpp 's/if (!span.present) return std::nullopt;/if (span.length == 0) return std::nullopt;/' \
-        "$room/answers_cpp"
-    spoiled C++ build_cpp cpp urlcheck.hpp 's/base_(against.text())/base_()/; s/base(against.text())/base()/' "$room/answers_cpp"
+    for edit in 's/found.place, found.byte_place, found.rule}/found.byte_place, found.place, found.rule}/' \
+        's/if (!span.present) return/if (span.length == 0) return/' 's/, base(against.text())/, base()/'; do
+        spoiled C++ build_cpp cpp urlcheck.hpp "$edit" "$room/answers_cpp"
+    done
 
     # A project that finds the header and the library by CMake, and one by pkg-config.
     echo '#include <urlcheck.hpp>
@@ -38,7 +35,7 @@ int main() { return urlcheck::is_valid("http://h/") ? 0 : 1; }' >"$room/found.cp
     # shellcheck disable=SC2046
     quiet 'pkg-config' g++ -std=c++17 "$room/found.cpp" $(pkg-config --cflags --libs urlcheck) -o "$room/found"
     quiet 'the program by pkg-config' "$room/found"
-    if command -v cmake >/dev/null; then
+    if here 'C++ by CMake' cmake; then
         mkdir -p "$room/cmake"
         for target in urlcheck static; do
             cp "$room/found.cpp" "$room/cmake/"
@@ -50,9 +47,5 @@ int main() { return urlcheck::is_valid("http://h/") ? 0 : 1; }' >"$room/found.cp
             quiet "the build with urlcheck::$target" cmake --build "$room/cmake/$target"
             quiet "the program with urlcheck::$target" "$room/cmake/$target/found"
         done
-    else
-        echo 'languages: C++ by CMake left out, since cmake is not installed'
     fi
-else
-    echo 'languages: C++ left out, since g++ is not installed'
 fi

@@ -6,7 +6,7 @@ build_go() {
     (cd "$room/go" && go build -o "$room/answers_go" ./answers)
 }
 
-if command -v go >/dev/null; then
+if here Go go; then
     export GOPROXY=off GOFLAGS=-mod=mod GOTOOLCHAIN=local
     copied go
     mkdir "$room/go/answers"
@@ -20,15 +20,14 @@ if command -v go >/dev/null; then
         quiet 'the tests under the race detector' env GODEBUG=cgocheck=2 go test -race .
         [ -z "$(gofmt -l .)" ] || fail "gofmt: $(gofmt -l .)"
     )
-    spoiled Go build_go go calls.go 's/int(found.place), int(found.byte_place); found/int(found.byte_place), int(found.place); found/' \
-        "$room/answers_go"
-    spoiled Go build_go go calls.go 's/if !from.present {/if from.length == 0 {/' "$room/answers_go"
-    spoiled Go build_go go calls.go 's/	return bytesOf(c.base.text)/	return bytesOf(c.base.text[:1])/' "$room/answers_go"
+    for edit in 's/int(found.place), int(found.byte_place);/int(found.byte_place), int(found.place);/' \
+        's/if !from.present {/if from.length == 0 {/' \
+        's/return bytesOf(c.base.text)/return bytesOf(c.base.text[:1])/'; do
+        spoiled Go build_go go calls.go "$edit" "$room/answers_go"
+    done
     guide go go guide_go main.go
     printf 'module program\n\ngo 1.19\n\n' >"$room/guide_go/go.mod"
     python3 guide.py "$top/docs/guides/go.md" text "$room/dependency"
     cat "$room/dependency" >>"$room/guide_go/go.mod"
     as_told go guide_go
-else
-    echo 'languages: Go left out, since go is not installed'
 fi

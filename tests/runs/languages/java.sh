@@ -1,5 +1,5 @@
-# Java: the package for Java 8 over JNA, and its class for Java 22 where there is such a JDK; its tests, javac and javadoc
-# without a warning. Sourced by tests/runs/languages.sh.
+# Java: the package for Java 8 over JNA, and its class for Java 22 where there is such a JDK; its tests; javac and
+# javadoc without a warning. Sourced by tests/runs/languages.sh.
 
 # newer_jdk : the folder of a JDK of version 22 or later, the newest
 newer_jdk() {
@@ -46,11 +46,7 @@ with_java() {
 jna=/usr/share/java/jna.jar
 junit=/usr/share/java/junit4.jar:/usr/share/java/hamcrest-core.jar
 jdk=$(newer_jdk)
-if ! command -v javac >/dev/null; then
-    echo 'languages: Java left out, since javac is not installed'
-elif [ ! -e $jna ] || [ ! -e "${junit%%:*}" ]; then
-    echo 'languages: Java left out, since libjna-java or junit4 is not installed'
-else
+if here Java javac && with Java 'libjna-java or junit4' test -e $jna -a -e "${junit%%:*}"; then
     copied java
     quiet 'javac' build_java
     quiet 'javac for the tests and Java 22' build_more
@@ -59,17 +55,16 @@ else
         example.yuccaeave.urlcheck.UrlCheckTest
     mapfile -t files < <(sources main/java)
     quiet 'javadoc' javadoc -quiet -Xdoclint:all -Werror -cp "$jna" -d "$room/javadoc" "${files[@]}"
-    if [ -n "$jdk" ]; then
+    if with 'Java over java.lang.foreign' 'a JDK of version 22 or later' test -n "$jdk"; then
         foreign=(with_java "$jdk" "$room/classes/22" --enable-native-access=ALL-UNNAMED)
         answering "Java $(java_version "$jdk/bin/java") over java.lang.foreign" \
             "${foreign[@]}" Answers
         quiet 'the tests of the package over java.lang.foreign' "${foreign[@]}" org.junit.runner.JUnitCore \
             example.yuccaeave.urlcheck.UrlCheckTest
-    else
-        echo 'languages: Java over java.lang.foreign left out, since no JDK of version 22 or later is installed'
     fi
     package=src/main/java/example/yuccaeave/urlcheck
-    spoiled Java build_java java $package/Answer.java 's/number(places), number(places + 8), index/number(places + 8), number(places), index/' \
+    spoiled Java build_java java $package/Answer.java \
+        's/number(places), number(places + 8), index/number(places + 8), number(places), index/' \
         with_java '' "$jna" Answers
     spoiled Java build_java java $package/Utf8.java 's/codePoint < 0x10000 ? 3 : 4/codePoint < 0x10000 ? 3 : 3/' \
         with_java '' "$jna" Answers

@@ -6,7 +6,7 @@ build_rust() {
     (cd "$room/rust" && cargo build --offline --example answers)
 }
 
-if command -v cargo >/dev/null; then
+if here Rust cargo; then
     # (errors of programs that are meant to fail need no trace)
     export CARGO_TARGET_DIR=$room/target URLCHECK_LIB_DIR=$library/lib RUST_BACKTRACE=0
     copied rust
@@ -19,27 +19,28 @@ if command -v cargo >/dev/null; then
         cd "$room/rust"
         quiet 'the tests of the crate' cargo test --offline --tests
         quiet 'the tests of its documentation' cargo test --offline --doc
-        for part in clippy fmt; do
-            cargo $part --version >/dev/null 2>&1 || echo "languages: cargo $part left out, since it is not installed"
-        done
-        ! cargo fmt --version >/dev/null 2>&1 || quiet 'rustfmt' cargo fmt --check
-        ! cargo clippy --version >/dev/null 2>&1 || quiet 'clippy' cargo clippy --offline --all-targets -- -D warnings
+        ! with 'Rust by rustfmt' rustfmt cargo fmt --version || quiet 'rustfmt' cargo fmt --check
+        ! with 'Rust by clippy' clippy cargo clippy --version ||
+            quiet 'clippy' cargo clippy --offline --all-targets -- -D warnings
         RUSTDOCFLAGS='-D warnings' quiet 'rustdoc' cargo doc --offline --no-deps
     )
     version=$(sed -n 's/^#define URLCHECK_VERSION //p' "$include/urlcheck.h")
-    grep -q "^version = \"$((version / 10000)).$((version / 100 % 100)).$((version % 100))\"$" "$top/bindings/rust/Cargo.toml" ||
+    version=$((version / 10000)).$((version / 100 % 100)).$((version % 100))
+    grep -qx "version = \"$version\"" "$top/bindings/rust/Cargo.toml" ||
         fail 'the crate has another version than urlcheck.h'
     spoiled Rust build_rust rust src/violation.rs \
-        's/byte_place: found.byte_place, place: found.place/byte_place: found.place, place: found.byte_place/' "$answers_rust"
+        's/byte_place: found.byte_place, place: found.place/byte_place: found.place, place: found.byte_place/' \
+        "$answers_rust"
     spoiled Rust build_rust rust src/profile.rs 's/        self as u32/        self as u32 \& 1/' "$answers_rust"
     spoiled Rust build_rust rust src/parts.rs 's/span.present.then(/(span.length > 0).then(/' "$answers_rust"
 
     # Where no folder is named, pkg-config is asked; a folder without a library is refused.
     (
         cd "$room/rust"
-        env -u URLCHECK_LIB_DIR CARGO_TARGET_DIR="$room/shared" cargo build --offline --example answers >"$room/said" 2>&1
+        quiet 'cargo by pkg-config' env -u URLCHECK_LIB_DIR CARGO_TARGET_DIR="$room/shared" \
+            cargo build --offline --example answers
         quiet 'the shared library' same "$room/shared/debug/examples/answers"
-        if URLCHECK_LIB_DIR=$room/rust cargo build --offline >"$room/said" 2>&1; then fail 'a folder without a library'; fi
+        ! URLCHECK_LIB_DIR=$room/rust cargo build --offline >"$room/said" 2>&1 || fail 'a folder without a library'
         grep -q 'URLCHECK_LIB_DIR: .* has no liburlcheck' "$room/said" || fail 'no word on a folder without a library'
         if env -u URLCHECK_LIB_DIR PKG_CONFIG_PATH= cargo build --offline >"$room/said" 2>&1; then
             pkg-config --exists urlcheck || fail 'no library at all'
@@ -54,6 +55,4 @@ if command -v cargo >/dev/null; then
         >"$room/guide_rust/Cargo.toml"
     unset URLCHECK_LIB_DIR
     as_told rust guide_rust
-else
-    echo 'languages: Rust left out, since cargo is not installed'
 fi

@@ -16,5 +16,6 @@ wanted = sum(case[2] is not None for case in cases)
 bad = [one for one, line in zip(asked, lines) if not is_wanted(one[0][2], one[1], answered(line))]
 for one in bad[:20]:
     print("FAILED:", one)
-print("languages: {} cases in three profiles, {} of them of the vectors, {} answered otherwise".format(len(cases), wanted, len(bad)))
+said = "languages: {} cases in three profiles, {} of them of the vectors, {} answered otherwise"
+print(said.format(len(cases), wanted, len(bad)))
 sys.exit(0 if not bad and len(lines) == len(asked) and wanted > 4000 else 1)
