@@ -3,7 +3,6 @@ package urlcheck
 import (
 	"errors"
 	"fmt"
-	"os"
 	"reflect"
 	"strings"
 	"sync"
@@ -271,18 +270,6 @@ func TestGoroutinesShareABase(t *testing.T) {
 		}()
 	}
 	all.Wait()
-}
-
-// A text above 2 GiB is one as any other. It takes so much memory that it is tried where GIGABYTES says so.
-func TestTextAboveTwoGibibytes(t *testing.T) {
-	if os.Getenv("GIGABYTES") == "" {
-		t.Skip("GIGABYTES isn't set")
-	}
-	text := "http://h/" + strings.Repeat("a", 1<<31) + "^"
-	_, err := Check(text)
-	if wanted := (Violation{CodePoint, 1<<31 + 9, 1<<31 + 9}); refusal(t, err).Violation != wanted {
-		t.Error(err)
-	}
 }
 
 func TestURLIsAStringer(t *testing.T) {
