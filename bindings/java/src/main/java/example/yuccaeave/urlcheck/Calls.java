@@ -15,6 +15,9 @@ final class Calls {
     static final int RULE_REQUIRES = 3;
     static final int RULE_SECTION = 4;
 
+    /** The length of the longest array that each virtual machine makes. */
+    static final int LONGEST_ARRAY = Integer.MAX_VALUE - 8;
+
     private static final int RULES = Rule.values().length;
     /** The fixed texts that were asked for. */
     private static final AtomicReferenceArray<String> FIXED =
@@ -51,7 +54,7 @@ final class Calls {
     static byte[] written(int room, Writing call) {
         byte[] out = new byte[room];
         long length = call.into(out);
-        if (length > Integer.MAX_VALUE - 8) {
+        if (length > LONGEST_ARRAY) {
             throw new OutOfMemoryError("urlcheck: the text has " + length + " bytes");
         }
         if (length <= room) {
@@ -64,7 +67,8 @@ final class Calls {
 
     /** So many bytes hold the URL of nearly every text of which nothing is percent-encoded. */
     private static int usualRoom(byte[] text, byte[] base) {
-        return text.length + (base == null ? 0 : Math.min(base.length, Utf8.MOST_UNITS)) + 4 & Integer.MAX_VALUE;
+        long room = (long) text.length + (base == null ? 0 : base.length) + 4;
+        return (int) Math.min(room, LONGEST_ARRAY);
     }
 
     static ResolvedUrl resolve(String text, Profile profile, byte[] base) throws Refusal {
@@ -126,7 +130,7 @@ final class Calls {
 
     /** A count of violations that an array holds. */
     private static int requireCount(long count) {
-        if (count > (Integer.MAX_VALUE - 8) / (FAULT * 8)) {
+        if (count > LONGEST_ARRAY / (FAULT * 8)) {
             throw new OutOfMemoryError("urlcheck: the text has " + count + " violations");
         }
         return (int) count;

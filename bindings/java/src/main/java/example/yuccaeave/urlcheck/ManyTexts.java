@@ -21,7 +21,7 @@ final class ManyTexts {
             offsets[row + 1] = offsets[row] + encoded.get(row).length;
         }
         long length = offsets[texts.size()];
-        if (length > Integer.MAX_VALUE - 8) {
+        if (length > Calls.LONGEST_ARRAY) {
             throw new IllegalArgumentException("the texts have " + length + " bytes together");
         }
         bytes = new byte[(int) length];

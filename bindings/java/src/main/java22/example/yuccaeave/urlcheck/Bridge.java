@@ -16,7 +16,7 @@ import java.nio.file.Path;
 
 /**
  * The library by {@code java.lang.foreign}, for Java 22 and later. The elements of arrays are handed over where they
- * are: a call takes no time in which a collection of garbage couldn't wait, but for texts of many megabytes.
+ * are, so no garbage is collected while a call runs. That is short, except for a text of many megabytes.
  */
 final class Bridge extends Library {
     private final MethodHandle version;
