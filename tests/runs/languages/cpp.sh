@@ -21,7 +21,7 @@ if here C++ g++; then
     done
     if here 'C++ by clang-tidy' clang-tidy; then
         quiet 'clang-tidy on urlcheck.hpp' clang-tidy --quiet --config-file="$top/bindings/cpp/.clang-tidy" \
-            answers.cpp -- -std=c++17 -isystem "$include" -I "$room/cpp"
+            "$room/header.cpp" -- -std=c++17 -isystem "$include" -I "$room/cpp"
     fi
     quiet 'g++ on answers.cpp' build_cpp
     for edit in 's/found.place, found.byte_place, found.rule}/found.byte_place, found.place, found.rule}/' \
