@@ -16,6 +16,14 @@ include=$library/include
 export PYTHONDONTWRITEBYTECODE=1 LC_ALL=C.UTF-8
 export PKG_CONFIG_PATH=$library/lib/pkgconfig LD_LIBRARY_PATH=$library/lib
 
+# has_version FILE WORDS : sees that a file of a package has these words, with the version of urlcheck.h in place of @
+has_version() {
+    local number
+    number=$(sed -n 's/^#define URLCHECK_VERSION //p' "$include/urlcheck.h")
+    number=$((number / 10000)).$((number / 100 % 100)).$((number % 100))
+    grep -qF -- "${2/@/$number}" "$top/bindings/$1" || { echo "FAILED: bindings/$1 has no version $number"; exit 1; }
+}
+
 # The answers from C, which tests/runs/library.sh compares with those of the program.
 cases=$room/cases answers=$room/answers mended=$room/mended
 python3 ../library/cases.py pack "$cases" "$top"/tests/vectors/*.json

@@ -62,6 +62,7 @@ if here Java javac && with Java 'libjna-java or junit4' test -e $jna -a -e "${ju
         quiet 'the tests of the package over java.lang.foreign' "${foreign[@]}" org.junit.runner.JUnitCore \
             example.yuccaeave.urlcheck.UrlCheckTest
     fi
+    has_version java/pom.xml '<version>@</version>'
     package=src/main/java/example/yuccaeave/urlcheck
     spoiled Java build_java java $package/Answer.java \
         's/number(places), number(places + 8), index/number(places + 8), number(places), index/' \

@@ -24,10 +24,7 @@ if here Rust cargo; then
             quiet 'clippy' cargo clippy --offline --all-targets -- -D warnings
         RUSTDOCFLAGS='-D warnings' quiet 'rustdoc' cargo doc --offline --no-deps
     )
-    version=$(sed -n 's/^#define URLCHECK_VERSION //p' "$include/urlcheck.h")
-    version=$((version / 10000)).$((version / 100 % 100)).$((version % 100))
-    grep -qx "version = \"$version\"" "$top/bindings/rust/Cargo.toml" ||
-        fail 'the crate has another version than urlcheck.h'
+    has_version rust/Cargo.toml 'version = "@"'
     spoiled Rust build_rust rust src/violation.rs \
         's/byte_place: found.byte_place, place: found.place/byte_place: found.place, place: found.byte_place/' \
         "$answers_rust"
