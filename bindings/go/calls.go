@@ -1,0 +1,282 @@
+package urlcheck
+
+// The calls of the library. A string's bytes, and the elements of a slice, are handed over as a pointer that cgo keeps
+// in place for the call; they hold no pointers themselves, and the library keeps none.
+
+// #cgo pkg-config: urlcheck
+// #include <urlcheck.h>
+// #if URLCHECK_VERSION / 100 != 4
+// #error "this package is for liburlcheck 0.4"
+// #endif
+import "C"
+
+import (
+	"sync"
+	"unicode/utf8"
+	"unsafe"
+)
+
+// base is a base that is valid alone.
+type base struct {
+	text     string
+	prepared C.urlcheck_base
+}
+
+func (c Checker) prepared() *C.urlcheck_base {
+	if c.base == nil {
+		return nil
+	}
+	return &c.base.prepared
+}
+
+// bytesOf gives where the bytes of a string begin, and how many they are.
+func bytesOf(text string) (*C.uint8_t, C.size_t) {
+	// (a string's header begins with that pointer; unsafe.StringData is there from Go 1.20 on)
+	return *(**C.uint8_t)(unsafe.Pointer(&text)), C.size_t(len(text))
+}
+
+// baseBytes gives the bytes of the base, or a null pointer where there is none.
+func (c Checker) baseBytes() (*C.uint8_t, C.size_t) {
+	if c.base == nil {
+		return nil, 0
+	}
+	return bytesOf(c.base.text)
+}
+
+// errorOf gives the error that a finding of a text or a base is.
+func errorOf(found *C.urlcheck_finding, profile Profile) error {
+	switch place, bytePlace := int(found.place), int(found.byte_place); found.verdict {
+	case C.URLCHECK_VALID:
+		return nil
+	case C.URLCHECK_REFUSED, C.URLCHECK_BASE_REFUSED:
+		return &Refusal{Violation{Rule(found.rule), place, bytePlace}, profile}
+	case C.URLCHECK_NO_UTF8, C.URLCHECK_BASE_NO_UTF8:
+		return &EncodingError{place, bytePlace}
+	case C.URLCHECK_NO_PROFILE:
+		return ErrProfile
+	default:
+		return ErrMemory
+	}
+}
+
+func spanOf(from C.urlcheck_span) span {
+	if !from.present {
+		return span{0, -1}
+	}
+	return span{int(from.start), int(from.start + from.length)}
+}
+
+func partsOf(from *C.urlcheck_spans) parts {
+	return parts{spanOf(from.scheme), spanOf(from.host), spanOf(from.port), spanOf(from.path), spanOf(from.query),
+		spanOf(from.fragment)}
+}
+
+func prepare(text string, profile Profile) (*base, error) {
+	start, length := bytesOf(text)
+	prepared := C.urlcheck_prepare(start, length, C.uint32_t(profile))
+	if err := errorOf(&prepared.found, profile); err != nil {
+		return nil, err
+	}
+	return &base{text, prepared}, nil
+}
+
+func (c Checker) check(text string) (URL, error) {
+	start, length := bytesOf(text)
+	answer := C.urlcheck_check(start, length, C.uint32_t(c.profile), c.prepared())
+	if answer.found.verdict != C.URLCHECK_VALID {
+		return URL{}, errorOf(&answer.found, c.profile)
+	}
+	return URL{text, partsOf(&answer.parts)}, nil
+}
+
+func (c Checker) isValid(text string) bool {
+	start, length := bytesOf(text)
+	return bool(C.urlcheck_is_valid(start, length, C.uint32_t(c.profile), c.prepared()))
+}
+
+// written gives the text that a call writes. The call is handed a buffer of so many bytes, of one at least, and gives
+// the length of its text; where that is longer, it is called once more.
+func written(room int, write func(out *C.uint8_t, room C.size_t) C.size_t) string {
+	for {
+		buffer := make([]byte, room)
+		length := int(write((*C.uint8_t)(unsafe.Pointer(&buffer[0])), C.size_t(room)))
+		if length <= room {
+			buffer = buffer[:length]
+			// (nobody else has these bytes, so they may be the string's)
+			return *(*string)(unsafe.Pointer(&buffer))
+		}
+		room = length
+	}
+}
+
+func (c Checker) resolve(text string) (Record, error) {
+	start, length := bytesOf(text)
+	base, baseLength := c.baseBytes()
+	var answer C.urlcheck_record
+	url := written(int(length+baseLength)+4, func(out *C.uint8_t, room C.size_t) C.size_t {
+		answer = C.urlcheck_resolve(start, length, C.uint32_t(c.profile), base, baseLength, out, room)
+		return answer.length
+	})
+	if err := errorOf(&answer.found, c.profile); err != nil {
+		return Record{}, err
+	}
+	return Record{URL{url, partsOf(&answer.parts)}, HostKind(answer.host), answer.opaque_path != 0}, nil
+}
+
+func (c Checker) mend(text string) (Mended, error) {
+	start, length := bytesOf(text)
+	base, baseLength := c.baseBytes()
+	var answer C.urlcheck_mended
+	mended := written(int(length+baseLength)+4, func(out *C.uint8_t, room C.size_t) C.size_t {
+		answer = C.urlcheck_mend(start, length, C.uint32_t(c.profile), base, baseLength, out, room)
+		return answer.length
+	})
+	if answer.found.verdict == C.URLCHECK_MENDED {
+		return Mended{mended, Kind(answer.kind), answer.offered != 0}, nil
+	}
+	if err := errorOf(&answer.found, c.profile); err != nil {
+		return Mended{}, err
+	}
+	return Mended{text, Unchanged, false}, nil
+}
+
+func (c Checker) violations(text string) ([]Violation, error) {
+	start, length := bytesOf(text)
+	for room := 4; ; {
+		faults := make([]C.urlcheck_fault, room)
+		answer := C.urlcheck_faults(start, length, C.uint32_t(c.profile), c.prepared(), &faults[0], C.size_t(room))
+		if answer.found.verdict != C.URLCHECK_REFUSED {
+			return nil, errorOf(&answer.found, c.profile)
+		}
+		if count := int(answer.count); count > room {
+			room = count
+			continue
+		}
+		return violationsOf(faults[:answer.count]), nil
+	}
+}
+
+func violationsOf(faults []C.urlcheck_fault) []Violation {
+	found := make([]Violation, len(faults))
+	for row, fault := range faults {
+		found[row] = Violation{Rule(fault.rule), int(fault.place), int(fault.byte_place)}
+	}
+	return found
+}
+
+// message gives the sentence on a violation of a text, or nothing where its place is after the end of the text.
+func message(text string, profile Profile, violation Violation) string {
+	start, length := bytesOf(text)
+	return written(128, func(out *C.uint8_t, room C.size_t) C.size_t {
+		return C.urlcheck_message(start, length, C.uint32_t(profile), C.URLCHECK_WORDING_NONE, C.uint32_t(violation.Rule),
+			C.size_t(violation.Place), out, room).length
+	})
+}
+
+// The fixed texts of rules.
+const (
+	ruleName     = C.URLCHECK_RULE_NAME
+	ruleSentence = C.URLCHECK_RULE_SENTENCE
+	ruleAddress  = C.URLCHECK_RULE_ADDRESS
+	ruleRequires = C.URLCHECK_RULE_REQUIRES
+	ruleSection  = C.URLCHECK_RULE_SECTION
+)
+
+// fixedTexts are the fixed texts that were asked for.
+var fixedTexts [5][Percent + 1]struct {
+	once sync.Once
+	text string
+}
+
+// fixedText gives a text of a rule, or the empty one where no rule has the number.
+func fixedText(what uint32, rule Rule) string {
+	if rule > Percent {
+		return ""
+	}
+	kept := &fixedTexts[what][rule]
+	kept.once.Do(func() {
+		kept.text = written(96, func(out *C.uint8_t, room C.size_t) C.size_t {
+			return C.urlcheck_text(C.uint32_t(what), C.uint32_t(rule), out, room)
+		})
+	})
+	return kept.text
+}
+
+// Version gives the version of the library that answers: 10000 times its first number, 100 times its second, and its
+// third.
+func Version() int { return int(C.urlcheck_version()) }
+
+// columns are what is found of each of many texts.
+type columns struct {
+	verdicts, rules []C.uint8_t
+	places          []C.uint64_t
+}
+
+func columnsOf(count int) columns {
+	return columns{make([]C.uint8_t, count), make([]C.uint8_t, count), make([]C.uint64_t, count)}
+}
+
+// joined gives texts one after the other, and the offset before each and after the last. The bytes end with a NUL that
+// no text has, so that there is always a first byte.
+func joined(texts []string) ([]byte, []C.uint64_t) {
+	length := 0
+	for _, text := range texts {
+		length += len(text)
+	}
+	bytes, offsets := make([]byte, 0, length+1), make([]C.uint64_t, 1, len(texts)+1)
+	for _, text := range texts {
+		bytes = append(bytes, text...)
+		offsets = append(offsets, C.uint64_t(len(bytes)))
+	}
+	return append(bytes, 0), offsets
+}
+
+func (c Checker) checkMany(texts []string) []error {
+	bytes, offsets := joined(texts)
+	columns := columnsOf(len(texts))
+	batch := C.urlcheck_check_many((*C.uint8_t)(&bytes[0]), C.size_t(len(bytes)), &offsets[0], C.size_t(len(texts)),
+		C.uint32_t(c.profile), c.prepared(), &columns.verdicts[0], &columns.rules[0], &columns.places[0])
+	return columns.errors(texts, batch.outcome, c.profile)
+}
+
+func (c Checker) resolveMany(texts []string) ([]string, []error) {
+	bytes, offsets := joined(texts)
+	columns, ends := columnsOf(len(texts)), make([]C.uint64_t, len(offsets))
+	var batch C.urlcheck_batch
+	all := written(len(bytes)+4*len(texts), func(out *C.uint8_t, room C.size_t) C.size_t {
+		batch = C.urlcheck_resolve_many((*C.uint8_t)(&bytes[0]), C.size_t(len(bytes)), &offsets[0],
+			C.size_t(len(texts)), C.uint32_t(c.profile), &columns.verdicts[0], &columns.rules[0], &columns.places[0],
+			&ends[0], out, room)
+		return batch.length
+	})
+	urls := make([]string, len(texts))
+	for row := range urls {
+		urls[row] = all[ends[row]:ends[row+1]]
+	}
+	return urls, columns.errors(texts, batch.outcome, c.profile)
+}
+
+// errors gives the error on each text, or nil. Where the whole call did nothing, each text has that error.
+func (c *columns) errors(texts []string, outcome C.uint32_t, profile Profile) []error {
+	errs := make([]error, len(texts))
+	for row, text := range texts {
+		found := C.urlcheck_finding{verdict: outcome}
+		if outcome == C.URLCHECK_DONE {
+			found.verdict, found.rule = C.uint32_t(c.verdicts[row]), C.uint32_t(c.rules[row])
+			found.place = C.size_t(c.places[row])
+			found.byte_place = bytePlace(text, found.place)
+		}
+		errs[row] = errorOf(&found, profile)
+	}
+	return errs
+}
+
+// bytePlace gives the bytes of so many code points at the beginning of a text, which are UTF-8.
+func bytePlace(text string, place C.size_t) C.size_t {
+	at := 0
+	for ; place > 0; place-- {
+		_, width := utf8.DecodeRuneInString(text[at:])
+		at += width
+	}
+	return C.size_t(at)
+}

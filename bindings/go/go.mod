@@ -1,0 +1,3 @@
+module yuccaeave.example/urlcheck
+
+go 1.19

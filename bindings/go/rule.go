@@ -1,0 +1,44 @@
+package urlcheck
+
+import "strconv"
+
+// Rule is a rule that a text can violate. Of several violations at one place the one of the least rule is named.
+type Rule uint32
+
+// The rules. Their names and what they require are told by String and Requires.
+const (
+	NoScheme Rule = iota + 1
+	OpaqueBase
+	TwoSlashes
+	HostMissing
+	HostDomain
+	HostNumber
+	HostIPv6
+	HostCodePoint
+	PortDigit
+	PortRange
+	FirstSegmentEmpty
+	DriveAfterHost
+	CodePoint
+	Percent
+)
+
+// String gives the rule's name, such as "host-domain".
+func (r Rule) String() string {
+	if name := fixedText(ruleName, r); name != "" {
+		return name
+	}
+	return "Rule(" + strconv.FormatUint(uint64(r), 10) + ")"
+}
+
+// Sentence says what is wrong at the place of a violation, without the code point that is there. Message names it.
+func (r Rule) Sentence() string { return fixedText(ruleSentence, r) }
+
+// Address gives the address of the section of the URL Standard that has the rule.
+func (r Rule) Address() string { return fixedText(ruleAddress, r) }
+
+// Requires says what the rule requires of a text.
+func (r Rule) Requires() string { return fixedText(ruleRequires, r) }
+
+// Section gives the number of that section, and what it calls what the rule is about.
+func (r Rule) Section() string { return fixedText(ruleSection, r) }

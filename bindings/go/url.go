@@ -1,0 +1,107 @@
+package urlcheck
+
+// span is where a part is in the bytes of a text. The end of one that the text lacks is -1.
+type span struct{ start, end int }
+
+// parts are the scheme, the host, the port, the path, the query and the fragment.
+type parts [6]span
+
+func (p *parts) of(text string, part int) (string, bool) {
+	if at := p[part]; at.end >= 0 {
+		return text[at.start:at.end], true
+	}
+	return "", false
+}
+
+// URL is a valid URL string with its parts as they are written: capitals, escapes, dot segments and a default port
+// stay. A reference has nothing of its base. Of a part that the text lacks, the second result is false.
+type URL struct {
+	text  string
+	parts parts
+}
+
+// String gives the whole text.
+func (u URL) String() string { return u.text }
+
+// Scheme gives the scheme, without its ":". A reference has none.
+func (u *URL) Scheme() (string, bool) { return u.parts.of(u.text, 0) }
+
+// Host gives the host, after "//". It may be empty.
+func (u *URL) Host() (string, bool) { return u.parts.of(u.text, 1) }
+
+// Port gives the port, without its ":". It may be empty.
+func (u *URL) Port() (string, bool) { return u.parts.of(u.text, 2) }
+
+// Path gives the path, with its first "/". It may be empty.
+func (u *URL) Path() string {
+	path, _ := u.parts.of(u.text, 3)
+	return path
+}
+
+// Query gives the query, without its "?". It may be empty.
+func (u *URL) Query() (string, bool) { return u.parts.of(u.text, 4) }
+
+// Fragment gives the fragment, without its "#". It may be empty.
+func (u *URL) Fragment() (string, bool) { return u.parts.of(u.text, 5) }
+
+// HostKind is the kind of a host (URL Standard, section 3.1).
+type HostKind uint32
+
+const (
+	// NoHost is the kind of a URL without a host.
+	NoHost HostKind = iota
+	// Domain is a domain, of a special URL.
+	Domain
+	// IPv4 is an IPv4 address.
+	IPv4
+	// IPv6 is an IPv6 address, written in brackets.
+	IPv6
+	// OpaqueHost is an opaque host, of a URL that isn't special.
+	OpaqueHost
+	// EmptyHost is the empty host.
+	EmptyHost
+)
+
+// Record is the URL that a valid text denotes (URL Standard, section 4.1). Its String is serialized by section 4.5,
+// and its parts are slices of that: a domain is in ASCII, and a default port isn't there.
+type Record struct {
+	URL
+	// HostKind says of which kind the host is.
+	HostKind HostKind
+	// HasOpaquePath says whether the path is opaque, as in "urn:isbn:1": it has no segments.
+	HasOpaquePath bool
+}
+
+// Kind says how a mended text differs from the refused one.
+type Kind uint32
+
+const (
+	// Unchanged is the kind of a text that was valid.
+	Unchanged Kind = iota
+	// Same says that a second parser reads both texts as the same URL.
+	Same
+	// Escaped says that it doesn't; some code points are percent-encoded, and nothing else is changed.
+	Escaped
+	// Changed says that it is neither: the author has to look.
+	Changed
+)
+
+var kindNames = [...]string{"valid", "same", "escaped", "changed"}
+
+// String gives the word by which the command urlcheck mend writes the kind, such as "same".
+func (k Kind) String() string {
+	if int(k) < len(kindNames) {
+		return kindNames[k]
+	}
+	return "no kind"
+}
+
+// Mended is a valid text in place of a refused one.
+type Mended struct {
+	// Text is the valid text; of a text that was valid, that text.
+	Text string
+	Kind Kind
+	// IsOffered says whether reports offer it as what to write. Where not, its author seems to have meant another
+	// link, or the text was valid.
+	IsOffered bool
+}

@@ -1,0 +1,63 @@
+package example.yuccaeave.urlcheck;
+
+/**
+ * The functions of {@code urlcheck.h} that write their answer to a pointer. An array is handed over for the call, with
+ * its length; one that is null is a null pointer.
+ */
+abstract class Library {
+    /** The system property that names the file of the library. */
+    private static final String FILE = "urlcheck.library";
+    private static volatile Library loaded;
+
+    /** The library, which is loaded once. */
+    static Library get() {
+        Library library = loaded;
+        return library != null ? library : load();
+    }
+
+    private static synchronized Library load() {
+        if (loaded == null) {
+            String file = System.getProperty(FILE);
+            Library library = Bridge.load(file != null ? file : usualName());
+            if (library.version() / 100 != 4) {
+                throw new UnsatisfiedLinkError("liburlcheck " + library.version() + " is no 400 to 499");
+            }
+            loaded = library;
+        }
+        return loaded;
+    }
+
+    /** The name by which the system finds the library. */
+    private static String usualName() {
+        boolean isLinux = System.getProperty("os.name").startsWith("Linux");
+        return isLinux ? "liburlcheck.so.0" : System.mapLibraryName("urlcheck");
+    }
+
+    static UnsatisfiedLinkError notFound(String file, Throwable reason) {
+        UnsatisfiedLinkError error = new UnsatisfiedLinkError(
+                "no " + file + " is found; -D" + FILE + "=FILE says where it is: " + reason.getMessage());
+        error.initCause(reason);
+        return error;
+    }
+
+    abstract int version();
+
+    abstract void prepare(long[] answer, byte[] base, int profile);
+
+    abstract void check(long[] answer, byte[] text, int profile, long[] prepared);
+
+    abstract boolean isValid(byte[] text, int profile, long[] prepared);
+
+    abstract void faults(long[] answer, byte[] text, int profile, long[] prepared, long[] out, int room);
+
+    abstract void resolve(long[] answer, byte[] text, int profile, byte[] base, byte[] out);
+
+    abstract void mend(long[] answer, byte[] text, int profile, byte[] base, byte[] out);
+
+    abstract void checkMany(long[] answer, byte[] texts, long[] offsets, int profile, long[] prepared, byte[] verdicts,
+            byte[] rules, long[] places);
+
+    abstract long text(int what, int number, byte[] out);
+
+    abstract void message(long[] answer, byte[] text, int profile, int wording, int rule, long place, byte[] out);
+}

@@ -1,0 +1,205 @@
+//! The library's calls as safe functions: the only code of this crate that is `unsafe`.
+//!
+//! What each call requires is that so many bytes or elements are where a pointer points, that nobody writes to them
+//! meanwhile, and that `out` overlaps nothing else. Slices, shared and exclusive, are exactly that. The library keeps
+//! no pointer, and any thread may call.
+
+use std::ptr;
+
+use crate::ffi;
+
+/// The pointer and the length of a base's bytes, or those of no base.
+fn parts_of(base: Option<&str>) -> (*const u8, usize) {
+    base.map_or((ptr::null(), 0), |base| (base.as_ptr(), base.len()))
+}
+
+fn pointer_to(base: Option<&ffi::Base>) -> *const ffi::Base {
+    base.map_or(ptr::null(), |base| base)
+}
+
+pub fn check(text: &str, profile: u32, base: Option<&ffi::Base>) -> ffi::Answer {
+    // SAFETY: the bytes of `text` and the base are borrowed for the call.
+    unsafe { ffi::urlcheck_check(text.as_ptr(), text.len(), profile, pointer_to(base)) }
+}
+
+pub fn is_valid(text: &str, profile: u32, base: Option<&ffi::Base>) -> bool {
+    // SAFETY: as in `check`.
+    unsafe { ffi::urlcheck_is_valid(text.as_ptr(), text.len(), profile, pointer_to(base)) }
+}
+
+pub fn prepare(base: &str, profile: u32) -> ffi::Base {
+    // SAFETY: the bytes of `base` are borrowed for the call.
+    unsafe { ffi::urlcheck_prepare(base.as_ptr(), base.len(), profile) }
+}
+
+/// The violations of a text, all of them.
+pub fn faults(text: &str, profile: u32, base: Option<&ffi::Base>) -> (ffi::Finding, Vec<ffi::Fault>) {
+    let mut faults = Vec::with_capacity(4);
+    loop {
+        let room = faults.capacity();
+        // SAFETY: as in `check`; `out` is the vector's own memory, which has `room` elements.
+        let answer = unsafe {
+            let out = faults.as_mut_ptr();
+            ffi::urlcheck_faults(text.as_ptr(), text.len(), profile, pointer_to(base), out, room)
+        };
+        if answer.count <= room {
+            // SAFETY: the library has written so many elements.
+            unsafe { faults.set_len(answer.count) };
+            return (answer.found, faults);
+        }
+        faults.reserve_exact(answer.count);
+    }
+}
+
+/// Calls `write` with a buffer of so many bytes, and again with one that is long enough where it wants more. It says
+/// how many bytes its text has, which are UTF-8 and written where they have room.
+fn text_of<A>(room: usize, mut write: impl FnMut(*mut u8, usize) -> (A, usize)) -> (A, String) {
+    let mut bytes = Vec::with_capacity(room);
+    loop {
+        let room = bytes.capacity();
+        let (answer, length) = write(bytes.as_mut_ptr(), room);
+        if length <= room {
+            // SAFETY: the library has written so many bytes.
+            unsafe { bytes.set_len(length) };
+            // (what the library writes is UTF-8; to see that costs less than to rely on it)
+            return (answer, String::from_utf8(bytes).expect("liburlcheck writes UTF-8"));
+        }
+        bytes.reserve_exact(length);
+    }
+}
+
+/// A buffer of this length holds the URL of nearly every text of which nothing is percent-encoded.
+fn usual_room(text: &str, base: Option<&str>) -> usize {
+    text.len() + base.map_or(0, str::len) + 4
+}
+
+pub fn resolve(text: &str, profile: u32, base: Option<&str>) -> (ffi::Record, String) {
+    let (start, length) = parts_of(base);
+    text_of(usual_room(text, base), |out, room| {
+        // SAFETY: the bytes of `text` and the base are borrowed for the call; `out` has `room` bytes of its own.
+        let record = unsafe { ffi::urlcheck_resolve(text.as_ptr(), text.len(), profile, start, length, out, room) };
+        (record, record.length)
+    })
+}
+
+pub fn mend(text: &str, profile: u32, base: Option<&str>) -> (ffi::Mended, String) {
+    let (start, length) = parts_of(base);
+    text_of(usual_room(text, base), |out, room| {
+        // SAFETY: as in `resolve`.
+        let mended = unsafe { ffi::urlcheck_mend(text.as_ptr(), text.len(), profile, start, length, out, room) };
+        (mended, mended.length)
+    })
+}
+
+pub fn message(text: &str, profile: u32, rule: u32, place: usize) -> (ffi::Finding, String) {
+    text_of(128, |out, room| {
+        // SAFETY: the bytes of `text` are borrowed for the call; `out` has `room` bytes of its own.
+        let written = unsafe {
+            let wording = ffi::WORDING_NONE;
+            ffi::urlcheck_message(text.as_ptr(), text.len(), profile, wording, rule, place, out, room)
+        };
+        (written.found, written.length)
+    })
+}
+
+/// One of the library's fixed texts; the empty one where there is none.
+pub fn fixed_text(what: u32, number: u32) -> String {
+    let write = |out, room| {
+        // SAFETY: `out` has `room` bytes of its own.
+        ((), unsafe { ffi::urlcheck_text(what, number, out, room) })
+    };
+    text_of(96, write).1
+}
+
+/// The version of the library: 10000 times its first number, 100 times its second, and its third.
+pub fn version() -> u32 {
+    // SAFETY: the call reads nothing.
+    unsafe { ffi::urlcheck_version() }
+}
+
+/// Texts one after the other, and the offset before each and after the last.
+#[derive(Default)]
+pub struct Texts {
+    pub bytes: String,
+    pub offsets: Vec<u64>,
+}
+
+impl Texts {
+    pub fn collect<I: IntoIterator>(texts: I) -> Self
+    where
+        I::Item: AsRef<str>,
+    {
+        let mut all = Self { bytes: String::new(), offsets: vec![0] };
+        for text in texts {
+            all.bytes.push_str(text.as_ref());
+            all.offsets.push(all.bytes.len() as u64);
+        }
+        all
+    }
+
+    pub fn count(&self) -> usize {
+        self.offsets.len() - 1
+    }
+}
+
+/// What is found of each of many texts.
+pub struct Columns {
+    pub outcome: u32,
+    pub verdicts: Vec<u8>,
+    pub rules: Vec<u8>,
+    pub places: Vec<u64>,
+}
+
+impl Columns {
+    fn of(count: usize) -> Self {
+        Self { outcome: ffi::MEMORY, verdicts: vec![0; count], rules: vec![0; count], places: vec![0; count] }
+    }
+}
+
+pub fn check_many(texts: &Texts, profile: u32, base: Option<&ffi::Base>) -> Columns {
+    let mut columns = Columns::of(texts.count());
+    // SAFETY: the texts and the base are borrowed for the call, there are `count` + 1 offsets, and each column is a
+    // vector of `count` elements.
+    let batch = unsafe {
+        ffi::urlcheck_check_many(
+            texts.bytes.as_ptr(),
+            texts.bytes.len(),
+            texts.offsets.as_ptr(),
+            texts.count(),
+            profile,
+            pointer_to(base),
+            columns.verdicts.as_mut_ptr(),
+            columns.rules.as_mut_ptr(),
+            columns.places.as_mut_ptr(),
+        )
+    };
+    columns.outcome = batch.outcome;
+    columns
+}
+
+/// What `check_many` finds of the texts alone, their URLs one after the other, and the ends of these.
+pub fn resolve_many(texts: &Texts, profile: u32) -> (Columns, String, Vec<u64>) {
+    let mut columns = Columns::of(texts.count());
+    let mut ends = vec![0; texts.offsets.len()];
+    let (outcome, urls) = text_of(texts.bytes.len() + 4 * texts.count(), |out, room| {
+        // SAFETY: as in `check_many`; `ends` has `count` + 1 elements, and `out` has `room` bytes of its own.
+        let batch = unsafe {
+            ffi::urlcheck_resolve_many(
+                texts.bytes.as_ptr(),
+                texts.bytes.len(),
+                texts.offsets.as_ptr(),
+                texts.count(),
+                profile,
+                columns.verdicts.as_mut_ptr(),
+                columns.rules.as_mut_ptr(),
+                columns.places.as_mut_ptr(),
+                ends.as_mut_ptr(),
+                out,
+                room,
+            )
+        };
+        (batch.outcome, batch.length)
+    });
+    columns.outcome = outcome;
+    (columns, urls, ends)
+}

@@ -1,0 +1,51 @@
+# C++17: urlcheck.hpp with g++ and clang++, without a warning, under sanitizers, without exceptions, by CMake and by
+# pkg-config. Sourced by tests/runs/languages.sh.
+warned=(-std=c++17 -Wall -Wextra -Wpedantic -Wconversion -Wsign-conversion -Wshadow -Werror)
+
+# build_cpp : the answers by the copy of the header
+build_cpp() {
+    g++ "${warned[@]}" -O0 -I "$room/cpp" -I "$include" answers.cpp "$library/lib/liburlcheck.a" -o "$room/answers_cpp"
+}
+
+if here C++ g++; then
+    copied cpp
+    for compiler in g++ clang++; do
+        here "C++ by $compiler" $compiler || continue
+        quiet "$compiler on answers.cpp" $compiler "${warned[@]}" -fsanitize=address,undefined \
+            -fno-sanitize-recover=all -I "$room/cpp" -I "$include" answers.cpp "$library/lib/liburlcheck.a" \
+            -o "$room/answers_sanitized"
+        answering "C++17 by $compiler, under sanitizers," "$room/answers_sanitized"
+        echo '#include "urlcheck.hpp"' >"$room/header.cpp"
+        quiet "$compiler on the header, without exceptions" $compiler "${warned[@]}" -fno-exceptions -fno-rtti \
+            -I "$room/cpp" -I "$include" -c "$room/header.cpp" -o "$room/header.o"
+    done
+    if here 'C++ by clang-tidy' clang-tidy; then
+        quiet 'clang-tidy on urlcheck.hpp' clang-tidy --quiet --config-file="$top/bindings/cpp/.clang-tidy" \
+            "$room/header.cpp" -- -std=c++17 -isystem "$include" -I "$room/cpp"
+    fi
+    quiet 'g++ on answers.cpp' build_cpp
+    for edit in 's/found.place, found.byte_place, found.rule}/found.byte_place, found.place, found.rule}/' \
+        's/if (!span.present) return/if (span.length == 0) return/' 's/, base(against.text())/, base()/'; do
+        spoiled C++ build_cpp cpp urlcheck.hpp "$edit" "$room/answers_cpp"
+    done
+
+    # A project that finds the header and the library by CMake, and one by pkg-config.
+    echo '#include <urlcheck.hpp>
+int main() { return urlcheck::is_valid("http://h/") ? 0 : 1; }' >"$room/found.cpp"
+    # shellcheck disable=SC2046
+    quiet 'pkg-config' g++ -std=c++17 "$room/found.cpp" $(pkg-config --cflags --libs urlcheck) -o "$room/found"
+    quiet 'the program by pkg-config' "$room/found"
+    if here 'C++ by CMake' cmake; then
+        mkdir -p "$room/cmake"
+        for target in urlcheck static; do
+            cp "$room/found.cpp" "$room/cmake/"
+            printf '%s\n' 'cmake_minimum_required(VERSION 3.13)' 'project(found CXX)' 'set(CMAKE_CXX_STANDARD 17)' \
+                'find_package(urlcheck 0.4 REQUIRED)' 'add_executable(found found.cpp)' \
+                "target_link_libraries(found urlcheck::$target)" >"$room/cmake/CMakeLists.txt"
+            quiet "cmake with urlcheck::$target" cmake -S "$room/cmake" -B "$room/cmake/$target" \
+                -DCMAKE_PREFIX_PATH="$library"
+            quiet "the build with urlcheck::$target" cmake --build "$room/cmake/$target"
+            quiet "the program with urlcheck::$target" "$room/cmake/$target/found"
+        done
+    fi
+fi

@@ -1,0 +1,55 @@
+# Rust: the crate without a dependency, offline; its tests, those of its documentation, clippy, rustdoc, rustfmt; the
+# archive, and the shared library by pkg-config. Sourced by tests/runs/languages.sh.
+
+# build_rust : the answers by the copy of the crate
+build_rust() {
+    (cd "$room/rust" && cargo build --offline --example answers)
+}
+
+if here Rust cargo; then
+    # (errors of programs that are meant to fail need no trace)
+    export CARGO_TARGET_DIR=$room/target URLCHECK_LIB_DIR=$library/lib RUST_BACKTRACE=0
+    copied rust
+    mkdir -p "$room/rust/examples"
+    cp answers.rs "$room/rust/examples/"
+    answers_rust=$room/target/debug/examples/answers
+    quiet 'cargo build' build_rust
+    answering Rust "$answers_rust"
+    (
+        cd "$room/rust"
+        quiet 'the tests of the crate' cargo test --offline --tests
+        quiet 'the tests of its documentation' cargo test --offline --doc
+        ! with 'Rust by rustfmt' rustfmt cargo fmt --version || quiet 'rustfmt' cargo fmt --check
+        ! with 'Rust by clippy' clippy cargo clippy --version ||
+            quiet 'clippy' cargo clippy --offline --all-targets -- -D warnings
+        RUSTDOCFLAGS='-D warnings' quiet 'rustdoc' cargo doc --offline --no-deps
+    )
+    has_version rust/Cargo.toml 'version = "@"'
+    spoiled Rust build_rust rust src/violation.rs \
+        's/byte_place: found.byte_place, place: found.place/byte_place: found.place, place: found.byte_place/' \
+        "$answers_rust"
+    spoiled Rust build_rust rust src/profile.rs 's/        self as u32/        self as u32 \& 1/' "$answers_rust"
+    spoiled Rust build_rust rust src/parts.rs 's/span.present.then(/(span.length > 0).then(/' "$answers_rust"
+
+    # Where no folder is named, pkg-config is asked; a folder without a library is refused.
+    (
+        cd "$room/rust"
+        quiet 'cargo by pkg-config' env -u URLCHECK_LIB_DIR CARGO_TARGET_DIR="$room/shared" \
+            cargo build --offline --example answers
+        quiet 'the shared library' same "$room/shared/debug/examples/answers"
+        ! URLCHECK_LIB_DIR=$room/rust cargo build --offline >"$room/said" 2>&1 || fail 'a folder without a library'
+        grep -q 'URLCHECK_LIB_DIR: .* has no liburlcheck' "$room/said" || fail 'no word on a folder without a library'
+        if env -u URLCHECK_LIB_DIR PKG_CONFIG_PATH= cargo build --offline >"$room/said" 2>&1; then
+            pkg-config --exists urlcheck || fail 'no library at all'
+        else
+            grep -q 'pkg-config has no liburlcheck 0.4' "$room/said" || fail 'no word on a library that is missing'
+        fi
+    )
+    mkdir -p "$room/guide_rust/src"
+    guide rust rust guide_rust src/main.rs
+    python3 guide.py "$top/docs/guides/rust.md" toml "$room/dependency"
+    { printf '[package]\nname = "program"\nversion = "1.0.0"\nedition = "2021"\n\n' && cat "$room/dependency"; } \
+        >"$room/guide_rust/Cargo.toml"
+    unset URLCHECK_LIB_DIR
+    as_told rust guide_rust
+fi
