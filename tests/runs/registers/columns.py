@@ -492,10 +492,11 @@ class Arrow(Compared):
             self.assertEqual(tuple(map(read, urlcheck.mend_many(array))), mended(here))
 
     def test_broken_arrays(self):
-        broken = (([0, 9, 3, 9], 1), ([0, -1, 9, 9], 0), ([-5, 0, 9, 9], 0), ([9, 0, 0, 0], 0), ([0, 9, 9, 3], 2))
+        # (the row is the first that ends before it begins, or after the end of them all)
+        broken = (([0, 9, 3, 9], 1), ([0, -1, 9, 9], 0), ([-5, 0, 9, 9], 0), ([9, 0, 0, 0], 0), ([0, 9, 9, 3], 0), ([0, 3, 9, 3], 1))
         for call in (urlcheck.check_many, urlcheck.is_valid_many, urlcheck.resolve_many, urlcheck.mend_many):
             for offsets, row in broken:
-                said = "^the array is broken: the offsets of text {} descend$".format(row)
+                said = "^the array is broken: the offsets of text {} are out of order$".format(row)
                 for layout, base in ((b"u", None), (b"U", None), (b"u", "http://h/")):
                     with self.subTest(offsets=offsets, base=base), self.assertRaisesRegex(ValueError, said):
                         call(Handed(["http://h/", "", ""], layout, offsets=offsets), base)
@@ -503,6 +504,10 @@ class Arrow(Compared):
                 call(Handed(["x"], count=-1))
             with self.assertRaisesRegex(TypeError, "an array of strings is wanted, not one of the Arrow format l"):
                 call(Handed(["x"], layout=b"l"))
+            without = Handed(["x"])
+            without.buffers[2] = None
+            with self.assertRaisesRegex(ValueError, "^the array is broken: it has no bytes$"):
+                call(without)
             released = Handed(["x"])
             released.array.release = None
             with self.assertRaisesRegex(ValueError, "it was released before"):
