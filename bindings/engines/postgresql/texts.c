@@ -47,8 +47,8 @@ Datum pg_url_mend(PG_FUNCTION_ARGS) {
     urlcheck_mended answer;
 
     if (!read_request(fcinfo, &request, true)) PG_RETURN_NULL();
-    if (is_valid(&request)) PG_RETURN_TEXT_P(PG_GETARG_TEXT_PP(0));
     answer = written(&request, true, &out);
+    if (answer.found.verdict == URLCHECK_VALID) PG_RETURN_TEXT_P(PG_GETARG_TEXT_PP(0));
     if (answer.found.verdict != URLCHECK_MENDED) PG_RETURN_NULL();
     PG_RETURN_TEXT_P(text_of(out, answer.length));
 }
