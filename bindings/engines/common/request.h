@@ -26,11 +26,6 @@ static inline urlcheck_answer check_request(const request *request) {
     return urlcheck_check(request->url.bytes, request->url.length, request->profile, request->prepared);
 }
 
-/* Whether the url is known to be valid: false also where the check says that it wasn't checked. */
-static inline int is_valid_request(const request *request) {
-    return urlcheck_is_valid(request->url.bytes, request->url.length, request->profile, request->prepared);
-}
-
 /* The faults of the url. Bytes that aren't UTF-8 are one fault, of no rule. */
 static inline urlcheck_fault_count list_request(const request *request, urlcheck_fault *out, size_t room) {
     urlcheck_fault_count answer =

@@ -31,18 +31,13 @@ static void put_part(cell out, slice url, urlcheck_span span) {
 }
 
 bool put_verdict(duckdb_function_info call, cell out, question question, const request *request) {
-    bool is_asked = question == IS_VALID || question == REQUIRE, is_part = question >= PARTS;
-    urlcheck_answer answer;
+    urlcheck_answer answer = check_request(request);
 
-    /* (the check tells apart why a text isn't known to be valid, and gives its parts) */
-    if (is_part || !is_valid_request(request)) {
-        answer = check_request(request);
-        if (stops(call, request, answer.found)) return false;
-        if (answer.found.verdict != URLCHECK_VALID) return put_refusal(call, out, question, request, answer.found);
-    }
-    if (is_part)
-        put_part(out, request->url, part_of(&answer.parts, question - PARTS));
-    else if (is_asked)
+    if (stops(call, request, answer.found)) return false;
+    if (answer.found.verdict != URLCHECK_VALID) return put_refusal(call, out, question, request, answer.found);
+    if (question >= PARTS)
+        put_part(out, request->url, part_of(&answer.parts, (int)(question - PARTS)));
+    else if (question == IS_VALID || question == REQUIRE)
         put_bool(out, true);
     else
         put_null(out);

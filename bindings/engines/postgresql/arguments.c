@@ -179,8 +179,3 @@ urlcheck_answer checked(const request *request) {
     stop_unless_checked(request, answer.found);
     return answer;
 }
-
-bool is_valid(const request *request) {
-    /* (the first says no also where there is no memory or no base, which the check tells apart) */
-    return is_valid_request(request) || checked(request).found.verdict == URLCHECK_VALID;
-}

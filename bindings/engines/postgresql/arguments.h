@@ -36,9 +36,6 @@ static inline bool is_refused(urlcheck_finding found) {
 /* The answer of the check. */
 urlcheck_answer checked(const request *request);
 
-/* Whether the text is valid. */
-bool is_valid(const request *request);
-
 /* A text that is made of the url, as write_request says, in `out`. */
 urlcheck_mended written(const request *request, bool mends, uint8_t **out);
 

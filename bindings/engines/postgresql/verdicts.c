@@ -26,7 +26,7 @@ Datum pg_url_is_valid(PG_FUNCTION_ARGS) {
     request request;
 
     if (!read_request(fcinfo, &request, true)) PG_RETURN_NULL();
-    PG_RETURN_BOOL(is_valid(&request));
+    PG_RETURN_BOOL(!is_refused(checked(&request).found));
 }
 
 /* The bytes of the url around a place that an error shows, whole characters, and whether some are left out. */
@@ -80,17 +80,19 @@ static void refuse(const request *request, urlcheck_finding found) {
 /* True, or an error that says what is wrong, where, and what to write: for constraints. */
 Datum pg_url_require(PG_FUNCTION_ARGS) {
     request request;
+    urlcheck_finding found;
 
     if (!read_request(fcinfo, &request, true)) PG_RETURN_NULL();
-    if (!is_valid(&request)) refuse(&request, checked(&request).found);
+    found = checked(&request).found;
+    if (is_refused(found)) refuse(&request, found);
     PG_RETURN_BOOL(true);
 }
 
 /* Reads the arguments, and what is wrong with the url: false where nothing is. */
 static bool read_refused(FunctionCallInfo fcinfo, request *request, urlcheck_finding *found) {
-    if (!read_request(fcinfo, request, true) || is_valid(request)) return false;
+    if (!read_request(fcinfo, request, true)) return false;
     *found = checked(request).found;
-    return true;
+    return is_refused(*found);
 }
 
 Datum pg_url_rule(PG_FUNCTION_ARGS) {

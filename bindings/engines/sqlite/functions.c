@@ -67,10 +67,6 @@ static void say(sqlite3_context *call, int count, sqlite3_value **values) {
     urlcheck_answer answer;
 
     if (!read_call(call, count, values, &request)) return;
-    if (question < PARTS && is_valid_request(&request)) {
-        if (question == IS_VALID || question == REQUIRE) sqlite3_result_int(call, 1);
-        return;
-    }
     answer = check_request(&request);
     if (stops(call, &request, answer.found)) return;
     if (answer.found.verdict != URLCHECK_VALID)
