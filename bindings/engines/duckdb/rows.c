@@ -99,8 +99,9 @@ static bool put_answer(duckdb_function_info call, cell out, question question, c
         case CHECK: return put_check(call, out, request);
         case FAULTS: return put_faults(call, out, request);
         case RESOLVE:
-        case MEND:
-        case MEND_KIND: return put_made(call, out, question, request);
+        case MEND: return put_written(call, out, question, request);
+        case MEND_KIND:
+        case MEND_OFFERED: return put_mended(call, out, question, request);
         default: return put_verdict(call, out, question, request);
     }
 }

@@ -13,7 +13,7 @@
 
 /* What a function says of a url: what is handed to each as its extra info. PARTS is the first part, and others follow. */
 typedef enum question {
-    IS_VALID, REQUIRE, RULE, PLACE, MESSAGE, CHECK, FAULTS, RESOLVE, MEND, MEND_KIND, PARTS
+    IS_VALID, REQUIRE, RULE, PLACE, MESSAGE, CHECK, FAULTS, RESOLVE, MEND, MEND_KIND, MEND_OFFERED, PARTS
 } question;
 
 /* A row of a column. */
@@ -38,7 +38,8 @@ void put_words(cell out, const char *words);
 
 /* Writes the answer of a row: false where the call has ended with an error. */
 bool put_verdict(duckdb_function_info call, cell out, question question, const request *request);
-bool put_made(duckdb_function_info call, cell out, question question, const request *request);
+bool put_written(duckdb_function_info call, cell out, question question, const request *request);
+bool put_mended(duckdb_function_info call, cell out, question question, const request *request);
 bool put_check(duckdb_function_info call, cell out, const request *request);
 bool put_faults(duckdb_function_info call, cell out, const request *request);
 

@@ -45,7 +45,7 @@ bool put_verdict(duckdb_function_info call, cell out, question question, const r
 }
 
 /* What is made of a url as a text: false where the call has ended with an error. */
-static bool put_written(duckdb_function_info call, cell out, question question, const request *request) {
+bool put_written(duckdb_function_info call, cell out, question question, const request *request) {
     bool mends = question == MEND, is_done;
     uint8_t most[MOST], *text = most;
     urlcheck_mended answer = write_request(request, mends, most, MOST);
@@ -66,15 +66,16 @@ static bool put_written(duckdb_function_info call, cell out, question question, 
     return is_done;
 }
 
-bool put_made(duckdb_function_info call, cell out, question question, const request *request) {
-    urlcheck_mended answer;
+/* How the mended text differs from the url, or whether it is offered. */
+bool put_mended(duckdb_function_info call, cell out, question question, const request *request) {
+    urlcheck_mended answer = mend_request(request, NULL, 0);
 
-    if (question != MEND_KIND) return put_written(call, out, question, request);
-    answer = mend_request(request, NULL, 0);
     if (stops(call, request, answer.found)) return false;
-    if (answer.found.verdict == URLCHECK_MENDED)
+    if (answer.found.verdict != URLCHECK_MENDED)
+        put_null(out);
+    else if (question == MEND_KIND)
         put_words(out, kind_name(answer.kind));
     else
-        put_null(out);
+        put_bool(out, answer.offered != 0);
     return true;
 }

@@ -10,6 +10,7 @@
 PG_FUNCTION_INFO_V1(pg_url_resolve);
 PG_FUNCTION_INFO_V1(pg_url_mend);
 PG_FUNCTION_INFO_V1(pg_url_mend_kind);
+PG_FUNCTION_INFO_V1(pg_url_mend_offered);
 PG_FUNCTION_INFO_V1(pg_url_faults);
 
 /* A buffer for what most calls write, and room of its own for what is longer. */
@@ -53,15 +54,28 @@ Datum pg_url_mend(PG_FUNCTION_ARGS) {
     PG_RETURN_TEXT_P(text_of(out, answer.length));
 }
 
-Datum pg_url_mend_kind(PG_FUNCTION_ARGS) {
+/* How the url is mended: false where it is valid, or no text is given in its place. */
+static bool read_mended(FunctionCallInfo fcinfo, urlcheck_mended *answer) {
     request request;
+
+    if (!read_request(fcinfo, &request, true)) return false;
+    *answer = mend_request(&request, NULL, 0);
+    stop_unless_checked(&request, answer->found);
+    return answer->found.verdict == URLCHECK_MENDED;
+}
+
+Datum pg_url_mend_kind(PG_FUNCTION_ARGS) {
     urlcheck_mended answer;
 
-    if (!read_request(fcinfo, &request, true)) PG_RETURN_NULL();
-    answer = mend_request(&request, NULL, 0);
-    stop_unless_checked(&request, answer.found);
-    if (answer.found.verdict != URLCHECK_MENDED) PG_RETURN_NULL();
+    if (!read_mended(fcinfo, &answer)) PG_RETURN_NULL();
     PG_RETURN_TEXT_P(cstring_to_text(kind_name(answer.kind)));
+}
+
+Datum pg_url_mend_offered(PG_FUNCTION_ARGS) {
+    urlcheck_mended answer;
+
+    if (!read_mended(fcinfo, &answer)) PG_RETURN_NULL();
+    PG_RETURN_BOOL(answer.offered != 0);
 }
 
 /* The faults of a url, and how many there are. A list that the memory of one value can't hold is refused. */

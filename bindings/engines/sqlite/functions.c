@@ -4,7 +4,7 @@
 SQLITE_EXTENSION_INIT1
 
 /* What a function says of a url: what is handed to each as its user data. */
-typedef enum question { IS_VALID, REQUIRE, RULE, PLACE, MESSAGE, RESOLVE, MEND, MEND_KIND, PARTS } question;
+typedef enum question { IS_VALID, REQUIRE, RULE, PLACE, MESSAGE, RESOLVE, MEND, MEND_KIND, MEND_OFFERED, PARTS } question;
 
 /* The room that most texts fit in. */
 enum { MOST = 512 };
@@ -102,15 +102,18 @@ static void make(sqlite3_context *call, int count, sqlite3_value **values) {
     }
 }
 
-/* How the mended text differs from the url. */
-static void say_kind(sqlite3_context *call, int count, sqlite3_value **values) {
+/* How the mended text differs from the url, or whether it is offered. */
+static void say_mended(sqlite3_context *call, int count, sqlite3_value **values) {
     request request;
     urlcheck_mended answer;
 
     if (!read_call(call, count, values, &request)) return;
     answer = mend_request(&request, NULL, 0);
-    if (!stops(call, &request, answer.found) && answer.found.verdict == URLCHECK_MENDED)
+    if (stops(call, &request, answer.found) || answer.found.verdict != URLCHECK_MENDED) return;
+    if (question_of(call) == MEND_KIND)
         sqlite3_result_text(call, kind_name(answer.kind), -1, SQLITE_STATIC);
+    else
+        sqlite3_result_int(call, answer.offered != 0);
 }
 
 static void say_version(sqlite3_context *call, int count, sqlite3_value **values) {
@@ -136,7 +139,8 @@ static const function functions[] = {
     {"url_host", PARTS + 1, say},     {"url_port", PARTS + 2, say},
     {"url_path", PARTS + 3, say},     {"url_query", PARTS + 4, say},
     {"url_fragment", PARTS + 5, say}, {"url_resolve", RESOLVE, make},
-    {"url_mend", MEND, make},         {"url_mend_kind", MEND_KIND, say_kind},
+    {"url_mend", MEND, make},         {"url_mend_kind", MEND_KIND, say_mended},
+    {"url_mend_offered", MEND_OFFERED, say_mended},
 };
 
 __attribute__((visibility("default"))) int sqlite3_modurlcheck_init(sqlite3 *database, char **message,
