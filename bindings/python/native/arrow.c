@@ -247,11 +247,9 @@ static const char *format_of(const char *given) {
 }
 
 /* The bytes of an object of type bytes or bytearray. None has none. */
-static int read_buffer(PyObject *given, const void **bytes) {
-    *bytes = NULL;
-    if (PyBytes_Check(given)) *bytes = PyBytes_AsString(given);
-    if (PyByteArray_Check(given)) *bytes = PyByteArray_AsString(given);
-    return 1;
+static const void *buffer_of(PyObject *given) {
+    if (PyBytes_Check(given)) return PyBytes_AsString(given);
+    return PyByteArray_Check(given) ? PyByteArray_AsString(given) : NULL;
 }
 
 /* Fills an array and its schema of (format, length, missing, buffers, dictionary): false and an error. */
@@ -267,7 +265,7 @@ static int fill(PyObject *column, struct ArrowSchema *schema, struct ArrowArray 
     handed = calloc(1, sizeof *handed);
     if (!handed) return PyErr_NoMemory() != NULL;
     for (Py_ssize_t at = 0; at < PyTuple_Size(buffers) && at < 3; at++)
-        read_buffer(PyTuple_GetItem(buffers, at), &handed->buffers[at]);
+        handed->buffers[at] = buffer_of(PyTuple_GetItem(buffers, at));
     array->length = length, array->null_count = missing, array->n_buffers = PyTuple_Size(buffers);
     array->buffers = handed->buffers;
     schema->format = format, schema->name = "", schema->flags = NULLABLE;
