@@ -527,6 +527,31 @@ class Arrow(Compared):
         self.assertEqual(tuple(map(read, urlcheck.check_many(array))), ([False, True], ["no-utf8", None], [10, None]))
         self.assertEqual(read(urlcheck.resolve_many(array)), [None, "http://h/"])
 
+    @unittest.skipUnless(sys.version_info >= (3, 12), "interpreters have one lock")
+    def test_interpreters_with_a_lock_of_their_own(self):
+        """Columns are taken, handed out and given back in each of several at once."""
+        try:
+            import _interpreters as interpreters
+        except ImportError:
+            import _xxsubinterpreters as interpreters
+        run = "import array, sys; sys.path[:] = {!r}; import urlcheck; from urlcheck._arrow import Column\n"
+        run += "texts = Column.texts(b'http://h/x', bytearray(array.array('q', [0, 9, 10])), bytearray(2 * [1]))\n"
+        run += "for _ in range(500): given = [it.__arrow_c_array__() for it in urlcheck.check_many(texts, 'http://h/')]\n"
+        run += "assert len(urlcheck.resolve_many(texts)) == 2"
+        failed = []
+
+        def use():
+            made = interpreters.create()
+            failed.append(interpreters.run_string(made, run.format(sys.path)))
+            interpreters.destroy(made)
+
+        threads = [threading.Thread(target=use) for _ in range(4)]
+        for thread in threads:
+            thread.start()
+        for thread in threads:
+            thread.join()
+        self.assertEqual(failed, 4 * [None])
+
     def test_answers_outlive_what_came_in(self):
         column = urlcheck.check_many(Handed(["http://h/", "x", None])).rule
         gc.collect()
