@@ -42,7 +42,7 @@ static char *shown_around(slice url, size_t place) {
     return psprintf("%s%s%s", from > 0 ? "..." : "", text_to_cstring(part), to < url.length ? "..." : "");
 }
 
-/* What an error shows of the url: the text, or what is around the place. Bytes that are no UTF-8 end it. */
+/* What an error shows of the url: the text, or what is around the place. Bytes that aren't UTF-8 end it. */
 static char *shown(slice url, urlcheck_finding found) {
     slice front = {url.bytes, found.byte_place};
 

@@ -157,7 +157,7 @@ typedef struct piece {
     size_t count;
 } piece;
 
-/* Whether an object stands for a missing text: None, one of those that are given, or a float that is no number. */
+/* Whether an object stands for a missing text: None, one of those that are given, or a float that is NaN. */
 static int is_missing(PyObject *one, PyObject *missing) {
     double number;
 
