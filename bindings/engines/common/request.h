@@ -67,7 +67,7 @@ static inline urlcheck_span part_of(const urlcheck_spans *parts, int part) {
 }
 
 /* Room for the longest message, with its NUL. */
-enum { MESSAGE_ROOM = 160 };
+enum { MESSAGE_ROOM = 256 };
 
 /* The sentence of a rule, which knows no text. */
 static inline const char *rule_sentence(uint32_t rule, char message[MESSAGE_ROOM]) {
