@@ -74,7 +74,15 @@ page() {
     says 'SELECT url, made_by = urlcheck_version() FROM register' 'http://h/b|t' page
 }
 
-# Each version that had the extension is taken to this one, and this one to the next as a server finds it: by a new default.
+# made_in DATABASE : what the extension has in a database
+made_in() {
+    sql -d "$1" -c "SELECT coalesce(pg_get_functiondef(p.oid), pg_describe_object(classid, objid, 0)) FROM pg_depend d
+        JOIN pg_extension e ON d.refobjid = e.oid AND deptype = 'e' AND extname = 'urlcheck'
+        LEFT JOIN pg_proc p ON p.oid = objid AND classid = 'pg_proc'::regclass ORDER BY 1"
+}
+
+# Each version that had the extension is taken to this one, where it then has the same, and this one to the next as a
+# server finds it: by a new default.
 updated() {
     local version released
     version=$(cat "$top/VERSION")
@@ -83,6 +91,10 @@ updated() {
         if [ "$released" = "$version" ] || ! printf '%s\n' 0.3.0 "$released" | sort -CV; then continue; fi
         says "SELECT 'taken' FROM pg_extension_update_paths('urlcheck')
             WHERE source = '$released' AND target = '$version' AND path IS NOT NULL" taken
+        sql -c 'CREATE DATABASE released'
+        sql -d released -c "CREATE EXTENSION urlcheck VERSION '$released'" -c 'ALTER EXTENSION urlcheck UPDATE'
+        diff <(made_in page) <(made_in released) || fail "postgresql: an update from $released gives something else"
+        sql -c 'DROP DATABASE released'
     done < <(sed -n 's/^## \([0-9.]*\) - .*/\1/p' "$top/CHANGELOG.md")
     sql -c 'CREATE DATABASE older'
     sql -d older -c 'CREATE EXTENSION urlcheck' \
