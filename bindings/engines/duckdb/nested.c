@@ -50,24 +50,24 @@ void put_no_check(cell out) {
     for (int number = 0; number < CHECK_MEMBERS; number++) put_null(member(out, (idx_t)number));
 }
 
-bool put_check(duckdb_function_info call, cell out, const asked *asked) {
-    urlcheck_answer answer = ask_check(asked);
+bool put_check(duckdb_function_info call, cell out, const request *request) {
+    urlcheck_answer answer = check_request(request);
     bool is_valid = answer.found.verdict == URLCHECK_VALID;
     char words[MESSAGE_ROOM];
 
-    if (stops(call, asked, answer.found)) return false;
+    if (stops(call, request, answer.found)) return false;
     put_bool(member(out, VALID), is_valid);
     for (int number = FIRST_RULE; number < FIRST_PART && is_valid; number++) put_null(member(out, (idx_t)number));
     if (!is_valid) {
         put_words(member(out, FIRST_RULE), rule_name(answer.found.rule, words));
         put_place(member(out, FIRST_PLACE), answer.found.place);
-        put_words(member(out, FIRST_MESSAGE), ask_message(asked, answer.found, words));
+        put_words(member(out, FIRST_MESSAGE), url_message(request, answer.found, words));
     }
     for (int number = 0; number < PART_COUNT; number++) {
         cell one = member(out, (idx_t)(FIRST_PART + number));
         urlcheck_span span = part_of(&answer.parts, number);
         if (span.present)
-            put_text(one, asked->url.bytes + span.start, span.length);
+            put_text(one, request->url.bytes + span.start, span.length);
         else
             put_null(one);
     }
@@ -75,20 +75,16 @@ bool put_check(duckdb_function_info call, cell out, const asked *asked) {
 }
 
 /* The faults of a url, to be freed, and how many there are; null where there is no memory for them. */
-static urlcheck_fault *list_faults(const asked *asked, urlcheck_fault_count *answer) {
+static urlcheck_fault *list_faults(const request *request, urlcheck_fault_count *answer) {
     size_t room = 16;
     urlcheck_fault *list = malloc(room * sizeof *list);
 
-    if (list) *answer = ask_faults(asked, list, room);
+    if (list) *answer = list_request(request, list, room);
     if (list && answer->count > room) {
         room = answer->count;
         free(list);
         list = malloc(room * sizeof *list);
-        if (list) *answer = ask_faults(asked, list, room);
-    }
-    if (list && answer->found.verdict == URLCHECK_NO_UTF8) {
-        list[0] = (urlcheck_fault){0, answer->found.place, answer->found.byte_place};
-        answer->count = 1;
+        if (list) *answer = list_request(request, list, room);
     }
     return list;
 }
@@ -103,10 +99,10 @@ static bool add_elements(cell out, idx_t count, idx_t *first) {
            duckdb_list_vector_set_size(out.column, *first + count) == DuckDBSuccess;
 }
 
-bool put_faults(duckdb_function_info call, cell out, const asked *asked) {
+bool put_faults(duckdb_function_info call, cell out, const request *request) {
     urlcheck_fault_count answer = {{URLCHECK_MEMORY, 0, 0, 0}, 0};
-    urlcheck_fault *list = list_faults(asked, &answer);
-    bool is_done = list && !stops(call, asked, answer.found);
+    urlcheck_fault *list = list_faults(request, &answer);
+    bool is_done = list && !stops(call, request, answer.found);
     char words[MESSAGE_ROOM];
     cell element;
 
@@ -116,7 +112,7 @@ bool put_faults(duckdb_function_info call, cell out, const asked *asked) {
     for (size_t at = 0; at < answer.count && is_done; at++, element.row++) {
         put_words(member(element, FAULT_RULE), rule_name(list[at].rule, words));
         put_place(member(element, FAULT_PLACE), list[at].place);
-        put_words(member(element, FAULT_MESSAGE), fault_message(asked, list[at], words));
+        put_words(member(element, FAULT_MESSAGE), fault_message(request, list[at], words));
     }
     free(list);
     return is_done;

@@ -17,42 +17,42 @@ static column column_of(duckdb_data_chunk chunk, idx_t number) {
 }
 
 /* False where the text of the row is NULL, or the column isn't there. */
-static bool read_text(const column *column, idx_t row, given *given) {
+static bool read_text(const column *column, idx_t row, slice *text) {
     if (!column->texts || (column->present && !duckdb_validity_row_is_valid(column->present, row))) return false;
-    given->bytes = (const uint8_t *)duckdb_string_t_data(&column->texts[row]);
-    given->length = duckdb_string_t_length(column->texts[row]);
+    text->bytes = (const uint8_t *)duckdb_string_t_data(&column->texts[row]);
+    text->length = duckdb_string_t_length(column->texts[row]);
     return true;
 }
 
-static bool is_same(given one, given other) {
+static bool is_same(slice one, slice other) {
     return one.length == other.length && memcmp(one.bytes, other.bytes, one.length) == 0;
 }
 
 /* Checks the base, unless it is that of the row before, by the same profile. */
-static void hold_base(asked *asked, given base, uint32_t profile) {
-    bool is_held = asked->held && asked->own.profile == profile && is_same(asked->base, base);
+static void hold_base(request *request, slice base, uint32_t profile) {
+    bool is_held = request->prepared && request->own.profile == profile && is_same(request->base, base);
 
-    asked->base = base;
-    if (!is_held) asked->own = urlcheck_prepare(base.bytes, base.length, profile);
-    asked->held = &asked->own;
+    request->base = base;
+    if (!is_held) request->own = urlcheck_prepare(base.bytes, base.length, profile);
+    request->prepared = &request->own;
 }
 
 /* Reads a row: false where the url is NULL, or the profile is none, which `error` says. */
-static bool read_row(const column columns[3], idx_t row, asked *asked, const char **error) {
-    given base, name;
+static bool read_row(const column columns[3], idx_t row, request *request, const char **error) {
+    slice base, name;
     int number = URLCHECK_STANDARD;
 
-    if (!read_text(&columns[0], row, &asked->url)) return false;
+    if (!read_text(&columns[0], row, &request->url)) return false;
     if (read_text(&columns[2], row, &name)) number = profile_number((const char *)name.bytes, name.length);
     if (number < 0) {
         *error = NO_PROFILE;
         return false;
     }
-    asked->profile = (uint32_t)number;
+    request->profile = (uint32_t)number;
     if (read_text(&columns[1], row, &base))
-        hold_base(asked, base, asked->profile);
+        hold_base(request, base, request->profile);
     else
-        asked->held = NULL;
+        request->base.bytes = NULL, request->prepared = NULL;
     return true;
 }
 
@@ -61,7 +61,7 @@ bool stops_without_memory(duckdb_function_info call) {
     return true;
 }
 
-bool stops(duckdb_function_info call, const asked *asked, urlcheck_finding found) {
+bool stops(duckdb_function_info call, const request *request, urlcheck_finding found) {
     char said[ERROR_ROOM];
 
     switch (found.verdict) {
@@ -70,7 +70,9 @@ bool stops(duckdb_function_info call, const asked *asked, urlcheck_finding found
         case URLCHECK_NO_UTF8:
         case URLCHECK_MENDED: return false;
         case URLCHECK_BASE_REFUSED:
-        case URLCHECK_BASE_NO_UTF8: duckdb_scalar_function_set_error(call, say_base(asked, found, said)); return true;
+        case URLCHECK_BASE_NO_UTF8:
+            duckdb_scalar_function_set_error(call, base_error(request, found, said));
+            return true;
         default: return stops_without_memory(call);
     }
 }
@@ -92,14 +94,15 @@ void put_text(cell out, const void *bytes, size_t length) {
 
 void put_words(cell out, const char *words) { put_text(out, words, strlen(words)); }
 
-static bool put_answer(duckdb_function_info call, cell out, question question, const asked *asked) {
+static bool put_answer(duckdb_function_info call, cell out, question question, const request *request) {
     switch (question) {
-        case CHECK: return put_check(call, out, asked);
-        case FAULTS: return put_faults(call, out, asked);
+        case CHECK: return put_check(call, out, request);
+        case FAULTS: return put_faults(call, out, request);
         case RESOLVE:
-        case MEND:
-        case MEND_KIND: return put_made(call, out, question, asked);
-        default: return put_verdict(call, out, question, asked);
+        case MEND: return put_written(call, out, question, request);
+        case MEND_KIND:
+        case MEND_OFFERED: return put_mended(call, out, question, request);
+        default: return put_verdict(call, out, question, request);
     }
 }
 
@@ -107,15 +110,15 @@ void answer_rows(duckdb_function_info call, duckdb_data_chunk chunk, duckdb_vect
     question question = (enum question)(intptr_t)duckdb_scalar_function_get_extra_info(call);
     idx_t count = duckdb_data_chunk_get_column_count(chunk), rows = duckdb_data_chunk_get_size(chunk);
     column columns[3] = {{0}};
-    asked asked = {0};
+    request request = {0};
     const char *error = NULL;
     bool goes_on = true;
 
     for (idx_t number = 0; number < count && number < 3; number++) columns[number] = column_of(chunk, number);
     for (idx_t row = 0; row < rows && goes_on; row++) {
         cell answer = {out, row};
-        if (read_row(columns, row, &asked, &error))
-            goes_on = put_answer(call, answer, question, &asked);
+        if (read_row(columns, row, &request, &error))
+            goes_on = put_answer(call, answer, question, &request);
         else if (error)
             goes_on = false, duckdb_scalar_function_set_error(call, error);
         else if (question == CHECK)

@@ -13,7 +13,7 @@
 
 /* What a function says of a url: what is handed to each as its extra info. PARTS is the first part, and others follow. */
 typedef enum question {
-    IS_VALID, REQUIRE, RULE, PLACE, MESSAGE, CHECK, FAULTS, RESOLVE, MEND, MEND_KIND, PARTS
+    IS_VALID, REQUIRE, RULE, PLACE, MESSAGE, CHECK, FAULTS, RESOLVE, MEND, MEND_KIND, MEND_OFFERED, PARTS
 } question;
 
 /* A row of a column. */
@@ -26,7 +26,7 @@ typedef struct cell {
 void answer_rows(duckdb_function_info call, duckdb_data_chunk chunk, duckdb_vector out);
 
 /* Ends the call with an error where the text wasn't checked: true where it has ended. */
-bool stops(duckdb_function_info call, const asked *asked, urlcheck_finding found);
+bool stops(duckdb_function_info call, const request *request, urlcheck_finding found);
 bool stops_without_memory(duckdb_function_info call);
 
 /* Writes a value of a row. */
@@ -37,10 +37,11 @@ void put_text(cell out, const void *bytes, size_t length);
 void put_words(cell out, const char *words);
 
 /* Writes the answer of a row: false where the call has ended with an error. */
-bool put_verdict(duckdb_function_info call, cell out, question question, const asked *asked);
-bool put_made(duckdb_function_info call, cell out, question question, const asked *asked);
-bool put_check(duckdb_function_info call, cell out, const asked *asked);
-bool put_faults(duckdb_function_info call, cell out, const asked *asked);
+bool put_verdict(duckdb_function_info call, cell out, question question, const request *request);
+bool put_written(duckdb_function_info call, cell out, question question, const request *request);
+bool put_mended(duckdb_function_info call, cell out, question question, const request *request);
+bool put_check(duckdb_function_info call, cell out, const request *request);
+bool put_faults(duckdb_function_info call, cell out, const request *request);
 
 /* A row of url_check that is NULL. */
 void put_no_check(cell out);

@@ -67,6 +67,7 @@ static const function functions[] = {
     {"url_path", PARTS + 3, DUCKDB_TYPE_VARCHAR},      {"url_query", PARTS + 4, DUCKDB_TYPE_VARCHAR},
     {"url_fragment", PARTS + 5, DUCKDB_TYPE_VARCHAR},  {"url_resolve", RESOLVE, DUCKDB_TYPE_VARCHAR},
     {"url_mend", MEND, DUCKDB_TYPE_VARCHAR},           {"url_mend_kind", MEND_KIND, DUCKDB_TYPE_VARCHAR},
+    {"url_mend_offered", MEND_OFFERED, DUCKDB_TYPE_BOOLEAN},
 };
 
 DUCKDB_EXTENSION_ENTRYPOINT(duckdb_connection connection, duckdb_extension_info info,

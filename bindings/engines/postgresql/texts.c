@@ -1,5 +1,5 @@
 /* Texts that are made of a url: that of its URL record, a valid one in its place, and the list of its faults. */
-#include "given.h"
+#include "arguments.h"
 
 #include "access/htup_details.h"
 #include "funcapi.h"
@@ -10,100 +10,104 @@
 PG_FUNCTION_INFO_V1(pg_url_resolve);
 PG_FUNCTION_INFO_V1(pg_url_mend);
 PG_FUNCTION_INFO_V1(pg_url_mend_kind);
+PG_FUNCTION_INFO_V1(pg_url_mend_offered);
 PG_FUNCTION_INFO_V1(pg_url_faults);
 
 /* A buffer for what most calls write, and room of its own for what is longer. */
 enum { MOST = 512 };
 
-Datum pg_url_resolve(PG_FUNCTION_ARGS) {
-    asked asked;
-    uint8_t most[MOST], *out = most;
-    urlcheck_resolved answer;
-
-    if (!read_asked(fcinfo, &asked, true)) PG_RETURN_NULL();
-    answer = ask_resolve(&asked, out, MOST);
-    stop_unless_checked(&asked, answer.found);
-    if (answer.found.verdict != URLCHECK_VALID) PG_RETURN_NULL();
-    if (answer.length > MOST) {
-        out = palloc(answer.length);
-        stop_unless_checked(&asked, ask_resolve(&asked, out, answer.length).found);
-    }
-    PG_RETURN_TEXT_P(text_of(out, answer.length));
-}
-
-urlcheck_mended mended(const asked *asked, uint8_t **out) {
+urlcheck_mended written(const request *request, bool mends, uint8_t **out) {
     urlcheck_mended answer;
 
     *out = palloc(MOST);
-    answer = ask_mend(asked, *out, MOST);
-    stop_unless_checked(asked, answer.found);
+    answer = write_request(request, mends, *out, MOST);
+    stop_unless_checked(request, answer.found);
     if (answer.length > MOST) {
         pfree(*out);
         *out = palloc(answer.length);
-        stop_unless_checked(asked, ask_mend(asked, *out, answer.length).found);
+        stop_unless_checked(request, write_request(request, mends, *out, answer.length).found);
     }
     return answer;
 }
 
-/* The url where it is valid, a mended text where one is given, and else NULL. */
-Datum pg_url_mend(PG_FUNCTION_ARGS) {
-    asked asked;
+Datum pg_url_resolve(PG_FUNCTION_ARGS) {
+    request request;
     uint8_t *out;
     urlcheck_mended answer;
 
-    if (!read_asked(fcinfo, &asked, true)) PG_RETURN_NULL();
-    if (is_valid(&asked)) PG_RETURN_TEXT_P(PG_GETARG_TEXT_PP(0));
-    answer = mended(&asked, &out);
+    if (!read_request(fcinfo, &request, true)) PG_RETURN_NULL();
+    answer = written(&request, false, &out);
+    if (answer.found.verdict != URLCHECK_VALID) PG_RETURN_NULL();
+    PG_RETURN_TEXT_P(text_of(out, answer.length));
+}
+
+/* The url where it is valid, a mended text where one is given, and else NULL. */
+Datum pg_url_mend(PG_FUNCTION_ARGS) {
+    request request;
+    uint8_t *out;
+    urlcheck_mended answer;
+
+    if (!read_request(fcinfo, &request, true)) PG_RETURN_NULL();
+    answer = written(&request, true, &out);
+    if (answer.found.verdict == URLCHECK_VALID) PG_RETURN_TEXT_P(PG_GETARG_TEXT_PP(0));
     if (answer.found.verdict != URLCHECK_MENDED) PG_RETURN_NULL();
     PG_RETURN_TEXT_P(text_of(out, answer.length));
 }
 
+/* How the url is mended: false where it is valid, or no text is given in its place. */
+static bool read_mended(FunctionCallInfo fcinfo, urlcheck_mended *answer) {
+    request request;
+
+    if (!read_request(fcinfo, &request, true)) return false;
+    *answer = mend_request(&request, NULL, 0);
+    stop_unless_checked(&request, answer->found);
+    return answer->found.verdict == URLCHECK_MENDED;
+}
+
 Datum pg_url_mend_kind(PG_FUNCTION_ARGS) {
-    asked asked;
-    uint8_t *out;
     urlcheck_mended answer;
 
-    if (!read_asked(fcinfo, &asked, true) || is_valid(&asked)) PG_RETURN_NULL();
-    answer = mended(&asked, &out);
-    if (answer.found.verdict != URLCHECK_MENDED) PG_RETURN_NULL();
+    if (!read_mended(fcinfo, &answer)) PG_RETURN_NULL();
     PG_RETURN_TEXT_P(cstring_to_text(kind_name(answer.kind)));
 }
 
-/* The faults of a url, and how many there are. A list that the memory of one value can't hold is refused. */
-static urlcheck_fault *list_faults(const asked *asked, uint64 *count) {
-    size_t room = 16;
-    urlcheck_fault *list = palloc(room * sizeof *list);
-    urlcheck_fault_count answer;
+Datum pg_url_mend_offered(PG_FUNCTION_ARGS) {
+    urlcheck_mended answer;
 
-    for (;;) {
-        answer = ask_faults(asked, list, room);
-        stop_unless_checked(asked, answer.found);
-        if (answer.count <= room) break;
+    if (!read_mended(fcinfo, &answer)) PG_RETURN_NULL();
+    PG_RETURN_BOOL(answer.offered != 0);
+}
+
+/* The faults of a url, and how many there are. A list that the memory of one value can't hold is refused. */
+static urlcheck_fault *list_faults(const request *request, uint64 *count) {
+    size_t room = 16, most = MaxAllocSize / sizeof(urlcheck_fault);
+    urlcheck_fault *list = palloc(room * sizeof *list);
+    urlcheck_fault_count answer = list_request(request, list, room);
+
+    if (answer.count > room) {
         room = answer.count;
         pfree(list);
-        if (room > MaxAllocSize / sizeof *list)
-            ereport(ERROR, (errcode(ERRCODE_PROGRAM_LIMIT_EXCEEDED), errmsg("a url has %zu faults", room),
-                            errdetail("A list has at most %zu.", (size_t)MaxAllocSize / sizeof *list)));
+        if (room > most)
+            ereport(ERROR, (errcode(ERRCODE_PROGRAM_LIMIT_EXCEEDED),
+                            errmsg("number of faults (%zu) exceeds limit (%zu)", room, most)));
         list = palloc(room * sizeof *list);
+        answer = list_request(request, list, room);
     }
-    if (answer.found.verdict == URLCHECK_NO_UTF8) {
-        list[0] = (urlcheck_fault){0, answer.found.place, answer.found.byte_place};
-        answer.count = 1;
-    }
+    stop_unless_checked(request, answer.found);
     *count = answer.count;
     return list;
 }
 
 /* What the calls of one list hold. */
 typedef struct listed {
-    asked asked;
+    request request;
     urlcheck_fault *faults;
 } listed;
 
 static HeapTuple fault_row(TupleDesc row, const listed *listed, uint64 number) {
     char name[NAME_ROOM], message[MESSAGE_ROOM];
     urlcheck_fault fault = listed->faults[number];
-    const char *said = fault_message(&listed->asked, fault, message);
+    const char *said = fault_message(&listed->request, fault, message);
     Datum values[3];
     bool nulls[3] = {false, false, false};
 
@@ -114,13 +118,13 @@ static HeapTuple fault_row(TupleDesc row, const listed *listed, uint64 number) {
 }
 
 /* Keeps the url as long as its list, where messages read it. */
-static void keep_url(asked *asked) {
+static void keep_url(slice *url) {
     uint8_t *copy;
 
-    if (asked->url.length > NAMING) return;
-    copy = palloc(asked->url.length + 1);
-    memcpy(copy, asked->url.bytes, asked->url.length);
-    asked->url.bytes = copy;
+    if (url->length > NAMING) return;
+    copy = palloc(url->length + 1);
+    memcpy(copy, url->bytes, url->length);
+    url->bytes = copy;
 }
 
 static void begin_faults(FunctionCallInfo fcinfo, FuncCallContext *calls) {
@@ -129,14 +133,14 @@ static void begin_faults(FunctionCallInfo fcinfo, FuncCallContext *calls) {
     TupleDesc row;
 
     if (get_call_result_type(fcinfo, NULL, &row) != TYPEFUNC_COMPOSITE)
-        ereport(ERROR, (errcode(ERRCODE_FEATURE_NOT_SUPPORTED), errmsg("rows can't be returned here")));
+        elog(ERROR, "return type must be a row type");
     calls->tuple_desc = BlessTupleDesc(row);
     calls->max_calls = 0;
     calls->user_fctx = listed;
     /* (the base can't be kept in fn_extra, which the calls of one list hold) */
-    if (read_asked(fcinfo, &listed->asked, false)) {
-        keep_url(&listed->asked);
-        listed->faults = list_faults(&listed->asked, &calls->max_calls);
+    if (read_request(fcinfo, &listed->request, false)) {
+        keep_url(&listed->request.url);
+        listed->faults = list_faults(&listed->request, &calls->max_calls);
     }
     MemoryContextSwitchTo(before);
 }

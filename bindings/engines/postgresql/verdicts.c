@@ -1,6 +1,5 @@
 /* What is said of a url: whether it is valid, its first fault, its parts, and an error in place of a refusal. */
-#include "given.h"
-#include "offered.h"
+#include "arguments.h"
 
 #include "access/htup_details.h"
 #include "funcapi.h"
@@ -24,16 +23,16 @@ PG_FUNCTION_INFO_V1(pg_url_check);
 PG_FUNCTION_INFO_V1(pg_urlcheck_version);
 
 Datum pg_url_is_valid(PG_FUNCTION_ARGS) {
-    asked asked;
+    request request;
 
-    if (!read_asked(fcinfo, &asked, true)) PG_RETURN_NULL();
-    PG_RETURN_BOOL(is_valid(&asked));
+    if (!read_request(fcinfo, &request, true)) PG_RETURN_NULL();
+    PG_RETURN_BOOL(!is_refused(checked(&request).found));
 }
 
 /* The bytes of the url around a place that an error shows, whole characters, and whether some are left out. */
 enum { SHOWN = 100, HINTED = 1000 };
 
-static char *shown_around(given url, size_t place) {
+static char *shown_around(slice url, size_t place) {
     size_t from = place > SHOWN ? place - SHOWN : 0, to = url.length - place > SHOWN ? place + SHOWN : url.length;
     text *part;
 
@@ -43,97 +42,94 @@ static char *shown_around(given url, size_t place) {
     return psprintf("%s%s%s", from > 0 ? "..." : "", text_to_cstring(part), to < url.length ? "..." : "");
 }
 
-/* What an error shows of the url: the text, or what is around the place. Bytes that are no UTF-8 end it. */
-static char *shown(given url, urlcheck_finding found) {
-    given front = {url.bytes, found.byte_place};
+/* What an error shows of the url: the text, or what is around the place. Bytes that aren't UTF-8 end it. */
+static char *shown(slice url, urlcheck_finding found) {
+    slice front = {url.bytes, found.byte_place};
 
     return shown_around(found.verdict == URLCHECK_NO_UTF8 ? front : url, found.byte_place);
 }
 
 /* What is said before a mended text: that it is a text in the url's place, where it is offered, and else what it is. */
-static const char *hint_before(const asked *asked, urlcheck_finding found, uint32_t kind, given mended) {
-    size_t room = DIAGNOSTIC_ROOM(asked->url.length + mended.length);
-
-    if (!is_offered(asked, found, kind, mended, palloc(room), room))
-        return psprintf("Something else may be meant; %s", named_as(kind));
-    return kind == URLCHECK_CHANGED ? "A valid text in its place (it may denote another URL): "
-                                    : "A valid text in its place: ";
+static const char *hint_before(urlcheck_mended answer) {
+    if (!answer.offered) return psprintf("Something else may be meant; %s", kind_phrase(answer.kind));
+    return answer.kind == URLCHECK_CHANGED ? "A valid text in its place (it may denote another URL): "
+                                           : "A valid text in its place: ";
 }
 
 /* What to write in its place, or null. (A long one wouldn't be read.) */
-static char *hint(const asked *asked, urlcheck_finding found) {
+static char *hint(const request *request) {
     uint8_t *out;
-    given text;
     urlcheck_mended answer;
 
-    if (asked->url.length > HINTED) return NULL;
-    answer = mended(asked, &out);
+    if (request->url.length > HINTED) return NULL;
+    answer = written(request, true, &out);
     if (answer.found.verdict != URLCHECK_MENDED) return NULL;
-    text.bytes = out, text.length = answer.length;
-    return psprintf("%s%s", hint_before(asked, found, answer.kind, text), text_to_cstring(text_of(out, answer.length)));
+    return psprintf("%s%s", hint_before(answer), text_to_cstring(text_of(out, answer.length)));
 }
 
-static void refuse(const asked *asked, urlcheck_finding found) {
-    char name[NAME_ROOM], *advice = hint(asked, found);
+static void refuse(const request *request, urlcheck_finding found) {
+    char name[NAME_ROOM], *advice = hint(request);
 
     ereport(ERROR, (errcode(ERRCODE_CHECK_VIOLATION),
-                    errmsg("no valid URL: %s", text_to_cstring(message_text(asked, found))),
+                    errmsg("invalid URL: %s", text_to_cstring(message_text(request, found))),
                     errdetail("Rule %s at place %d of \"%s\".", rule_name(found.rule, name), sql_place(found.place),
-                              shown(asked->url, found)),
+                              shown(request->url, found)),
                     advice ? errhint("%s", advice) : 0));
 }
 
 /* True, or an error that says what is wrong, where, and what to write: for constraints. */
 Datum pg_url_require(PG_FUNCTION_ARGS) {
-    asked asked;
+    request request;
+    urlcheck_finding found;
 
-    if (!read_asked(fcinfo, &asked, true)) PG_RETURN_NULL();
-    if (!is_valid(&asked)) refuse(&asked, checked(&asked).found);
+    if (!read_request(fcinfo, &request, true)) PG_RETURN_NULL();
+    found = checked(&request).found;
+    if (is_refused(found)) refuse(&request, found);
     PG_RETURN_BOOL(true);
 }
 
 /* Reads the arguments, and what is wrong with the url: false where nothing is. */
-static bool read_refused(FunctionCallInfo fcinfo, asked *asked, urlcheck_finding *found) {
-    if (!read_asked(fcinfo, asked, true) || is_valid(asked)) return false;
-    *found = checked(asked).found;
-    return true;
+static bool read_refused(FunctionCallInfo fcinfo, request *request, urlcheck_finding *found) {
+    if (!read_request(fcinfo, request, true)) return false;
+    *found = checked(request).found;
+    return is_refused(*found);
 }
 
 Datum pg_url_rule(PG_FUNCTION_ARGS) {
     char name[NAME_ROOM];
-    asked asked;
+    request request;
     urlcheck_finding found;
 
-    if (!read_refused(fcinfo, &asked, &found)) PG_RETURN_NULL();
+    if (!read_refused(fcinfo, &request, &found)) PG_RETURN_NULL();
     PG_RETURN_TEXT_P(cstring_to_text(rule_name(found.rule, name)));
 }
 
 Datum pg_url_place(PG_FUNCTION_ARGS) {
-    asked asked;
+    request request;
     urlcheck_finding found;
 
-    if (!read_refused(fcinfo, &asked, &found)) PG_RETURN_NULL();
+    if (!read_refused(fcinfo, &request, &found)) PG_RETURN_NULL();
     PG_RETURN_INT32(sql_place(found.place));
 }
 
 Datum pg_url_message(PG_FUNCTION_ARGS) {
-    asked asked;
+    request request;
     urlcheck_finding found;
 
-    if (!read_refused(fcinfo, &asked, &found)) PG_RETURN_NULL();
-    PG_RETURN_TEXT_P(message_text(&asked, found));
+    if (!read_refused(fcinfo, &request, &found)) PG_RETURN_NULL();
+    PG_RETURN_TEXT_P(message_text(&request, found));
 }
 
 static Datum part(FunctionCallInfo fcinfo, int number) {
-    asked asked;
+    request request;
     urlcheck_answer answer;
     urlcheck_span span;
 
-    if (!read_asked(fcinfo, &asked, true)) PG_RETURN_NULL();
-    answer = checked(&asked);
+    if (!read_request(fcinfo, &request, true)) PG_RETURN_NULL();
+    answer = checked(&request);
     span = part_of(&answer.parts, number);
     if (!span.present) PG_RETURN_NULL();
-    PG_RETURN_TEXT_P(text_of(asked.url.bytes + span.start, span.length));
+    PG_RETURN_TEXT_P(text_of(request.url.bytes + span.start, span.length));
 }
 
 Datum pg_url_scheme(PG_FUNCTION_ARGS) { return part(fcinfo, 0); }
@@ -151,15 +147,15 @@ static void put(Datum *values, bool *nulls, int column, Datum value) {
     nulls[column] = false;
 }
 
-static void put_refusal(const asked *asked, urlcheck_finding found, Datum *values, bool *nulls) {
+static void put_refusal(const request *request, urlcheck_finding found, Datum *values, bool *nulls) {
     char name[NAME_ROOM];
 
     put(values, nulls, RULE, CStringGetTextDatum(rule_name(found.rule, name)));
     put(values, nulls, PLACE, Int32GetDatum(sql_place(found.place)));
-    put(values, nulls, MESSAGE, PointerGetDatum(message_text(asked, found)));
+    put(values, nulls, MESSAGE, PointerGetDatum(message_text(request, found)));
 }
 
-static void put_parts(given url, const urlcheck_spans *parts, Datum *values, bool *nulls) {
+static void put_parts(slice url, const urlcheck_spans *parts, Datum *values, bool *nulls) {
     for (int number = 0; number < PART_COUNT; number++) {
         urlcheck_span span = part_of(parts, number);
         if (span.present)
@@ -170,17 +166,17 @@ static void put_parts(given url, const urlcheck_spans *parts, Datum *values, boo
 Datum pg_url_check(PG_FUNCTION_ARGS) {
     Datum values[COLUMNS] = {0};
     bool nulls[COLUMNS];
-    asked asked;
+    request request;
     urlcheck_answer answer;
 
-    if (!read_asked(fcinfo, &asked, true)) PG_RETURN_NULL();
-    answer = checked(&asked);
+    if (!read_request(fcinfo, &request, true)) PG_RETURN_NULL();
+    answer = checked(&request);
     memset(nulls, true, sizeof nulls);
     put(values, nulls, VALID, BoolGetDatum(!is_refused(answer.found)));
     if (is_refused(answer.found))
-        put_refusal(&asked, answer.found, values, nulls);
+        put_refusal(&request, answer.found, values, nulls);
     else
-        put_parts(asked.url, &answer.parts, values, nulls);
+        put_parts(request.url, &answer.parts, values, nulls);
     PG_RETURN_DATUM(HeapTupleGetDatum(heap_form_tuple(row_type(fcinfo), values, nulls)));
 }
 

@@ -1,22 +1,22 @@
 /* The loadable extension for SQLite: its functions of (url [, base [, profile]]), and where it is loaded. */
-#include "given.h"
+#include "arguments.h"
 
 SQLITE_EXTENSION_INIT1
 
 /* What a function says of a url: what is handed to each as its user data. */
-typedef enum question { IS_VALID, REQUIRE, RULE, PLACE, MESSAGE, RESOLVE, MEND, MEND_KIND, PARTS } question;
+typedef enum question { IS_VALID, REQUIRE, RULE, PLACE, MESSAGE, RESOLVE, MEND, MEND_KIND, MEND_OFFERED, PARTS } question;
 
 /* The room that most texts fit in. */
 enum { MOST = 512 };
 
-static question asked_of(sqlite3_context *call) { return (question)(intptr_t)sqlite3_user_data(call); }
+static question question_of(sqlite3_context *call) { return (question)(intptr_t)sqlite3_user_data(call); }
 
 /* Ends the call with an error where its text wasn't checked. */
-static int stops(sqlite3_context *call, const asked *asked, urlcheck_finding found) {
+static int stops(sqlite3_context *call, const request *request, urlcheck_finding found) {
     char *message = NULL;
     int code = SQLITE_OK;
 
-    if (is_checked(asked, found, &message, &code)) return 0;
+    if (is_checked(request, found, &message, &code)) return 0;
     if (message) sqlite3_result_error(call, message, -1);
     if (!message) sqlite3_result_error_nomem(call);
     sqlite3_free(message);
@@ -24,112 +24,96 @@ static int stops(sqlite3_context *call, const asked *asked, urlcheck_finding fou
 }
 
 /* Reads the arguments: false where the call has ended. A base that is constant is checked once. */
-static int read_call(sqlite3_context *call, int count, sqlite3_value **values, asked *asked) {
+static int read_call(sqlite3_context *call, int count, sqlite3_value **values, request *request) {
     const urlcheck_base *held = count > 1 ? sqlite3_get_auxdata(call, 1) : NULL;
-    reading read = read_asked(asked, values[0], count > 1 ? values[1] : NULL, count > 2 ? values[2] : NULL, held);
+    reading read = read_request(request, values[0], count > 1 ? values[1] : NULL, count > 2 ? values[2] : NULL, held);
     urlcheck_base *kept;
 
     if (read == READ_NO_PROFILE) sqlite3_result_error(call, NO_PROFILE, -1);
     if (read == READ_NO_MEMORY) sqlite3_result_error_nomem(call);
     if (read != READ) return 0;
-    if (asked->held && !(held && held->profile == asked->profile)) {
+    if (request->prepared && !(held && held->profile == request->profile)) {
         kept = sqlite3_malloc(sizeof *kept);
         if (kept) {
-            *kept = asked->own;
+            *kept = request->own;
             sqlite3_set_auxdata(call, 1, kept, sqlite3_free);
         }
     }
     return 1;
 }
 
-static void result_part(sqlite3_context *call, given url, urlcheck_span span) {
+static void result_part(sqlite3_context *call, slice url, urlcheck_span span) {
     if (span.present)
         sqlite3_result_text64(call, (const char *)url.bytes + span.start, span.length, SQLITE_TRANSIENT, SQLITE_UTF8);
 }
 
-static void result_refusal(sqlite3_context *call, const asked *asked, urlcheck_finding found) {
+static void result_refusal(sqlite3_context *call, const request *request, urlcheck_finding found) {
     char words[MESSAGE_ROOM], said[ERROR_ROOM];
 
-    switch (asked_of(call)) {
+    switch (question_of(call)) {
         case IS_VALID: sqlite3_result_int(call, 0); break;
-        case REQUIRE: sqlite3_result_error(call, say_refusal(asked, found, said), -1); break;
+        case REQUIRE: sqlite3_result_error(call, refusal_error(request, found, said), -1); break;
         case RULE: sqlite3_result_text(call, rule_name(found.rule, words), -1, SQLITE_TRANSIENT); break;
         case PLACE: sqlite3_result_int64(call, (sqlite3_int64)found.place + 1); break;
-        case MESSAGE: sqlite3_result_text(call, ask_message(asked, found, words), -1, SQLITE_TRANSIENT); break;
+        case MESSAGE: sqlite3_result_text(call, url_message(request, found, words), -1, SQLITE_TRANSIENT); break;
         default: break;
     }
 }
 
 /* What is said of a url's verdict, its first fault and its parts. */
 static void say(sqlite3_context *call, int count, sqlite3_value **values) {
-    question question = asked_of(call);
-    asked asked;
+    question question = question_of(call);
+    request request;
     urlcheck_answer answer;
 
-    if (!read_call(call, count, values, &asked)) return;
-    if (question < PARTS && ask_is_valid(&asked)) {
-        if (question == IS_VALID || question == REQUIRE) sqlite3_result_int(call, 1);
-        return;
-    }
-    answer = ask_check(&asked);
-    if (stops(call, &asked, answer.found)) return;
+    if (!read_call(call, count, values, &request)) return;
+    answer = check_request(&request);
+    if (stops(call, &request, answer.found)) return;
     if (answer.found.verdict != URLCHECK_VALID)
-        result_refusal(call, &asked, answer.found);
+        result_refusal(call, &request, answer.found);
     else if (question >= PARTS)
-        result_part(call, asked.url, part_of(&answer.parts, question - PARTS));
+        result_part(call, request.url, part_of(&answer.parts, (int)(question - PARTS)));
     else if (question == IS_VALID || question == REQUIRE)
         sqlite3_result_int(call, 1);
 }
 
-/* What is written of a url, with its verdict and its length. */
-static urlcheck_finding write_text(const asked *asked, question question, uint8_t *out, size_t room, size_t *length) {
-    urlcheck_mended answer;
-
-    if (question == RESOLVE) {
-        urlcheck_resolved answer = ask_resolve(asked, out, room);
-        *length = answer.length;
-        return answer.found;
-    }
-    answer = ask_mend(asked, out, room);
-    *length = answer.length;
-    return answer.found;
-}
-
 /* Text of the URL record, or the text to write in place of the url. */
 static void make(sqlite3_context *call, int count, sqlite3_value **values) {
-    question question = asked_of(call);
-    asked asked;
+    int mends = question_of(call) == MEND;
+    request request;
     uint8_t most[MOST], *out;
-    size_t length;
-    urlcheck_finding found;
+    urlcheck_mended made;
 
-    if (!read_call(call, count, values, &asked)) return;
-    found = write_text(&asked, question, most, MOST, &length);
-    if (stops(call, &asked, found)) return;
-    if (question == MEND && found.verdict == URLCHECK_VALID) {
-        sqlite3_result_text64(call, (const char *)asked.url.bytes, asked.url.length, SQLITE_TRANSIENT, SQLITE_UTF8);
-    } else if (found.verdict != (question == MEND ? URLCHECK_MENDED : URLCHECK_VALID)) {
+    if (!read_call(call, count, values, &request)) return;
+    made = write_request(&request, mends, most, MOST);
+    if (stops(call, &request, made.found)) return;
+    if (mends && made.found.verdict == URLCHECK_VALID) {
+        sqlite3_result_text64(call, (const char *)request.url.bytes, request.url.length, SQLITE_TRANSIENT, SQLITE_UTF8);
+    } else if (made.found.verdict != (mends ? URLCHECK_MENDED : URLCHECK_VALID)) {
         return;
-    } else if (length <= MOST) {
-        sqlite3_result_text64(call, (const char *)most, length, SQLITE_TRANSIENT, SQLITE_UTF8);
-    } else if ((out = sqlite3_malloc64(length)) == NULL) {
+    } else if (made.length <= MOST) {
+        sqlite3_result_text64(call, (const char *)most, made.length, SQLITE_TRANSIENT, SQLITE_UTF8);
+    } else if ((out = sqlite3_malloc64(made.length)) == NULL) {
         sqlite3_result_error_nomem(call);
-    } else if (stops(call, &asked, write_text(&asked, question, out, length, &length))) {
+    } else if (stops(call, &request, write_request(&request, mends, out, made.length).found)) {
         sqlite3_free(out);
     } else {
-        sqlite3_result_text64(call, (const char *)out, length, sqlite3_free, SQLITE_UTF8);
+        sqlite3_result_text64(call, (const char *)out, made.length, sqlite3_free, SQLITE_UTF8);
     }
 }
 
-/* How the mended text differs from the url. */
-static void say_kind(sqlite3_context *call, int count, sqlite3_value **values) {
-    asked asked;
+/* How the mended text differs from the url, or whether it is offered. */
+static void say_mended(sqlite3_context *call, int count, sqlite3_value **values) {
+    request request;
     urlcheck_mended answer;
 
-    if (!read_call(call, count, values, &asked)) return;
-    answer = ask_mend(&asked, NULL, 0);
-    if (!stops(call, &asked, answer.found) && answer.found.verdict == URLCHECK_MENDED)
+    if (!read_call(call, count, values, &request)) return;
+    answer = mend_request(&request, NULL, 0);
+    if (stops(call, &request, answer.found) || answer.found.verdict != URLCHECK_MENDED) return;
+    if (question_of(call) == MEND_KIND)
         sqlite3_result_text(call, kind_name(answer.kind), -1, SQLITE_STATIC);
+    else
+        sqlite3_result_int(call, answer.offered != 0);
 }
 
 static void say_version(sqlite3_context *call, int count, sqlite3_value **values) {
@@ -155,7 +139,8 @@ static const function functions[] = {
     {"url_host", PARTS + 1, say},     {"url_port", PARTS + 2, say},
     {"url_path", PARTS + 3, say},     {"url_query", PARTS + 4, say},
     {"url_fragment", PARTS + 5, say}, {"url_resolve", RESOLVE, make},
-    {"url_mend", MEND, make},         {"url_mend_kind", MEND_KIND, say_kind},
+    {"url_mend", MEND, make},         {"url_mend_kind", MEND_KIND, say_mended},
+    {"url_mend_offered", MEND_OFFERED, say_mended},
 };
 
 __attribute__((visibility("default"))) int sqlite3_modurlcheck_init(sqlite3 *database, char **message,

@@ -2,7 +2,7 @@
  * The tables of (url [, base [, profile]]): url_check has a row with all that is said of a url, and url_faults one for
  * each of its faults. The arguments are hidden columns after the others.
  */
-#include "given.h"
+#include "arguments.h"
 
 SQLITE_EXTENSION_INIT3
 
@@ -18,7 +18,7 @@ typedef struct table {
 typedef struct cursor {
     sqlite3_vtab_cursor head;
     sqlite3_value *arguments[ARGUMENTS]; /* copies, null where not given */
-    asked asked;                         /* whose bytes are those of the copies */
+    request request;                     /* whose bytes are those of the copies */
     urlcheck_answer answer;              /* of url_check */
     urlcheck_fault *faults;              /* of url_faults */
     size_t rows;
@@ -122,7 +122,7 @@ static int close_cursor(sqlite3_vtab_cursor *head) {
     return SQLITE_OK;
 }
 
-/* The rows of url_faults. Bytes that are no UTF-8 are one fault, of no rule. */
+/* The rows of url_faults. */
 static int list_faults(cursor *held, urlcheck_finding *found) {
     size_t room = 16;
     urlcheck_fault_count answer;
@@ -131,17 +131,12 @@ static int list_faults(cursor *held, urlcheck_finding *found) {
         sqlite3_free(held->faults);
         held->faults = sqlite3_malloc64(room * sizeof *held->faults);
         if (!held->faults) return SQLITE_NOMEM;
-        answer = ask_faults(&held->asked, held->faults, room);
+        answer = list_request(&held->request, held->faults, room);
         if (answer.count <= room) break;
         room = answer.count;
     }
     *found = answer.found;
     held->rows = answer.count;
-    if (answer.found.verdict == URLCHECK_NO_UTF8) {
-        urlcheck_fault bytes = {0, answer.found.place, answer.found.byte_place};
-        held->faults[0] = bytes;
-        held->rows = 1;
-    }
     return SQLITE_OK;
 }
 
@@ -152,13 +147,13 @@ static int find_rows(cursor *held) {
     int code = SQLITE_OK;
 
     if (((table *)made)->columns == CHECK_COLUMNS) {
-        held->answer = ask_check(&held->asked);
+        held->answer = check_request(&held->request);
         held->rows = 1;
         found = held->answer.found;
     } else {
         code = list_faults(held, &found);
     }
-    if (code != SQLITE_OK || is_checked(&held->asked, found, &message, &code)) return code;
+    if (code != SQLITE_OK || is_checked(&held->request, found, &message, &code)) return code;
     held->rows = 0;
     return message ? fail(made, message) : SQLITE_NOMEM;
 }
@@ -174,7 +169,7 @@ static int filter(sqlite3_vtab_cursor *head, int given, const char *text, int co
         held->arguments[argument] = sqlite3_value_dup(values[next++]);
         if (!held->arguments[argument]) return SQLITE_NOMEM;
     }
-    switch (read_asked(&held->asked, held->arguments[URL], held->arguments[BASE], held->arguments[PROFILE], NULL)) {
+    switch (read_request(&held->request, held->arguments[URL], held->arguments[BASE], held->arguments[PROFILE], NULL)) {
         case READ_NULL: return SQLITE_OK;
         case READ_NO_MEMORY: return SQLITE_NOMEM;
         case READ_NO_PROFILE:
@@ -191,25 +186,25 @@ static int next(sqlite3_vtab_cursor *head) {
 static int is_at_end(sqlite3_vtab_cursor *head) { return ((cursor *)head)->at >= ((cursor *)head)->rows; }
 
 /* A column of a fault. */
-static void result_fault(sqlite3_context *call, const asked *asked, urlcheck_fault fault, int column) {
+static void result_fault(sqlite3_context *call, const request *request, urlcheck_fault fault, int column) {
     char words[MESSAGE_ROOM];
 
     switch (column) {
         case RULE: sqlite3_result_text(call, rule_name(fault.rule, words), -1, SQLITE_TRANSIENT); break;
         case PLACE: sqlite3_result_int64(call, (sqlite3_int64)fault.place + 1); break;
-        default: sqlite3_result_text(call, fault_message(asked, fault, words), -1, SQLITE_TRANSIENT); break;
+        default: sqlite3_result_text(call, fault_message(request, fault, words), -1, SQLITE_TRANSIENT); break;
     }
 }
 
 /* The same of the first fault. */
-static void result_first(sqlite3_context *call, const asked *asked, urlcheck_finding found, int column) {
+static void result_first(sqlite3_context *call, const request *request, urlcheck_finding found, int column) {
     char words[MESSAGE_ROOM];
     urlcheck_fault fault = {found.rule, found.place, found.byte_place};
 
     if (column == MESSAGE)
-        sqlite3_result_text(call, ask_message(asked, found, words), -1, SQLITE_TRANSIENT);
+        sqlite3_result_text(call, url_message(request, found, words), -1, SQLITE_TRANSIENT);
     else
-        result_fault(call, asked, fault, column);
+        result_fault(call, request, fault, column);
 }
 
 static void result_answer(sqlite3_context *call, const cursor *held, int column) {
@@ -220,11 +215,11 @@ static void result_answer(sqlite3_context *call, const cursor *held, int column)
     if (column == VALID) {
         sqlite3_result_int(call, is_valid);
     } else if (column < PARTS) {
-        if (!is_valid) result_first(call, &held->asked, found, column - FIRST_RULE);
+        if (!is_valid) result_first(call, &held->request, found, column - FIRST_RULE);
     } else {
         span = part_of(&held->answer.parts, column - PARTS);
         if (span.present)
-            sqlite3_result_text64(call, (const char *)held->asked.url.bytes + span.start, span.length,
+            sqlite3_result_text64(call, (const char *)held->request.url.bytes + span.start, span.length,
                                   SQLITE_TRANSIENT, SQLITE_UTF8);
     }
 }
@@ -238,7 +233,7 @@ static int result_column(sqlite3_vtab_cursor *head, sqlite3_context *call, int c
     } else if (columns == CHECK_COLUMNS) {
         result_answer(call, held, column);
     } else {
-        result_fault(call, &held->asked, held->faults[held->at], column);
+        result_fault(call, &held->request, held->faults[held->at], column);
     }
     return SQLITE_OK;
 }

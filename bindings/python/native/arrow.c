@@ -50,11 +50,44 @@ static PyObject *refuse_array(const char *why) {
     return NULL;
 }
 
-/* The texts of an array: false and an error where it has none. */
-static int read_texts(PyObject *schema_capsule, PyObject *array_capsule, texts *texts) {
+/* What is asked of the texts of an array. */
+typedef struct arrow_call {
+    state *state;
+    texts texts;
+    int64_t *widened; /* its offsets, by malloc, where the array has ones of 32 bits */
+    request request;
+} arrow_call;
+
+/* Offsets of 32 bits as ones of 64, by malloc. */
+static int64_t *widened_of(const int32_t *offsets, size_t count) {
+    int64_t *wide = count > SIZE_MAX / sizeof *wide ? NULL : malloc(count * sizeof *wide);
+
+    for (size_t at = 0; wide && at < count; at++) wide[at] = offsets[at];
+    if (!wide) PyErr_NoMemory();
+    return wide;
+}
+
+/* Reads the offsets of an array's texts, one more than there are. */
+static int read_offsets(const struct ArrowArray *array, int is_wide, arrow_call *call) {
+    texts *texts = &call->texts;
+
+    if (texts->count == 0) return 1;
+    if (!array->buffers[1]) return refuse_array("it has no offsets") != NULL;
+    if (is_wide) {
+        texts->offsets = (const int64_t *)array->buffers[1] + texts->first;
+    } else {
+        call->widened = widened_of((const int32_t *)array->buffers[1] + texts->first, texts->count + 1);
+        texts->offsets = call->widened;
+    }
+    if (texts->offsets && !texts->data && texts->offsets[texts->count] > 0)
+        return refuse_array("it has no bytes") != NULL;
+    return texts->offsets != NULL;
+}
+
+/* Reads the texts of an array: false and an error where it has none. */
+static int read_texts(PyObject *schema_capsule, PyObject *array_capsule, arrow_call *call) {
     const struct ArrowSchema *schema = PyCapsule_GetPointer(schema_capsule, "arrow_schema");
     const struct ArrowArray *array = schema ? PyCapsule_GetPointer(array_capsule, "arrow_array") : NULL;
-    size_t width;
 
     if (!array) return 0;
     if (!schema->release || !array->release) return refuse_array("it was released before") != NULL;
@@ -65,83 +98,74 @@ static int read_texts(PyObject *schema_capsule, PyObject *array_capsule, texts *
     }
     if (array->length < 0 || array->offset < 0 || array->n_buffers != 3 || !array->buffers)
         return refuse_array("it has no length, or other buffers than strings have") != NULL;
-    texts->is_wide = schema->format[0] == 'U' || schema->format[0] == 'Z';
-    width = texts->is_wide ? 8 : 4;
-    texts->count = (size_t)array->length;
-    texts->first = (size_t)array->offset;
-    texts->present = array->null_count == 0 ? NULL : array->buffers[0];
-    texts->data = array->buffers[2];
-    if (texts->count && !array->buffers[1]) return refuse_array("it has no offsets") != NULL;
-    texts->offsets = array->buffers[1] ? (const char *)array->buffers[1] + width * texts->first : NULL;
-    return 1;
+    call->texts.count = (size_t)array->length;
+    call->texts.first = (size_t)array->offset;
+    call->texts.present = array->null_count == 0 ? NULL : array->buffers[0];
+    call->texts.data = array->buffers[2];
+    return read_offsets(array, strchr("UZ", schema->format[0]) != NULL, call);
 }
 
 /* Reads (schema, array, base, profile, flag). */
-static int read_call(state *state, PyObject *args, const char *format, texts *texts, asked *asked, int *flag) {
+static int read_call(PyObject *args, const char *format, arrow_call *call, int *flag) {
     PyObject *schema, *array, *base, *profile;
 
-    if (!PyArg_ParseTuple(args, format, &schema, &array, &base, &profile, flag)) return 0;
-    if (!read_texts(schema, array, texts) || !read_setting(state, base, profile, asked)) return 0;
-    return !asked->base || is_checked(state, asked->held.found);
+    return PyArg_ParseTuple(args, format, &schema, &array, &base, &profile, flag) && read_texts(schema, array, call)
+           && read_valid_setting(call->state, base, profile, &call->request);
+}
+
+static void drop_call(arrow_call *call) {
+    free(call->widened);
+    drop_request(&call->request);
 }
 
 /* check_arrow(schema, array, base, profile, is_all): as check_texts. */
 PyObject *native_check_arrow(PyObject *module, PyObject *args) {
-    state *state = PyModule_GetState(module);
-    PyObject *columns[3] = {NULL, NULL, NULL}, *answer = NULL;
+    arrow_call call = {.state = PyModule_GetState(module)};
     findings out = {NULL, NULL, NULL};
-    asked asked = {0};
-    texts texts;
-    urlcheck_finding why;
+    PyObject *answer = NULL;
+    urlcheck_finding why = {0, 0, 0, 0};
     size_t stopped;
     int is_all;
 
-    if (read_call(state, args, "OOOOp:check_arrow", &texts, &asked, &is_all)
-        && (columns[0] = new_bytes(texts.count, 1, &out.verdicts))
-        && (!is_all
-            || ((columns[1] = new_bytes(texts.count, 1, &out.rules))
-                && (columns[2] = new_bytes(texts.count, 8, &out.places))))) {
+    if (read_call(args, "OOOOp:check_arrow", &call, &is_all)
+        && (answer = new_findings(call.texts.count, is_all, &out))) {
         Py_BEGIN_ALLOW_THREADS
-        stopped = check_all(&texts, &asked, out, &why);
+        stopped = check_all(&call.texts, &call.request, out, &why);
         Py_END_ALLOW_THREADS
-        if (stopped < texts.count)
-            refuse_texts(state, why, stopped);
-        else
-            answer = is_all ? PyTuple_Pack(3, columns[0], columns[1], columns[2]) : PyTuple_Pack(1, columns[0]);
+        if (stopped < call.texts.count) {
+            Py_CLEAR(answer);
+            refuse_texts(call.state, why, stopped);
+        }
     }
-    for (int at = 0; at < 3; at++) Py_XDECREF(columns[at]);
-    drop_asked(&asked);
+    drop_call(&call);
     return answer;
 }
 
 /* write_arrow(schema, array, base, profile, mends): the bytes of the texts that are made, their offsets and their marks. */
 PyObject *native_write_arrow(PyObject *module, PyObject *args) {
-    state *state = PyModule_GetState(module);
-    PyObject *offsets = NULL, *marks = NULL, *data, *answer = NULL;
+    arrow_call call = {.state = PyModule_GetState(module)};
     makings made = {NULL, 0, 0, NULL, NULL};
-    asked asked = {0};
-    texts texts;
-    urlcheck_finding why;
+    PyObject *offsets = NULL, *marks = NULL, *answer = NULL;
+    urlcheck_finding why = {0, 0, 0, 0};
     size_t stopped;
     int mends;
 
-    if (read_call(state, args, "OOOOp:write_arrow", &texts, &asked, &mends)
-        && (offsets = new_bytes(texts.count + 1, 8, &made.offsets)) && (marks = new_bytes(texts.count, 1, &made.marks))) {
+    if (read_call(args, "OOOOp:write_arrow", &call, &mends)
+        && (offsets = new_bytes(call.texts.count + 1, 8, &made.offsets))
+        && (marks = new_bytes(call.texts.count, 1, &made.marks))) {
         Py_BEGIN_ALLOW_THREADS
-        stopped = make_texts(&texts, &asked, mends, &made, &why);
+        stopped = make_texts(&call.texts, &call.request, mends, &made, &why);
         Py_END_ALLOW_THREADS
-        if (stopped < texts.count) {
-            refuse_texts(state, why, stopped);
-        } else {
-            data = PyBytes_FromStringAndSize((const char *)made.data, (Py_ssize_t)made.length);
-            if (data) answer = PyTuple_Pack(3, data, offsets, marks);
-            Py_XDECREF(data);
-        }
+        if (stopped < call.texts.count)
+            refuse_texts(call.state, why, stopped);
+        else
+            answer = Py_BuildValue("(NOO)", PyBytes_FromStringAndSize((const char *)made.data, (Py_ssize_t)made.length),
+                                   offsets, marks);
     }
     free(made.data);
     Py_XDECREF(offsets);
     Py_XDECREF(marks);
-    drop_asked(&asked);
+    drop_call(&call);
     return answer;
 }
 
@@ -223,11 +247,9 @@ static const char *format_of(const char *given) {
 }
 
 /* The bytes of an object of type bytes or bytearray. None has none. */
-static int read_buffer(PyObject *given, const void **bytes) {
-    *bytes = NULL;
-    if (PyBytes_Check(given)) *bytes = PyBytes_AsString(given);
-    if (PyByteArray_Check(given)) *bytes = PyByteArray_AsString(given);
-    return 1;
+static const void *buffer_of(PyObject *given) {
+    if (PyBytes_Check(given)) return PyBytes_AsString(given);
+    return PyByteArray_Check(given) ? PyByteArray_AsString(given) : NULL;
 }
 
 /* Fills an array and its schema of (format, length, missing, buffers, dictionary): false and an error. */
@@ -243,7 +265,7 @@ static int fill(PyObject *column, struct ArrowSchema *schema, struct ArrowArray 
     handed = calloc(1, sizeof *handed);
     if (!handed) return PyErr_NoMemory() != NULL;
     for (Py_ssize_t at = 0; at < PyTuple_Size(buffers) && at < 3; at++)
-        read_buffer(PyTuple_GetItem(buffers, at), &handed->buffers[at]);
+        handed->buffers[at] = buffer_of(PyTuple_GetItem(buffers, at));
     array->length = length, array->null_count = missing, array->n_buffers = PyTuple_Size(buffers);
     array->buffers = handed->buffers;
     schema->format = format, schema->name = "", schema->flags = NULLABLE;

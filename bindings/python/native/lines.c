@@ -31,23 +31,17 @@ static int append_line(lines *lines, line refused) {
     return 1;
 }
 
-static urlcheck_finding find_line(const uint8_t *text, size_t length, const asked *asked, size_t most) {
-    const urlcheck_finding valid = {URLCHECK_VALID, 0, 0, 0}, too_long = {TOO_LONG, 0, 0, 0};
+static urlcheck_finding find_line(const uint8_t *text, size_t length, const request *request, size_t most) {
+    const urlcheck_finding too_long = {TOO_LONG, 0, 0, 0};
 
-    if (length > most) return too_long;
-    if (asked->base) {
-        if (urlcheck_is_valid_with(text, length, &asked->held)) return valid;
-        return urlcheck_check_with(text, length, &asked->held).found;
-    }
-    if (urlcheck_is_valid(text, length, asked->profile)) return valid;
-    return urlcheck_check(text, length, asked->profile).found;
+    return length > most ? too_long : urlcheck_check(text, length, request->profile, request->base).found;
 }
 
 /*
  * Checks each line. It ends with LF, and one CR before that is no part of it; what follows the last LF is a line where it
  * isn't empty. What stopped it is given, URLCHECK_VALID where nothing did.
  */
-static urlcheck_finding check_each_line(const uint8_t *data, size_t length, const asked *asked, size_t most, lines *out) {
+static urlcheck_finding check_each_line(const uint8_t *data, size_t length, const request *request, size_t most, lines *out) {
     const urlcheck_finding valid = {URLCHECK_VALID, 0, 0, 0}, no_memory = {URLCHECK_MEMORY, 0, 0, 0};
     size_t start = 0;
 
@@ -55,7 +49,7 @@ static urlcheck_finding check_each_line(const uint8_t *data, size_t length, cons
         const uint8_t *feed = memchr(data + start, '\n', length - start);
         size_t end = feed ? (size_t)(feed - data) : length, size = end - start;
         if (feed && size && data[end - 1] == '\r') size--;
-        urlcheck_finding found = find_line(data + start, size, asked, most);
+        urlcheck_finding found = find_line(data + start, size, request, most);
         line refused = {out->all++, found, start, size};
         if (found.verdict > URLCHECK_NO_UTF8 && found.verdict != TOO_LONG) return found;
         if (found.verdict != URLCHECK_VALID && !append_line(out, refused)) return no_memory;
@@ -98,22 +92,22 @@ PyObject *native_check_lines(PyObject *module, PyObject *args) {
     state *state = PyModule_GetState(module);
     PyObject *data, *base, *profile, *list = NULL, *answer = NULL;
     lines lines = {NULL, 0, 0, 0};
-    asked asked = {0};
+    request request = {0};
     urlcheck_finding stopped;
     Py_ssize_t most;
     size_t length;
 
     if (!PyArg_ParseTuple(args, "SOOn:check_lines", &data, &base, &profile, &most)) return NULL;
-    if (read_setting(state, base, profile, &asked) && (!asked.base || is_checked(state, asked.held.found))) {
+    if (read_valid_setting(state, base, profile, &request)) {
         const uint8_t *bytes = bytes_of(data, &length);
         Py_BEGIN_ALLOW_THREADS
-        stopped = check_each_line(bytes, length, &asked, (size_t)most, &lines);
+        stopped = check_each_line(bytes, length, &request, (size_t)most, &lines);
         Py_END_ALLOW_THREADS
         if (is_checked(state, stopped)) list = listed(state, &lines);
         if (list) answer = Py_BuildValue("(nO)", (Py_ssize_t)lines.all, list);
     }
     free(lines.refused);
     Py_XDECREF(list);
-    drop_asked(&asked);
+    drop_request(&request);
     return answer;
 }

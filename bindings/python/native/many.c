@@ -15,105 +15,45 @@ static int is_missing_at(const texts *texts, size_t at) {
     return texts->present && !(texts->present[bit >> 3] >> (bit & 7) & 1);
 }
 
-static int64_t offset_at(const texts *texts, size_t at) {
-    return texts->is_wide ? ((const int64_t *)texts->offsets)[at] : ((const int32_t *)texts->offsets)[at];
+/* Where the last text ends. */
+static size_t end_of(const texts *texts) {
+    int64_t end = texts->offsets[texts->count];
+
+    return end < 0 ? 0 : (size_t)end;
 }
 
-/* The length of text i and where it starts, or a negative number: -1 where it is missing, -2 where its offsets descend. */
-static int64_t text_at(const texts *texts, size_t at, const uint8_t **start) {
-    int64_t from = offset_at(texts, at), to = offset_at(texts, at + 1);
+size_t check_all(const texts *texts, const request *request, findings out, urlcheck_finding *why) {
+    urlcheck_batch batch;
 
-    if (is_missing_at(texts, at)) return -1;
-    if (from < 0 || to < from) return -2;
-    *start = texts->data ? texts->data + from : NULL;
-    return to - from;
-}
-
-static urlcheck_finding find(const uint8_t *text, size_t length, const urlcheck_base *base) {
-    const urlcheck_finding valid = {URLCHECK_VALID, 0, 0, 0};
-
-    if (urlcheck_is_valid_with(text, length, base)) return valid;
-    return urlcheck_check_with(text, length, base).found;
-}
-
-static void put_finding(findings out, size_t at, urlcheck_finding found) {
-    int is_wrong = found.verdict == URLCHECK_REFUSED || found.verdict == URLCHECK_NO_UTF8;
-
-    out.verdicts[at] = (uint8_t)found.verdict;
-    if (out.rules) out.rules[at] = found.verdict == URLCHECK_NO_UTF8 ? NO_UTF8_RULE : (uint8_t)found.rule;
-    if (out.places) out.places[at] = is_wrong ? (int64_t)found.place : -1;
-}
-
-/* The first text whose offsets descend. */
-static size_t first_broken(const texts *texts) {
-    size_t at = 0;
-
-    while (at + 1 < texts->count && offset_at(texts, at) >= 0 && offset_at(texts, at + 1) >= offset_at(texts, at)) at++;
-    return at;
-}
-
-/* Checks texts without a base, in one call. */
-static size_t check_alone(const texts *texts, uint32_t profile, findings out, urlcheck_finding *why) {
-    const urlcheck_finding missing = {MISSING, 0, 0, 0};
-    int64_t end = offset_at(texts, texts->count);
-    size_t length = end < 0 ? 0 : (size_t)end;
-    uint64_t *places = (uint64_t *)out.places;
-    urlcheck_batch batch = texts->is_wide
-                               ? urlcheck_check_many(texts->data, length, texts->offsets, texts->count, profile,
-                                                     out.verdicts, out.rules, places)
-                               : urlcheck_check_many_32(texts->data, length, texts->offsets, texts->count, profile,
-                                                        out.verdicts, out.rules, places);
-
-    why->verdict = batch.outcome == URLCHECK_NO_OFFSETS ? BROKEN : batch.outcome;
-    if (batch.outcome != URLCHECK_DONE) return batch.outcome == URLCHECK_NO_OFFSETS ? first_broken(texts) : 0;
+    if (texts->count == 0) return 0;
+    batch = urlcheck_check_many(texts->data, end_of(texts), (const uint64_t *)texts->offsets, texts->count,
+                                request->profile, request->base, out.verdicts, out.rules, (uint64_t *)out.places);
+    why->verdict = batch.outcome;
+    if (batch.outcome != URLCHECK_DONE) return batch.row;
     for (size_t at = 0; at < texts->count; at++) {
-        if (is_missing_at(texts, at)) {
-            put_finding(out, at, missing);
-        } else if (out.verdicts[at] > URLCHECK_NO_UTF8) {
+        int is_missing = is_missing_at(texts, at);
+        if (is_missing) out.verdicts[at] = MISSING;
+        if (out.rules && is_missing) out.rules[at] = 0;
+        if (out.rules && out.verdicts[at] == URLCHECK_NO_UTF8) out.rules[at] = NO_UTF8_RULE;
+        if (out.places && (is_missing || out.verdicts[at] == URLCHECK_VALID)) out.places[at] = -1;
+        if (!is_missing && out.verdicts[at] > URLCHECK_NO_UTF8) {
             why->verdict = out.verdicts[at];
             return at;
-        } else {
-            if (out.rules && out.verdicts[at] == URLCHECK_NO_UTF8) out.rules[at] = NO_UTF8_RULE;
-            if (out.places && out.verdicts[at] == URLCHECK_VALID) out.places[at] = -1;
         }
     }
     return texts->count;
 }
 
-/* The same against a base. */
-static size_t check_against(const texts *texts, const urlcheck_base *base, findings out, urlcheck_finding *why) {
-    const urlcheck_finding missing = {MISSING, 0, 0, 0}, broken = {BROKEN, 0, 0, 0};
-    const uint8_t *start = NULL;
+urlcheck_mended make_one(const uint8_t *text, size_t length, const request *request, int mends, uint8_t *out,
+                         size_t room) {
+    const uint8_t *base = request->base_data;
+    size_t base_length = request->base_length;
+    urlcheck_mended made = {{0, 0, 0, 0}, 0, 0, 0};
+    urlcheck_record record;
 
-    for (size_t at = 0; at < texts->count; at++) {
-        int64_t length = text_at(texts, at, &start);
-        urlcheck_finding found = length == -1 ? missing : length < 0 ? broken : find(start, (size_t)length, base);
-        if (found.verdict > URLCHECK_NO_UTF8 && found.verdict != MISSING) {
-            *why = found;
-            return at;
-        }
-        put_finding(out, at, found);
-    }
-    return texts->count;
-}
-
-size_t check_all(const texts *texts, const asked *asked, findings out, urlcheck_finding *why) {
-    if (texts->count == 0) return 0;
-    return asked->base ? check_against(texts, &asked->held, out, why) : check_alone(texts, asked->profile, out, why);
-}
-
-urlcheck_mended make_one(const uint8_t *text, size_t length, const asked *asked, int mends, uint8_t *out, size_t room) {
-    const uint8_t *base = asked->base_data;
-    size_t base_length = asked->base_length;
-    urlcheck_mended made = {{0, 0, 0, 0}, 0, 0};
-    urlcheck_resolved resolved;
-
-    if (mends)
-        return asked->base ? urlcheck_mend_with(text, length, &asked->held, base, base_length, out, room)
-                           : urlcheck_mend(text, length, asked->profile, out, room);
-    resolved = asked->base ? urlcheck_resolve_with(text, length, &asked->held, base, base_length, out, room)
-                           : urlcheck_resolve(text, length, asked->profile, out, room);
-    made.found = resolved.found, made.length = resolved.length;
+    if (mends) return urlcheck_mend(text, length, request->profile, base, base_length, out, room);
+    record = urlcheck_resolve(text, length, request->profile, base, base_length, out, room);
+    made.found = record.found, made.length = record.length;
     return made;
 }
 
@@ -132,16 +72,16 @@ static int make_room(makings *out, size_t more) {
 }
 
 /* Appends what is made of one text, where one is made: its verdict tells whether. A valid text is mended by itself. */
-static urlcheck_finding append_made(const uint8_t *text, size_t length, const asked *asked, int mends, makings *out,
+static urlcheck_finding append_made(const uint8_t *text, size_t length, const request *request, int mends, makings *out,
                                     uint8_t *mark) {
     const urlcheck_finding no_memory = {URLCHECK_MEMORY, 0, 0, 0};
     urlcheck_mended made;
 
     if (!make_room(out, length + 64)) return no_memory;
-    made = make_one(text, length, asked, mends, out->data + out->length, out->room - out->length);
+    made = make_one(text, length, request, mends, out->data + out->length, out->room - out->length);
     if (made.length > out->room - out->length) {
         if (!make_room(out, made.length)) return no_memory;
-        made = make_one(text, length, asked, mends, out->data + out->length, out->room - out->length);
+        made = make_one(text, length, request, mends, out->data + out->length, out->room - out->length);
     }
     if (mends && made.found.verdict == URLCHECK_VALID) {
         if (length) memcpy(out->data + out->length, text, length);
@@ -152,77 +92,34 @@ static urlcheck_finding append_made(const uint8_t *text, size_t length, const as
     return made.found;
 }
 
-static urlcheck_batch resolve_into(const texts *texts, uint32_t profile, makings *out) {
-    int64_t end = offset_at(texts, texts->count);
-    size_t length = end < 0 ? 0 : (size_t)end;
-    uint64_t *ends = (uint64_t *)out->offsets;
+/* What is made of text i, where it isn't missing: its verdict tells. */
+static urlcheck_finding make_at(const texts *texts, size_t at, const request *request, int mends, makings *out) {
+    const urlcheck_finding missing = {MISSING, 0, 0, 0}, no_offsets = {URLCHECK_NO_OFFSETS, 0, 0, 0};
+    int64_t from = texts->offsets[at], to = texts->offsets[at + 1];
 
-    return texts->is_wide ? urlcheck_resolve_many(texts->data, length, texts->offsets, texts->count, profile, out->marks,
-                                                  NULL, NULL, ends, out->data, out->room)
-                          : urlcheck_resolve_many_32(texts->data, length, texts->offsets, texts->count, profile,
-                                                     out->marks, NULL, NULL, ends, out->data, out->room);
+    out->marks[at] = 0;
+    if (from < 0 || to < from || (size_t)to > end_of(texts)) return no_offsets;
+    if (is_missing_at(texts, at)) return missing;
+    return append_made(texts->data ? texts->data + from : NULL, (size_t)(to - from), request, mends, out,
+                       &out->marks[at]);
 }
 
-/* Resolves texts without a base, in one call, and in a second one where the room was too small. */
-static size_t resolve_alone(const texts *texts, uint32_t profile, makings *out, urlcheck_finding *why) {
-    int64_t from = offset_at(texts, 0), to = offset_at(texts, texts->count);
-    size_t length = from < 0 || to < from ? 0 : (size_t)(to - from);
-    urlcheck_batch batch = {URLCHECK_MEMORY, 0, 0, 0};
-
-    if (make_room(out, length + 16 * texts->count)) batch = resolve_into(texts, profile, out);
-    if (batch.length > out->room) {
-        if (!make_room(out, batch.length)) batch.outcome = URLCHECK_MEMORY;
-        else batch = resolve_into(texts, profile, out);
-    }
-    why->verdict = batch.outcome == URLCHECK_NO_OFFSETS ? BROKEN : batch.outcome;
-    if (batch.outcome != URLCHECK_DONE) return batch.outcome == URLCHECK_NO_OFFSETS ? first_broken(texts) : 0;
-    for (size_t at = 0; at < texts->count; at++) {
-        int is_there = !is_missing_at(texts, at);
-        if (is_there && out->marks[at] > URLCHECK_NO_UTF8) {
-            why->verdict = out->marks[at];
-            return at;
-        }
-        out->marks[at] = is_there && out->marks[at] == URLCHECK_VALID;
-    }
-    out->length = batch.length;
-    return texts->count;
-}
-
-size_t make_texts(const texts *texts, const asked *asked, int mends, makings *out, urlcheck_finding *why) {
-    const urlcheck_finding broken = {BROKEN, 0, 0, 0};
-    const uint8_t *start = NULL;
-
+size_t make_texts(const texts *texts, const request *request, int mends, makings *out, urlcheck_finding *why) {
     out->length = 0;
     out->offsets[0] = 0;
-    if (!mends && !asked->base && texts->count) return resolve_alone(texts, asked->profile, out, why);
     for (size_t at = 0; at < texts->count; at++) {
-        int64_t length = text_at(texts, at, &start);
-        urlcheck_finding found = broken;
-        out->marks[at] = 0;
-        if (length >= 0) found = append_made(start, (size_t)length, asked, mends, out, &out->marks[at]);
-        if (length != -1 && found.verdict > URLCHECK_NO_UTF8 && found.verdict != URLCHECK_MENDED) {
-            *why = found;
-            return at;
-        }
+        *why = make_at(texts, at, request, mends, out);
+        if (why->verdict > URLCHECK_NO_UTF8 && why->verdict != URLCHECK_MENDED && why->verdict != MISSING) return at;
         out->offsets[at + 1] = (int64_t)out->length;
     }
     return texts->count;
 }
 
-/* ---- over a list */
-
-/* Texts of a list that are joined. */
-typedef struct piece {
-    uint8_t *data;
-    size_t length, room;
-    int64_t offsets[PIECE_TEXTS + 1];
-    uint8_t present[PIECE_TEXTS / 8];
-    size_t count;
-} piece;
+/* ---- columns of Python, and errors */
 
 PyObject *refuse_texts(state *state, urlcheck_finding why, size_t at) {
-    if (why.verdict == BROKEN)
-        PyErr_Format(PyExc_ValueError, "the array is broken: the offsets of text %zu descend", at);
+    if (why.verdict == URLCHECK_NO_OFFSETS)
+        PyErr_Format(PyExc_ValueError, "the array is broken: the offsets of text %zu are out of order", at);
     else
         is_checked(state, why);
     return NULL;
@@ -237,7 +134,30 @@ PyObject *new_bytes(size_t count, size_t width, void *bytes) {
     return made;
 }
 
-/* Whether an object stands for a missing text: None, one of those that are given, or a float that is no number. */
+PyObject *new_findings(size_t count, int is_all, findings *out) {
+    PyObject *verdicts = new_bytes(count, 1, &out->verdicts), *rules = NULL, *places = NULL, *made = NULL;
+
+    if (verdicts && !is_all) made = PyTuple_Pack(1, verdicts);
+    if (verdicts && is_all && (rules = new_bytes(count, 1, &out->rules)) && (places = new_bytes(count, 8, &out->places)))
+        made = PyTuple_Pack(3, verdicts, rules, places);
+    Py_XDECREF(verdicts);
+    Py_XDECREF(rules);
+    Py_XDECREF(places);
+    return made;
+}
+
+/* ---- over a list */
+
+/* Texts of a list that are joined. */
+typedef struct piece {
+    uint8_t *data;
+    size_t length, room;
+    int64_t offsets[PIECE_TEXTS + 1];
+    uint8_t present[PIECE_TEXTS / 8];
+    size_t count;
+} piece;
+
+/* Whether an object stands for a missing text: None, one of those that are given, or a float that is NaN. */
 static int is_missing(PyObject *one, PyObject *missing) {
     double number;
 
@@ -293,28 +213,70 @@ static int join(piece *piece, PyObject *list, Py_ssize_t from, PyObject *missing
     return 1;
 }
 
-static texts texts_of(const piece *piece) {
-    texts texts = {piece->data, piece->offsets, 1, piece->count, piece->present, 0};
+/* What is asked of a list: to check its texts, or to make others of them, where `texts` isn't null. */
+typedef struct list_call {
+    state *state;
+    PyObject *list, *missing;
+    request request;
+    findings out;
+    int mends;
+    makings made;
+    PyObject *texts, *kinds; /* lists of what is made of each */
+} list_call;
 
-    return texts;
+/* Reads (list, missing, base, profile, flag). */
+static int read_list_call(PyObject *args, const char *format, list_call *call, int *flag) {
+    PyObject *base, *profile;
+
+    return PyArg_ParseTuple(args, format, &PyList_Type, &call->list, &PyTuple_Type, &call->missing, &base, &profile, flag)
+           && read_valid_setting(call->state, base, profile, &call->request);
 }
 
-/* Checks the texts of a list, piece by piece: false and an error where one isn't checked. */
-static int check_list(state *state, PyObject *list, PyObject *missing, const asked *asked, findings out) {
-    size_t count = (size_t)PyList_Size(list), done = 0, stopped;
+/* The texts that are made of a piece, put into the lists from one on. */
+static int put_made(const list_call *call, size_t count, size_t from) {
+    PyObject *none = call->state->none;
+
+    for (size_t at = 0; at < count; at++) {
+        const int64_t *ends = call->made.offsets + at;
+        uint8_t mark = call->made.marks[at];
+        PyObject *text = mark ? text_of(call->made.data + ends[0], (size_t)(ends[1] - ends[0])) : none;
+        PyObject *kind = mark > 1 ? call->state->kind_names[(mark - 1) % KIND_COUNT] : none;
+        if (!text) return 0;
+        if (!mark) Py_INCREF(text);
+        Py_INCREF(kind);
+        if (PyList_SetItem(call->texts, (Py_ssize_t)(from + at), text) < 0) return 0;
+        if (PyList_SetItem(call->kinds, (Py_ssize_t)(from + at), kind) < 0) return 0;
+    }
+    return 1;
+}
+
+/* What is asked of the texts of a piece, of which the first is text `from` of the list: false and an error. */
+static int run_piece(list_call *call, const texts *texts, size_t from) {
+    findings out = call->out;
+    urlcheck_finding why = {0, 0, 0, 0};
+    size_t stopped;
+
+    if (out.verdicts) out.verdicts += from;
+    if (out.rules) out.rules += from;
+    if (out.places) out.places += from;
+    Py_BEGIN_ALLOW_THREADS
+    stopped = call->texts ? make_texts(texts, &call->request, call->mends, &call->made, &why)
+                          : check_all(texts, &call->request, out, &why);
+    Py_END_ALLOW_THREADS
+    if (stopped < texts->count) return refuse_texts(call->state, why, from + stopped) != NULL;
+    return !call->texts || put_made(call, texts->count, from);
+}
+
+/* What is asked of so many texts of a list, piece by piece: false and an error where one isn't checked. */
+static int run_list(list_call *call, size_t count) {
+    size_t done = 0;
     piece *piece = calloc(1, sizeof *piece);
-    urlcheck_finding why;
 
     if (!piece) return PyErr_NoMemory() != NULL;
-    while (done < count && join(piece, list, (Py_ssize_t)done, missing)) {
-        texts texts = texts_of(piece);
-        findings here = {out.verdicts + done, out.rules ? out.rules + done : NULL, out.places ? out.places + done : NULL};
-        if (piece->count > count - done) texts.count = count - done; /* (the list has grown) */
-        Py_BEGIN_ALLOW_THREADS
-        stopped = check_all(&texts, asked, here, &why);
-        Py_END_ALLOW_THREADS
-        if (stopped < texts.count) refuse_texts(state, why, done + stopped);
-        if (stopped < texts.count || texts.count == 0) break;
+    while (done < count && join(piece, call->list, (Py_ssize_t)done, call->missing)) {
+        texts texts = {piece->data, piece->offsets, piece->count, piece->present, 0};
+        if (texts.count > count - done) texts.count = count - done; /* (the list has grown) */
+        if (texts.count == 0 || !run_piece(call, &texts, done)) break;
         done += texts.count;
     }
     free(piece->data);
@@ -325,87 +287,34 @@ static int check_list(state *state, PyObject *list, PyObject *missing, const ask
 
 /* check_texts(list, missing, base, profile, is_all): the verdicts, and of all the rules and the places too. */
 PyObject *native_check_texts(PyObject *module, PyObject *args) {
-    state *state = PyModule_GetState(module);
-    PyObject *list, *missing, *base, *profile, *columns[3] = {NULL, NULL, NULL}, *answer = NULL;
-    findings out = {NULL, NULL, NULL};
-    asked asked = {0};
+    list_call call = {.state = PyModule_GetState(module)};
+    PyObject *answer = NULL;
     int is_all;
 
-    if (!PyArg_ParseTuple(args, "O!O!OOp:check_texts", &PyList_Type, &list, &PyTuple_Type, &missing, &base, &profile,
-                          &is_all))
-        return NULL;
-    size_t count = (size_t)PyList_Size(list);
-    if (read_setting(state, base, profile, &asked)
-        && (!asked.base || is_checked(state, asked.held.found))
-        && (columns[0] = new_bytes(count, 1, &out.verdicts))
-        && (!is_all || ((columns[1] = new_bytes(count, 1, &out.rules)) && (columns[2] = new_bytes(count, 8, &out.places))))
-        && check_list(state, list, missing, &asked, out))
-        answer = is_all ? PyTuple_Pack(3, columns[0], columns[1], columns[2]) : PyTuple_Pack(1, columns[0]);
-    for (int at = 0; at < 3; at++) Py_XDECREF(columns[at]);
-    drop_asked(&asked);
+    if (read_list_call(args, "O!O!OOp:check_texts", &call, &is_all)) {
+        size_t count = (size_t)PyList_Size(call.list);
+        answer = new_findings(count, is_all, &call.out);
+        if (answer && !run_list(&call, count)) Py_CLEAR(answer);
+    }
+    drop_request(&call.request);
     return answer;
-}
-
-/* The texts that are made of a piece, put into a list of texts and one of kinds. */
-static int put_made(state *state, const makings *made, size_t count, size_t from, PyObject *texts, PyObject *kinds) {
-    for (size_t at = 0; at < count; at++) {
-        const char *start = (const char *)made->data + made->offsets[at];
-        uint8_t mark = made->marks[at];
-        PyObject *text = mark ? PyUnicode_DecodeUTF8(start, (Py_ssize_t)(made->offsets[at + 1] - made->offsets[at]), NULL)
-                              : state->none;
-        PyObject *kind = mark > 1 ? state->kind_names[(mark - 1) % KIND_COUNT] : state->none;
-        if (!text) return 0;
-        if (!mark) Py_INCREF(text);
-        Py_INCREF(kind);
-        if (PyList_SetItem(texts, (Py_ssize_t)(from + at), text) < 0) return 0;
-        if (PyList_SetItem(kinds, (Py_ssize_t)(from + at), kind) < 0) return 0;
-    }
-    return 1;
-}
-
-static int make_list(state *state, PyObject *list, PyObject *missing, const asked *asked, int mends, PyObject *texts,
-                     PyObject *kinds) {
-    size_t count = (size_t)PyList_Size(list), done = 0, stopped;
-    piece *piece = calloc(1, sizeof *piece);
-    int64_t offsets[PIECE_TEXTS + 1];
-    uint8_t marks[PIECE_TEXTS];
-    makings made = {NULL, 0, 0, offsets, marks};
-    urlcheck_finding why;
-
-    if (!piece) return PyErr_NoMemory() != NULL;
-    while (done < count && join(piece, list, (Py_ssize_t)done, missing)) {
-        struct texts given = texts_of(piece);
-        if (piece->count > count - done) given.count = count - done;
-        Py_BEGIN_ALLOW_THREADS
-        stopped = make_texts(&given, asked, mends, &made, &why);
-        Py_END_ALLOW_THREADS
-        if (stopped < given.count) refuse_texts(state, why, done + stopped);
-        if (stopped < given.count || given.count == 0 || !put_made(state, &made, given.count, done, texts, kinds)) break;
-        done += given.count;
-    }
-    free(made.data);
-    free(piece->data);
-    free(piece);
-    if (done < count && !PyErr_Occurred()) PyErr_SetString(PyExc_RuntimeError, "the list changed while it was checked");
-    return done == count;
 }
 
 /* write_texts(list, missing, base, profile, mends): a list of texts and one of kinds, each None where there is none. */
 PyObject *native_write_texts(PyObject *module, PyObject *args) {
-    state *state = PyModule_GetState(module);
-    PyObject *list, *missing, *base, *profile, *texts = NULL, *kinds = NULL, *answer = NULL;
-    asked asked = {0};
-    int mends;
+    int64_t offsets[PIECE_TEXTS + 1];
+    uint8_t marks[PIECE_TEXTS];
+    list_call call = {.state = PyModule_GetState(module), .made = {.offsets = offsets, .marks = marks}};
+    PyObject *answer = NULL;
 
-    if (!PyArg_ParseTuple(args, "O!O!OOp:write_texts", &PyList_Type, &list, &PyTuple_Type, &missing, &base, &profile,
-                          &mends))
-        return NULL;
-    if (read_setting(state, base, profile, &asked) && (!asked.base || is_checked(state, asked.held.found))
-        && (texts = PyList_New(PyList_Size(list))) && (kinds = PyList_New(PyList_Size(list)))) {
-        if (make_list(state, list, missing, &asked, mends, texts, kinds)) answer = PyTuple_Pack(2, texts, kinds);
+    if (read_list_call(args, "O!O!OOp:write_texts", &call, &call.mends)) {
+        size_t count = (size_t)PyList_Size(call.list);
+        call.texts = PyList_New((Py_ssize_t)count), call.kinds = PyList_New((Py_ssize_t)count);
+        if (call.texts && call.kinds && run_list(&call, count)) answer = PyTuple_Pack(2, call.texts, call.kinds);
     }
-    Py_XDECREF(texts);
-    Py_XDECREF(kinds);
-    drop_asked(&asked);
+    free(call.made.data);
+    Py_XDECREF(call.texts);
+    Py_XDECREF(call.kinds);
+    drop_request(&call.request);
     return answer;
 }

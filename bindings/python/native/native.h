@@ -13,7 +13,7 @@
 
 enum { PART_COUNT = 6, RULE_COUNT = 16, NO_UTF8_RULE = 15, KIND_COUNT = 4, PROFILE_COUNT = 3 };
 
-/* What the module holds. */
+/* What the module holds: objects of Python, and nothing else. */
 typedef struct state {
     PyObject *valid, *refused, *mended, *fault; /* the classes of answers */
     PyObject *base, *base_refused;
@@ -21,35 +21,39 @@ typedef struct state {
     PyObject *profiles[PROFILE_COUNT]; /* by their numbers */
     PyObject *kinds[KIND_COUNT];       /* of mended texts, from 1 */
     PyObject *kind_names[KIND_COUNT];
-    PyObject *rules[RULE_COUNT]; /* their names, from 1, and at last that of bytes that are no UTF-8 */
+    PyObject *rules[RULE_COUNT]; /* their names, from 1, and at last that of bytes that aren't UTF-8 */
     PyObject *parts[PART_COUNT]; /* the names of the parts, in the order of urlcheck_spans */
-    PyObject *rule, *place, *text, *kind, *dict, *held, *data, *none;
-    PyObject *no_words;
+    PyObject *rule, *place, *text, *kind, *is_offered, *dict, *held, *data, *none;
+    PyObject *no_arguments;
 } state;
 
-/* What a call asks: a text's bytes and a base, each held as long as `asked` is. */
-typedef struct asked {
+/* What a call asks: a text's bytes and a base, each held as long as the request is. */
+typedef struct request {
     PyObject *text;  /* the caller's */
     PyObject *bytes; /* its UTF-8 */
     const uint8_t *data;
     size_t length;
-    PyObject *base; /* the UTF-8 of a base, or null where the text is checked alone */
+    PyObject *base_bytes; /* the UTF-8 of the base; where the text is checked alone it and its data are null */
     const uint8_t *base_data;
     size_t base_length;
-    urlcheck_base held;
+    urlcheck_base prepared;
+    const urlcheck_base *base; /* `prepared`, or null where the text is checked alone */
     uint32_t profile;
-} asked;
+} request;
 
-/* The words (text, base, profile) of a call, of which the last two may be null, or false and an error. */
-int read_words(PyObject *args, PyObject *named, const char *format, PyObject *words[3]);
+/* The arguments (text, base, profile) of a call, of which the last two may be null, or false and an error. */
+int read_arguments(PyObject *args, PyObject *named, const char *format, PyObject *arguments[3]);
 
-/* Reads a base and a profile, either of which may be null: false and an error where they are none. */
-int read_setting(state *state, PyObject *base, PyObject *profile, asked *asked);
+/* Reads a base and a profile, either of which may be null, into a request of zeros: false and an error where they are none. */
+int read_setting(state *state, PyObject *base, PyObject *profile, request *request);
 
-/* Reads the words of a call: false and an error where they are no text, no base or no profile. */
-int read_asked(state *state, PyObject *words[3], asked *asked);
+/* The same where the base has to be valid. */
+int read_valid_setting(state *state, PyObject *base, PyObject *profile, request *request);
 
-void drop_asked(asked *asked);
+/* Reads the arguments of a call into a request of zeros: false and an error where they are no text, no base or no profile. */
+int read_request(state *state, PyObject *arguments[3], request *request);
+
+void drop_request(request *request);
 
 /* False, with an error, where a text wasn't checked. */
 int is_checked(state *state, urlcheck_finding found);
@@ -57,8 +61,18 @@ int is_checked(state *state, urlcheck_finding found);
 /* The start and the length of the bytes of an object of type `bytes`. */
 const uint8_t *bytes_of(PyObject *bytes, size_t *length);
 
+/* A text of these bytes, which are UTF-8. */
+PyObject *text_of(const uint8_t *bytes, size_t length);
+
 /* The error that says what is no text. */
 PyObject *refuse_text(PyObject *given, const char *what);
+
+/* The calls over one text: functions of the module. */
+PyObject *native_check(PyObject *module, PyObject *args, PyObject *named);
+PyObject *native_is_valid(PyObject *module, PyObject *args, PyObject *named);
+PyObject *native_resolve(PyObject *module, PyObject *args, PyObject *named);
+PyObject *native_mend(PyObject *module, PyObject *args, PyObject *named);
+PyObject *native_faults(PyObject *module, PyObject *args, PyObject *named);
 
 /*
  * The calls over many texts, functions of the module. Those of texts take a list and a tuple of what stands for a missing
@@ -73,7 +87,8 @@ PyObject *native_export(PyObject *module, PyObject *args);
 PyObject *native_bits(PyObject *module, PyObject *args);
 PyObject *native_check_lines(PyObject *module, PyObject *args);
 
-/* The calls that write reports, functions of the module. */
+/* The calls that write reports and fixed texts, functions of the module. */
+PyObject *native_text(PyObject *module, PyObject *args);
 PyObject *native_report_begin(PyObject *module, PyObject *args);
 PyObject *native_file_begin(PyObject *module, PyObject *args);
 PyObject *native_diagnostic(PyObject *module, PyObject *args);
@@ -91,8 +106,7 @@ PyObject *native_example_place(PyObject *module, PyObject *args);
  */
 typedef struct texts {
     const uint8_t *data;
-    const void *offsets;
-    int is_wide; /* an offset has 64 bits, else 32 */
+    const int64_t *offsets;
     size_t count;
     const uint8_t *present; /* null where none is missing */
     size_t first;
@@ -105,7 +119,7 @@ typedef struct findings {
     int64_t *places;   /* -1 where none is wrong; null where it isn't asked */
 } findings;
 
-enum { MISSING = 255, BROKEN = 254 };
+enum { MISSING = 255 };
 
 /* What is made of each text: where it is neither refused nor missing a text, else nothing. */
 typedef struct makings {
@@ -116,20 +130,24 @@ typedef struct makings {
 } makings;
 
 /*
- * Checks texts, or makes others of them, by a base and a profile. Nothing of Python is touched, so the lock needs not be
- * held. The count is given, or the number of the first text that wasn't checked and why; its verdict is BROKEN where its
- * offsets descend.
+ * Checks texts, or makes others of them, by a request's base and profile. Nothing of Python is touched, so the lock needs
+ * not be held. The count is given, or the number of the first text that wasn't checked and why: its verdict is
+ * URLCHECK_NO_OFFSETS where its offsets are out of order.
  */
-size_t check_all(const texts *texts, const asked *asked, findings out, urlcheck_finding *why);
-size_t make_texts(const texts *texts, const asked *asked, int mends, makings *out, urlcheck_finding *why);
+size_t check_all(const texts *texts, const request *request, findings out, urlcheck_finding *why);
+size_t make_texts(const texts *texts, const request *request, int mends, makings *out, urlcheck_finding *why);
 
-/* What is made of one text: it is mended, or the text of its URL is written. */
-urlcheck_mended make_one(const uint8_t *text, size_t length, const asked *asked, int mends, uint8_t *out, size_t room);
+/* What is made of one text: it is mended, or the text of its URL is written, whose kind is 0. */
+urlcheck_mended make_one(const uint8_t *text, size_t length, const request *request, int mends, uint8_t *out,
+                         size_t room);
 
 /* The error for the text at which one of these stopped. */
 PyObject *refuse_texts(state *state, urlcheck_finding why, size_t at);
 
-/* A new bytearray of zeros and its bytes, or null. */
+/* A new bytearray and its bytes, or null and an error. */
 PyObject *new_bytes(size_t count, size_t width, void *bytes);
+
+/* New bytearrays for what is found of so many texts, as a tuple: the verdicts, and of all the rules and the places too. */
+PyObject *new_findings(size_t count, int is_all, findings *out);
 
 #endif

@@ -1,4 +1,4 @@
-/* Reports: each call writes a text of the library's, or tells a number that it has. */
+/* Reports and fixed texts: each call writes a text of the library's, or tells a number that it has. */
 #include "native.h"
 
 #include <stdlib.h>
@@ -7,39 +7,40 @@
  * lock. */
 enum { SHORT = 4096, LONG = 16384 };
 
-/* What is to be written: a call with all but where it writes. */
-typedef struct said {
-    urlcheck_written (*call)(const struct said *said, uint8_t *out, size_t room);
-    uint32_t format, unit, completion, is_first;
-    urlcheck_violation violation;
-    const uint8_t *file, *text, *mended;
-    size_t file_length, length, mended_length;
-} said;
+/* What is to be written: a call with all but where it writes. (PyArg_ParseTuple writes a text as a pointer to char and a
+ * Py_ssize_t, which are laid out as its pointer and its length here.) */
+typedef struct writing {
+    urlcheck_written (*call)(const struct writing *writing, uint8_t *out, size_t room);
+    uint32_t format, unit, completion, is_first, profile, wording, rule;
+    uint64_t place;
+    const uint8_t *text;
+    size_t length;
+    urlcheck_reported reported;
+} writing;
 
-static urlcheck_written write_begin(const said *said, uint8_t *out, size_t room) {
-    return urlcheck_report_begin(said->format, said->unit, out, room);
+static urlcheck_written write_begin(const writing *writing, uint8_t *out, size_t room) {
+    return urlcheck_report_begin(writing->format, writing->unit, out, room);
 }
 
-static urlcheck_written write_file_begin(const said *said, uint8_t *out, size_t room) {
-    return urlcheck_report_file_begin(said->format, said->file, said->file_length, out, room);
+static urlcheck_written write_file_begin(const writing *writing, uint8_t *out, size_t room) {
+    return urlcheck_report_file_begin(writing->format, writing->text, writing->length, out, room);
 }
 
-static urlcheck_written write_diagnostic(const said *said, uint8_t *out, size_t room) {
-    return urlcheck_diagnostic(said->format, said->is_first, &said->violation, said->file, said->file_length,
-                               said->text, said->length, said->mended, said->mended_length, out, room);
+static urlcheck_written write_diagnostic(const writing *writing, uint8_t *out, size_t room) {
+    return urlcheck_diagnostic(writing->format, writing->is_first, &writing->reported, out, room);
 }
 
-static urlcheck_written write_file_end(const said *said, uint8_t *out, size_t room) {
-    return urlcheck_report_file_end(said->format, out, room);
+static urlcheck_written write_file_end(const writing *writing, uint8_t *out, size_t room) {
+    return urlcheck_report_file_end(writing->format, out, room);
 }
 
-static urlcheck_written write_end(const said *said, uint8_t *out, size_t room) {
-    return urlcheck_report_end(said->format, said->completion, out, room);
+static urlcheck_written write_end(const writing *writing, uint8_t *out, size_t room) {
+    return urlcheck_report_end(writing->format, writing->completion, out, room);
 }
 
-static urlcheck_written write_message(const said *said, uint8_t *out, size_t room) {
-    return urlcheck_message(said->text, said->length, said->violation.profile, said->violation.rule,
-                            said->violation.place, out, room);
+static urlcheck_written write_message(const writing *writing, uint8_t *out, size_t room) {
+    return urlcheck_message(writing->text, writing->length, writing->profile, writing->wording, writing->rule,
+                            (size_t)writing->place, out, room);
 }
 
 /* False, with an error, where a call gave nothing. */
@@ -53,130 +54,148 @@ static int is_given(urlcheck_finding found) {
         [URLCHECK_NO_COMPLETION] = "a report has no such end",
         [URLCHECK_NO_PLACE] = "the place is after the end of the text",
         [URLCHECK_NO_COLUMN] = "a line or a column isn't from 1 to 4294967295",
+        [URLCHECK_NO_WORDING] = "no wording has this number",
     };
     const char *reason = NULL;
 
     if (found.verdict == URLCHECK_DONE) return 1;
     if (found.verdict == URLCHECK_MEMORY) return PyErr_NoMemory() != NULL;
     if (found.verdict < sizeof reasons / sizeof *reasons) reason = reasons[found.verdict];
-    PyErr_SetString(PyExc_ValueError, reason ? reason : "a text is no UTF-8");
+    PyErr_SetString(PyExc_ValueError, reason ? reason : "a text isn't UTF-8");
     return 0;
 }
 
-static urlcheck_written written_once(const said *said, uint8_t *out, size_t room) {
-    PyThreadState *thread = said->length < LONG ? NULL : PyEval_SaveThread();
-    urlcheck_written written = said->call(said, out, room);
+static urlcheck_written written_once(const writing *writing, uint8_t *out, size_t room) {
+    PyThreadState *thread = writing->length < LONG ? NULL : PyEval_SaveThread();
+    urlcheck_written written = writing->call(writing, out, room);
 
     if (thread) PyEval_RestoreThread(thread);
     return written;
 }
 
 /* The text that a call writes. */
-static PyObject *text_said(const said *said) {
+static PyObject *written_text(const writing *writing) {
     uint8_t most[SHORT], *out = most;
-    urlcheck_written written = written_once(said, most, SHORT);
+    urlcheck_written written = written_once(writing, most, SHORT);
     PyObject *text = NULL;
 
     if (written.length > SHORT) {
         out = malloc(written.length);
         if (!out) return PyErr_NoMemory();
-        written = written_once(said, out, written.length);
+        written = written_once(writing, out, written.length);
     }
-    if (is_given(written.found)) text = PyUnicode_DecodeUTF8((const char *)out, (Py_ssize_t)written.length, "strict");
+    if (is_given(written.found)) text = text_of(out, written.length);
     if (out != most) free(out);
     return text;
 }
 
+/* A number from 0. In place of one that doesn't fit stands the greatest, which is no place, line or column of a text. */
+static int read_number(PyObject *given, void *number) {
+    unsigned long long read = PyLong_AsUnsignedLongLong(given);
+
+    if (read == UINT64_MAX && PyErr_Occurred()) {
+        if (!PyErr_ExceptionMatches(PyExc_OverflowError)) return 0;
+        PyErr_Clear();
+    }
+    *(uint64_t *)number = read;
+    return 1;
+}
+
 /* report_begin(format, unit) */
 PyObject *native_report_begin(PyObject *module, PyObject *args) {
-    said said = {.call = write_begin};
+    writing writing = {.call = write_begin};
 
     (void)module;
-    return PyArg_ParseTuple(args, "II:report_begin", &said.format, &said.unit) ? text_said(&said) : NULL;
+    return PyArg_ParseTuple(args, "II:report_begin", &writing.format, &writing.unit) ? written_text(&writing) : NULL;
 }
 
 /* report_end(format, completion) */
 PyObject *native_report_end(PyObject *module, PyObject *args) {
-    said said = {.call = write_end};
+    writing writing = {.call = write_end};
 
     (void)module;
-    return PyArg_ParseTuple(args, "II:report_end", &said.format, &said.completion) ? text_said(&said) : NULL;
+    return PyArg_ParseTuple(args, "II:report_end", &writing.format, &writing.completion) ? written_text(&writing) : NULL;
 }
 
 /* file_begin(format, file) */
 PyObject *native_file_begin(PyObject *module, PyObject *args) {
-    said said = {.call = write_file_begin};
-    const char *file;
-    Py_ssize_t length;
+    writing writing = {.call = write_file_begin};
 
     (void)module;
-    if (!PyArg_ParseTuple(args, "Is#:file_begin", &said.format, &file, &length)) return NULL;
-    said.file = (const uint8_t *)file, said.file_length = (size_t)length;
-    return text_said(&said);
+    return PyArg_ParseTuple(args, "Is#:file_begin", &writing.format, &writing.text, &writing.length)
+               ? written_text(&writing)
+               : NULL;
 }
 
 /* file_end(format) */
 PyObject *native_file_end(PyObject *module, PyObject *args) {
-    said said = {.call = write_file_end};
+    writing writing = {.call = write_file_end};
 
     (void)module;
-    return PyArg_ParseTuple(args, "I:file_end", &said.format) ? text_said(&said) : NULL;
+    return PyArg_ParseTuple(args, "I:file_end", &writing.format) ? written_text(&writing) : NULL;
 }
 
-/* message(text, profile, rule, place) */
+/* message(text, profile, wording, rule, place) */
 PyObject *native_message(PyObject *module, PyObject *args) {
-    said said = {.call = write_message};
-    const char *text;
-    Py_ssize_t length, place;
+    writing writing = {.call = write_message};
 
     (void)module;
-    if (!PyArg_ParseTuple(args, "s#IIn:message", &text, &length, &said.violation.profile, &said.violation.rule, &place))
-        return NULL;
-    said.text = (const uint8_t *)text, said.length = (size_t)length;
-    /* (a place that isn't there is one after the end) */
-    said.violation.place = place < 0 ? SIZE_MAX : (size_t)place;
-    return text_said(&said);
+    return PyArg_ParseTuple(args, "s#IIIO&:message", &writing.text, &writing.length, &writing.profile, &writing.wording,
+                            &writing.rule, read_number, &writing.place)
+               ? written_text(&writing)
+               : NULL;
 }
 
 /*
- * diagnostic(format, is_first, file, (profile, rule, place, line, column, end), text, kind, mended, (start, end)): the kind
- * is 0 where there is no mended text. The last two are columns of the text, 0 where there is no region.
+ * diagnostic(format, is_first, (file, rule, uri, message, within, text, fix), (line, column, end_line, end_column, fix_line,
+ * fix_column, fix_end_line, fix_end_column, place, repeat, kind, offered)), as urlcheck_reported has them.
  */
 PyObject *native_diagnostic(PyObject *module, PyObject *args) {
-    said said = {.call = write_diagnostic};
-    urlcheck_violation *violation = &said.violation;
-    const char *file, *text, *mended;
-    Py_ssize_t file_length, length, mended_length, place;
-    unsigned long long line, column, wrong_end, first, end;
-    int is_first;
+    writing writing = {.call = write_diagnostic};
+    urlcheck_reported *it = &writing.reported;
+    urlcheck_region *at = &it->numbers.region, *fix = &it->numbers.fix_region;
 
     (void)module;
-    if (!PyArg_ParseTuple(args, "Ips#(IInKKK)s#Iz#(KK):diagnostic", &said.format, &is_first, &file, &file_length,
-                          &violation->profile, &violation->rule, &place, &line, &column, &wrong_end, &text, &length,
-                          &violation->kind, &mended, &mended_length, &first, &end))
+    if (!PyArg_ParseTuple(args, "Ip(s#s#s#s#s#s#s#)(O&O&O&O&O&O&O&O&O&O&II):diagnostic", &writing.format,
+                          &writing.is_first, &it->file, &it->file_length, &it->rule, &it->rule_length, &it->uri,
+                          &it->uri_length, &it->message, &it->message_length, &it->within, &it->within_length,
+                          &it->text, &it->text_length, &it->fix, &it->fix_length, read_number, &at->line, read_number,
+                          &at->column, read_number, &at->end_line, read_number, &at->end_column, read_number,
+                          &fix->line, read_number, &fix->column, read_number, &fix->end_line, read_number,
+                          &fix->end_column, read_number, &writing.place, read_number, &it->numbers.repeat,
+                          &it->numbers.kind, &it->numbers.offered))
         return NULL;
-    violation->place = place < 0 ? SIZE_MAX : (size_t)place;
-    violation->line = line, violation->column = column, violation->end = wrong_end;
-    violation->has_region = first != 0, violation->first_column = first, violation->end_column = end;
-    said.is_first = (uint32_t)is_first;
-    said.file = (const uint8_t *)file, said.file_length = (size_t)file_length;
-    said.text = (const uint8_t *)text, said.length = (size_t)length;
-    said.mended = (const uint8_t *)mended, said.mended_length = mended ? (size_t)mended_length : 0;
-    return text_said(&said);
+    it->numbers.place = (size_t)writing.place;
+    writing.length = it->text_length;
+    return written_text(&writing);
 }
 
 /* column(text, unit, start, place) */
 PyObject *native_column(PyObject *module, PyObject *args) {
-    unsigned long long start;
-    urlcheck_counted counted;
-    Py_ssize_t length, place;
-    const char *text;
+    const uint8_t *text;
+    size_t length;
+    uint64_t start, place;
     uint32_t unit;
+    urlcheck_counted counted;
 
     (void)module;
-    if (!PyArg_ParseTuple(args, "s#IKn:column", &text, &length, &unit, &start, &place)) return NULL;
-    counted = urlcheck_column((const uint8_t *)text, (size_t)length, unit, start, place < 0 ? SIZE_MAX : (size_t)place);
+    if (!PyArg_ParseTuple(args, "s#IO&O&:column", &text, &length, &unit, read_number, &start, read_number, &place))
+        return NULL;
+    counted = urlcheck_column(text, length, unit, start, (size_t)place);
     return is_given(counted.found) ? PyLong_FromUnsignedLongLong(counted.column) : NULL;
+}
+
+/* text(what, number): a fixed text, which is empty where there is none. */
+PyObject *native_text(PyObject *module, PyObject *args) {
+    uint8_t out[512];
+    uint32_t what, number;
+    size_t length;
+
+    (void)module;
+    if (!PyArg_ParseTuple(args, "II:text", &what, &number)) return NULL;
+    length = urlcheck_text(what, number, out, sizeof out);
+    if (length > sizeof out) return PyErr_Format(PyExc_SystemError, "a text has %zu bytes", length);
+    return text_of(out, length);
 }
 
 /* shows_mended(format) */

@@ -492,10 +492,11 @@ class Arrow(Compared):
             self.assertEqual(tuple(map(read, urlcheck.mend_many(array))), mended(here))
 
     def test_broken_arrays(self):
-        broken = (([0, 9, 3, 9], 1), ([0, -1, 9, 9], 0), ([-5, 0, 9, 9], 0), ([9, 0, 0, 0], 0), ([0, 9, 9, 3], 2))
+        # (the row is the first that ends before it begins, or after the end of them all)
+        broken = (([0, 9, 3, 9], 1), ([0, -1, 9, 9], 0), ([-5, 0, 9, 9], 0), ([9, 0, 0, 0], 0), ([0, 9, 9, 3], 0), ([0, 3, 9, 3], 1))
         for call in (urlcheck.check_many, urlcheck.is_valid_many, urlcheck.resolve_many, urlcheck.mend_many):
             for offsets, row in broken:
-                said = "^the array is broken: the offsets of text {} descend$".format(row)
+                said = "^the array is broken: the offsets of text {} are out of order$".format(row)
                 for layout, base in ((b"u", None), (b"U", None), (b"u", "http://h/")):
                     with self.subTest(offsets=offsets, base=base), self.assertRaisesRegex(ValueError, said):
                         call(Handed(["http://h/", "", ""], layout, offsets=offsets), base)
@@ -503,6 +504,10 @@ class Arrow(Compared):
                 call(Handed(["x"], count=-1))
             with self.assertRaisesRegex(TypeError, "an array of strings is wanted, not one of the Arrow format l"):
                 call(Handed(["x"], layout=b"l"))
+            without = Handed(["x"])
+            without.buffers[2] = None
+            with self.assertRaisesRegex(ValueError, "^the array is broken: it has no bytes$"):
+                call(without)
             released = Handed(["x"])
             released.array.release = None
             with self.assertRaisesRegex(ValueError, "it was released before"):
@@ -521,6 +526,31 @@ class Arrow(Compared):
         array = Handed([b"http://h/\xc3\xbc\xff", b"http://h/"], b"z")
         self.assertEqual(tuple(map(read, urlcheck.check_many(array))), ([False, True], ["no-utf8", None], [10, None]))
         self.assertEqual(read(urlcheck.resolve_many(array)), [None, "http://h/"])
+
+    @unittest.skipUnless(sys.version_info >= (3, 12), "interpreters have one lock")
+    def test_interpreters_with_a_lock_of_their_own(self):
+        """Columns are taken, handed out and given back in each of several at once."""
+        try:
+            import _interpreters as interpreters
+        except ImportError:
+            import _xxsubinterpreters as interpreters
+        run = "import array, sys; sys.path[:] = {!r}; import urlcheck; from urlcheck._arrow import Column\n"
+        run += "texts = Column.texts(b'http://h/x', bytearray(array.array('q', [0, 9, 10])), bytearray(2 * [1]))\n"
+        run += "for _ in range(500): given = [it.__arrow_c_array__() for it in urlcheck.check_many(texts, 'http://h/')]\n"
+        run += "assert len(urlcheck.resolve_many(texts)) == 2"
+        failed = []
+
+        def use():
+            made = interpreters.create()
+            failed.append(interpreters.run_string(made, run.format(sys.path)))
+            interpreters.destroy(made)
+
+        threads = [threading.Thread(target=use) for _ in range(4)]
+        for thread in threads:
+            thread.start()
+        for thread in threads:
+            thread.join()
+        self.assertEqual(failed, 4 * [None])
 
     def test_answers_outlive_what_came_in(self):
         column = urlcheck.check_many(Handed(["http://h/", "x", None])).rule

@@ -45,11 +45,11 @@ else
         if on_cases "$spoiled_extension" "$few" "$answers/few_wanted" >/dev/null 2>&1 &&
             in_its_shell "$spoiled_extension" >/dev/null; then fail "duckdb: a spoiled copy passes: $file: $edit"; fi
     done <<'EDITS'
-common/words.h|s/{"standard", "wide", "parser"}/{"standard", "parser", "wide"}/
-common/asked.h|s/asked->held, base.bytes, base.length, out/asked->held, url.bytes, url.length, out/
+common/names.h|s/{"standard", "wide", "parser"}/{"standard", "parser", "wide"}/
+common/request.h|s/profile, base.bytes, base.length, out/profile, url.bytes, url.length, out/
 duckdb/rows.c|s/(int64_t)place + 1/(int64_t)place/
-duckdb/rows.c|s/asked->own.profile == profile \&\& //
-duckdb/rows.c|s/is_same(asked->base, base);/true;/
+duckdb/rows.c|s/request->own.profile == profile \&\& //
+duckdb/rows.c|s/is_same(request->base, base);/true;/
 duckdb/texts.c|s/part_of(&answer.parts, question - PARTS)/part_of(\&answer.parts, 0)/
 duckdb/nested.c|s/element.row++/element.row += 0/
 duckdb/nested.c|s/entry->offset = \*first/entry->offset = 0/

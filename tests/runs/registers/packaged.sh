@@ -48,7 +48,7 @@ quietly sql -d restored -f "$room/dump"
 found=$(sql -d restored -c "SELECT url, urlcheck_version(), extversion FROM register, pg_extension WHERE extname = 'urlcheck'")
 [ "$found" = "http://h/b|$version|$version" ] || fail "PostgreSQL says: $found"
 found=$(sql -d restored -c "INSERT INTO register (written) VALUES ('http://h/a b')" 2>&1) && fail 'a wrong url is stored'
-grep -q 'no valid URL: U+0020 SPACE is not allowed in a URL' <<<"$found" || fail "PostgreSQL says: $found"
+grep -q 'invalid URL: U+0020 SPACE is not allowed in a URL' <<<"$found" || fail "PostgreSQL says: $found"
 as_user "$tree$bin/pg_ctl" -D "$data/base" -m immediate -w stop >/dev/null
 trap 'rm -rf "$whole"' EXIT
 echo "packaged: the extensions in SQLite $(sqlite3 --version | cut -d ' ' -f 1) and $($pg_config --version)"

@@ -40,10 +40,11 @@ spoils() {
         cp --remove-destination "$room/spoiled/bindings/engines/postgresql/urlcheck.so" "$tree$lib/"
         if vectors "$few" "$answers/few_wanted" >/dev/null; then fail "postgresql: a spoiled copy passes: $file: $edit"; fi
     done <<'EDITS'
-common/words.h|s/{"standard", "wide", "parser"}/{"standard", "parser", "wide"}/
-common/asked.h|s/asked->held, base.bytes, base.length, out/asked->held, url.bytes, url.length, out/
-postgresql/given.h|s/(int32)place + 1/(int32)place/
-postgresql/given.c|s/kept->base.profile == profile/true/
+common/names.h|s/{"standard", "wide", "parser"}/{"standard", "parser", "wide"}/
+common/request.h|s/profile, base.bytes, base.length, out/profile, url.bytes, url.length, out/
+common/request.h|s/request->prepared, out/NULL, out/
+postgresql/arguments.h|s/(int32)place + 1/(int32)place/
+postgresql/arguments.c|s/kept->base.profile == profile/true/
 postgresql/verdicts.c|s/part(fcinfo, 4)/part(fcinfo, 5)/
 postgresql/verdicts.c|s/sql_place(found.place)));/sql_place(found.byte_place)));/
 postgresql/texts.c|s/calls->max_calls) SRF/calls->max_calls - 1) SRF/
@@ -60,7 +61,7 @@ dumped() {
         "$(sql -d restored -c 'SELECT * FROM register ORDER BY url; SELECT count(*) FROM many')" ] ||
         fail 'postgresql: a restored table'
     says "INSERT INTO register (written) VALUES ('http://h:80/./b')" 'duplicate key' restored
-    says "INSERT INTO link (url) VALUES ('x')" 'no valid URL' restored
+    says "INSERT INTO link (url) VALUES ('x')" 'invalid URL' restored
 }
 
 # The statements of the page, in their order: the errors are those that its comments tell.
@@ -73,7 +74,15 @@ page() {
     says 'SELECT url, made_by = urlcheck_version() FROM register' 'http://h/b|t' page
 }
 
-# Each version that had the extension is taken to this one, and this one to the next as a server finds it: by a new default.
+# made_in DATABASE : what the extension has in a database
+made_in() {
+    sql -d "$1" -c "SELECT coalesce(pg_get_functiondef(p.oid), pg_describe_object(classid, objid, 0)) FROM pg_depend d
+        JOIN pg_extension e ON d.refobjid = e.oid AND deptype = 'e' AND extname = 'urlcheck'
+        LEFT JOIN pg_proc p ON p.oid = objid AND classid = 'pg_proc'::regclass ORDER BY 1"
+}
+
+# Each version that had the extension is taken to this one, where it then has the same, and this one to the next as a
+# server finds it: by a new default.
 updated() {
     local version released
     version=$(cat "$top/VERSION")
@@ -82,6 +91,10 @@ updated() {
         if [ "$released" = "$version" ] || ! printf '%s\n' 0.3.0 "$released" | sort -CV; then continue; fi
         says "SELECT 'taken' FROM pg_extension_update_paths('urlcheck')
             WHERE source = '$released' AND target = '$version' AND path IS NOT NULL" taken
+        sql -c 'CREATE DATABASE released'
+        sql -d released -c "CREATE EXTENSION urlcheck VERSION '$released'" -c 'ALTER EXTENSION urlcheck UPDATE'
+        diff <(made_in page) <(made_in released) || fail "postgresql: an update from $released gives something else"
+        sql -c 'DROP DATABASE released'
     done < <(sed -n 's/^## \([0-9.]*\) - .*/\1/p' "$top/CHANGELOG.md")
     sql -c 'CREATE DATABASE older'
     sql -d older -c 'CREATE EXTENSION urlcheck' \
@@ -92,7 +105,7 @@ updated() {
     sql -d older -c 'ALTER EXTENSION urlcheck UPDATE'
     sed -i "s/^default_version = .*/default_version = '$version'/" "$tree$share/extension/urlcheck.control"
     says "SELECT extversion, url_is_next(), made FROM pg_extension, link WHERE extname = 'urlcheck'" 'next|t|http://h/' older
-    says "INSERT INTO link VALUES ('a')" 'no valid URL' older
+    says "INSERT INTO link VALUES ('a')" 'invalid URL' older
 }
 
 encodings() {
@@ -119,7 +132,7 @@ encodings() {
     says "SELECT rule, place FROM url_faults('http://h/' || chr(255))" 'no-utf8|10' bytes
     says "SELECT url_require('http://h/' || chr(255))" 'Rule no-utf8 at place 10' bytes
     says "SELECT url_is_valid('http://münchen.de/')" t bytes
-    says "SELECT url_is_valid('x', 'http://h/' || chr(255))" 'the base is no UTF-8' bytes
+    says "SELECT url_is_valid('x', 'http://h/' || chr(255))" 'invalid base URL: the bytes from here on are not UTF-8' bytes
 }
 
 # A limit of time ends scans and long lists, and the server answers after it.

@@ -42,6 +42,8 @@ add_extension() {
     cp -L "$library/lib/liburlcheck.so.0" "$tree/"
     cp "$top/bindings/engines/postgresql/test/next.sql" \
         "$tree$share/extension/urlcheck--$(cat "$top/VERSION")--next.sql"
+    # (the SQL of versions before this one, as they were released)
+    cp -n "$top"/bindings/engines/postgresql/test/urlcheck--*.sql "$tree$share/extension/"
     chmod -R a+rX "$room/extension"
 }
 

@@ -48,7 +48,7 @@ class Registers(unittest.TestCase):
             self.database.execute("INSERT INTO {} VALUES ('http://h/'), (NULL)".format(table))
         self.refuses(sqlite3.IntegrityError, "CHECK constraint failed", "INSERT INTO link VALUES ('http://h/a b')")
         wanted = (
-            r"no valid URL: U\+0020 SPACE is not allowed in a URL \(rule code-point at place 11\); "
+            r"invalid URL: U\+0020 SPACE is not allowed in a URL \(rule code-point at place 11\); "
             r"a valid text in its place: http://h/a%20b$"
         )
         self.refuses(sqlite3.OperationalError, wanted, "INSERT INTO said VALUES ('http://h/a b')")
@@ -111,12 +111,12 @@ class Registers(unittest.TestCase):
 
     def test_bad_arguments(self):
         for function in ("url_is_valid", "url_resolve", "url_mend", "url_mend_kind", "url_host"):
-            self.refuses(sqlite3.OperationalError, "no profile has this name", "SELECT {}('x', NULL, 'loose')".format(function))
-            self.refuses(sqlite3.OperationalError, r"the base is no valid URL: it has no scheme \(rule no-scheme at place 1",
+            self.refuses(sqlite3.OperationalError, "unrecognized profile", "SELECT {}('x', NULL, 'loose')".format(function))
+            self.refuses(sqlite3.OperationalError, r"invalid base URL: it has no scheme \(rule no-scheme at place 1",
                          "SELECT {}('x', 'no base')".format(function))
         for table in ("url_check", "url_faults"):
-            self.refuses(sqlite3.OperationalError, "no profile has this name", "SELECT * FROM {}('x', NULL, 'loose')".format(table))
-            self.refuses(sqlite3.OperationalError, "the base is no valid URL", "SELECT * FROM {}('x', 'http://h/^')".format(table))
+            self.refuses(sqlite3.OperationalError, "unrecognized profile", "SELECT * FROM {}('x', NULL, 'loose')".format(table))
+            self.refuses(sqlite3.OperationalError, "invalid base URL", "SELECT * FROM {}('x', 'http://h/^')".format(table))
         self.refuses(sqlite3.OperationalError, "wrong number of arguments", "SELECT url_is_valid()")
 
     def test_bytes_that_are_no_utf8(self):
@@ -124,7 +124,7 @@ class Registers(unittest.TestCase):
         self.assertEqual(self.one("SELECT url_is_valid({0}), url_rule({0}), url_place({0}), url_resolve({0})".format(wrong)),
                          (0, "no-utf8", 11, None))
         self.assertEqual(self.one("SELECT rule, place FROM url_faults({})".format(wrong)), ("no-utf8", 11))
-        self.refuses(sqlite3.OperationalError, "the base is no UTF-8", "SELECT url_is_valid('x', {})".format(wrong))
+        self.refuses(sqlite3.OperationalError, "invalid base URL: the bytes from here on are not UTF-8", "SELECT url_is_valid('x', {})".format(wrong))
 
     def test_messages(self):
         """As `urlcheck lint` says them, in the words of SQL; in a longer text than 4096 bytes later faults by their rules alone."""
@@ -175,7 +175,7 @@ def answers(path):
                                          (text, base, profile)).fetchone()
                 faults = database.execute("SELECT rule, place FROM url_faults({})".format(words), (text, base, profile)).fetchall()
             except sqlite3.OperationalError as error:
-                if not str(error).startswith("the base is no valid URL"):
+                if not str(error).startswith("invalid base URL"):
                     raise
                 continue
             row[-1] = bool(row[-1])

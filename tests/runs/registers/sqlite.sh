@@ -68,18 +68,18 @@ else
                 fail "sqlite: a spoiled copy passes: $file: $edit"
             fi
         done <<'EDITS'
-common/words.h|s/{"standard", "wide", "parser"}/{"standard", "parser", "wide"}/
-common/asked.h|s/asked->held, base.bytes, base.length, out/asked->held, url.bytes, url.length, out/
-common/asked.h|s/message_on(asked->url, asked->profile/message_on(asked->url, URLCHECK_WIDE/
-common/asked.h|s/    name_arguments(message);//
-common/errors.h|s/kind == URLCHECK_CHANGED/kind != URLCHECK_CHANGED/
-common/offered.h|s/offered\\":true/offered\\":/
+common/names.h|s/{"standard", "wide", "parser"}/{"standard", "parser", "wide"}/
+common/request.h|s/profile, base.bytes, base.length, out/profile, url.bytes, url.length, out/
+common/request.h|s/message_on(request->url, request->profile/message_on(request->url, URLCHECK_WIDE/
+common/request.h|s/URLCHECK_WORDING_SQL/URLCHECK_WORDING_OPTIONS/
+common/errors.h|s/answer.kind == URLCHECK_CHANGED/answer.kind != URLCHECK_CHANGED/
+common/errors.h|s/!answer.offered/answer.offered/
 sqlite/functions.c|s/found.place + 1); break/found.place); break/
-sqlite/given.c|s/asked->held = &asked->own;/asked->held = NULL;/
-sqlite/given.c|s/held && held->profile == asked->profile/held/
+sqlite/arguments.c|s/request->prepared = &request->own;/request->prepared = NULL;/
+sqlite/arguments.c|s/held \&\& held->profile == request->profile/held/
 sqlite/tables.c|s/held->rows = answer.count;/held->rows = answer.count \/ 2;/
 sqlite/tables.c|s/if (answer.count <= room) break;/if (answer.count <= room + 1) break;/
-sqlite/functions.c|s/(length <= MOST)/(length <= MOST + 1)/
+sqlite/functions.c|s/(made.length <= MOST)/(made.length <= MOST + 1)/
 sqlite/functions.c|s/"url_port", PARTS + 2/"url_port", PARTS + 1/
 EDITS
         from='from its shell and from Python, spoiled copies fail'

@@ -1,6 +1,6 @@
-/* What a call gives in SQLite: a text, a base or none, and a profile, as scalar functions and tables are given them. */
-#ifndef URLCHECK_GIVEN_H
-#define URLCHECK_GIVEN_H
+/* The arguments of a call in SQLite, of a scalar function or of a table: a text, a base or none, and a profile. */
+#ifndef URLCHECK_ARGUMENTS_H
+#define URLCHECK_ARGUMENTS_H
 
 #include <sqlite3ext.h>
 
@@ -13,11 +13,11 @@ typedef enum reading { READ, READ_NULL, READ_NO_PROFILE, READ_NO_MEMORY } readin
  * Reads the arguments, of which each may be null where it isn't given. A base that is NULL is none, a profile that is NULL
  * the standard one. The base is checked unless `held` is what it was checked to be before, by the same profile.
  */
-reading read_asked(asked *asked, sqlite3_value *url, sqlite3_value *base, sqlite3_value *profile,
-                   const urlcheck_base *held);
+reading read_request(request *request, sqlite3_value *url, sqlite3_value *base, sqlite3_value *profile,
+                     const urlcheck_base *held);
 
 /* Whether the text was checked; else how the call ends, with a message to free where it is an error of its own. */
-int is_checked(const asked *asked, urlcheck_finding found, char **message, int *code);
+int is_checked(const request *request, urlcheck_finding found, char **message, int *code);
 
 /* Registers the tables url_check and url_faults. */
 int register_tables(sqlite3 *database);

@@ -1,5 +1,5 @@
 /* The arguments of the functions: texts in the database's encoding, profiles by name, bases that are checked once. */
-#include "given.h"
+#include "arguments.h"
 
 #include "catalog/namespace.h"
 #include "funcapi.h"
@@ -9,8 +9,7 @@
 
 /* What is kept between the calls from one place of a statement, in fn_extra. */
 typedef struct kept {
-    uint8_t *bytes; /* those of the base */
-    size_t length;
+    slice text; /* of the base */
     urlcheck_base base;
     TupleDesc row;
 } kept;
@@ -30,12 +29,12 @@ static bool is_plain(const char *bytes, size_t length, int encoding) {
 
 #if PG_VERSION_NUM >= 140000
 /* The text in UTF-8. After the front that has a form in UTF-8 is a byte that never does, where that isn't all. */
-static given in_utf8(const char *bytes, int length, int encoding) {
+static slice in_utf8(const char *bytes, int length, int encoding) {
     Oid conversion = FindDefaultConversionProc(encoding, PG_UTF8);
     size_t room = (size_t)length * MAX_CONVERSION_GROWTH + 2;
     char *out;
     int taken;
-    given read;
+    slice read;
 
     if (!OidIsValid(conversion))
         ereport(ERROR, (errcode(ERRCODE_UNDEFINED_FUNCTION),
@@ -52,8 +51,8 @@ static given in_utf8(const char *bytes, int length, int encoding) {
 }
 #else
 /* The text in UTF-8, or an error where it has no form there. */
-static given in_utf8(const char *bytes, int length, int encoding) {
-    given read;
+static slice in_utf8(const char *bytes, int length, int encoding) {
+    slice read;
 
     read.bytes = (const uint8_t *)pg_server_to_any(bytes, length, PG_UTF8);
     read.length = strlen((const char *)read.bytes);
@@ -61,10 +60,10 @@ static given in_utf8(const char *bytes, int length, int encoding) {
 }
 #endif
 
-static given given_of(text *argument) {
+static slice slice_of(text *argument) {
     const char *bytes = VARDATA_ANY(argument);
     int length = VARSIZE_ANY_EXHDR(argument), encoding = GetDatabaseEncoding();
-    given read = {(const uint8_t *)bytes, (size_t)length};
+    slice read = {(const uint8_t *)bytes, (size_t)length};
 
     return is_plain(bytes, read.length, encoding) ? read : in_utf8(bytes, length, encoding);
 }
@@ -79,11 +78,13 @@ text *text_of(const uint8_t *bytes, size_t length) {
     return cstring_to_text_with_len(written, (int)length);
 }
 
-text *message_text(const asked *asked, urlcheck_finding found) {
-    char message[MESSAGE_ROOM];
-    const char *said = ask_message(asked, found, message);
+/* A message, which is in UTF-8, as a text of the database. */
+static text *text_of_message(const char *message) { return text_of((const uint8_t *)message, strlen(message)); }
 
-    return text_of((const uint8_t *)said, strlen(said));
+text *message_text(const request *request, urlcheck_finding found) {
+    char message[MESSAGE_ROOM];
+
+    return text_of_message(url_message(request, found, message));
 }
 
 static uint32_t profile_of(text *argument) {
@@ -92,43 +93,41 @@ static uint32_t profile_of(text *argument) {
     if (number < 0)
         ereport(ERROR,
                 (errcode(ERRCODE_INVALID_PARAMETER_VALUE),
-                 errmsg("no profile has the name \"%s\"", text_to_cstring(argument)),
-                 errhint("There are the profiles " PROFILE_NAMES ".")));
+                 errmsg("unrecognized profile: \"%s\"", text_to_cstring(argument)),
+                 errhint("Valid profiles are " PROFILE_NAMES ".")));
     return (uint32_t)number;
 }
 
 /* The base, checked anew where it isn't that of the last call from the same place. */
-static const urlcheck_base *held_base(kept *kept, given base, uint32_t profile, MemoryContext context) {
-    bool is_kept = kept->bytes != NULL && kept->length == base.length && kept->base.profile == profile &&
-                   memcmp(kept->bytes, base.bytes, base.length) == 0;
+static const urlcheck_base *kept_base(kept *kept, slice base, uint32_t profile, MemoryContext context) {
+    bool is_kept = kept->text.bytes != NULL && kept->text.length == base.length && kept->base.profile == profile &&
+                   memcmp(kept->text.bytes, base.bytes, base.length) == 0;
 
     if (!is_kept) {
         uint8_t *bytes = MemoryContextAlloc(context, base.length + 1);
 
         memcpy(bytes, base.bytes, base.length);
-        if (kept->bytes != NULL) pfree(kept->bytes);
-        kept->bytes = bytes;
-        kept->length = base.length;
+        if (kept->text.bytes != NULL) pfree((void *)kept->text.bytes);
+        kept->text.bytes = bytes, kept->text.length = base.length;
         kept->base = urlcheck_prepare(bytes, base.length, profile);
     }
     return &kept->base;
 }
 
-bool read_asked(FunctionCallInfo fcinfo, asked *asked, bool keeps) {
+bool read_request(FunctionCallInfo fcinfo, request *request, bool keeps) {
+    FmgrInfo *place = fcinfo->flinfo;
+
     if (PG_ARGISNULL(0)) return false;
-    memset(asked, 0, sizeof *asked);
-    asked->url = given_of(PG_GETARG_TEXT_PP(0));
-    if (PG_NARGS() > 2 && !PG_ARGISNULL(2)) asked->profile = profile_of(PG_GETARG_TEXT_PP(2));
-    if (PG_NARGS() > 1 && !PG_ARGISNULL(1)) {
-        asked->base = given_of(PG_GETARG_TEXT_PP(1));
-        if (keeps) {
-            FmgrInfo *place = fcinfo->flinfo;
-            asked->held = held_base(kept_of(place), asked->base, asked->profile, place->fn_mcxt);
-        } else {
-            asked->own = urlcheck_prepare(asked->base.bytes, asked->base.length, asked->profile);
-            asked->held = &asked->own;
-        }
-    }
+    memset(request, 0, sizeof *request);
+    request->url = slice_of(PG_GETARG_TEXT_PP(0));
+    if (PG_NARGS() > 2 && !PG_ARGISNULL(2)) request->profile = profile_of(PG_GETARG_TEXT_PP(2));
+    if (PG_NARGS() <= 1 || PG_ARGISNULL(1)) return true;
+    request->base = slice_of(PG_GETARG_TEXT_PP(1));
+    request->prepared = &request->own;
+    if (keeps)
+        request->prepared = kept_base(kept_of(place), request->base, request->profile, place->fn_mcxt);
+    else
+        request->own = urlcheck_prepare(request->base.bytes, request->base.length, request->profile);
     return true;
 }
 
@@ -140,49 +139,43 @@ TupleDesc row_type(FunctionCallInfo fcinfo) {
         TupleDesc row;
 
         if (get_call_result_type(fcinfo, NULL, &row) != TYPEFUNC_COMPOSITE)
-            ereport(ERROR, (errcode(ERRCODE_FEATURE_NOT_SUPPORTED), errmsg("a row can't be returned here")));
+            elog(ERROR, "return type must be a row type");
         kept->row = BlessTupleDesc(row);
         MemoryContextSwitchTo(before);
     }
     return kept->row;
 }
 
-static void stop_for_base(const asked *asked, urlcheck_finding found) {
+static void stop_for_base(const request *request, urlcheck_finding found) {
     char name[NAME_ROOM], message[MESSAGE_ROOM];
-    const char *said = base_message(asked, found, message);
     int code = found.verdict == URLCHECK_BASE_REFUSED ? ERRCODE_INVALID_PARAMETER_VALUE
                                                       : ERRCODE_CHARACTER_NOT_IN_REPERTOIRE;
+    text *said = text_of_message(base_message(request, found, message));
 
-    ereport(ERROR, (errcode(code), errmsg("the base is no valid URL: %s",
-                                           text_to_cstring(text_of((const uint8_t *)said, strlen(said)))),
+    ereport(ERROR, (errcode(code), errmsg("invalid base URL: %s", text_to_cstring(said)),
                     errdetail("Rule %s at place %d of the base.", rule_name(found.rule, name),
                               sql_place(found.place))));
 }
 
-void stop_unless_checked(const asked *asked, urlcheck_finding found) {
+void stop_unless_checked(const request *request, urlcheck_finding found) {
     switch (found.verdict) {
         case URLCHECK_VALID:
         case URLCHECK_REFUSED:
         case URLCHECK_NO_UTF8:
         case URLCHECK_MENDED: return;
         case URLCHECK_BASE_REFUSED:
-        case URLCHECK_BASE_NO_UTF8: stop_for_base(asked, found); break;
+        case URLCHECK_BASE_NO_UTF8: stop_for_base(request, found); break;
         case URLCHECK_MEMORY:
             ereport(ERROR, (errcode(ERRCODE_OUT_OF_MEMORY), errmsg("out of memory"),
-                            errdetail("urlcheck got no memory for a text of %zu bytes.", asked->url.length)));
+                            errdetail("Failed while checking a URL of %zu bytes.", request->url.length)));
             break;
-        default: elog(ERROR, "urlcheck answered %u", found.verdict);
+        default: elog(ERROR, "unexpected verdict of urlcheck: %u", found.verdict);
     }
 }
 
-urlcheck_answer checked(const asked *asked) {
-    urlcheck_answer answer = ask_check(asked);
+urlcheck_answer checked(const request *request) {
+    urlcheck_answer answer = check_request(request);
 
-    stop_unless_checked(asked, answer.found);
+    stop_unless_checked(request, answer.found);
     return answer;
-}
-
-bool is_valid(const asked *asked) {
-    /* (the first says no also where there is no memory or no base, which the check tells apart) */
-    return ask_is_valid(asked) || checked(asked).found.verdict == URLCHECK_VALID;
 }
