@@ -58,7 +58,7 @@ enum urlcheck_outcome {
     URLCHECK_BASE_NO_UTF8 = 4, /* the base is no UTF-8; nothing is said of the text */
     URLCHECK_MEMORY = 5,       /* malloc gave no memory; nothing is said of the text */
     URLCHECK_NO_PROFILE = 6,   /* no profile has the number that was given */
-    URLCHECK_NO_BASE = 7,      /* the base is of another profile than the call, of zeros, or made up */
+    URLCHECK_NO_BASE = 7,      /* the base is of another profile than the call, of zeros, or has no scheme's number */
     URLCHECK_MENDED = 8,       /* the text violates a rule, and urlcheck_mend gives a valid one in its place */
     URLCHECK_DONE = 9,         /* of batches and reports: what was asked for is given */
     URLCHECK_NO_FORMAT = 10,   /* no format of reports has the number that was given */
@@ -72,7 +72,8 @@ enum urlcheck_outcome {
     URLCHECK_NULL = 18,        /* a null pointer in place of bytes, of offsets or of what is reported */
     URLCHECK_FILE_NO_UTF8 = 19,   /* the name of the file is no UTF-8 */
     URLCHECK_MENDED_NO_UTF8 = 20, /* the mended text is no UTF-8 */
-    URLCHECK_NO_WORDING = 21      /* no urlcheck_wording has the number */
+    URLCHECK_REPORTED_NO_UTF8 = 21, /* the name or the address of a rule, a message, or what it is within is no UTF-8 */
+    URLCHECK_NO_WORDING = 22      /* no urlcheck_wording has the number */
 };
 
 /* The rules that a text can violate. A refusal names the rule of the least number at the least place. */
@@ -279,10 +280,43 @@ typedef struct urlcheck_counted {
     uint64_t column;        /* the column, from 1; 18446744073709551615 for each beyond that; 0 where there is none */
 } urlcheck_counted;
 
-/* >>> urlcheck_reported: its fields are being written. This place is theirs. */
-struct urlcheck_reported;
-typedef struct urlcheck_reported urlcheck_reported;
-/* <<< urlcheck_reported */
+/* Where something is in a file. Lines and columns are from 1 to 4294967295; the end is after the last code point. */
+typedef struct urlcheck_region {
+    uint64_t line;
+    uint64_t column;
+    uint64_t end_line;
+    uint64_t end_column;
+} urlcheck_region;
+
+/* The numbers of a diagnostic. */
+typedef struct urlcheck_reported_numbers {
+    urlcheck_region region;     /* what is wrong: of a rule of texts up to the place after `place`, where there is one */
+    urlcheck_region fix_region; /* the text that the fix replaces, or zeros where it may not be written there */
+    size_t place;               /* where the text is wrong, in code points from 0 */
+    uint64_t repeat;            /* how many diagnostics before it in the file have the same rule, place and text: GitLab's
+                                   fingerprint tells them apart by it, and 0 is always allowed */
+    uint32_t kind;              /* of the fix: one of urlcheck_mend_kind, or 0 where there is none */
+    uint32_t offered;           /* 0 where the fix isn't to be written: urlcheck_mended says it */
+} urlcheck_reported_numbers;
+
+/* A diagnostic, for urlcheck_diagnostic. Its texts are UTF-8. */
+typedef struct urlcheck_reported {
+    urlcheck_reported_numbers numbers;
+    const uint8_t *file; /* the name of the file */
+    size_t file_length;
+    const uint8_t *rule; /* the name of the rule: one of the library's, or one of your own */
+    size_t rule_length;
+    const uint8_t *uri; /* the address of the rule's page (URLCHECK_RULE_PAGE), or empty */
+    size_t uri_length;
+    const uint8_t *message; /* what is wrong, in a sentence without its end (urlcheck_message) */
+    size_t message_length;
+    const uint8_t *within; /* what it is within in the file, which is said after the message; or empty */
+    size_t within_length;
+    const uint8_t *text; /* the text that is wrong */
+    size_t text_length;
+    const uint8_t *fix; /* what to write in its place, read where the kind isn't 0 */
+    size_t fix_length;
+} urlcheck_reported;
 
 /*
  * Checks a base alone by a profile, for the calls that are given it. Where it isn't valid, `found` says why, and those
@@ -377,7 +411,13 @@ urlcheck_written urlcheck_report_begin(uint32_t format, uint32_t unit, uint8_t *
 urlcheck_written urlcheck_report_file_begin(uint32_t format, const uint8_t *file, size_t length, uint8_t *out,
                                             size_t room);
 
-/* A diagnostic. `is_first` is 1 where no other one is before it in the report, else 0. */
+/*
+ * A diagnostic of the report. `is_first` is 1 where no other one is before it, else 0. The outcome is the first of
+ * these that is so: URLCHECK_NO_FORMAT, URLCHECK_FILE_NO_UTF8, URLCHECK_REPORTED_NO_UTF8, URLCHECK_NO_UTF8 of the text,
+ * URLCHECK_NO_PLACE, URLCHECK_NO_COLUMN where a line or a column is out of range or a region ends before it begins,
+ * URLCHECK_NO_KIND, URLCHECK_MENDED_NO_UTF8 of the fix. SARIF and rdjson write an edit, so they leave out a fix that
+ * isn't offered or has no region. A format that says no text to write (urlcheck_shows_mended) leaves each out.
+ */
 urlcheck_written urlcheck_diagnostic(uint32_t format, uint32_t is_first, const urlcheck_reported *reported,
                                      uint8_t *out, size_t room);
 
@@ -495,6 +535,13 @@ URLCHECK_HOLDS(sizeof(urlcheck_written) == 32 && offsetof(urlcheck_written, foun
 URLCHECK_HOLDS(offsetof(urlcheck_written, length) == 24);
 URLCHECK_HOLDS(sizeof(urlcheck_counted) == 32 && offsetof(urlcheck_counted, found) == 0);
 URLCHECK_HOLDS(offsetof(urlcheck_counted, column) == 24);
+URLCHECK_HOLDS(sizeof(urlcheck_region) == 32 && offsetof(urlcheck_region, line) == 0);
+URLCHECK_HOLDS(offsetof(urlcheck_region, column) == 8 && offsetof(urlcheck_region, end_line) == 16);
+URLCHECK_HOLDS(offsetof(urlcheck_region, end_column) == 24);
+URLCHECK_HOLDS(sizeof(urlcheck_reported_numbers) == 88 && offsetof(urlcheck_reported_numbers, region) == 0);
+URLCHECK_HOLDS(offsetof(urlcheck_reported_numbers, fix_region) == 32);
+URLCHECK_HOLDS(offsetof(urlcheck_reported_numbers, place) == 64 && offsetof(urlcheck_reported_numbers, repeat) == 72);
+URLCHECK_HOLDS(offsetof(urlcheck_reported_numbers, kind) == 80 && offsetof(urlcheck_reported_numbers, offered) == 84);
 #undef URLCHECK_HOLDS
 #endif
 #endif
