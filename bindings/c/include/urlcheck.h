@@ -70,10 +70,10 @@ enum urlcheck_outcome {
     URLCHECK_NO_COLUMN = 16,   /* a line or a column isn't from 1 to 4294967295 */
     URLCHECK_NO_OFFSETS = 17,  /* an offset is less than the one before it, or after the end of the texts */
     URLCHECK_NULL = 18,        /* a null pointer in place of bytes, of offsets or of what is reported */
-    URLCHECK_FILE_NO_UTF8 = 19,   /* the name of the file is no UTF-8 */
+    URLCHECK_FILE_NO_UTF8 = 19,  /* the name of the file is no UTF-8 */
     URLCHECK_MENDED_NO_UTF8 = 20, /* the mended text is no UTF-8 */
-    URLCHECK_REPORTED_NO_UTF8 = 21, /* the name or the address of a rule, a message, or what it is within is no UTF-8 */
-    URLCHECK_NO_WORDING = 22      /* no urlcheck_wording has the number */
+    URLCHECK_REPORTED_NO_UTF8 = 21, /* a rule's name or address, a message, or what it is within is no UTF-8 */
+    URLCHECK_NO_WORDING = 22     /* no urlcheck_wording has the number */
 };
 
 /* The rules that a text can violate. A refusal names the rule of the least number at the least place. */
@@ -290,11 +290,11 @@ typedef struct urlcheck_region {
 
 /* The numbers of a diagnostic. */
 typedef struct urlcheck_reported_numbers {
-    urlcheck_region region;     /* what is wrong: of a rule of texts up to the place after `place`, where there is one */
+    urlcheck_region region;     /* what is wrong: of a rule of texts up to the place after `place`, where one is */
     urlcheck_region fix_region; /* the text that the fix replaces, or zeros where it may not be written there */
     size_t place;               /* where the text is wrong, in code points from 0 */
-    uint64_t repeat;            /* how many diagnostics before it in the file have the same rule, place and text: GitLab's
-                                   fingerprint tells them apart by it, and 0 is always allowed */
+    uint64_t repeat;            /* how many diagnostics before it in the file have the same rule, place and text;
+                                   GitLab's fingerprint tells them apart by it, and 0 is always allowed */
     uint32_t kind;              /* of the fix: one of urlcheck_mend_kind, or 0 where there is none */
     uint32_t offered;           /* 0 where the fix isn't to be written: urlcheck_mended says it */
 } urlcheck_reported_numbers;
@@ -319,15 +319,15 @@ typedef struct urlcheck_reported {
 } urlcheck_reported;
 
 /*
- * Checks a base alone by a profile, for the calls that are given it. Where it isn't valid, `found` says why, and those
- * calls say the same.
+ * Checks a base alone by a profile, for the calls that are given it by the same profile. Where it isn't valid, `found`
+ * says why, and those calls say the same; one of URLCHECK_NULL is no base.
  */
 urlcheck_base urlcheck_prepare(const uint8_t *base, size_t length, uint32_t profile);
 
 /*
  * Whether the text is a valid URL string: alone where `base` is null, and else against a base that urlcheck_prepare
- * made by the same profile. Against one of another profile, of zeros, or made up the verdict is URLCHECK_NO_BASE;
- * against one that isn't valid it is the base's.
+ * made by the same profile. Against one of another profile, or of zeros, the verdict is URLCHECK_NO_BASE; against one
+ * that isn't valid it is the base's.
  */
 urlcheck_answer urlcheck_check(const uint8_t *text, size_t length, uint32_t profile, const urlcheck_base *base);
 
