@@ -144,7 +144,7 @@ enum urlcheck_completion {
 enum urlcheck_text {
     URLCHECK_RULE_NAME = 0,
     URLCHECK_RULE_SENTENCE = 1,
-    URLCHECK_RULE_PAGE = 2,
+    URLCHECK_RULE_ADDRESS = 2,
     URLCHECK_RULE_REQUIRES = 3,
     URLCHECK_RULE_SECTION = 4,
     URLCHECK_EXAMPLE_BASE = 5,

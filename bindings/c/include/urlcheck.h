@@ -232,10 +232,10 @@ enum urlcheck_completion {
 /* The fixed texts that urlcheck_text gives, and what each is the text of. */
 enum urlcheck_text {
     URLCHECK_RULE_NAME = 0,      /* of a rule of texts or of lines: its name, as `host-domain` */
-    URLCHECK_RULE_SENTENCE = 1,  /* of a rule of texts: what is wrong at the place, in a sentence */
-    URLCHECK_RULE_PAGE = 2,      /* of a rule of texts or of lines: the address of its page, as reports have it */
-    URLCHECK_RULE_REQUIRES = 3,  /* of a rule of texts, as the four after it: what the rule requires */
-    URLCHECK_RULE_SECTION = 4,   /* the section of the URL Standard, and what it calls that */
+    URLCHECK_RULE_SENTENCE = 1,  /* of a rule of texts or of lines: what is wrong at the place, in a sentence */
+    URLCHECK_RULE_ADDRESS = 2,   /* of a rule of texts: where it is in the URL Standard, an address that reports have */
+    URLCHECK_RULE_REQUIRES = 3,  /* of a rule of texts or of lines: what it requires */
+    URLCHECK_RULE_SECTION = 4,   /* of a rule of texts, as the three after it: the section, and what it calls that */
     URLCHECK_EXAMPLE_BASE = 5,   /* the base that the example is read against; empty where it is read alone */
     URLCHECK_EXAMPLE = 6,        /* a text that is refused by the rule */
     URLCHECK_EXAMPLE_MENDED = 7, /* a valid text that its author may have meant */
@@ -306,7 +306,7 @@ typedef struct urlcheck_reported {
     size_t file_length;
     const uint8_t *rule; /* the name of the rule: one of the library's, or one of your own */
     size_t rule_length;
-    const uint8_t *uri; /* the address of the rule's page (URLCHECK_RULE_PAGE), or empty */
+    const uint8_t *uri; /* the address of what the rule is about (URLCHECK_RULE_ADDRESS), or empty */
     size_t uri_length;
     const uint8_t *message; /* what is wrong, in a sentence without its end (urlcheck_message) */
     size_t message_length;

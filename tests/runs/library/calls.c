@@ -84,7 +84,7 @@ static urlcheck_reported space(void) {
     it.numbers.offered = 1;
     SAYS(&it, file, "a.md");
     SAYS(&it, rule, "code-point");
-    SAYS(&it, uri, "https://yuccaeave.example/urlcheck/docs/rules/code-point.html");
+    SAYS(&it, uri, "https://url.spec.whatwg.org/#url-code-points");
     SAYS(&it, message, "U+0020 SPACE is not allowed in a URL");
     SAYS(&it, text, TEXT);
     SAYS(&it, fix, MENDED);
@@ -98,7 +98,7 @@ static urlcheck_written diagnostic(uint32_t format, const urlcheck_reported *it)
 /* The formats in which an end or an edit is. */
 static void more_diagnostics(urlcheck_reported it) {
     gives(diagnostic(URLCHECK_RDJSON, &it),
-          "{\"code\":{\"url\":\"https://yuccaeave.example/urlcheck/docs/rules/code-point.html\",\"value\":\"code-point\"},"
+          "{\"code\":{\"url\":\"https://url.spec.whatwg.org/#url-code-points\",\"value\":\"code-point\"},"
           "\"location\":{\"path\":\"a.md\",\"range\":{\"end\":{\"column\":16,\"line\":3},\"start\":{\"column\":15,"
           "\"line\":3}}},\"message\":\"U+0020 SPACE is not allowed in a URL\",\"severity\":\"ERROR\",\"suggestions\":[{"
           "\"range\":{\"end\":{\"column\":17,\"line\":3},\"start\":{\"column\":5,\"line\":3}},"
@@ -209,7 +209,7 @@ static void rounds(void) {
     gives(urlcheck_report_begin(URLCHECK_GITLAB, URLCHECK_BYTES, out, sizeof out), "[\n");
     gives(urlcheck_report_end(URLCHECK_GITLAB, URLCHECK_UNREAD, out, sizeof out), "]\n");
     gives(urlcheck_report_begin(URLCHECK_RDJSON, URLCHECK_BYTES, out, sizeof out),
-          "{\"source\":{\"name\":\"urlcheck\",\"url\":\"https://yuccaeave.example/urlcheck/\"},"
+          "{\"source\":{\"name\":\"urlcheck\"},"
           "\"severity\":\"ERROR\",\"diagnostics\":[\n");
     gives(urlcheck_report_end(URLCHECK_RDJSON, URLCHECK_UNREAD, out, sizeof out), "]}\n");
     gives(urlcheck_report_end(URLCHECK_SARIF, URLCHECK_WHOLE, out, sizeof out),
@@ -278,9 +278,9 @@ static void names(void) {
     is_fixed(URLCHECK_RULE_NAME, 0, "");
     is_fixed(URLCHECK_RULE_NAME, 15, "");
     is_fixed(URLCHECK_RULE_SENTENCE, URLCHECK_PORT_DIGIT, "a port has digits only");
-    is_fixed(URLCHECK_RULE_PAGE, URLCHECK_PERCENT, "https://yuccaeave.example/urlcheck/docs/rules/percent.html");
-    is_fixed(URLCHECK_RULE_PAGE, URLCHECK_LINE_NO_UTF8, "https://yuccaeave.example/urlcheck/docs/COMMANDS.html");
-    is_fixed(URLCHECK_RULE_PAGE, 15, "");
+    is_fixed(URLCHECK_RULE_ADDRESS, URLCHECK_PORT_RANGE, "https://url.spec.whatwg.org/#url-port-string");
+    is_fixed(URLCHECK_RULE_ADDRESS, URLCHECK_LINE_NO_UTF8, "");
+    is_fixed(URLCHECK_RULE_ADDRESS, 15, "");
     is_fixed(URLCHECK_RULE_REQUIRES, URLCHECK_PORT_RANGE, "A port is at most 65535.");
     is_fixed(URLCHECK_RULE_SECTION, URLCHECK_PORT_RANGE, "4.3, URL-port string");
     is_fixed(URLCHECK_EXAMPLE_BASE, URLCHECK_PORT_RANGE, "");

@@ -80,11 +80,12 @@ static uint64_t column(const uint8_t *text, size_t length, size_t place) {
     return told.column;
 }
 
-/* A fixed text of the rule, in memory of exactly its length. */
+/* A fixed text of the rule, in memory of exactly its length. A rule of lines has no address. */
 static const uint8_t *rule_text(uint32_t what, uint32_t rule, size_t *length) {
+    int is_there = what != URLCHECK_RULE_ADDRESS || rule < URLCHECK_LINE_NO_UTF8;
     *length = urlcheck_text(what, rule, NULL, 0);
     uint8_t *out = taken(*length);
-    if (urlcheck_text(what, rule, out, *length) != *length || !*length) fail("no text of a rule");
+    if (urlcheck_text(what, rule, out, *length) != *length || (*length > 0) != is_there) fail("no text of a rule");
     return out;
 }
 
@@ -151,7 +152,7 @@ static void report(const uint8_t *text, size_t length, uint64_t line, int *is_fi
     of->file = (const uint8_t *)name;
     of->file_length = strlen(name);
     of->rule = rule_text(URLCHECK_RULE_NAME, it.rule, &of->rule_length);
-    of->uri = rule_text(URLCHECK_RULE_PAGE, it.rule, &of->uri_length);
+    of->uri = rule_text(URLCHECK_RULE_ADDRESS, it.rule, &of->uri_length);
     asked message = it;
     message.call = MESSAGE;
     of->message = text_of(&message, &of->message_length);

@@ -189,17 +189,6 @@ static const struct repeated {
 };
 enum { MILLION = 1000000 };
 
-/* Without memory for the address of a page none is given, and nothing is written. */
-static void page_without_memory(void) {
-    uint8_t out[128] = {0};
-    size_t length = urlcheck_text(URLCHECK_RULE_PAGE, URLCHECK_PERCENT, NULL, 0);
-    expect(length > 0 && length < sizeof out, "the address of a page");
-    until = 0;
-    expect(urlcheck_text(URLCHECK_RULE_PAGE, URLCHECK_PERCENT, out, sizeof out) == 0, "a page without memory");
-    until = -1;
-    expect(out[0] == 0, "a page without memory is written");
-}
-
 static void list_faults_of(const struct repeated *row, const uint8_t *text, size_t length, uint32_t profile) {
     size_t wanted = row->each * MILLION;
     urlcheck_fault *all = malloc(wanted * sizeof *all);
@@ -260,7 +249,6 @@ static void check_100_mb(void) {
 
 int main(void) {
     for (int kind = 0; kind < 23; kind++) refuse_each(kind);
-    page_without_memory();
     list_faults();
     check_100_mb();
     return failed;

@@ -3,7 +3,7 @@ use Rattle.std.proofs.Common.{◌∙◌, ap, length, subst, sym}
 use Rattle.urlcheck_c.specs.declared.spans.Spans.{Spans}
 use Rattle.urlcheck_c.specs.RecordPlaces.{AreRecordSpans}
 use Rattle.urlcheck_c.proofs.RecordPlaceLemmas.{record_length, record_places}
-use Rattle.urlcheck_c.proofs.records.placed_records.placed_text.Goals as goal
+use Rattle.urlcheck_c.proofs.records.placed_text.Goals as goal
 
 pub record_places-requires : goal.record_places-requires
 record_places-requires c = ap length (c.as_str.ensures.value ∙ c.in_ok-text.ensures) ∙ record_length c.args.url.now

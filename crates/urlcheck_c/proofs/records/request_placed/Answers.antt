@@ -1,6 +1,6 @@
 -- The text denotes the URL whose record is given.
 use Rattle.urlcheck_c.proofs.RecordLemmas.{placed_is_answer}
-use Rattle.urlcheck_c.proofs.records.placed_records.request_placed.Goals as goal
+use Rattle.urlcheck_c.proofs.records.request_placed.Goals as goal
 
 pub returns-in-Ok : goal.returns-in-Ok
 returns-in-Ok c =
