@@ -23,7 +23,7 @@ cmake_files() {
 }
 
 # whole_library FOLDER OBJECT.. : of one build, or of those for x86-64 between which the exports choose, the libraries
-# in lib/, with what names them for pkg-config and CMake, and the header. No path of this machine is in what is built.
+# in lib/, with what names them for pkg-config and CMake, and the headers. No path of this machine is in what is built.
 whole_library() {
     local folder=$1 version soname words=(-O2 -fPIC -fvisibility=hidden -ffunction-sections)
     version=$(cat VERSION)
@@ -47,7 +47,8 @@ whole_library() {
     ln -s "liburlcheck.so.$version" "$folder/lib/$soname"
     ln -s "$soname" "$folder/lib/liburlcheck.so"
 
-    cp bindings/c/include/urlcheck.h "$folder/include/urlcheck.h"
+    cp bindings/c/include/*.h "$folder/include/"
+    [ ! -f bindings/cpp/urlcheck.hpp ] || cp bindings/cpp/urlcheck.hpp "$folder/include/"
     # (it tells folders from its own, so that this one may be moved)
     sed -e 's|@PREFIX@|${pcfiledir}/../..|' -e 's|@LIBDIR@|${prefix}/lib|' -e "s|@VERSION@|$version|" \
         bindings/c/urlcheck.pc.in >"$folder/lib/pkgconfig/urlcheck.pc"

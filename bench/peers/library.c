@@ -1,7 +1,7 @@
 /* Checks the lines of standard input by the library for C, as crates/bench_check does it: MODE ROUNDS PROFILE BASE, by
    the standard profile alone. Both find the lines before they check the first. `read` does no more, `check` checks each
    line, and `verdicts` writes `1` or `0` for each. A base is prepared once. Where it is `own`, each text stands after a
-   line with its base, which comes as text in each call. */
+   line with its base, which is prepared for that text alone. */
 #include "urlcheck.h"
 
 #include <stdio.h>
@@ -33,19 +33,11 @@ static size_t cut(const char *text, size_t size, struct line *lines) {
     return count;
 }
 
-static size_t count_alone(const struct line *lines, size_t count) {
+/* Alone where the base is null. */
+static size_t count_each(const struct line *lines, size_t count, const urlcheck_base *base) {
     size_t valid = 0;
     for (size_t at = 0; at < count; at++) {
-        urlcheck_answer answer = urlcheck_check(lines[at].text, lines[at].length, URLCHECK_STANDARD);
-        valid += answer.found.verdict == URLCHECK_VALID;
-    }
-    return valid;
-}
-
-static size_t count_with(const struct line *lines, size_t count, const urlcheck_base *base) {
-    size_t valid = 0;
-    for (size_t at = 0; at < count; at++) {
-        urlcheck_answer answer = urlcheck_check_with(lines[at].text, lines[at].length, base);
+        urlcheck_answer answer = urlcheck_check(lines[at].text, lines[at].length, URLCHECK_STANDARD, base);
         valid += answer.found.verdict == URLCHECK_VALID;
     }
     return valid;
@@ -55,10 +47,8 @@ static size_t count_with(const struct line *lines, size_t count, const urlcheck_
 static size_t count_own(const struct line *lines, size_t count) {
     size_t valid = 0;
     for (size_t at = 1; at < count; at += 2) {
-        const struct line *text = lines + at, *base = text - 1;
-        urlcheck_answer answer =
-            urlcheck_check_against(text->text, text->length, base->text, base->length, URLCHECK_STANDARD);
-        valid += answer.found.verdict == URLCHECK_VALID;
+        urlcheck_base base = urlcheck_prepare(lines[at - 1].text, lines[at - 1].length, URLCHECK_STANDARD);
+        valid += count_each(lines + at, 1, &base);
     }
     return valid;
 }
@@ -66,9 +56,9 @@ static size_t count_own(const struct line *lines, size_t count) {
 /* How many of the texts in so many lines are valid. */
 static size_t count_valid(const struct line *lines, size_t count, const struct setting *setting) {
     switch (setting->against) {
-    case KEPT: return count_with(lines, count, &setting->base);
+    case KEPT: return count_each(lines, count, &setting->base);
     case OWN: return count_own(lines, count);
-    default: return count_alone(lines, count);
+    default: return count_each(lines, count, NULL);
     }
 }
 

@@ -18,6 +18,14 @@ for seen in "$(nm -g --defined-only "$archive")" "$(nm -D --defined-only "$share
     if grep -E ' [B-Z] ' <<<"$seen" | grep -qv ' urlcheck_'; then echo "FAILED: another name is visible"; exit 1; fi
 done
 
+# The declarations alone are those of the header.
+"$top/tools/make-ffi-header" | cmp - "$top/bindings/c/include/urlcheck.ffi.h" ||
+    { echo 'FAILED: urlcheck.ffi.h is old; tools/make-ffi-header >bindings/c/include/urlcheck.ffi.h makes it anew'; exit 1; }
+cmp "$top/bindings/c/include/urlcheck.ffi.h" "$include/urlcheck.ffi.h"
+sed 's/size_t place;/uint32_t place;/' "$include/urlcheck.h" >"$room/spoiled.h"
+! "$top/tools/make-ffi-header" "$room/spoiled.h" | cmp -s - "$include/urlcheck.ffi.h" ||
+    { echo 'FAILED: a spoiled header gives the same declarations'; exit 1; }
+
 python3 cases.py pack "$room/cases" "$top"/tests/vectors/*.json
 gcc -std=c99 "${strict[@]}" "${sanitized[@]}" -I "$include" answers.c "$archive" -o "$room/answers_c"
 "$room/answers_c" "$room/cases" >"$room/c"
@@ -85,7 +93,7 @@ if command -v qemu-x86_64 >/dev/null; then
     answering 1 "$exports" qemu-x86_64 -cpu qemu64 || { echo 'FAILED: the plain build does not answer on an old processor'; exit 1; }
 fi
 for edit in 's/if (!is_x86_64_v2()) return;/if (is_x86_64_v2()) return;/' 's/(&is_newer, 1, /(\&is_newer, 0, /' \
-    's/(&check_here, urlcheck_check_x86_64_v2,/(\&check_here, urlcheck_check_x86_64,/'; do
+    's/(&check_here, urlcheck_check_x86_64_v2,/(\&check_here, urlcheck_check_x86_64,/' 's/held_in(base), base != 0/held_in(base), 1/'; do
     sed "$edit" "$exports" >"$room/exports.c"
     ! cmp -s "$exports" "$room/exports.c" || { echo "FAILED: the edit $edit changes nothing"; exit 1; }
     ! answering $wanted "$room/exports.c" || [ $wanted = 1 ] || { echo "FAILED: a spoiled choice passes: $edit"; exit 1; }

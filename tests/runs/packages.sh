@@ -102,7 +102,7 @@ if command -v cmake >/dev/null; then
     for built in program archived; do
         { "$room/cmake/built/$built" || [ $? = 1 ]; } | cmp - "$room/page.c.out" || fail "the program by CMake: $built"
     done
-    for wanted in 99 0.99 1; do
+    for wanted in 99 0.99 0.3 1; do
         sed -i "s/find_package(urlcheck [0-9.]*/find_package(urlcheck $wanted/" "$room/cmake/CMakeLists.txt"
         ! cmake -S "$room/cmake" -B "$room/cmake/none" -DCMAKE_PREFIX_PATH="$at" >"$room/said" 2>&1 ||
             fail "CMake finds version $wanted of the library"

@@ -2,56 +2,17 @@
 use Rattle.std.proofs.Common.{◌≡◌, ◌≢◌, ◌∙◌, ℕ, suc, ◌+◌, ◌≤◌, ◌<◌, ◌==◌, lit<, List, [], ◌∷◌, ◌++◌, length, take}
 use Rattle.std.proofs.Common.{drop, map}
 use Rattle.std.proofs.Common.{set, refl, sym, ap, subst, arith, inl, inr, if◌then◌else◌, Bool, true, false}
-use Rattle.std.specs.Prelude.{None}
+use Rattle.std.specs.Prelude.{Option}
 use Rattle.std.proofs.Math.Seq.{drop-append_seam, take-append_seam}
 use Rattle.std.proofs.lemmas.List.{length-append, length-drop, length-map, map-append, take-append-drop}
 use Rattle.std.proofs.lemmas.Bool.{ne_eqb}
 use Rattle.std.proofs.lemmas.Grind.{take-set_at}
-use Rattle.uv_model.specs.declared.rule.Rule.{Rule}
-use Rattle.uv_model.specs.declared.rule.Rule.TheVariants.{NoScheme, OpaqueBase, TwoSlashes, HostMissing, HostDomain}
-use Rattle.uv_model.specs.declared.rule.Rule.TheVariants.{HostNumber, HostIpv6, HostCodePoint, PortDigit, PortRange}
-use Rattle.uv_model.specs.declared.rule.Rule.TheVariants.{FirstSegmentEmpty, DriveAfterHost, CodePoint, Percent}
-use Rattle.uv_model.specs.Violations.Rule.{rule_number}
-use Rattle.urlcheck_c.specs.declared.checks.Answer.{Answer}
+use Rattle.urlcheck_c.specs.declared.bases.Base.{Base}
 use Rattle.urlcheck_c.specs.declared.finding.Finding.{Finding}
-use Rattle.urlcheck_c.specs.Answer.{IsAnswer, IsFound}
+use Rattle.urlcheck_c.specs.Answer.{IsFound}
 use Rattle.urlcheck_c.specs.Batch.{AreChecked, Columns, IsColumn, IsPut, one_if_valid}
 use Rattle.urlcheck_c.specs.Offsets.{row_count, row_text}
 use Rattle.urlcheck_c.proofs.StoreLemmas.{kept_more}
-
--- ---- small numbers
-
--- the number of a rule is small
-pub small_rule : (rule : Rule) → rule_number rule < 256
-small_rule NoScheme = lit< tt
-small_rule OpaqueBase = lit< tt
-small_rule TwoSlashes = lit< tt
-small_rule HostMissing = lit< tt
-small_rule HostDomain = lit< tt
-small_rule HostNumber = lit< tt
-small_rule HostIpv6 = lit< tt
-small_rule HostCodePoint = lit< tt
-small_rule PortDigit = lit< tt
-small_rule PortRange = lit< tt
-small_rule FirstSegmentEmpty = lit< tt
-small_rule DriveAfterHost = lit< tt
-small_rule CodePoint = lit< tt
-small_rule Percent = lit< tt
-
--- the numbers of what was found of a text alone are small
-abbrev pub IsSmall : Finding → Type 0
-IsSmall finding = (finding.verdict < 256) × (finding.rule < 256)
-
-pub small_numbers : (number : ℕ) (bytes : List ℕ) (answer : Answer) → IsAnswer number None bytes answer
-    → IsSmall answer.found
-small_numbers number bytes answer (inl (bare, inl (lacking, found))) = rw found (lit< tt, lit< tt)
-small_numbers number bytes answer (inl (bare, inr (profile, some, inl text))) = rw text.said (lit< tt, lit< tt)
-small_numbers number bytes answer (inl (bare, inr (profile, some, inr (utf8, given)))) = absurd given
-small_numbers number bytes answer (inr (profile, url, request, inl valid)) = rw valid.found (lit< tt, lit< tt)
-small_numbers number bytes answer (inr (profile, url, request, inr (bare, inl refused))) =
-    rw refused.said (lit< tt, small_rule refused.refusal.rule)
-small_numbers number bytes answer (inr (profile, url, request, inr (bare, inr memory))) =
-    rw memory.said (lit< tt, lit< tt)
 
 -- ---- columns
 
@@ -104,17 +65,17 @@ pub one_at_most : (finding : Finding) → one_if_valid finding ≤ 1
 one_at_most finding = bit_at_most (finding.verdict == 0)
 
 -- a text more is checked
-pub checked_more : (number : ℕ) (texts offsets : List ℕ) (row : ℕ) (old now new : Columns) (valid more : ℕ)
-    (last : Finding) → row < row_count offsets → AreChecked number texts offsets row old now valid
-    → IsFound number (row_text texts offsets row) last → more ≡ valid + one_if_valid last
+pub checked_more : (number : ℕ) (base : Option Base) (texts offsets : List ℕ) (row : ℕ) (old now new : Columns) (valid more : ℕ)
+    (last : Finding) → row < row_count offsets → AreChecked number base texts offsets row old now valid
+    → IsFound number base (row_text texts offsets row) last → more ≡ valid + one_if_valid last
     → IsPut (row_count offsets) row last.verdict now.verdicts new.verdicts
     → IsPut (row_count offsets) row last.rule now.rules new.rules
     → IsPut (row_count offsets) row last.place now.places new.places
-    → AreChecked number texts offsets (row + 1) old new more
-checked_more number texts offsets row old now new valid more last below checked found is verdict rule place =
+    → AreChecked number base texts offsets (row + 1) old new more
+checked_more number base texts offsets row old now new valid more last below checked found is verdict rule place =
     let next : suc row ≡ row + 1 = omega arith in
     let rows = row_count offsets in
-    subst (λ n. AreChecked number texts offsets n old new more) next
+    subst (λ n. AreChecked number base texts offsets n old new more) next
     (record {
       found = checked.found ++ (last ∷ []);
       checked = (checked.found, valid, last, checked.checked, found, refl, is);
@@ -129,9 +90,9 @@ checked_more number texts offsets row old now new valid more last below checked 
     })
 
 -- no text is checked, and the columns are as they were
-pub none_checked : (number : ℕ) (texts offsets : List ℕ) (old : Columns)
-    → AreChecked number texts offsets 0 old old 0
-none_checked number texts offsets old = record {
+pub none_checked : (number : ℕ) (base : Option Base) (texts offsets : List ℕ) (old : Columns)
+    → AreChecked number base texts offsets 0 old old 0
+none_checked number base texts offsets old = record {
   found = [];
   checked = (refl, refl);
   count = refl;

@@ -6,6 +6,7 @@ mod PlaceLemmas
 mod RecordLemmas
 mod RecordPlaceLemmas
 mod ResolvedBatchLemmas
+mod RuleLemmas
 mod SeenLemmas
 mod SpanLemmas
 mod StoreLemmas

@@ -2,7 +2,7 @@
 use Rattle.std.proofs.Common.{◌≡◌, ◌∙◌, ℕ, suc, ◌+◌, ◌-◌, ◌≤◌, ◌<◌, ◌==◌, Bool, true, false, List, [], ◌∷◌, ◌++◌}
 use Rattle.std.proofs.Common.{length, take, drop, map, refl, sym, ap, subst, arith, if◌then◌else◌, append_assoc, inl}
 use Rattle.std.proofs.Common.{inr}
-use Rattle.std.specs.Prelude.{slice_index, slice_range, zero}
+use Rattle.std.specs.Prelude.{None, slice_index, slice_range, zero}
 use Rattle.std.specs.Str.Lines.{strip_carriage_return}
 use Rattle.std.proofs.Math.Seq.{drop-length}
 use Rattle.std.proofs.Math.ListN.{get_or}
@@ -164,7 +164,7 @@ lines_after bytes text start extent first = first ∙ ap (λ t. text ∷ lines_o
 
 -- a valid line more is passed
 pub passes_more : (number passed : ℕ) (lines rest more : List (List ℕ)) (text : List ℕ) (found : Finding)
-    → Passes number passed lines rest → rest ≡ text ∷ more → answer.IsFound number text found → found.verdict ≡ 0
+    → Passes number passed lines rest → rest ≡ text ∷ more → answer.IsFound number None text found → found.verdict ≡ 0
     → Passes number (passed + 1) lines more
 passes_more number passed lines rest more text found before is said valid =
     let next : suc passed ≡ passed + 1 = omega arith in

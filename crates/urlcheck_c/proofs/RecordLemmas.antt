@@ -5,22 +5,10 @@ use Rattle.std.specs.Str.{chars}
 use Rattle.uv_model.specs.declared.profile.Profile.{Profile}
 use Rattle.uv_model.specs.Records.Url.{Url}
 use Rattle.uv_resolve.specs.Resolve.{Denotes}
-use Rattle.urlcheck_c.specs.declared.records.placed_records.PlacedRecord.{PlacedRecord}
-use Rattle.urlcheck_c.specs.declared.records.Resolved.{Resolved}
+use Rattle.urlcheck_c.specs.declared.records.PlacedRecord.{PlacedRecord}
 use Rattle.urlcheck_c.specs.PlacedRecord.{IsPlacedChecked, IsPlacedOrWanting, no_record}
-use Rattle.urlcheck_c.specs.Resolved.{IsRecordAnswer, IsRecordWritten}
 
--- the URL's text is written, or memory ran out
-pub written_is_answer : (profile : Profile) (given base : Option Url) (bytes old new : List ℕ) (url : Url)
-    (answer : Resolved) → given ≡ base → Denotes profile given (chars bytes) url → IsRecordWritten url old new answer
-    → IsRecordAnswer profile base bytes old new answer
-written_is_answer profile given base bytes old new url answer same denotes (inl prefix) =
-    inl (url, subst (λ (b : Option Url). Denotes profile b (chars bytes) url) same denotes, prefix)
-written_is_answer profile given base bytes old new url answer same denotes (inr wanting) =
-    let known = subst (λ (b : Option Url). Denotes profile b (chars bytes) url) same denotes in
-    inr (inr (wanting.0, wanting.1, λ free. free.1 known.0 known.1))
-
--- so are the places in it
+-- the URL's text is written and the places in it are told, or memory ran out
 pub placed_is_answer : (profile : Profile) (given base : Option Url) (bytes old new : List ℕ) (url : Url)
     (answer : PlacedRecord) → given ≡ base → Denotes profile given (chars bytes) url
     → IsPlacedOrWanting url old new answer → IsPlacedChecked profile base bytes old new answer

@@ -8,17 +8,23 @@ use Rattle.std.proofs.lemmas.List.{drop_all, length-append}
 use Rattle.std.proofs.lemmas.List.Folds.{concat-append}
 use Rattle.uv_model.specs.declared.profile.Profile.{Profile}
 use Rattle.uv_model.specs.Records.Serialize.{serial}
+use Rattle.uv_model.specs.Records.Url.{is_opaque}
 use Rattle.uv_resolve.specs.Resolve.{DenotesText}
 use Rattle.urlcheck_c.specs.declared.finding.Finding.{Finding}
 use Rattle.urlcheck_c.specs.declared.finding.CallOutcome.TheVariants.{Memory, Valid}
 use Rattle.urlcheck_c.specs.Batch.{IsColumn, IsPut, one_if_valid}
 use Rattle.urlcheck_c.specs.Buffer.{IsWritten}
-use Rattle.urlcheck_c.specs.Finding.{plain_finding}
+use Rattle.urlcheck_c.specs.Base.{flag_number}
+use Rattle.urlcheck_c.specs.Finding.{IsSmall, plain_finding}
 use Rattle.urlcheck_c.specs.Offsets.{row_count, row_text}
+use Rattle.urlcheck_c.specs.PlacedRecord.{IsPlacedAnswer, no_record}
+use Rattle.urlcheck_c.specs.RecordPlaces.{host_number, record_spans}
 use Rattle.urlcheck_c.specs.Request.{IsRequest, IsUnchecked}
 use Rattle.urlcheck_c.specs.ResolvedBatch.{AreRowsResolved, IsAppended, IsResolvedRow, IsTextResolved, ResolvedColumns}
 use Rattle.urlcheck_c.specs.ResolvedBatch.{text_offsets}
-use Rattle.urlcheck_c.proofs.BatchLemmas.{IsSmall, column_more, mapped_more, one_at_most, small_rule}
+use Rattle.urlcheck_c.proofs.BatchLemmas.{column_more, mapped_more, one_at_most}
+use Rattle.urlcheck_c.proofs.RecordPlaceLemmas.{record_places}
+use Rattle.urlcheck_c.proofs.RuleLemmas.{small_rule}
 
 -- ---- a row
 
@@ -44,21 +50,50 @@ text_row number bytes text profile request (url, denotes, is) =
     subst (λ (t : List ℕ). IsResolvedRow number bytes (plain_finding Valid) t) (sym is)
     (record {
       room = serial url;
+      record_is = record {
+        found = plain_finding Valid;
+        length = length (serial url);
+        parts = record_spans url;
+        host = host_number url.host;
+        opaque_path = flag_number (is_opaque url.path);
+      };
       answer = inr (
         profile,
         None,
         request,
-        inl (url, denotes, record { found = refl; written = written_whole (serial url) }),
+        inl (
+          url,
+          denotes,
+          record {
+            found = refl;
+            written = written_whole (serial url);
+            parts = record_places url;
+            host = refl;
+            opaque_path = refl;
+          },
+        ),
       );
+      found_is = refl;
+      length_is = refl;
     })
+
+-- nothing is written for what denotes no URL
+unwritten_row : (number : ℕ) (bytes : List ℕ) (finding : Finding)
+    → IsPlacedAnswer number None bytes [] [] (no_record finding) → IsResolvedRow number bytes finding []
+unwritten_row number bytes finding is = record {
+  room = [];
+  record_is = no_record finding;
+  answer = is;
+  found_is = refl;
+  length_is = refl;
+}
 
 -- where memory runs out for it, that is what is answered
 wanting_row : (number : ℕ) (bytes text : List ℕ) (profile : Profile) → IsRequest number None bytes profile None
     → DenotesText profile None bytes text → IsResolvedRow number bytes (plain_finding Memory) []
-wanting_row number bytes text profile request (url, denotes, is) = record {
-  room = [];
-  answer = inr (profile, None, request, inr (inr (refl, refl, λ free. free.1 denotes.0 denotes.1)));
-}
+wanting_row number bytes text profile request (url, denotes, is) =
+    unwritten_row number bytes (plain_finding Memory)
+    (inr (profile, None, request, inr ((refl, refl), inr (refl, λ free. free.1 denotes.0 denotes.1))))
 
 -- a text that is resolved
 resolved_row : (number : ℕ) (bytes : List ℕ) (text : String Global) → IsTextResolved number bytes (Ok text)
@@ -98,29 +133,16 @@ pub refused_row : (number : ℕ) (bytes : List ℕ) (finding : Finding) → IsTe
     → IsResolvedRow number bytes finding [] × IsSmall finding
 refused_row number bytes finding (inl (found, same, unchecked)) =
     let is : finding ≡ found = cc in (
-      record {
-        room = [];
-        answer = inl (refl, refl, inl (subst (λ (f : Finding). IsUnchecked number None bytes f) (sym is) unchecked));
-      },
+      unwritten_row number bytes finding
+          (inl ((refl, refl), inl (subst (λ (f : Finding). IsUnchecked number None bytes f) (sym is) unchecked))),
       subst (λ (f : Finding). IsSmall f) (sym is) (small_unchecked number bytes found unchecked),
     )
 refused_row number bytes finding (inr (profile, request, inl refused)) = (
-  record {
-    room = [];
-    answer = inr (profile, None, request, inr (inl (record { refused = refused; length = refl; same = refl })));
-  },
+  unwritten_row number bytes finding (inr (profile, None, request, inr ((refl, refl), inl refused))),
   rw refused.said (lit< tt, small_rule refused.refusal.rule),
 )
 refused_row number bytes finding (inr (profile, request, inr wanting)) = (
-  record {
-    room = [];
-    answer = inr (
-      profile,
-      None,
-      request,
-      inr (inr (ap (λ (f : Finding). record { found = f; length = 0 }) wanting.0, refl, wanting.1)),
-    );
-  },
+  unwritten_row number bytes finding (inr (profile, None, request, inr ((refl, refl), inr wanting))),
   rw wanting.0 (lit< tt, lit< tt),
 )
 

@@ -1,13 +1,15 @@
 -- The answer on a text: valid with the places of its parts, refused, or not checked.
-use Rattle.std.specs.Prelude.{◌≡◌, ℕ, ◌⊎◌, List, Option, None}
+use Rattle.std.specs.Prelude.{◌≡◌, ℕ, ◌⊎◌, List, Option}
 use Rattle.std.specs.Str.{chars}
 use Rattle.uv_model.specs.declared.profile.Profile.{Profile}
 use Rattle.uv_model.specs.Parts.{Parts}
 use Rattle.uv_model.specs.Records.Url.{Url}
 use Rattle.uv_grammar.specs.Verdict.{IsAccepted}
+use Rattle.urlcheck_c.specs.declared.bases.Base.{Base}
 use Rattle.urlcheck_c.specs.declared.checks.Answer.{Answer}
 use Rattle.urlcheck_c.specs.declared.finding.Finding.{Finding}
 use Rattle.urlcheck_c.specs.declared.finding.CallOutcome.TheVariants.{Valid, Refused}
+use Rattle.urlcheck_c.specs.Base.{IsMadeOf, IsStray, IsUnasked}
 use Rattle.urlcheck_c.specs.Finding.{plain_finding}
 use Rattle.urlcheck_c.specs.Request.{IsOutOfMemory, IsRefusedText, IsRequest, IsUnchecked}
 use Rattle.urlcheck_c.specs.Span.{AreSpans, no_spans}
@@ -33,6 +35,13 @@ IsAnswer number base bytes answer =
     ⊎ ((profile : Profile) × (url : Option Url) × IsRequest number base bytes profile url
     × IsChecked profile url bytes answer)
 
--- this is what the answer on a text alone has found of it
-abbrev pub IsFound : ℕ → List ℕ → Finding → Type 0
-IsFound number bytes finding = (answer : Answer) × IsAnswer number None bytes answer × (answer.found ≡ finding)
+-- The answer on bytes, alone or against the base that a call is given: against one that was made of bytes it is the
+-- answer against these, and against one that is none by the profile nothing is checked.
+pub record IsAnswerTo (number : ℕ) (base : Option Base) (bytes : List ℕ) (answer : Answer) : Type 0 where
+  pub made : (of : Option (List ℕ)) → IsMadeOf number base of → IsAnswer number of bytes answer
+  pub stray : IsStray number base → (answer.parts ≡ no_spans) × IsUnasked number base bytes answer.found
+
+-- this is what that answer has found
+abbrev pub IsFound : ℕ → Option Base → List ℕ → Finding → Type 0
+IsFound number base bytes finding =
+    (answer : Answer) × IsAnswerTo number base bytes answer × (answer.found ≡ finding)

@@ -1,7 +1,6 @@
 -- A base that is checked once and held between calls.
-use Rattle.std.specs.Prelude.{◌≡◌, ◌≢◌, ℕ, ◌⊎◌, Bool, true, false, not, ◌||◌, ◌==◌, List, Option, Some, None}
-use Rattle.std.specs.Prelude.{Result, Ok, Err, IsUtf8}
-use Rattle.std.specs.Prelude.{if◌then◌else◌, option_map}
+use Rattle.std.specs.Prelude.{◌≡◌, ◌≢◌, ℕ, ◌⊎◌, Bool, true, false, not, ◌||◌, ◌&&◌, ◌==◌, nat_le, List, Option}
+use Rattle.std.specs.Prelude.{Some, None, Result, Ok, Err, IsUtf8, if◌then◌else◌, option_map}
 use Rattle.uv_model.specs.declared.profile.Profile.{Profile}
 use Rattle.uv_model.specs.Records.Url.{Url}
 use Rattle.uv_grammar.specs.declared.bases.BaseKind.{BaseKind}
@@ -9,14 +8,13 @@ use Rattle.uv_grammar.specs.declared.bases.BaseScheme.{BaseScheme}
 use Rattle.uv_grammar.specs.declared.bases.BaseScheme.TheVariants.{Ftp, Http, Https, File, Other}
 use Rattle.uv_grammar.specs.Bases.{IsOfKind}
 use Rattle.urlcheck_c.specs.declared.bases.Base.{Base}
-use Rattle.urlcheck_c.specs.declared.bases.HeldBase.{HeldBase}
-use Rattle.urlcheck_c.specs.declared.bases.HeldRequest.{HeldRequest}
+use Rattle.urlcheck_c.specs.declared.bases.CheckRequest.{CheckRequest}
 use Rattle.urlcheck_c.specs.declared.finding.Finding.{Finding}
 use Rattle.urlcheck_c.specs.declared.finding.CallOutcome.TheVariants.{BaseRefused, BaseNoUtf8, Memory, NoBase}
 use Rattle.urlcheck_c.specs.declared.finding.CallOutcome.TheVariants.{NoProfile}
 use Rattle.urlcheck_c.specs.declared.finding.CallOutcome.TheVariants.{NoUtf8, Valid as valid_outcome}
 use Rattle.urlcheck_c.specs.Finding.{outcome_number, plain_finding, profile_of}
-use Rattle.urlcheck_c.specs.Request.{IsBase, IsNoBase, IsNoText, IsRequest, IsUnchecked}
+use Rattle.urlcheck_c.specs.Request.{IsBase, IsNoBase, IsNoText}
 
 -- ---- a base as numbers
 
@@ -99,46 +97,67 @@ IsPreparedBase number bytes base =
     (IsUnread number bytes base.found × (base ≡ unread_base number base.found))
     ⊎ ((kind : BaseKind) × IsBaseOfKind number bytes kind × (base ≡ held_base number kind))
 
--- how texts are checked against what the bytes denote, or nothing is read from them
-abbrev pub IsHeld : ℕ → List ℕ → Finding → Option HeldBase → Type 0
-IsHeld number bytes found (Some held) = (profile_of number ≡ Some held.profile) × IsBaseOfKind number bytes held.kind
-IsHeld number bytes found None = IsUnread number bytes found
-
 -- ---- what is checked against it
 
--- what is to be checked against a base of these bytes, or why nothing is
-abbrev pub IsPreparedWith : ℕ → List ℕ → List ℕ → Result HeldRequest Finding → Type 0
-IsPreparedWith number base bytes (Ok request) =
-    (request.text.now ≡ bytes)
-    × ((url : Url) × IsRequest number (Some base) bytes request.base.profile (Some url) × IsOfKind url
-    request.base.kind)
-IsPreparedWith number base bytes (Err finding) = IsUnchecked number (Some base) bytes finding
+-- The base was made of these bytes by the profile with this number. Where no base is given, there are no bytes.
+abbrev pub IsMadeOf : ℕ → Option Base → Option (List ℕ) → Type 0
+IsMadeOf number (Some base) (Some bytes) = IsPreparedBase number bytes base
+IsMadeOf number (Some base) None = ⊥
+IsMadeOf number None bytes = bytes ≡ None
 
--- ---- a base that was never prepared
+-- the base is one of another profile, or its numbers say no kind
+abbrev pub SaysNoBase : ℕ → Base → Type 0
+SaysNoBase number base = (base.profile ≢ number) ⊎ (kind_in base ≡ None)
 
--- its numbers say no kind or no profile
-abbrev pub SaysNoBase : Base → Type 0
-SaysNoBase base = (kind_in base ≡ None) ⊎ (profile_of base.profile ≡ None)
+-- a base is given, which is none by the profile with this number
+abbrev pub IsStray : ℕ → Option Base → Type 0
+IsStray number None = ⊥
+IsStray number (Some base) = SaysNoBase number base
 
--- whether a base that its profile refuses has this verdict
-abbrev pub is_refused_base : ℕ → Bool
-is_refused_base verdict =
-    verdict == outcome_number BaseRefused
-    || (verdict == outcome_number BaseNoUtf8 || verdict == outcome_number Memory)
+-- whether that is found of a base that its profile refuses
+abbrev pub is_refused_base : Finding → Bool
+is_refused_base found =
+    (found.verdict == outcome_number BaseRefused
+    || (found.verdict == outcome_number BaseNoUtf8 || found.verdict == outcome_number Memory))
+    && nat_le found.rule 14
 
--- what was found of a base that is refused; of any other, that none was prepared
-abbrev pub base_fault : Base → Finding
-base_fault base = if is_refused_base base.found.verdict then base.found else plain_finding NoBase
+-- what was found of a base that this profile refuses; of any other, that none was prepared by it
+abbrev pub base_fault : ℕ → Base → Finding
+base_fault number base =
+    if base.profile == number && is_refused_base base.found then base.found else plain_finding NoBase
 
--- Nothing is checked against a base, whatever its numbers are: it says that no profile has its number; else the text is
--- no UTF-8; else it is refused, or none was prepared.
-abbrev pub IsUncheckedWith : Base → List ℕ → Finding → Type 0
-IsUncheckedWith base bytes finding =
-    ((base.found.verdict ≡ outcome_number NoProfile) × (finding ≡ base.found))
-    ⊎ ((base.found.verdict ≢ outcome_number NoProfile)
-    × (IsNoText NoUtf8 bytes finding ⊎ (IsUtf8 bytes × (finding ≡ base_fault base))))
+-- the kind of a base by the profile with this number, or why there is none
+abbrev pub IsKindBy : ℕ → Base → Result BaseKind Finding → Type 0
+IsKindBy number base (Ok kind) = (base.profile ≡ number) × (kind_in base ≡ Some kind)
+IsKindBy number base (Err finding) = SaysNoBase number base × (finding ≡ base_fault number base)
 
--- nothing is to be checked against the base, and why
-abbrev pub IsNotPreparedWith : Base → List ℕ → Result HeldRequest Finding → Type 0
-IsNotPreparedWith base bytes (Ok request) = ⊥
-IsNotPreparedWith base bytes (Err finding) = IsUncheckedWith base bytes finding
+-- the kind of the base that is given
+abbrev pub IsKindGiven : ℕ → Option Base → Option BaseKind → Type 0
+IsKindGiven number (Some base) (Some kind) = IsKindBy number base (Ok kind)
+IsKindGiven number (Some base) None = ⊥
+IsKindGiven number None kind = kind ≡ None
+
+-- a base is given that has no kind by the profile, and why
+abbrev pub IsNoKindGiven : ℕ → Option Base → Finding → Type 0
+IsNoKindGiven number None finding = ⊥
+IsNoKindGiven number (Some base) finding = IsKindBy number base (Err finding)
+
+-- No profile has the number; else the text is no UTF-8; else no kind is read of the base.
+abbrev pub IsUnasked : ℕ → Option Base → List ℕ → Finding → Type 0
+IsUnasked number base bytes finding =
+    ((profile_of number ≡ None) × (finding ≡ plain_finding NoProfile))
+    ⊎ ((profile : Profile) × (profile_of number ≡ Some profile)
+    × (IsNoText NoUtf8 bytes finding ⊎ (IsUtf8 bytes × IsNoKindGiven number base finding)))
+
+-- what is to be checked, or why nothing is
+abbrev pub IsAsked : ℕ → Option Base → List ℕ → Result CheckRequest Finding → Type 0
+IsAsked number base bytes (Ok request) =
+    (request.text.now ≡ bytes) × (profile_of number ≡ Some request.profile) × IsUtf8 bytes
+    × IsKindGiven number base request.kind
+IsAsked number base bytes (Err finding) = IsUnasked number base bytes finding
+
+-- the URL is of the kind, or there is neither
+abbrev pub IsOfKindGiven : Option Url → Option BaseKind → Type 0
+IsOfKindGiven url None = url ≡ None
+IsOfKindGiven None (Some kind) = ⊥
+IsOfKindGiven (Some url) (Some kind) = IsOfKind url kind

@@ -1,8 +1,9 @@
 -- Many texts in one call: what was found of each, in columns.
 use Rattle.std.specs.Prelude.{◌≡◌, ℕ, ◌⊎◌, ◌+◌, ◌≤◌, ◌<◌, ◌==◌, if◌then◌else◌, List, [], ◌∷◌, ◌++◌, length, drop, map}
 use Rattle.std.specs.Prelude.{set}
-use Rattle.std.specs.Prelude.{Some, None, zero, suc}
+use Rattle.std.specs.Prelude.{Option, Some, None, zero, suc}
 use Rattle.uv_model.specs.declared.profile.Profile.{Profile}
+use Rattle.urlcheck_c.specs.declared.bases.Base.{Base}
 use Rattle.urlcheck_c.specs.declared.batches.Batch.{Batch}
 use Rattle.urlcheck_c.specs.declared.finding.Finding.{Finding}
 use Rattle.urlcheck_c.specs.declared.finding.CallOutcome.{CallOutcome}
@@ -38,18 +39,19 @@ IsColumn rows values old new =
 abbrev pub one_if_valid : Finding → ℕ
 one_if_valid finding = if finding.verdict == 0 then 1 else 0
 
--- these were found of the first so many texts, one by one: of each what the check of it alone finds; so many are valid
-abbrev pub AreFound : ℕ → List ℕ → List ℕ → ℕ → List Finding → ℕ → Type 0
-AreFound number texts offsets zero found valid = (found ≡ []) × (valid ≡ 0)
-AreFound number texts offsets (suc row) found valid =
-    (before : List Finding) × (count : ℕ) × (last : Finding) × AreFound number texts offsets row before count
-    × IsFound number (row_text texts offsets row) last × (found ≡ before ++ (last ∷ []))
+-- these were found of the first so many texts, one by one: of each what the check of it finds; so many are valid
+abbrev pub AreFound : ℕ → Option Base → List ℕ → List ℕ → ℕ → List Finding → ℕ → Type 0
+AreFound number base texts offsets zero found valid = (found ≡ []) × (valid ≡ 0)
+AreFound number base texts offsets (suc row) found valid =
+    (before : List Finding) × (count : ℕ) × (last : Finding) × AreFound number base texts offsets row before count
+    × IsFound number base (row_text texts offsets row) last × (found ≡ before ++ (last ∷ []))
     × (valid ≡ count + one_if_valid last)
 
 -- of the first so many texts the columns have what was found, and so many are valid
-pub record AreChecked (number : ℕ) (texts offsets : List ℕ) (rows : ℕ) (old new : Columns) (valid : ℕ) : Type 0 where
+pub record AreChecked (number : ℕ) (base : Option Base) (texts offsets : List ℕ) (rows : ℕ) (old new : Columns)
+    (valid : ℕ) : Type 0 where
   pub found : List Finding
-  pub checked : AreFound number texts offsets rows found valid
+  pub checked : AreFound number base texts offsets rows found valid
   pub count : length found ≡ rows
   pub few : valid ≤ rows
   pub verdicts : IsColumn (row_count offsets) (map (λ f. f.verdict) found) old.verdicts new.verdicts
@@ -66,15 +68,15 @@ checked_batch valid = record { outcome = outcome_number Done; row = 0; valid = v
 
 -- The offsets of a text are wrong, and nothing was written; or each text was checked, and the columns have what was
 -- found.
-abbrev pub IsBatch : ℕ → List ℕ → List ℕ → Columns → Columns → Batch → Type 0
-IsBatch number texts offsets old new answer =
+abbrev pub IsBatch : ℕ → Option Base → List ℕ → List ℕ → Columns → Columns → Batch → Type 0
+IsBatch number base texts offsets old new answer =
     ((row : ℕ) × IsFirstWrong (length texts) offsets (Some row) × (answer ≡ unchecked_batch NoOffsets row)
     × (new ≡ old))
     ⊎ (AreRows (length texts) offsets (row_count offsets) × (answer ≡ checked_batch answer.valid)
-    × AreChecked number texts offsets (row_count offsets) old new answer.valid)
+    × AreChecked number base texts offsets (row_count offsets) old new answer.valid)
 
 -- no profile has the number, and nothing was written; else the texts are checked by it
-abbrev pub IsBatchAnswer : ℕ → List ℕ → List ℕ → Columns → Columns → Batch → Type 0
-IsBatchAnswer number texts offsets old new answer =
+abbrev pub IsBatchAnswer : ℕ → Option Base → List ℕ → List ℕ → Columns → Columns → Batch → Type 0
+IsBatchAnswer number base texts offsets old new answer =
     ((profile_of number ≡ None) × (answer ≡ unchecked_batch NoProfile 0) × (new ≡ old))
-    ⊎ ((profile : Profile) × (profile_of number ≡ Some profile) × IsBatch number texts offsets old new answer)
+    ⊎ ((profile : Profile) × (profile_of number ≡ Some profile) × IsBatch number base texts offsets old new answer)

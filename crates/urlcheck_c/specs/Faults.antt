@@ -6,10 +6,12 @@ use Rattle.uv_model.specs.declared.rule.Refusal.{Refusal}
 use Rattle.uv_model.specs.Violations.AllViolations.{AreFaults}
 use Rattle.uv_model.specs.Violations.Rule.{rule_number}
 use Rattle.uv_model.specs.Records.Url.{Url}
+use Rattle.urlcheck_c.specs.declared.bases.Base.{Base}
 use Rattle.urlcheck_c.specs.declared.reports.fault_lists.Fault.{Fault}
 use Rattle.urlcheck_c.specs.declared.reports.fault_lists.FaultCount.{FaultCount}
 use Rattle.urlcheck_c.specs.declared.finding.Finding.{Finding}
 use Rattle.urlcheck_c.specs.declared.finding.CallOutcome.TheVariants.{Valid, Refused, Memory}
+use Rattle.urlcheck_c.specs.Base.{IsMadeOf, IsStray, IsUnasked}
 use Rattle.urlcheck_c.specs.Finding.{byte_place, plain_finding, refused_finding}
 use Rattle.urlcheck_c.specs.Request.{IsRequest, IsUnchecked}
 
@@ -57,3 +59,9 @@ IsFaultsAnswer number base bytes old new answer =
     (IsUnlisted old new answer × IsUnchecked number base bytes answer.found)
     ⊎ ((profile : Profile) × (url : Option Url) × IsRequest number base bytes profile url
     × IsFaultsChecked profile url bytes old new answer)
+
+-- the same of the base that a call is given; against one that is none by the profile nothing is checked or written
+pub record IsFaultsTo (number : ℕ) (base : Option Base) (bytes : List ℕ) (old new : List Fault)
+    (answer : FaultCount) : Type 0 where
+  pub made : (of : Option (List ℕ)) → IsMadeOf number base of → IsFaultsAnswer number of bytes old new answer
+  pub stray : IsStray number base → IsUnlisted old new answer × IsUnasked number base bytes answer.found

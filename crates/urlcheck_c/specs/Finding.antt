@@ -1,5 +1,5 @@
 -- What C sees of a text: an outcome by its number, and a place in code points and in bytes.
-use Rattle.std.specs.Prelude.{ℕ, ◌==◌, if◌then◌else◌, List, length, take, Option, Some, None}
+use Rattle.std.specs.Prelude.{ℕ, ◌==◌, ◌<◌, if◌then◌else◌, List, length, take, Option, Some, None}
 use Rattle.std.specs.Str.{chars, encode_utf8_all}
 use Rattle.std.specs.Str.Lossy.{utf8_valid_len}
 use Rattle.uv_model.specs.declared.profile.Profile.{Profile}
@@ -12,7 +12,7 @@ use Rattle.urlcheck_c.specs.declared.finding.CallOutcome.TheVariants.{Valid, Ref
 use Rattle.urlcheck_c.specs.declared.finding.CallOutcome.TheVariants.{Memory, NoProfile, NoBase, Mended, Done}
 use Rattle.urlcheck_c.specs.declared.finding.CallOutcome.TheVariants.{NoFormat, NoUnit, NoRule, NoKind, NoCompletion}
 use Rattle.urlcheck_c.specs.declared.finding.CallOutcome.TheVariants.{NoPlace, NoColumn, NoOffsets, FileNoUtf8}
-use Rattle.urlcheck_c.specs.declared.finding.CallOutcome.TheVariants.{MendedNoUtf8}
+use Rattle.urlcheck_c.specs.declared.finding.CallOutcome.TheVariants.{MendedNoUtf8, ReportedNoUtf8, NoWording}
 
 -- the number of an outcome
 abbrev pub outcome_number : CallOutcome → ℕ
@@ -36,6 +36,8 @@ outcome_number NoColumn = 16
 outcome_number NoOffsets = 17
 outcome_number FileNoUtf8 = 19
 outcome_number MendedNoUtf8 = 20
+outcome_number ReportedNoUtf8 = 21
+outcome_number NoWording = 22
 
 -- the profile with a number
 abbrev pub profile_of : ℕ → Option Profile
@@ -69,3 +71,7 @@ no_utf8_finding outcome bytes = record {
   place = length (chars (take (utf8_valid_len bytes) bytes));
   byte_place = utf8_valid_len bytes;
 }
+
+-- the numbers of what was found fit into a byte
+abbrev pub IsSmall : Finding → Type 0
+IsSmall finding = (finding.verdict < 256) × (finding.rule < 256)

@@ -4,9 +4,9 @@ pub mod Batch
 pub mod Buffer
 pub mod Column
 pub mod Diagnostic
-pub mod Explained
 pub mod Faults
 pub mod Finding
+pub mod FixedText
 pub mod Laws
 pub mod Mended
 pub mod Names
@@ -17,7 +17,6 @@ pub mod RecordPlaces
 pub mod Report
 pub mod ReportNumbers
 pub mod Request
-pub mod Resolved
 pub mod ResolvedBatch
 pub mod Span
 pub mod Validity

@@ -36,7 +36,7 @@ pub record IsFirstLine (bytes : List ℕ) (line : FirstLine) : Type 0 where
 
 -- the check of the line alone finds it valid
 abbrev pub IsValidLine : ℕ → List ℕ → Type 0
-IsValidLine number line = (finding : Finding) × answer.IsFound number line finding × (finding.verdict ≡ 0)
+IsValidLine number line = (finding : Finding) × answer.IsFound number None line finding × (finding.verdict ≡ 0)
 
 -- so many of the first lines are valid, and these are left
 abbrev pub Passes : ℕ → ℕ → List (List ℕ) → List (List ℕ) → Type 0
@@ -49,7 +49,7 @@ Passes number (suc count) lines rest =
 pub record IsRefusedLine (number : ℕ) (bytes : List ℕ) (from : ℕ) (line : Line) : Type 0 where
   pub text : List ℕ
   pub passed : Passes number line.passed (lines_of (drop from bytes)) (text ∷ lines_of (drop line.next bytes))
-  pub found : answer.IsFound number text line.found
+  pub found : answer.IsFound number None text line.found
   pub refused : line.found.verdict ≢ 0
   pub stands : lines_of (drop line.start bytes) ≡ text ∷ lines_of (drop line.next bytes)
   pub begins : IsLineStart bytes from line.start

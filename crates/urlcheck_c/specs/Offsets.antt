@@ -1,12 +1,5 @@
 -- Texts that are one after the other in a buffer, by their offsets.
 use Rattle.std.specs.Prelude.{ℕ, ◌+◌, ◌-◌, ◌≤◌, ◌<◌, List, length, slice_index, slice_range, Option, Some, None}
-use Rattle.urlcheck_c.specs.declared.offsets.Offsets.{Offsets}
-use Rattle.urlcheck_c.specs.declared.offsets.Offsets.TheVariants.{Wide, Narrow}
-
--- the offsets as numbers
-abbrev pub offset_list : Offsets → List ℕ
-offset_list (Wide offsets) = offsets.now
-offset_list (Narrow offsets) = offsets.now
 
 -- how many texts there are: each ends where the next one begins
 abbrev pub row_count : List ℕ → ℕ

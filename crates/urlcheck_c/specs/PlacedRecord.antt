@@ -7,7 +7,7 @@ use Rattle.uv_model.specs.Records.Url.{Url, is_opaque}
 use Rattle.uv_resolve.specs.Resolve.{Denotes}
 use Rattle.urlcheck_c.specs.declared.finding.Finding.{Finding}
 use Rattle.urlcheck_c.specs.declared.finding.CallOutcome.TheVariants.{Memory, Refused, Valid}
-use Rattle.urlcheck_c.specs.declared.records.placed_records.PlacedRecord.{PlacedRecord}
+use Rattle.urlcheck_c.specs.declared.records.PlacedRecord.{PlacedRecord}
 use Rattle.urlcheck_c.specs.Base.{flag_number}
 use Rattle.urlcheck_c.specs.Buffer.{IsWritten}
 use Rattle.urlcheck_c.specs.Finding.{plain_finding}

@@ -1,10 +1,9 @@
 -- What is round the diagnostics of a report, by numbers.
-use Rattle.std.specs.Prelude.{◌≡◌, ℕ, ◌⊎◌, Bool, true, false, List, [], Option, Some, None, IsUtf8}
+use Rattle.std.specs.Prelude.{◌≡◌, ℕ, ◌⊎◌, Bool, true, false, List, Option, Some, None, IsUtf8}
 use Rattle.uv_report.specs.declared.places.column.Columns.{Columns}
 use Rattle.uv_report.specs.declared.completion.Completion.{Completion}
 use Rattle.uv_report.specs.declared.format.Format.{Format}
-use Rattle.uv_report.specs.Places.Column.{columns_name}
-use Rattle.uv_report.specs.Format.{format_name, takes_columns}
+use Rattle.uv_report.specs.Format.{takes_columns}
 use Rattle.uv_report.specs.Format as reported
 use Rattle.uv_report.specs.Report.{begin_text, end_text, file_begin_text, file_end_text}
 use Rattle.urlcheck_c.specs.declared.finding.Finding.{Finding}
@@ -69,21 +68,3 @@ taken_by (Some format) columns = takes_columns_of columns format
 -- the same by numbers
 abbrev pub takes_unit : ℕ → ℕ → Bool
 takes_unit format unit = taken_by (format_of format) (unit_of unit)
-
--- the name of a format, or no text
-abbrev pub format_name_or_none : Option Format → List ℕ
-format_name_or_none None = []
-format_name_or_none (Some format) = format_name format
-
--- the name of the format with a number, or no text
-abbrev pub name_of_format : ℕ → List ℕ
-name_of_format number = format_name_or_none (format_of number)
-
--- the name of a unit, or no text
-abbrev pub unit_name_or_none : Option Columns → List ℕ
-unit_name_or_none None = []
-unit_name_or_none (Some columns) = columns_name columns
-
--- the name of the unit with a number, or no text
-abbrev pub name_of_unit : ℕ → List ℕ
-name_of_unit number = unit_name_or_none (unit_of number)

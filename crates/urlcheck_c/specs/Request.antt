@@ -1,5 +1,5 @@
 -- What a call asks, or why nothing is checked.
-use Rattle.std.specs.Prelude.{◌≡◌, ℕ, ◌⊎◌, List, Option, Some, None, Result, Ok, Err, IsUtf8}
+use Rattle.std.specs.Prelude.{◌≡◌, ℕ, ◌⊎◌, Bool, true, false, List, Option, Some, None, Result, Ok, Err, IsUtf8}
 use Rattle.std.specs.Borrow.{Bor}
 use Rattle.std.specs.Str.{chars}
 use Rattle.uv_model.specs.declared.profile.Profile.{Profile}
@@ -12,7 +12,6 @@ use Rattle.urlcheck_c.specs.declared.finding.Finding.{Finding}
 use Rattle.urlcheck_c.specs.declared.finding.CallOutcome.{CallOutcome}
 use Rattle.urlcheck_c.specs.declared.finding.CallOutcome.TheVariants.{NoUtf8, BaseRefused, BaseNoUtf8, Memory}
 use Rattle.urlcheck_c.specs.declared.finding.CallOutcome.TheVariants.{NoProfile}
-use Rattle.urlcheck_c.specs.declared.request.LoneRequest.{LoneRequest}
 use Rattle.urlcheck_c.specs.declared.request.Request.{Request}
 use Rattle.urlcheck_c.specs.Finding.{no_utf8_finding, plain_finding, profile_of, refused_finding}
 
@@ -106,8 +105,9 @@ IsPrepared number base bytes (Ok request) =
     (request.text.now ≡ bytes) × IsRequest number base bytes request.profile request.base
 IsPrepared number base bytes (Err finding) = IsNoRequest number base bytes finding
 
--- the same of a text alone
-abbrev pub IsPreparedAlone : ℕ → List ℕ → Result LoneRequest Finding → Type 0
-IsPreparedAlone number bytes (Ok request) =
-    (request.text.now ≡ bytes) × IsRequest number None bytes request.profile None
-IsPreparedAlone number bytes (Err finding) = IsUnchecked number None bytes finding
+-- ---- what a caller may leave out
+
+-- what is given, or none
+abbrev pub given : {X : Type 0} → Bool → X → Option X
+given false value = None
+given true value = Some value

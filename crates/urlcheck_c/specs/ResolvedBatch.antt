@@ -10,12 +10,13 @@ use Rattle.urlcheck_c.specs.declared.batches.Batch.{Batch}
 use Rattle.urlcheck_c.specs.declared.finding.Finding.{Finding}
 use Rattle.urlcheck_c.specs.declared.finding.CallOutcome.TheVariants.{Done, Memory, NoOffsets, NoProfile, Refused}
 use Rattle.urlcheck_c.specs.declared.finding.CallOutcome.TheVariants.{Valid}
+use Rattle.urlcheck_c.specs.declared.records.PlacedRecord.{PlacedRecord}
 use Rattle.urlcheck_c.specs.Batch.{Columns, IsColumn, one_if_valid, unchecked_batch}
 use Rattle.urlcheck_c.specs.Buffer.{IsWritten}
 use Rattle.urlcheck_c.specs.Finding.{outcome_number, plain_finding, profile_of}
 use Rattle.urlcheck_c.specs.Offsets.{AreRows, IsFirstWrong, row_count, row_text}
+use Rattle.urlcheck_c.specs.PlacedRecord.{IsPlacedAnswer}
 use Rattle.urlcheck_c.specs.Request.{IsRefusedText, IsRequest, IsUnchecked, LacksMemory}
-use Rattle.urlcheck_c.specs.Resolved.{IsResolvedAnswer}
 
 -- ---- what is resolved of a text
 
@@ -42,7 +43,10 @@ IsAppended text old new finding =
 -- and this is that text.
 pub record IsResolvedRow (number : ℕ) (bytes : List ℕ) (found : Finding) (text : List ℕ) : Type 0 where
   pub room : List ℕ
-  pub answer : IsResolvedAnswer number None bytes room text (record { found = found; length = length text })
+  pub record_is : PlacedRecord
+  pub answer : IsPlacedAnswer number None bytes room text record_is
+  pub found_is : record_is.found ≡ found
+  pub length_is : record_is.length ≡ length text
 
 -- these are the answers on the first so many texts, one by one; so many are valid
 abbrev pub AreResolved : ℕ → List ℕ → List ℕ → ℕ → List Finding → List (List ℕ) → ℕ → Type 0

@@ -5,8 +5,10 @@ use Rattle.uv_model.specs.declared.profile.Profile.{Profile}
 use Rattle.uv_model.specs.Parts.{Parts}
 use Rattle.uv_model.specs.Records.Url.{Url}
 use Rattle.uv_model.specs.Valid.{Valid}
+use Rattle.urlcheck_c.specs.declared.bases.Base.{Base}
 use Rattle.urlcheck_c.specs.declared.finding.Finding.{Finding}
 use Rattle.uv_grammar.specs.NoMemory.{TakesNoMemoryAgainst}
+use Rattle.urlcheck_c.specs.Base.{IsMadeOf, IsStray}
 use Rattle.urlcheck_c.specs.Request.{IsRequest, IsUnchecked}
 
 -- the text is valid against the base; or it is not, or memory ran out of a text that isn't checked without it
@@ -21,3 +23,8 @@ IsValidityAnswer number base bytes answer =
     ((answer ≡ false) × (finding : Finding) × IsUnchecked number base bytes finding)
     ⊎ ((profile : Profile) × (url : Option Url) × IsRequest number base bytes profile url
     × IsKnownValid profile url bytes answer)
+
+-- the same of the base that a call is given; against one that is none by the profile the answer is no
+pub record IsValidityTo (number : ℕ) (base : Option Base) (bytes : List ℕ) (answer : Bool) : Type 0 where
+  pub made : (of : Option (List ℕ)) → IsMadeOf number base of → IsValidityAnswer number of bytes answer
+  pub stray : IsStray number base → answer ≡ false

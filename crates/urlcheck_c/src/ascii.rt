@@ -79,36 +79,3 @@ fn is_half_ascii(load: u8x16) -> bool
 {
     load.simd_ge(u8x16::splat(128)).to_bitmask() == 0
 }
-
-#[cfg(test)]
-mod tests {
-    use super::*;
-    use std::alloc::{AllocError, Global};
-
-    // So many bytes that are the last of ASCII, but for the one at a place, where there is one.
-    fn with_byte(
-        alloc: Global,
-        count: usize,
-        place: usize,
-        byte: u8,
-    ) -> Result<Vec<u8>, AllocError> {
-        let mut bytes = Vec::new(alloc);
-        for at in 0..count {
-            bytes.push(if at == place { byte } else { 0x7F })?;
-        }
-        Ok(bytes)
-    }
-
-    #[test]
-    fn sees_a_byte_beyond_ascii_at_each_place(rt: HostRuntime) -> Result<(), AllocError> {
-        for count in 0..100usize {
-            let ascii = with_byte(rt.alloc(), count, count, 0x80)?;
-            assert!(rt; ascii_text(ascii.as_slice()).is_some(), "{count}");
-            for place in 0..count {
-                let bytes = with_byte(rt.alloc(), count, place, 0x80)?;
-                assert!(rt; ascii_text(bytes.as_slice()).is_none(), "{count}, {place}");
-            }
-        }
-        Ok(())
-    }
-}

@@ -1,9 +1,9 @@
 //! A base that is checked once and held between calls.
-ghost use Rattle.std.specs.Prelude.{◌≡◌, ◌==◌, ℕ, List, None, Some, not};
-ghost use Rattle.urlcheck_c.specs.Base.{IsHeld, IsKindDenoted, IsKindRead, IsPreparedBase, IsPreparedWith, IsUnread};
-ghost use Rattle.urlcheck_c.specs.Base.{IsNotPreparedWith, IsUncheckedWith, SaysNoBase, base_fault, flag_number};
-ghost use Rattle.urlcheck_c.specs.Base.{held_base, is_refused_base, kind_in, scheme_number, scheme_with, unread_base};
-ghost use Rattle.urlcheck_c.specs.Request.{IsUnchecked};
+ghost use Rattle.std.specs.Prelude.{◌≡◌, ◌==◌, not, option_copied};
+ghost use Rattle.urlcheck_c.specs.Base.{IsAsked, IsKindBy, IsKindDenoted, IsKindRead, IsPreparedBase, base_fault};
+ghost use Rattle.urlcheck_c.specs.Base.{flag_number, held_base, is_refused_base, kind_in, scheme_number, scheme_with};
+ghost use Rattle.urlcheck_c.specs.Base.{unread_base};
+ghost use Rattle.urlcheck_c.specs.Request.{given};
 
 use crate::finding::{CallOutcome, Finding};
 use crate::request::{profile_of, text_of};
@@ -17,7 +17,7 @@ use uv_model::Profile;
 pub struct Base {
     /// What was found of the base: valid, or why no text is checked against it.
     pub found: Finding,
-    /// The number of the profile by which the base was checked, and by which texts are checked against it.
+    /// The number of the profile by which the base was checked: the only one by which texts are checked against it.
     pub profile: u32,
     /// The scheme by its class and its default port: 1 `ftp`, 2 `http` or `ws`, 3 `https` or `wss`, 4 `file`,
     /// 5 another, and 0 where the base isn't valid.
@@ -90,27 +90,22 @@ impl Base {
         }
     }
 
-    /// How texts are checked against a valid base. Any other says no scheme, so its verdict needn't be read.
+    // The kind of a base that was prepared by the profile with this number, or why there is none.
     #[inline(always)]
-    pub(crate) fn read(&self) -> Option<HeldBase>
-        ensures held { (number : ℕ) (bytes : List ℕ) → IsPreparedBase number bytes self.now
-            → IsHeld number bytes self.now.found result }
-        ensures none { SaysNoBase self.now → result ≡ None }
+    fn kind_by(&self, profile: u32) -> Result<BaseKind, Finding>
+        ensures { IsKindBy profile self.now result }
     {
-        let Some(kind) = self.kind() else {
-            return None;
-        };
-        match profile_of(self.profile) {
-            Some(profile) => Some(HeldBase { kind, profile }),
-            None => None,
+        match self.kind() {
+            Some(kind) if self.profile == profile => Ok(kind),
+            _ => Err(self.fault(profile)),
         }
     }
 
-    // What was found of a base that is refused. Any other that isn't read was never prepared.
-    fn fault(&self) -> Finding
-        ensures { result ≡ base_fault self.now }
+    // What was found of a base that this profile refuses. Any other that isn't read was never prepared by it.
+    fn fault(&self, profile: u32) -> Finding
+        ensures { result ≡ base_fault profile self.now }
     {
-        if is_refused_base(self.found.verdict) {
+        if self.profile == profile && is_refused_base(self.found) {
             return self.found;
         }
         Finding::plain(CallOutcome::NoBase)
@@ -132,13 +127,14 @@ impl Base {
     }
 }
 
-// Whether a base that its profile refuses has this verdict.
-fn is_refused_base(verdict: u32) -> bool
-    ensures { result ≡ is_refused_base verdict }
+// Whether that is found of a base that its profile refuses.
+fn is_refused_base(found: Finding) -> bool
+    ensures { result ≡ is_refused_base found }
 {
-    verdict == CallOutcome::BaseRefused.number()
-        || verdict == CallOutcome::BaseNoUtf8.number()
-        || verdict == CallOutcome::Memory.number()
+    let is_refused = found.verdict == CallOutcome::BaseRefused.number()
+        || found.verdict == CallOutcome::BaseNoUtf8.number()
+        || found.verdict == CallOutcome::Memory.number();
+    is_refused && found.rule <= 14
 }
 
 // The number of a scheme.
@@ -168,83 +164,52 @@ fn scheme_with(number: u32) -> Option<BaseScheme>
     }
 }
 
-/// How a text is checked against a base that is held.
-#[derive(Clone, Copy)]
-pub(crate) struct HeldBase {
-    /// The kind of the base.
-    pub(crate) kind: BaseKind,
-    /// The profile by which both are checked.
+/// What is to be checked: a text, alone or against each base of a kind.
+#[derive(Drop)]
+pub(crate) struct CheckRequest<'t> {
+    /// The text.
+    pub(crate) text: &'t str,
+    /// The kind of the base, where one is given.
+    pub(crate) kind: Option<BaseKind>,
+    /// The profile by which it is checked.
     pub(crate) profile: Profile,
 }
 
-/// What is to be checked against a base that is held.
-#[derive(Drop)]
-pub(crate) struct HeldRequest<'t> {
-    /// The text.
-    pub(crate) text: &'t str,
-    /// The base.
-    pub(crate) base: HeldBase,
-}
-
-/// What is to be checked of the bytes of a text against a base that is held, or why nothing is.
+/// The base that a caller gave, or none where it gave none.
 #[inline(always)]
-pub(crate) fn prepared_with<'t>(text: &'t [u8], base: &Base) -> Result<HeldRequest<'t>, Finding>
-    ensures held { (number : ℕ) (bytes : List ℕ) → IsPreparedBase number bytes base.now
-        → IsPreparedWith number bytes text.now result }
-    ensures none { SaysNoBase base.now → IsNotPreparedWith base.now text.now result }
+pub(crate) fn given_base(base: &Base, has_base: bool) -> Option<&Base>
+    ensures { option_copied result ≡ given has_base base.now }
 {
-    match base.read() {
-        Some(held) => match text_of(text, CallOutcome::NoUtf8) {
-            Ok(text) => Ok(HeldRequest { text, base: held }),
-            Err(found) => Err(found),
-        },
-        None => Err(unread(text, base)),
-    }
+    if has_base { Some(base) } else { None }
 }
 
-/// What is to be checked of the bytes of a text against the bytes of a base, or why nothing is.
-pub(crate) fn prepared_against<'t>(
-    alloc: Global,
+/// What is to be checked of the bytes of a text by the profile with this number, alone or against a base that was
+/// prepared by it, or why nothing is: a profile is read first, then the text, and then the base.
+#[inline(always)]
+pub(crate) fn asked<'t>(
     text: &'t [u8],
-    base: &[u8],
     profile: u32,
-) -> Result<HeldRequest<'t>, Finding>
-    ensures { IsPreparedWith profile base.now text.now result }
+    base: Option<&Base>,
+) -> Result<CheckRequest<'t>, Finding>
+    ensures { IsAsked profile (option_copied base.entry) text.now result }
 {
-    let Some(profile) = profile_of(profile) else {
+    let Some(known) = profile_of(profile) else {
         return Err(Finding::plain(CallOutcome::NoProfile));
     };
     let text = text_of(text, CallOutcome::NoUtf8)?;
-    let kind = kind_denoted(alloc, base, profile)?;
-    Ok(HeldRequest {
-        text,
-        base: HeldBase { kind, profile },
-    })
-}
-
-/// Why nothing is checked against a base that isn't valid. It is inlined, so that room for what the next function gives
-/// back is made here alone.
-#[inline(always)]
-pub(crate) fn unread(text: &[u8], base: &Base) -> Finding
-    ensures held { (number : ℕ) (bytes : List ℕ) → IsPreparedBase number bytes base.now
-        → IsUnread number bytes base.now.found → IsUnchecked number (Some bytes) text.now result }
-    ensures said { IsUncheckedWith base.now text.now result }
-{
-    first_unread(text, base)
-}
-
-// The same. The order is that of a base that is checked with the text: a profile, the text, and then the base.
-#[inline(never)]
-fn first_unread(text: &[u8], base: &Base) -> Finding
-    ensures held { (number : ℕ) (bytes : List ℕ) → IsPreparedBase number bytes base.now
-        → IsUnread number bytes base.now.found → IsUnchecked number (Some bytes) text.now result }
-    ensures said { IsUncheckedWith base.now text.now result }
-{
-    if base.found.verdict == CallOutcome::NoProfile.number() {
-        return base.found;
-    }
-    match text_of(text, CallOutcome::NoUtf8) {
-        Ok(_) => base.fault(),
-        Err(found) => found,
+    match base {
+        Some(base) => match base.kind_by(profile) {
+            Ok(kind) => Ok(CheckRequest {
+                text,
+                kind: Some(kind),
+                profile: known,
+            }),
+            Err(found) => Err(found),
+        },
+        None => Ok(CheckRequest {
+            text,
+            kind: None,
+            profile: known,
+        }),
     }
 }

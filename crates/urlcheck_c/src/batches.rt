@@ -1,11 +1,13 @@
 //! Many texts in one call.
-ghost use Rattle.std.specs.Prelude.{◌≡◌, ◌<◌, ◌≤◌, length, set};
+ghost use Rattle.std.specs.Prelude.{◌≡◌, ◌<◌, ◌≤◌, length, option_copied, set};
 ghost use Rattle.urlcheck_c.specs.Batch.{AreChecked, IsBatchAnswer, IsPut, columns, unchecked_batch};
-ghost use Rattle.urlcheck_c.specs.Offsets.{AreRows, offset_list, row_count};
+ghost use Rattle.urlcheck_c.specs.Offsets.{AreRows, row_count};
+ghost use Rattle.urlcheck_c.specs.Request.{given};
 
-use crate::checks::found_alone;
+use crate::bases::{Base, given_base};
+use crate::checks::found_of;
 use crate::finding::CallOutcome;
-use crate::offsets::Offsets;
+use crate::offsets::{first_wrong, row_count, row_text};
 use crate::request::profile_of;
 use std::alloc::Global;
 
@@ -23,81 +25,62 @@ pub struct Batch {
     pub length: usize,
 }
 
-/// Checks texts that are one after the other in a buffer, alone, by the profile with this number. Of each, the
-/// number of its verdict, that of its rule and its place in code points go to the three columns, each of which is left
-/// out where it has no room for all. Where nothing is checked, nothing is written.
+/// Checks texts that are one after the other in a buffer, by the profile with this number, alone or against a base as
+/// `urlcheck_check` has it. Of each, the number of its verdict, that of its rule and its place in code points go to the
+/// three columns, each of which is left out where it has no room for all. Where nothing is checked, nothing is written.
 #[unsafe(no_mangle)]
 pub extern "C" fn urlcheck_check_many(
     alloc: Global,
     texts: &[u8],
     offsets: &[u64],
     profile: u32,
+    base: &Base,
+    has_base: bool,
     verdicts: &mut [u8],
     rules: &mut [u8],
     places: &mut [u64],
 ) -> Batch
-    ensures { IsBatchAnswer profile texts.now offsets.now (columns verdicts.old rules.old places.old)
-        (columns verdicts.new rules.new places.new) result }
+    ensures { IsBatchAnswer profile (given has_base base.now) texts.now offsets.now
+        (columns verdicts.old rules.old places.old) (columns verdicts.new rules.new places.new) result }
 {
     checked(
         alloc,
         texts,
-        Offsets::Wide(offsets),
+        offsets,
         profile,
+        given_base(base, has_base),
         verdicts,
         rules,
         places,
     )
 }
 
-/// The same where the offsets have 32 bits.
-#[unsafe(no_mangle)]
-pub extern "C" fn urlcheck_check_many_32(
-    alloc: Global,
-    texts: &[u8],
-    offsets: &[u32],
-    profile: u32,
-    verdicts: &mut [u8],
-    rules: &mut [u8],
-    places: &mut [u64],
-) -> Batch
-    ensures { IsBatchAnswer profile texts.now offsets.now (columns verdicts.old rules.old places.old)
-        (columns verdicts.new rules.new places.new) result }
-{
-    checked(
-        alloc,
-        texts,
-        Offsets::Narrow(offsets),
-        profile,
-        verdicts,
-        rules,
-        places,
-    )
-}
-
-// The same by offsets of either width.
+// The same against a base that may be none.
 fn checked(
     alloc: Global,
     texts: &[u8],
-    offsets: Offsets<'_>,
+    offsets: &[u64],
     profile: u32,
+    base: Option<&Base>,
     verdicts: &mut [u8],
     rules: &mut [u8],
     places: &mut [u64],
 ) -> Batch
-    ensures { IsBatchAnswer profile texts.now (offset_list offsets.entry) (columns verdicts.old rules.old places.old)
-        (columns verdicts.new rules.new places.new) result }
+    ensures { IsBatchAnswer profile (option_copied base.entry) texts.now offsets.now
+        (columns verdicts.old rules.old places.old) (columns verdicts.new rules.new places.new) result }
 {
     if profile_of(profile).is_none() {
         return Batch::unchecked(CallOutcome::NoProfile, 0);
     }
-    if let Some(row) = offsets.first_wrong(texts.len()) {
+    if let Some(row) = first_wrong(offsets, texts.len()) {
         return Batch::unchecked(CallOutcome::NoOffsets, row);
     }
     Batch {
         outcome: CallOutcome::Done.number(),
         row: 0,
-        valid: check_rows(alloc, texts, offsets, profile, verdicts, rules, places),
+        valid: check_rows(
+            alloc, texts, offsets, profile, base, verdicts, rules, places,
+        ),
         length: 0,
     }
 }
@@ -106,20 +89,22 @@ fn checked(
 fn check_rows(
     alloc: Global,
     texts: &[u8],
-    offsets: Offsets<'_>,
+    offsets: &[u64],
     profile: u32,
+    base: Option<&Base>,
     verdicts: &mut [u8],
     rules: &mut [u8],
     places: &mut [u64],
 ) -> usize
-    requires { AreRows (length texts.now) (offset_list offsets) (row_count (offset_list offsets)) }
-    ensures { AreChecked profile texts.now (offset_list offsets.entry) (row_count (offset_list offsets.entry))
+    requires { AreRows (length texts.now) offsets.now (row_count offsets.now) }
+    ensures { AreChecked profile (option_copied base.entry) texts.now offsets.now (row_count offsets.now)
         (columns verdicts.old rules.old places.old) (columns verdicts.new rules.new places.new) result }
 {
-    let rows = offsets.rows();
+    let rows = row_count(offsets);
     let mut valid = 0;
     for row in 0..rows {
-        let found = found_alone(alloc, offsets.text(texts, row), profile);
+        let text = row_text(texts, offsets, row);
+        let found = found_of(alloc, text, profile, base);
         if found.verdict == 0 {
             valid += 1;
         }

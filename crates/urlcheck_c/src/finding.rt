@@ -14,7 +14,7 @@ use uv_text::count_code_points;
 #[derive(Clone, Copy)]
 pub struct Finding {
     /// The number of the outcome: 0 valid, 1 refused, 2 no UTF-8, 3 the base is refused alone, 4 the base is no UTF-8,
-    /// 5 out of memory, 6 no profile has the number, 7 no base was prepared, 8 the text violates a rule and a
+    /// 5 out of memory, 6 no profile has the number, 7 no base of the profile, 8 the text violates a rule and a
     /// mended text is given. include/urlcheck.h has those of batches and reports, from 9 on; 18 is said there alone.
     pub verdict: u32,
     /// The number of the violated rule, from 1 to 14, where the text or the base is refused, else 0.
@@ -42,7 +42,7 @@ pub(crate) enum CallOutcome {
     Memory,
     /// No profile has the number.
     NoProfile,
-    /// What was given as a base is none that was prepared.
+    /// What was given as a base is none that was prepared by the profile.
     NoBase,
     /// The text violates a rule, and a mended text is given.
     Mended,
@@ -68,6 +68,10 @@ pub(crate) enum CallOutcome {
     FileNoUtf8,
     /// The mended text is no UTF-8.
     MendedNoUtf8,
+    /// The name or the address of a rule, a message, or what it is within is no UTF-8.
+    ReportedNoUtf8,
+    /// No wording of sentences has the number.
+    NoWording,
 }
 
 impl CallOutcome {
@@ -96,6 +100,8 @@ impl CallOutcome {
             CallOutcome::NoOffsets => 17,
             CallOutcome::FileNoUtf8 => 19,
             CallOutcome::MendedNoUtf8 => 20,
+            CallOutcome::ReportedNoUtf8 => 21,
+            CallOutcome::NoWording => 22,
         }
     }
 }

@@ -8,8 +8,7 @@ use crate::columns::Counted;
 use crate::finding::Finding;
 use crate::lines::Line;
 use crate::mended::Mended;
-use crate::records::Resolved;
-use crate::records::placed_records::PlacedRecord;
+use crate::records::PlacedRecord;
 use crate::reports::diagnostics::Violation;
 use crate::reports::fault_lists::{Fault, FaultCount};
 use crate::spans::{Span, Spans};
@@ -24,8 +23,6 @@ const _: () = prove!(size_of::<Span>() == 24);
 const _: () = prove!(size_of::<Spans>() == 144);
 
 const _: () = prove!(size_of::<Answer>() == 168);
-
-const _: () = prove!(size_of::<Resolved>() == 32);
 
 const _: () = prove!(size_of::<PlacedRecord>() == 184);
 

@@ -21,6 +21,7 @@ mod records;
 mod reports;
 mod request;
 mod spans;
+mod texts;
 mod validity;
 mod written;
 
@@ -31,12 +32,8 @@ pub use columns::Counted;
 pub use finding::Finding;
 pub use lines::Line;
 pub use mended::Mended;
-pub use records::Resolved;
-pub use records::placed_records::PlacedRecord;
+pub use records::PlacedRecord;
 pub use reports::diagnostics::Violation;
 pub use reports::fault_lists::{Fault, FaultCount};
 pub use spans::{Span, Spans};
 pub use written::Written;
-
-#[cfg(test)]
-mod tests;

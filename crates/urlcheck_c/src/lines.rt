@@ -2,7 +2,7 @@
 ghost use Rattle.std.specs.Prelude.{◌≡◌, ◌≤◌, ◌<◌, length};
 ghost use Rattle.urlcheck_c.specs.NextLine.{IsFirstLine, IsFound, IsNextAnswer, no_line};
 
-use crate::checks::found_alone;
+use crate::checks::found_of;
 use crate::finding::{CallOutcome, Finding};
 use crate::request::profile_of;
 use std::alloc::Global;
@@ -53,7 +53,7 @@ fn next_refused(alloc: Global, lines: &[u8], from: usize, profile: u32) -> Line
     let mut passed = 0;
     while start < lines.len() {
         let line = first_line(&lines[start..]);
-        let found = found_alone(alloc, line.text, profile);
+        let found = found_of(alloc, line.text, profile, None);
         if found.verdict != 0 {
             return Line {
                 found,

@@ -1,14 +1,14 @@
 //! What to write in place of a text that is refused.
-ghost use Rattle.std.specs.Prelude.{◌≡◌, ℕ, None, Some, option_copied};
-ghost use Rattle.urlcheck_c.specs.Base.{IsPreparedBase, IsUncheckedWith, SaysNoBase};
+ghost use Rattle.std.specs.Prelude.{◌≡◌};
 ghost use Rattle.urlcheck_c.specs.Mended.{IsMendedAnswer, IsRequestMended, IsSaid, kind_number, unmended};
+ghost use Rattle.urlcheck_c.specs.Request.{given};
 
-use crate::bases::{Base, unread};
 use crate::buffers::write_prefix;
 use crate::finding::{CallOutcome, Finding};
-use crate::request::{Request, prepared};
+use crate::request::{Request, given_bytes, prepared};
 use std::alloc::{AllocError, Global};
 use uv_mend::{MendKind, Mending, mend};
+use uv_report::intention_of;
 
 /// What a text is, and what was made of it.
 #[repr(C)]
@@ -18,64 +18,27 @@ pub struct Mended {
     pub found: Finding,
     /// How the mended text is to the text: 1 the same URL, 2 escaped alone, 3 changed, 0 where there is none.
     pub kind: u32,
+    /// 1 where reports say to write the mended text in the text's place, else 0.
+    pub offered: u32,
     /// The length in bytes of the mended text, 0 where there is none.
     pub length: usize,
 }
 
-/// Writes a valid URL string in place of refused bytes, as `uv_mend` makes it of them alone, to the start of `out`,
-/// where it fits. Else, and where there is none, `out` stays as it is.
+/// Writes a valid URL string in place of refused bytes, as `uv_mend` makes it of them, to the start of `out`, where it
+/// fits. Else, and where there is none, `out` stays as it is. The bytes are read alone, or where `has_base` is true
+/// against the bytes of a base, which is checked alone by the same profile.
 #[unsafe(no_mangle)]
-pub extern "C" fn urlcheck_mend(alloc: Global, text: &[u8], profile: u32, out: &mut [u8]) -> Mended
-    ensures { IsMendedAnswer profile None text.now out.old out.new result }
-{
-    mended_answer(alloc, text, None, profile, out)
-}
-
-/// The same against the bytes of a base, which is checked alone by the same profile.
-#[unsafe(no_mangle)]
-pub extern "C" fn urlcheck_mend_against(
+pub extern "C" fn urlcheck_mend(
     alloc: Global,
     text: &[u8],
+    profile: u32,
     base: &[u8],
-    profile: u32,
+    has_base: bool,
     out: &mut [u8],
 ) -> Mended
-    ensures { IsMendedAnswer profile (Some base.now) text.now out.old out.new result }
+    ensures { IsMendedAnswer profile (given has_base base.now) text.now out.old out.new result }
 {
-    mended_answer(alloc, text, Some(base), profile, out)
-}
-
-/// The same against a base that `urlcheck_prepare` made of these bytes, by the base's profile.
-#[unsafe(no_mangle)]
-pub extern "C" fn urlcheck_mend_with(
-    alloc: Global,
-    text: &[u8],
-    base: &Base,
-    base_text: &[u8],
-    out: &mut [u8],
-) -> Mended
-    ensures held { (number : ℕ) → IsPreparedBase number base_text.now base.now
-        → IsMendedAnswer number (Some base_text.now) text.now out.old out.new result }
-    ensures none { SaysNoBase base.now
-        → (result ≡ unmended result.found) × (out.new ≡ out.old) × IsUncheckedWith base.now text.now result.found }
-{
-    match base.read() {
-        Some(_) => mended_answer(alloc, text, Some(base_text), base.profile, out),
-        None => Mended::none(unread(text, base)),
-    }
-}
-
-// What is made of bytes, alone or against those of a base.
-fn mended_answer(
-    alloc: Global,
-    text: &[u8],
-    base: Option<&[u8]>,
-    profile: u32,
-    out: &mut [u8],
-) -> Mended
-    ensures { IsMendedAnswer profile (option_copied base.entry) text.now out.old out.new result }
-{
-    match prepared(alloc, text, base, profile) {
+    match prepared(alloc, text, profile, given_bytes(base, has_base)) {
         Ok(request) => request_mended(alloc, &request, out),
         Err(found) => Mended::none(found),
     }
@@ -100,6 +63,7 @@ fn said(text: &str, mending: &Mending, out: &mut [u8]) -> Mended
         Mending::Mended { text: mended, kind } => Mended {
             found: Finding::plain(CallOutcome::Mended),
             kind: kind_number(*kind),
+            offered: u32::from(intention_of(text, mended.as_str()).is_none()),
             length: write_prefix(mended.as_bytes(), out),
         },
         Mending::Refused(refusal) => {
@@ -116,6 +80,7 @@ impl Mended {
         Mended {
             found,
             kind: 0,
+            offered: 0,
             length: 0,
         }
     }

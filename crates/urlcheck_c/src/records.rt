@@ -1,131 +1,117 @@
-//! The text of the record that a valid text denotes.
-ghost use Rattle.std.specs.Prelude.{◌≡◌, ℕ, None, Some, option_copied};
-ghost use Rattle.urlcheck_c.specs.Base.{IsPreparedBase, IsUncheckedWith, SaysNoBase};
-ghost use Rattle.urlcheck_c.specs.Resolved.{IsRecordAnswer, IsRecordWritten, IsResolvedAnswer, no_memory};
+//! The record that a valid text denotes: its text, and where its parts are there.
+ghost use Rattle.std.specs.Prelude.{◌≡◌, IfOk, string_bytes};
+ghost use Rattle.uv_model.specs.Records.Serialize.{serial};
+ghost use Rattle.urlcheck_c.specs.PlacedRecord.{IsPlacedAnswer, IsPlacedChecked, IsPlacedOrWanting, no_record};
+ghost use Rattle.urlcheck_c.specs.RecordPlaces.{AreRecordSpans};
+ghost use Rattle.urlcheck_c.specs.Request.{given};
 
-pub(crate) mod placed_records;
 pub(crate) mod record_places;
 pub(crate) mod resolved_batches;
 
-use crate::bases::{Base, unread};
 use crate::buffers::write_prefix;
 use crate::finding::{CallOutcome, Finding};
-use crate::request::{Request, prepared};
+use crate::records::record_places::{host_number, record_places};
+use crate::request::{Request, given_bytes, prepared};
+use crate::spans::Spans;
 use std::alloc::{AllocError, Global};
 use uv_model::Record;
 use uv_resolve::{ResolveFault, resolve};
 
-/// What a text is, and how long the text of its record is.
+/// What a text is, and what is where in the text of its record.
 #[repr(C)]
 #[derive(Clone, Copy)]
-pub struct Resolved {
+pub struct PlacedRecord {
     /// The verdict.
     pub found: Finding,
     /// The length in bytes of the record's text, 0 where there is none.
     pub length: usize,
+    /// The parts of the record's text.
+    pub parts: Spans,
+    /// The kind of the host: 1 a domain, 2 an IPv4 address, 3 an IPv6 address, 4 an opaque host, 5 the empty one, and 0
+    /// where there is none.
+    pub host: u32,
+    /// 1 where the path is opaque, else 0.
+    pub opaque_path: u32,
 }
 
-/// Writes the text of the record that the bytes denote alone (URL Standard, sections 4.4 and 4.5) to the start of
-/// `out`, where it fits. Else, and where the bytes denote none, `out` stays as it is.
+/// Writes the text of the record that the bytes denote (URL Standard, sections 4.4 and 4.5) to the start of `out`, where
+/// it fits, and tells where its parts are. Else, and where the bytes denote none, `out` stays as it is. The bytes are
+/// read alone, or where `has_base` is true against the bytes of a base, which is checked alone by the same profile.
 #[unsafe(no_mangle)]
 pub extern "C" fn urlcheck_resolve(
     alloc: Global,
     text: &[u8],
     profile: u32,
-    out: &mut [u8],
-) -> Resolved
-    ensures { IsResolvedAnswer profile None text.now out.old out.new result }
-{
-    record_answer(alloc, text, None, profile, out)
-}
-
-/// The same against the bytes of a base, which is checked alone by the same profile.
-#[unsafe(no_mangle)]
-pub extern "C" fn urlcheck_resolve_against(
-    alloc: Global,
-    text: &[u8],
     base: &[u8],
-    profile: u32,
+    has_base: bool,
     out: &mut [u8],
-) -> Resolved
-    ensures { IsResolvedAnswer profile (Some base.now) text.now out.old out.new result }
+) -> PlacedRecord
+    ensures { IsPlacedAnswer profile (given has_base base.now) text.now out.old out.new result }
 {
-    record_answer(alloc, text, Some(base), profile, out)
-}
-
-/// The same against a base that `urlcheck_prepare` made of these bytes, by the base's profile.
-#[unsafe(no_mangle)]
-pub extern "C" fn urlcheck_resolve_with(
-    alloc: Global,
-    text: &[u8],
-    base: &Base,
-    base_text: &[u8],
-    out: &mut [u8],
-) -> Resolved
-    ensures held { (number : ℕ) → IsPreparedBase number base_text.now base.now
-        → IsResolvedAnswer number (Some base_text.now) text.now out.old out.new result }
-    ensures none { SaysNoBase base.now
-        → (result.length ≡ 0) × (out.new ≡ out.old) × IsUncheckedWith base.now text.now result.found }
-{
-    match base.read() {
-        Some(_) => record_answer(alloc, text, Some(base_text), base.profile, out),
-        None => Resolved {
-            found: unread(text, base),
-            length: 0,
-        },
+    match prepared(alloc, text, profile, given_bytes(base, has_base)) {
+        Ok(request) => request_placed(alloc, &request, out),
+        Err(found) => PlacedRecord::none(found),
     }
 }
 
-// The record's text of bytes, alone or against those of a base.
-fn record_answer(
-    alloc: Global,
-    text: &[u8],
-    base: Option<&[u8]>,
-    profile: u32,
-    out: &mut [u8],
-) -> Resolved
-    ensures { IsResolvedAnswer profile (option_copied base.entry) text.now out.old out.new result }
-{
-    match prepared(alloc, text, base, profile) {
-        Ok(request) => request_resolved(alloc, &request, out),
-        Err(found) => Resolved { found, length: 0 },
-    }
-}
-
-// The record's text of a text that is checked.
-fn request_resolved(alloc: Global, request: &Request<'_>, out: &mut [u8]) -> Resolved
-    ensures { IsRecordAnswer request.now.profile request.now.base request.now.text.now out.old out.new result }
+// The record of a text that is checked.
+fn request_placed(alloc: Global, request: &Request<'_>, out: &mut [u8]) -> PlacedRecord
+    ensures { IsPlacedChecked request.now.profile request.now.base request.now.text.now out.old out.new result }
 {
     let text = request.text;
     match resolve(alloc, text, request.base.as_ref(), request.profile) {
-        Ok(url) => written(alloc, &url, out),
-        Err(ResolveFault::Refused(refusal)) => Resolved {
-            found: Finding::refused(CallOutcome::Refused, text, refusal),
-            length: 0,
-        },
-        Err(ResolveFault::Memory(_)) => memory(),
+        Ok(url) => placed(alloc, &url, out),
+        Err(ResolveFault::Refused(refusal)) => {
+            PlacedRecord::none(Finding::refused(CallOutcome::Refused, text, refusal))
+        }
+        Err(ResolveFault::Memory(_)) => PlacedRecord::none(Finding::plain(CallOutcome::Memory)),
     }
 }
 
-// The record's text, written where it fits.
-fn written(alloc: Global, url: &Record, out: &mut [u8]) -> Resolved
-    ensures { IsRecordWritten url.now out.old out.new result }
+// The record's text, written where it fits, and what is where.
+fn placed(alloc: Global, url: &Record, out: &mut [u8]) -> PlacedRecord
+    ensures { IsPlacedOrWanting url.now out.old out.new result }
 {
-    match url.text(alloc) {
-        Ok(text) => Resolved {
+    match placed_text(alloc, url) {
+        Ok(placed) => PlacedRecord {
             found: Finding::plain(CallOutcome::Valid),
-            length: write_prefix(text.as_bytes(), out),
+            length: write_prefix(placed.text.as_bytes(), out),
+            parts: placed.parts,
+            host: host_number(url.host()),
+            opaque_path: u32::from(url.is_opaque()),
         },
-        Err(AllocError) => memory(),
+        Err(AllocError) => PlacedRecord::none(Finding::plain(CallOutcome::Memory)),
     }
 }
 
-// Out of memory.
-fn memory() -> Resolved
-    ensures { result ≡ no_memory }
+// A record's text, and where its parts are.
+#[derive(Drop)]
+struct PlacedText {
+    text: String,
+    parts: Spans,
+}
+
+// The text of a record, and where its parts are there.
+fn placed_text(alloc: Global, url: &Record) -> Result<PlacedText, AllocError>
+    ensures text { IfOk result (λ placed. string_bytes placed.text ≡ serial url.now) }
+    ensures parts { IfOk result (λ placed. AreRecordSpans url.now placed.parts) }
 {
-    Resolved {
-        found: Finding::plain(CallOutcome::Memory),
-        length: 0,
+    let text = url.text(alloc)?;
+    let parts = record_places(alloc, url, text.as_str().len())?;
+    Ok(PlacedText { text, parts })
+}
+
+impl PlacedRecord {
+    // No record, since this was found.
+    fn none(found: Finding) -> PlacedRecord
+        ensures { result ≡ no_record found }
+    {
+        PlacedRecord {
+            found,
+            length: 0,
+            parts: Spans::none(),
+            host: 0,
+            opaque_path: 0,
+        }
     }
 }

@@ -1,15 +1,12 @@
-//! What is round the diagnostics of a report, and the names of formats and of units.
+//! What is round the diagnostics of a report, and what its formats have.
 ghost use Rattle.std.specs.Prelude.{◌≡◌, IfOk, string_bytes};
 ghost use Rattle.uv_report.specs.Report.{begin_text, file_begin_text, file_end_text};
-ghost use Rattle.urlcheck_c.specs.Buffer.{IsWritten};
 ghost use Rattle.urlcheck_c.specs.Report.{IsBeginAnswer, IsEndAnswer, IsFileBeginAnswer, IsFileEndAnswer};
-ghost use Rattle.urlcheck_c.specs.Report.{name_of_format, name_of_unit, shows_mended, takes_unit};
-ghost use Rattle.urlcheck_c.specs.Report.{takes_columns_of};
+ghost use Rattle.urlcheck_c.specs.Report.{shows_mended, takes_columns_of, takes_unit};
 ghost use Rattle.urlcheck_c.specs.Finding.{plain_finding};
 ghost use Rattle.urlcheck_c.specs.ReportNumbers as spec;
 
 pub(crate) mod diagnostics;
-pub(crate) mod explanations;
 pub(crate) mod fault_lists;
 pub(crate) mod messages;
 pub(crate) mod report_numbers;
@@ -143,39 +140,5 @@ fn takes(format: Format, unit: u32) -> bool
     match unit_of(unit) {
         Some(columns) => format.takes_columns(columns),
         None => false,
-    }
-}
-
-/// Writes the name of the format with this number, as `urlcheck_rule_name` writes that of a rule.
-#[unsafe(no_mangle)]
-pub extern "C" fn urlcheck_format_name(format: u32, out: &mut [u8]) -> usize
-    ensures { IsWritten (name_of_format format) out.old out.new result }
-{
-    write_prefix(format_name(format).as_bytes(), out)
-}
-
-fn format_name(format: u32) -> &'static str
-    ensures { result.now ≡ name_of_format format }
-{
-    match format_of(format) {
-        Some(format) => format.name(),
-        None => "",
-    }
-}
-
-/// The same of the unit with this number.
-#[unsafe(no_mangle)]
-pub extern "C" fn urlcheck_unit_name(unit: u32, out: &mut [u8]) -> usize
-    ensures { IsWritten (name_of_unit unit) out.old out.new result }
-{
-    write_prefix(unit_name(unit).as_bytes(), out)
-}
-
-fn unit_name(unit: u32) -> &'static str
-    ensures { result.now ≡ name_of_unit unit }
-{
-    match unit_of(unit) {
-        Some(columns) => columns.name(),
-        None => "",
     }
 }

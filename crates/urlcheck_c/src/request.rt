@@ -1,7 +1,7 @@
 //! What a call asks: a text, a base and a profile, read from what C gave.
 ghost use Rattle.std.specs.Prelude.{◌≡◌, option_copied};
 ghost use Rattle.urlcheck_c.specs.Finding.{profile_of};
-ghost use Rattle.urlcheck_c.specs.Request.{IsBaseRead, IsPrepared, IsPreparedAlone, IsTextRead};
+ghost use Rattle.urlcheck_c.specs.Request.{IsBaseRead, IsPrepared, IsTextRead, given};
 
 use crate::ascii::ascii_text;
 use crate::finding::{CallOutcome, Finding};
@@ -10,7 +10,7 @@ use std::alloc::Global;
 use uv_model::{Profile, Record};
 use uv_resolve::{ResolveFault, resolve};
 
-/// What is to be checked.
+/// What is to be read: a text, alone or against a record.
 #[derive(Drop)]
 pub(crate) struct Request<'t> {
     /// The text.
@@ -21,34 +21,12 @@ pub(crate) struct Request<'t> {
     pub(crate) profile: Profile,
 }
 
-/// A text that is to be checked alone, without room for a base.
-#[derive(Drop)]
-pub(crate) struct LoneRequest<'t> {
-    /// The text.
-    pub(crate) text: &'t str,
-    /// The profile by which it is checked.
-    pub(crate) profile: Profile,
-}
-
-/// What is to be checked of the bytes of a text alone, or why nothing is.
-#[inline(always)]
-pub(crate) fn prepared_alone<'t>(text: &'t [u8], profile: u32) -> Result<LoneRequest<'t>, Finding>
-    ensures { IsPreparedAlone profile text.now result }
-{
-    let Some(profile) = profile_of(profile) else {
-        return Err(Finding::plain(CallOutcome::NoProfile));
-    };
-    let text = text_of(text, CallOutcome::NoUtf8)?;
-    Ok(LoneRequest { text, profile })
-}
-
-/// What is to be checked of the bytes of a text and of a base, or why nothing is.
-#[inline(always)]
+/// What is to be read of the bytes of a text, alone or against the bytes of a base, or why nothing is.
 pub(crate) fn prepared<'t>(
     alloc: Global,
     text: &'t [u8],
-    base: Option<&[u8]>,
     profile: u32,
+    base: Option<&[u8]>,
 ) -> Result<Request<'t>, Finding>
     ensures { IsPrepared profile (option_copied base.entry) text.now result }
 {
@@ -68,6 +46,14 @@ pub(crate) fn prepared<'t>(
             profile,
         }),
     }
+}
+
+/// The bytes of a base that a caller gave, or none where it gave none.
+#[inline(always)]
+pub(crate) fn given_bytes(base: &[u8], has_base: bool) -> Option<&[u8]>
+    ensures { option_copied result ≡ given has_base base.now }
+{
+    if has_base { Some(base) } else { None }
 }
 
 /// The profile with this number: 0 is the standard profile, 1 the wide one, 2 the parser's.

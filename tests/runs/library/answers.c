@@ -41,7 +41,7 @@ static void print_bytes(const uint8_t *bytes, size_t length) {
 
 static void print_rule(uint32_t rule) {
     uint8_t name[19];
-    print_bytes(name, urlcheck_rule_name(rule, name, sizeof name));
+    print_bytes(name, urlcheck_text(URLCHECK_RULE_NAME, rule, name, sizeof name));
 }
 
 static void print_part(const text *given, urlcheck_span span) {
@@ -61,25 +61,30 @@ static int is_same(urlcheck_finding one, urlcheck_finding other) {
            && one.byte_place == other.byte_place;
 }
 
-static urlcheck_resolved resolve(const text *given, const text *base, uint32_t profile, uint8_t *out, size_t room) {
-    if (base->length == NONE) return urlcheck_resolve(given->bytes, given->length, profile, out, room);
-    return urlcheck_resolve_against(given->bytes, given->length, base->bytes, base->length, profile, out, room);
+/* The bytes of a base: null where there is none, and of an empty one a place with no bytes. */
+static const uint8_t *base_bytes(const text *base) {
+    static const uint8_t empty[1];
+    if (base->length == NONE) return NULL;
+    return base->length ? base->bytes : empty;
+}
+
+static size_t base_length(const text *base) { return base->length == NONE ? 0 : base->length; }
+
+/* A base that is held, or null where there is none. */
+static const urlcheck_base *hold(const text *base, uint32_t profile, urlcheck_base *held) {
+    if (base->length == NONE) return NULL;
+    *held = urlcheck_prepare(base_bytes(base), base->length, profile);
+    return held;
+}
+
+static urlcheck_record resolve(const text *given, const text *base, uint32_t profile, uint8_t *out, size_t room) {
+    return urlcheck_resolve(given->bytes, given->length, profile, base_bytes(base), base_length(base), out, room);
 }
 
 static urlcheck_fault_count faults(const text *given, const text *base, uint32_t profile, urlcheck_fault *out,
                                    size_t room) {
-    if (base->length == NONE) return urlcheck_faults(given->bytes, given->length, profile, out, room);
-    return urlcheck_faults_against(given->bytes, given->length, base->bytes, base->length, profile, out, room);
-}
-
-static urlcheck_record resolve_record(const text *given, const text *base, uint32_t profile, int is_held, uint8_t *out,
-                                      size_t room) {
-    if (base->length == NONE) return urlcheck_resolve_record(given->bytes, given->length, profile, out, room);
-    if (is_held) {
-        urlcheck_base held = urlcheck_prepare(base->bytes, base->length, profile);
-        return urlcheck_resolve_record_with(given->bytes, given->length, &held, base->bytes, base->length, out, room);
-    }
-    return urlcheck_resolve_record_against(given->bytes, given->length, base->bytes, base->length, profile, out, room);
+    urlcheck_base held;
+    return urlcheck_faults(given->bytes, given->length, profile, hold(base, profile, &held), out, room);
 }
 
 /* The end of a part that is here, after a delimiter in the text, or this place where it is absent. */
@@ -108,40 +113,25 @@ static void join_parts(const uint8_t *whole, size_t length, urlcheck_record reco
     if (record.opaque_path ? is_slashed : parts.path.length && !is_slashed) fail("a path of another kind");
 }
 
-/* The record with the places of its parts has the same text. */
-static void compare_record(const text *given, const text *base, uint32_t profile, urlcheck_finding found,
-                           const uint8_t *wanted, size_t length) {
-    for (int is_held = 0; is_held < 2; is_held++) {
-        uint8_t *out = malloc(length ? length : 1);
-        if (!out) fail("memory");
-        urlcheck_record asked = resolve_record(given, base, profile, is_held, NULL, 0);
-        urlcheck_record record = resolve_record(given, base, profile, is_held, out, length);
-        if (!is_same(record.found, found) || record.length != length || asked.length != length) fail("another record");
-        if (found.verdict == URLCHECK_VALID) {
-            if (memcmp(out, wanted, length) != 0) fail("another text of a record");
-            join_parts(out, length, record);
-        }
-        free(out);
-    }
-}
-
 /* The record's text, asked for with no room, and then with exactly the room that it needs. */
 static void print_record(const text *given, const text *base, uint32_t profile, urlcheck_finding found) {
     uint8_t small = 'x';
-    urlcheck_resolved asked = resolve(given, base, profile, &small, 0);
+    urlcheck_record asked = resolve(given, base, profile, &small, 0), written;
     if (!is_same(asked.found, found) || small != 'x') fail("resolve and check differ, or more was written than fits");
     if (resolve(given, base, profile, NULL, 0).length != asked.length) fail("a null buffer changes a length");
     uint8_t *out = malloc(asked.length ? asked.length : 1);
     if (!out) fail("memory");
-    urlcheck_resolved written = resolve(given, base, profile, out, asked.length);
-    if (written.length != asked.length) fail("two lengths of one record");
+    urlcheck_resolve_to(&written, given->bytes, given->length, profile, base_bytes(base), base_length(base), out,
+                        asked.length);
+    if (!is_same(written.found, found) || written.length != asked.length) fail("two lengths of one record");
+    if (memcmp(&written.parts, &asked.parts, sizeof asked.parts) != 0) fail("room changes the parts of a record");
     if (found.verdict == URLCHECK_VALID) {
+        join_parts(out, written.length, written);
         putchar('\t');
         print_bytes(out, written.length);
     } else if (written.length != 0) {
         fail("a length without a record");
     }
-    compare_record(given, base, profile, found, out, written.length);
     free(out);
 }
 
@@ -166,8 +156,11 @@ static void print_faults(const text *given, const text *base, uint32_t profile, 
 }
 
 static urlcheck_answer check(const text *given, const text *base, uint32_t profile) {
-    if (base->length == NONE) return urlcheck_check(given->bytes, given->length, profile);
-    return urlcheck_check_against(given->bytes, given->length, base->bytes, base->length, profile);
+    urlcheck_base made, held;
+    if (base->length == NONE) return urlcheck_check(given->bytes, given->length, profile, NULL);
+    made = held = urlcheck_prepare(base_bytes(base), base->length, profile);
+    memset(&made, 0xff, sizeof made);
+    return urlcheck_check(given->bytes, given->length, profile, &held);
 }
 
 static int is_same_span(urlcheck_span one, urlcheck_span other) {
@@ -181,28 +174,21 @@ static int is_same_answer(urlcheck_answer one, urlcheck_answer other) {
            && is_same_span(one.parts.fragment, other.parts.fragment);
 }
 
-/* Against a base that is held the same is said as against its bytes, and the verdict alone is that of the check. */
-static void compare_held(const text *given, const text *base, uint32_t profile, urlcheck_answer answer) {
+/* The answer to a pointer and the verdict alone are those of the check, and a base of another profile is none. */
+static void compare_calls(const text *given, const text *base, uint32_t profile, urlcheck_answer answer) {
+    urlcheck_base held;
+    const urlcheck_base *prepared = hold(base, profile, &held);
+    urlcheck_answer pointed;
+    urlcheck_check_to(&pointed, given->bytes, given->length, profile, prepared);
+    if (!is_same_answer(pointed, answer)) fail("check_to differs");
     int valid = answer.found.verdict == URLCHECK_VALID;
-    if (base->length == NONE) {
-        if (urlcheck_is_valid(given->bytes, given->length, profile) != valid) fail("is_valid and check differ");
-        return;
+    if (urlcheck_is_valid(given->bytes, given->length, profile, prepared) != valid) fail("is_valid and check differ");
+    if (!prepared || answer.found.verdict == URLCHECK_NO_UTF8) return;
+    uint32_t other = (profile + 1) % 3;
+    if (urlcheck_check(given->bytes, given->length, other, prepared).found.verdict != URLCHECK_NO_BASE) {
+        fail("a base of another profile");
     }
-    urlcheck_base made = urlcheck_prepare(base->bytes, base->length, profile), held = made;
-    memset(&made, 0xff, sizeof made);
-    if (!is_same_answer(urlcheck_check_with(given->bytes, given->length, &held), answer)) fail("check_with differs");
-    if (urlcheck_is_valid_with(given->bytes, given->length, &held) != valid) fail("is_valid_with differs");
-    size_t count = faults(given, base, profile, NULL, 0).count;
-    urlcheck_fault *one = calloc(2 * (count ? count : 1), sizeof *one), *other = one ? one + count : NULL;
-    if (!one) fail("memory");
-    faults(given, base, profile, one, count);
-    urlcheck_fault_count with = urlcheck_faults_with(given->bytes, given->length, &held, other, count);
-    if (with.count != count || !is_same(with.found, answer.found)) fail("faults_with differs");
-    for (size_t at = 0; at < count; at++) {
-        if (one[at].rule != other[at].rule || one[at].place != other[at].place) fail("a fault of faults_with differs");
-        if (one[at].byte_place != other[at].byte_place) fail("a place of faults_with differs");
-    }
-    free(one);
+    if (urlcheck_is_valid(given->bytes, given->length, other, prepared)) fail("a base of another profile");
 }
 
 /* What is no base that was prepared is none for each call. */
@@ -210,24 +196,25 @@ static void refuse_stray_bases(void) {
     static const urlcheck_base zeros;
     const uint8_t bytes[] = "http://h/";
     urlcheck_base held = urlcheck_prepare(bytes, 9, URLCHECK_STANDARD);
-    if (urlcheck_check_with(bytes, 9, &held).found.verdict != URLCHECK_VALID) fail("a base that is held");
+    if (urlcheck_check(bytes, 9, 0, &held).found.verdict != URLCHECK_VALID) fail("a base that is held");
     held.profile = 3;
-    if (urlcheck_check_with(bytes, 9, &held).found.verdict != URLCHECK_NO_BASE) fail("a base of no profile");
+    if (urlcheck_check(bytes, 9, 0, &held).found.verdict != URLCHECK_NO_BASE) fail("a base of no profile");
     held.profile = URLCHECK_STANDARD, held.scheme = 6;
-    if (urlcheck_check_with(bytes, 9, &held).found.verdict != URLCHECK_NO_BASE) fail("a base of no kind");
+    if (urlcheck_check(bytes, 9, 0, &held).found.verdict != URLCHECK_NO_BASE) fail("a base of no kind");
     held.found.verdict = URLCHECK_REFUSED;
-    if (urlcheck_check_with(bytes, 9, &held).found.verdict != URLCHECK_NO_BASE) fail("a base with the verdict of a text");
-    if (urlcheck_check_with(bytes, 9, &zeros).found.verdict != URLCHECK_NO_BASE) fail("a base of zeros");
-    if (urlcheck_check_with(bytes, 9, NULL).found.verdict != URLCHECK_NO_BASE) fail("a null base");
-    if (urlcheck_faults_with(bytes, 9, NULL, NULL, 0).found.verdict != URLCHECK_NO_BASE) fail("a null base");
-    if (urlcheck_is_valid_with(bytes, 9, NULL)) fail("a null base");
+    if (urlcheck_check(bytes, 9, 0, &held).found.verdict != URLCHECK_NO_BASE) fail("a base with the verdict of a text");
+    held.found.verdict = URLCHECK_BASE_REFUSED, held.found.rule = 256;
+    if (urlcheck_check(bytes, 9, 0, &held).found.verdict != URLCHECK_NO_BASE) fail("a base that no rule refuses");
+    if (urlcheck_check(bytes, 9, 0, &zeros).found.verdict != URLCHECK_NO_BASE) fail("a base of zeros");
+    if (urlcheck_faults(bytes, 9, 0, &zeros, NULL, 0).found.verdict != URLCHECK_NO_BASE) fail("a base of zeros");
+    if (urlcheck_is_valid(bytes, 9, 0, &zeros)) fail("a base of zeros");
     /* A kind of bases may be one that no base has: a special scheme with an opaque path. */
     const uint8_t reference[] = "//g/x", secure[] = "https://h/";
     held = urlcheck_prepare(secure, 10, URLCHECK_STANDARD);
     held.opaque_path = 1;
-    urlcheck_finding found = urlcheck_check_with(reference, 5, &held).found;
+    urlcheck_finding found = urlcheck_check(reference, 5, 0, &held).found;
     int is_refused = found.verdict == URLCHECK_REFUSED && found.rule == URLCHECK_OPAQUE_BASE && found.place == 0;
-    if (!is_refused || urlcheck_is_valid_with(reference, 5, &held)) fail("a special base with an opaque path");
+    if (!is_refused || urlcheck_is_valid(reference, 5, 0, &held)) fail("a special base with an opaque path");
 }
 
 static void answer(const text *given, const text *base, uint32_t profile) {
@@ -246,7 +233,7 @@ static void answer(const text *given, const text *base, uint32_t profile) {
         print_part(given, answer.parts.query);
         print_part(given, answer.parts.fragment);
     }
-    compare_held(given, base, profile, answer);
+    compare_calls(given, base, profile, answer);
     print_record(given, base, profile, found);
     print_faults(given, base, profile, found);
     putchar('\n');
@@ -268,8 +255,7 @@ static void place(const text *given, const text *base, uint32_t profile) {
 }
 
 static urlcheck_mended mend(const text *given, const text *base, uint32_t profile, uint8_t *out, size_t room) {
-    if (base->length == NONE) return urlcheck_mend(given->bytes, given->length, profile, out, room);
-    return urlcheck_mend_against(given->bytes, given->length, base->bytes, base->length, profile, out, room);
+    return urlcheck_mend(given->bytes, given->length, profile, base_bytes(base), base_length(base), out, room);
 }
 
 /* The mended text, asked for with no room, and then with exactly the room that it needs, in memory of its own. */
@@ -280,6 +266,7 @@ static void print_mended(const text *given, const text *base, uint32_t profile, 
     urlcheck_mended written = mend(given, base, profile, out, asked.length);
     if (!is_same(written.found, asked.found) || written.length != asked.length) fail("two mended texts of one");
     if (written.kind != asked.kind || asked.kind < 1 || asked.kind > 3) fail("a kind of a mended text");
+    if (written.offered != asked.offered || asked.offered > 1) fail("whether a mended text is offered");
     printf("mended %s\t", kinds[asked.kind]);
     print_bytes(out, asked.length);
     free(out);
@@ -293,7 +280,7 @@ static void mended(const text *given, const text *base, uint32_t profile) {
     if (asked.found.verdict == URLCHECK_MENDED) {
         print_mended(given, base, profile, asked);
     } else {
-        if (asked.length != 0 || asked.kind != 0) fail("a length or a kind without a mended text");
+        if (asked.length || asked.kind || asked.offered) fail("a length or a kind without a mended text");
         if (!is_same(asked.found, check(given, base, profile).found)) fail("mend and check differ");
         if (asked.found.verdict == URLCHECK_VALID) printf("valid");
         if (asked.found.verdict == URLCHECK_REFUSED) printf("none\trefused %zu ", asked.found.place);
@@ -308,7 +295,7 @@ int main(int count, char **words) {
     int is_mended = count == 3 && strcmp(words[2], "mended") == 0;
     void (*say)(const text *, const text *, uint32_t) = is_place ? place : is_mended ? mended : answer;
     if (count != 2 + is_place + is_mended) fail("usage: answers CASES [places|mended]");
-    if (urlcheck_rule_name(URLCHECK_PERCENT, NULL, 0) != 7) fail("a null buffer changes the length of a name");
+    if (urlcheck_text(URLCHECK_RULE_NAME, URLCHECK_PERCENT, NULL, 0) != 7) fail("a null buffer changes the length of a name");
     if (urlcheck_version() != URLCHECK_VERSION) fail("the header has another version than the library");
     refuse_stray_bases();
     FILE *file = fopen(words[1], "rb");

@@ -32,25 +32,29 @@ bool read_text(std::istream &file, Text &text) {
 }
 
 std::string rule_name(uint32_t rule) {
-    std::string name(urlcheck_rule_name(rule, reinterpret_cast<uint8_t *>(&rule), 0), '\0');
-    urlcheck_rule_name(rule, reinterpret_cast<uint8_t *>(&name[0]), name.size());
+    std::string name(urlcheck_text(URLCHECK_RULE_NAME, rule, nullptr, 0), '\0');
+    urlcheck_text(URLCHECK_RULE_NAME, rule, reinterpret_cast<uint8_t *>(&name[0]), name.size());
     return name;
 }
 
-urlcheck_answer check(const Text &text, const Text &base, uint32_t profile) {
-    if (!base.present) return urlcheck_check(text.data(), text.size(), profile);
-    return urlcheck_check_against(text.data(), text.size(), base.data(), base.size(), profile);
-}
+// A base that is held, for as long as a text is checked against it.
+struct Held {
+    bool present;
+    urlcheck_base base;
 
-urlcheck_resolved resolve(const Text &text, const Text &base, uint32_t profile, std::string &out) {
+    Held(const Text &text, uint32_t profile)
+        : present(text.present), base(urlcheck_prepare(text.data(), text.size(), profile)) {}
+    const urlcheck_base *given() const { return present ? &base : nullptr; }
+};
+
+urlcheck_record resolve(const Text &text, const Text &base, uint32_t profile, std::string &out) {
     uint8_t *front = reinterpret_cast<uint8_t *>(&out[0]);
-    if (!base.present) return urlcheck_resolve(text.data(), text.size(), profile, front, out.size());
-    return urlcheck_resolve_against(text.data(), text.size(), base.data(), base.size(), profile, front, out.size());
+    return urlcheck_resolve(text.data(), text.size(), profile, base.present ? base.data() : nullptr, base.size(), front,
+                            out.size());
 }
 
-urlcheck_fault_count faults(const Text &text, const Text &base, uint32_t profile, std::vector<urlcheck_fault> &out) {
-    if (!base.present) return urlcheck_faults(text.data(), text.size(), profile, out.data(), out.size());
-    return urlcheck_faults_against(text.data(), text.size(), base.data(), base.size(), profile, out.data(), out.size());
+urlcheck_fault_count faults(const Text &text, const Held &held, uint32_t profile, std::vector<urlcheck_fault> &out) {
+    return urlcheck_faults(text.data(), text.size(), profile, held.given(), out.data(), out.size());
 }
 
 void print_part(const Text &text, const urlcheck_span &span) {
@@ -63,7 +67,8 @@ void print_part(const Text &text, const urlcheck_span &span) {
 }
 
 void answer(const Text &text, const Text &base, uint32_t profile) {
-    urlcheck_answer found = check(text, base, profile);
+    Held held(base, profile);
+    urlcheck_answer found = urlcheck_check(text.data(), text.size(), profile, held.given());
     std::cout << found.found.verdict;
     if (found.found.rule) {
         std::cout << ' ' << found.found.place << ' ' << found.found.byte_place << ' ' << rule_name(found.found.rule);
@@ -79,8 +84,8 @@ void answer(const Text &text, const Text &base, uint32_t profile) {
         std::cout << '\t' << record;
     }
     std::vector<urlcheck_fault> all(1);
-    all.resize(faults(text, base, profile, all).count + 1);
-    all.resize(faults(text, base, profile, all).count);
+    all.resize(faults(text, held, profile, all).count + 1);
+    all.resize(faults(text, held, profile, all).count);
     for (const urlcheck_fault &fault : all) {
         std::cout << '\t' << fault.place << ' ' << fault.byte_place << ' ' << rule_name(fault.rule);
     }

@@ -25,8 +25,7 @@ static void *taken(size_t count, size_t size) {
 typedef struct {
     uint8_t *bytes, *texts;
     size_t length, whole, count;
-    uint64_t *wide;
-    uint32_t *narrow;
+    uint64_t *offsets;
 } list;
 
 static list read_list(const char *name) {
@@ -41,8 +40,7 @@ static list read_list(const char *name) {
     size_t lines = 0;
     for (size_t at = 0; at < read.whole; at++) lines += read.bytes[at] == '\n';
     read.texts = taken(read.whole, 1);
-    read.wide = taken(lines + 2, sizeof *read.wide);
-    read.narrow = taken(lines + 2, sizeof *read.narrow);
+    read.offsets = taken(lines + 2, sizeof *read.offsets);
     for (size_t at = 0; at < read.whole;) {
         const uint8_t *end = memchr(read.bytes + at, '\n', read.whole - at);
         size_t line = end ? (size_t)(end - (read.bytes + at)) : read.whole - at;
@@ -50,8 +48,7 @@ static list read_list(const char *name) {
         memcpy(read.texts + read.length, read.bytes + at, text);
         read.length += text;
         read.count++;
-        read.wide[read.count] = read.length;
-        read.narrow[read.count] = (uint32_t)read.length;
+        read.offsets[read.count] = read.length;
         at += line + 1;
     }
     /* (in memory of exactly its length, so that a read beyond it is seen) */
@@ -62,23 +59,20 @@ static list read_list(const char *name) {
     return read;
 }
 
-static urlcheck_finding found_at(const list *all, size_t row, uint32_t profile) {
-    return urlcheck_check(all->texts + all->wide[row], all->wide[row + 1] - all->wide[row], profile).found;
+static urlcheck_finding found_at(const list *all, size_t row, uint32_t profile, const urlcheck_base *base) {
+    return urlcheck_check(all->texts + all->offsets[row], all->offsets[row + 1] - all->offsets[row], profile, base).found;
 }
 
-/* Each row of each column is what the check of that text alone says. */
-static void compare(const list *all, uint32_t profile, int is_narrow) {
+/* Each row of each column is what the check of that text says, alone or against a base. */
+static void compare(const list *all, uint32_t profile, const urlcheck_base *base) {
     uint8_t *verdicts = taken(all->count, 1), *rules = taken(all->count, 1);
     uint64_t *places = taken(all->count, sizeof *places);
-    urlcheck_batch answer =
-        is_narrow ? urlcheck_check_many_32(all->texts, all->length, all->narrow, all->count, profile, verdicts, rules,
-                                           places)
-                  : urlcheck_check_many(all->texts, all->length, all->wide, all->count, profile, verdicts, rules,
-                                        places);
+    urlcheck_batch answer = urlcheck_check_many(all->texts, all->length, all->offsets, all->count, profile, base,
+                                                verdicts, rules, places);
     if (answer.outcome != URLCHECK_DONE || answer.row || answer.length) fail("the batch isn't done", 0);
     size_t valid = 0;
     for (size_t row = 0; row < all->count; row++) {
-        urlcheck_finding found = found_at(all, row, profile);
+        urlcheck_finding found = found_at(all, row, profile, base);
         if (verdicts[row] != found.verdict || rules[row] != found.rule || places[row] != found.place) {
             fail("a row isn't the check's answer", row);
         }
@@ -86,13 +80,13 @@ static void compare(const list *all, uint32_t profile, int is_narrow) {
     }
     if (answer.valid != valid) fail("another count of valid texts", valid);
     urlcheck_batch counted =
-        urlcheck_check_many(all->texts, all->length, all->wide, all->count, profile, NULL, NULL, NULL);
+        urlcheck_check_many(all->texts, all->length, all->offsets, all->count, profile, base, NULL, NULL, NULL);
     if (counted.outcome != URLCHECK_DONE || counted.valid != valid) fail("columns change the count", counted.valid);
     memset(verdicts, 99, all->count);
     memset(places, 99, all->count * sizeof *places);
-    urlcheck_check_many(all->texts, all->length, all->wide, all->count, profile, NULL, rules, NULL);
+    urlcheck_check_many(all->texts, all->length, all->offsets, all->count, profile, base, NULL, rules, NULL);
     for (size_t row = 0; row < all->count; row++) {
-        if (rules[row] != found_at(all, row, profile).rule) fail("a column alone isn't filled", row);
+        if (rules[row] != found_at(all, row, profile, base).rule) fail("a column alone isn't filled", row);
         if (verdicts[row] != 99) fail("a column that is left out is written", row);
     }
     free(verdicts);
@@ -100,21 +94,31 @@ static void compare(const list *all, uint32_t profile, int is_narrow) {
     free(places);
 }
 
-/* By offsets of 64 bits or of 32: the two calls give the same. */
-static urlcheck_batch resolve_all(const list *all, uint32_t profile, int is_narrow, uint8_t *verdicts, uint8_t *rules,
-                                  uint64_t *places, uint64_t *ends, uint8_t *out, size_t room) {
-    return is_narrow ? urlcheck_resolve_many_32(all->texts, all->length, all->narrow, all->count, profile, verdicts,
-                                                rules, places, ends, out, room)
-                     : urlcheck_resolve_many(all->texts, all->length, all->wide, all->count, profile, verdicts, rules,
-                                             places, ends, out, room);
+/* Against a base of each profile, one that is refused, and one of zeros: only the first is one by this profile. */
+static void compare_bases(const list *all, uint32_t profile) {
+    static const char *const texts[] = {"http://h/a/b", "urn:a", "file:///x", "no base", "\xff"};
+    static const urlcheck_base zeros;
+    compare(all, profile, NULL);
+    compare(all, profile, &zeros);
+    for (size_t at = 0; at < sizeof texts / sizeof *texts; at++) {
+        urlcheck_base base = urlcheck_prepare((const uint8_t *)texts[at], strlen(texts[at]), profile);
+        compare(all, profile, &base);
+        compare(all, (profile + 1) % 3, &base);
+    }
+}
+
+static urlcheck_batch resolve_all(const list *all, uint32_t profile, uint8_t *verdicts, uint8_t *rules, uint64_t *places,
+                                  uint64_t *ends, uint8_t *out, size_t room) {
+    return urlcheck_resolve_many(all->texts, all->length, all->offsets, all->count, profile, verdicts, rules, places,
+                                 ends, out, room);
 }
 
 /* Of a row, the columns and the text have what urlcheck_resolve says of that text alone. */
 static void compare_resolved_row(const list *all, size_t row, uint32_t profile, const uint8_t *written, size_t length,
                                  urlcheck_finding found) {
     static uint8_t room[1 << 18];
-    urlcheck_resolved alone = urlcheck_resolve(all->texts + all->wide[row], all->wide[row + 1] - all->wide[row],
-                                               profile, room, sizeof room);
+    urlcheck_record alone = urlcheck_resolve(all->texts + all->offsets[row], all->offsets[row + 1] - all->offsets[row],
+                                             profile, NULL, 0, room, sizeof room);
     if (alone.length > sizeof room) fail("a text is too long for this run", row);
     if (found.verdict != alone.found.verdict || found.rule != alone.found.rule || found.place != alone.found.place) {
         fail("a row isn't the answer of resolve", row);
@@ -123,23 +127,23 @@ static void compare_resolved_row(const list *all, size_t row, uint32_t profile, 
 }
 
 /* Each row is what urlcheck_resolve says of that text alone; the texts are written where they have exactly room. */
-static void compare_resolved(const list *all, uint32_t profile, int is_narrow) {
+static void compare_resolved(const list *all, uint32_t profile) {
     uint8_t *verdicts = taken(all->count, 1), *rules = taken(all->count, 1), small = 9;
     uint64_t *places = taken(all->count, sizeof *places), *ends = taken(all->count + 1, sizeof *ends);
-    urlcheck_batch asked = resolve_all(all, profile, is_narrow, NULL, NULL, NULL, NULL, NULL, 0);
+    urlcheck_batch asked = resolve_all(all, profile, NULL, NULL, NULL, NULL, NULL, 0);
     uint8_t *out = taken(asked.length, 1);
-    if (asked.length && resolve_all(all, profile, is_narrow, NULL, NULL, NULL, ends, &small, 0).length != asked.length) {
+    if (asked.length && resolve_all(all, profile, NULL, NULL, NULL, ends, &small, 0).length != asked.length) {
         fail("columns change the length", asked.length);
     }
     if (small != 9 || ends[all->count] != asked.length) fail("no end of the texts without room for them", 0);
     if (asked.length) {
         memset(out, 7, asked.length);
-        resolve_all(all, profile, is_narrow, NULL, NULL, NULL, NULL, out, asked.length - 1);
+        resolve_all(all, profile, NULL, NULL, NULL, NULL, out, asked.length - 1);
         for (size_t at = 0; at < asked.length; at++) {
             if (out[at] != 7) fail("texts are written that don't fit", at);
         }
     }
-    urlcheck_batch answer = resolve_all(all, profile, is_narrow, verdicts, rules, places, ends, out, asked.length);
+    urlcheck_batch answer = resolve_all(all, profile, verdicts, rules, places, ends, out, asked.length);
     size_t valid = 0;
     if (answer.outcome != URLCHECK_DONE || answer.row || answer.length != asked.length || ends[0] != 0) {
         fail("the texts aren't resolved", 0);
@@ -163,7 +167,7 @@ static void walk(const list *all, uint32_t profile) {
     for (;;) {
         urlcheck_line line = urlcheck_next_refused(all->bytes, all->whole, from, profile);
         for (size_t passed = 0; passed < line.passed; passed++, row++) {
-            if (found_at(all, row, profile).verdict != URLCHECK_VALID) fail("a refused line is passed over", row);
+            if (found_at(all, row, profile, NULL).verdict != URLCHECK_VALID) fail("a refused line is passed over", row);
         }
         if (line.found.verdict == URLCHECK_VALID) {
             if (row != all->count || line.start != all->whole || line.next != all->whole || line.length) {
@@ -171,11 +175,11 @@ static void walk(const list *all, uint32_t profile) {
             }
             return;
         }
-        urlcheck_finding found = found_at(all, row, profile);
+        urlcheck_finding found = found_at(all, row, profile, NULL);
         if (memcmp(&found, &line.found, sizeof found) != 0) fail("a line isn't the check's answer", row);
-        size_t length = all->wide[row + 1] - all->wide[row];
+        size_t length = all->offsets[row + 1] - all->offsets[row];
         if (line.length != length || line.start < from || line.next <= line.start || line.next > all->whole ||
-            (length && memcmp(all->bytes + line.start, all->texts + all->wide[row], length) != 0)) {
+            (length && memcmp(all->bytes + line.start, all->texts + all->offsets[row], length) != 0)) {
             fail("another text than the line's", row);
         }
         from = line.next;
@@ -191,14 +195,11 @@ static void is_untouched(const uint8_t *bytes, size_t count) {
 
 static void bad_offsets(uint64_t first, uint64_t second, uint64_t third, size_t row) {
     const uint64_t offsets[] = {first, second, third};
-    const uint32_t narrow[] = {(uint32_t)first, (uint32_t)second, (uint32_t)third};
     uint8_t columns[3][16];
     memset(columns, 7, sizeof columns);
-    urlcheck_batch answer = urlcheck_check_many((const uint8_t *)"http://h/", 9, offsets, 2, 0, columns[0],
+    urlcheck_batch answer = urlcheck_check_many((const uint8_t *)"http://h/", 9, offsets, 2, 0, NULL, columns[0],
                                                 columns[1], (uint64_t *)(void *)columns[2]);
     if (answer.outcome != URLCHECK_NO_OFFSETS || answer.row != row || answer.valid) fail("wrong offsets pass", row);
-    answer = urlcheck_check_many_32((const uint8_t *)"http://h/", 9, narrow, 2, 0, columns[0], columns[1], NULL);
-    if (answer.outcome != URLCHECK_NO_OFFSETS || answer.row != row) fail("wrong narrow offsets pass", row);
     is_untouched(columns[0], sizeof columns);
 }
 
@@ -210,17 +211,16 @@ static void bad_input(void) {
     bad_offsets(0, 10, 9, 0);
     bad_offsets(4, 3, 9, 0);
     bad_offsets(0, 9, 8, 1);
-    if (urlcheck_check_many(text, 9, offsets, 2, 3, column, column, NULL).outcome != URLCHECK_NO_PROFILE) {
+    if (urlcheck_check_many(text, 9, offsets, 2, 3, NULL, column, column, NULL).outcome != URLCHECK_NO_PROFILE) {
         fail("a profile of no number", 0);
     }
-    if (urlcheck_check_many(NULL, 9, offsets, 2, 0, column, NULL, NULL).outcome != URLCHECK_NULL ||
-        urlcheck_check_many(text, 9, NULL, 2, 0, column, NULL, NULL).outcome != URLCHECK_NULL ||
-        urlcheck_check_many_32(text, 9, NULL, 2, 0, column, NULL, NULL).outcome != URLCHECK_NULL ||
+    if (urlcheck_check_many(NULL, 9, offsets, 2, 0, NULL, column, NULL, NULL).outcome != URLCHECK_NULL ||
+        urlcheck_check_many(text, 9, NULL, 2, 0, NULL, column, NULL, NULL).outcome != URLCHECK_NULL ||
         urlcheck_next_refused(NULL, 1, 0, 0).found.verdict != URLCHECK_NULL) {
         fail("a null pointer passes", 0);
     }
     is_untouched(column, sizeof column);
-    if (urlcheck_check_many(NULL, 0, NULL, 0, 0, NULL, NULL, NULL).outcome != URLCHECK_DONE ||
+    if (urlcheck_check_many(NULL, 0, NULL, 0, 0, NULL, NULL, NULL, NULL).outcome != URLCHECK_DONE ||
         urlcheck_next_refused(NULL, 0, 0, 0).found.verdict != URLCHECK_VALID) {
         fail("no texts aren't checked", 0);
     }
@@ -232,19 +232,15 @@ static void bad_input(void) {
 static void bad_resolving(void) {
     const uint8_t *text = (const uint8_t *)"http://h/";
     const uint64_t offsets[] = {0, 10}, whole[] = {0, 9}, longest = 9;
-    const uint32_t narrow[] = {4, 3};
     uint8_t column = 7, out[9];
     uint64_t ends[2] = {longest, longest};
     memset(out, 7, sizeof out);
     urlcheck_batch answer = urlcheck_resolve_many(text, 9, offsets, 1, 0, &column, NULL, NULL, ends, out, 9);
     if (answer.outcome != URLCHECK_NO_OFFSETS || answer.row || answer.length) fail("wrong offsets are resolved", 0);
-    answer = urlcheck_resolve_many_32(text, 9, narrow, 1, 0, &column, NULL, NULL, ends, out, 9);
-    if (answer.outcome != URLCHECK_NO_OFFSETS) fail("wrong narrow offsets are resolved", 0);
     answer = urlcheck_resolve_many(text, 9, whole, 1, 3, &column, NULL, NULL, ends, out, 9);
     if (answer.outcome != URLCHECK_NO_PROFILE) fail("texts are resolved by no profile", 3);
     if (urlcheck_resolve_many(NULL, 9, whole, 1, 0, &column, NULL, NULL, ends, out, 9).outcome != URLCHECK_NULL ||
         urlcheck_resolve_many(text, 9, NULL, 1, 0, &column, NULL, NULL, ends, out, 9).outcome != URLCHECK_NULL ||
-        urlcheck_resolve_many_32(text, 9, NULL, 1, 0, &column, NULL, NULL, ends, out, 9).outcome != URLCHECK_NULL ||
         urlcheck_resolve_many(text, 9, whole, 1, 0, &column, NULL, NULL, ends, NULL, 9).outcome != URLCHECK_NULL) {
         fail("null is resolved", 0);
     }
@@ -266,11 +262,11 @@ static void say_time(const list *all) {
     uint64_t *places = taken(all->count, sizeof *places);
     for (int round = 0; round < 5; round++) {
         double start = seconds();
-        size_t valid = urlcheck_check_many(all->texts, all->length, all->wide, all->count, 0, verdicts, rules, places)
-                           .valid;
+        size_t valid =
+            urlcheck_check_many(all->texts, all->length, all->offsets, all->count, 0, NULL, verdicts, rules, places).valid;
         double many = seconds();
         size_t each = 0;
-        for (size_t row = 0; row < all->count; row++) each += found_at(all, row, 0).verdict == URLCHECK_VALID;
+        for (size_t row = 0; row < all->count; row++) each += found_at(all, row, 0, NULL).verdict == URLCHECK_VALID;
         double one = seconds(), lines;
         size_t refused = 0;
         for (size_t from = 0;; refused++) {
@@ -294,18 +290,15 @@ int main(int count, char **words) {
     list all = read_list(words[1]);
     if (count > 2) say_time(&all);
     for (uint32_t profile = 0; profile < 3; profile++) {
-        compare(&all, profile, 0);
-        compare(&all, profile, 1);
-        compare_resolved(&all, profile, 0);
-        compare_resolved(&all, profile, 1);
+        compare_bases(&all, profile);
+        compare_resolved(&all, profile);
         walk(&all, profile);
     }
     bad_input();
     bad_resolving();
-    printf("batches: %zu texts, each row as the check, and the record, of the text alone\n", all.count);
+    printf("batches: %zu texts, each row as the check, alone and against bases, and the record of the text\n", all.count);
     free(all.bytes);
     free(all.texts);
-    free(all.wide);
-    free(all.narrow);
+    free(all.offsets);
     return 0;
 }

@@ -41,8 +41,12 @@ static void refuses(urlcheck_written answer, uint32_t outcome, const char *what)
     memset(out, 7, sizeof out);
 }
 
+static urlcheck_written message_in(uint32_t wording, const char *text, uint32_t profile, uint32_t rule, size_t place) {
+    return urlcheck_message(bytes(text), strlen(text), profile, wording, rule, place, out, sizeof out);
+}
+
 static urlcheck_written message(const char *text, uint32_t profile, uint32_t rule, size_t place) {
-    return urlcheck_message(bytes(text), strlen(text), profile, rule, place, out, sizeof out);
+    return message_in(URLCHECK_WORDING_OPTIONS, text, profile, rule, place);
 }
 
 static void messages(void) {
@@ -59,53 +63,55 @@ static void messages(void) {
     urlcheck_written foreign = message("\xc3\xa9\xff", 0, URLCHECK_PERCENT, 0);
     expect(foreign.found.place == 1 && foreign.found.byte_place == 2, "where a message's text is no UTF-8");
     refuses(foreign, URLCHECK_NO_UTF8, "a message on what is no UTF-8");
-    refuses(urlcheck_message(NULL, 1, 0, 1, 0, out, sizeof out), URLCHECK_NULL, "a message on null");
-    refuses(urlcheck_message(bytes("a"), 1, 0, 1, 0, NULL, 9), URLCHECK_NULL, "a message into null");
-}
-
-static urlcheck_violation space(void) {
-    urlcheck_violation it = {0};
-    it.rule = URLCHECK_CODE_POINT;
-    it.place = 10;
-    it.line = 3;
-    it.column = 15;
-    it.end = 16;
-    it.kind = URLCHECK_SAME;
-    it.has_region = 1;
-    it.first_column = 5;
-    it.end_column = 17;
-    return it;
-}
-
-static urlcheck_written diagnostic(uint32_t format, const urlcheck_violation *it, const char *file, const char *text,
-                                   const char *mended) {
-    return urlcheck_diagnostic(format, 1, it, bytes(file), strlen(file), bytes(text), strlen(text), bytes(mended),
-                               strlen(mended), out, sizeof out);
+    refuses(message_in(4, "a", 0, URLCHECK_PERCENT, 0), URLCHECK_NO_WORDING, "a message in no wording");
+    refuses(urlcheck_message(NULL, 1, 0, 0, 1, 0, out, sizeof out), URLCHECK_NULL, "a message on null");
+    refuses(urlcheck_message(bytes("a"), 1, 0, 0, 1, 0, NULL, 9), URLCHECK_NULL, "a message into null");
 }
 
 static const char TEXT[] = "http://h/a b", MENDED[] = "http://h/a%20b";
 
-/* The formats in which an end, a fingerprint or an edit is. The fingerprint is that of `sha256sum`, of the lines 3, 15,
-   "a.md", code-point and 10 and the text. */
-static void more_diagnostics(const urlcheck_violation *it) {
-    gives(diagnostic(URLCHECK_JUNIT, it, "a&b", TEXT, MENDED),
-          "<testcase classname=\"a&amp;b\" name=\"3:15 code-point\"><failure type=\"code-point\" "
-          "message=\"U+0020 SPACE is not allowed in a URL\">http://h/a b</failure></testcase>\n");
-    gives(diagnostic(URLCHECK_GITLAB, it, "a.md", TEXT, MENDED),
-          "{\"check_name\":\"code-point\",\"description\":\"U+0020 SPACE is not allowed in a URL\",\"fingerprint\":\""
-          "c71a88a6fa6cdcfeb5e4d6a375eb3af1cd92468adba0865b2378757c869716ce\",\"location\":{"
-          "\"lines\":{\"begin\":3},\"path\":\"a.md\"},\"severity\":\"major\"}\n");
-    gives(diagnostic(URLCHECK_RDJSON, it, "a.md", TEXT, MENDED),
-          "{\"code\":{\"url\":\"https://yuccaeave.example/urlcheck/docs/rules/code-point.html\",\"value\":\"code-point\"},"
+/* Puts a text into a diagnostic. */
+#define SAYS(it, member, value) ((it)->member = bytes(value), (it)->member##_length = strlen(value))
+
+/* A diagnostic on TEXT, which is in line 3 of a file from column 5 on. */
+static urlcheck_reported space(void) {
+    const urlcheck_region region = {3, 15, 3, 16}, whole = {3, 5, 3, 17};
+    urlcheck_reported it = {0};
+    it.numbers.region = region;
+    it.numbers.fix_region = whole;
+    it.numbers.place = 10;
+    it.numbers.kind = URLCHECK_SAME;
+    it.numbers.offered = 1;
+    SAYS(&it, file, "a.md");
+    SAYS(&it, rule, "code-point");
+    SAYS(&it, uri, "https://url.spec.whatwg.org/#url-code-points");
+    SAYS(&it, message, "U+0020 SPACE is not allowed in a URL");
+    SAYS(&it, text, TEXT);
+    SAYS(&it, fix, MENDED);
+    return it;
+}
+
+static urlcheck_written diagnostic(uint32_t format, const urlcheck_reported *it) {
+    return urlcheck_diagnostic(format, 1, it, out, sizeof out);
+}
+
+/* The formats in which an end or an edit is. */
+static void more_diagnostics(urlcheck_reported it) {
+    gives(diagnostic(URLCHECK_RDJSON, &it),
+          "{\"code\":{\"url\":\"https://url.spec.whatwg.org/#url-code-points\",\"value\":\"code-point\"},"
           "\"location\":{\"path\":\"a.md\",\"range\":{\"end\":{\"column\":16,\"line\":3},\"start\":{\"column\":15,"
           "\"line\":3}}},\"message\":\"U+0020 SPACE is not allowed in a URL\",\"severity\":\"ERROR\",\"suggestions\":[{"
           "\"range\":{\"end\":{\"column\":17,\"line\":3},\"start\":{\"column\":5,\"line\":3}},"
           "\"text\":\"http://h/a%20b\"}]}\n");
+    SAYS(&it, file, "a&b");
+    gives(diagnostic(URLCHECK_JUNIT, &it),
+          "<testcase classname=\"a&amp;b\" name=\"3:15 code-point\"><failure type=\"code-point\" "
+          "message=\"U+0020 SPACE is not allowed in a URL\">http://h/a b</failure></testcase>\n");
 }
 
-/* At which place of a diagnostic on TEXT this part is, or -1. */
-static ptrdiff_t place_of(const char *part, uint32_t format, const urlcheck_violation *it) {
-    out[diagnostic(format, it, "a.md", TEXT, MENDED).length] = 0;
+/* At which place of a diagnostic this part is, or -1. */
+static ptrdiff_t place_of(const char *part, uint32_t format, const urlcheck_reported *it) {
+    out[diagnostic(format, it).length] = 0;
     const char *found = strstr((const char *)out, part);
     ptrdiff_t place = found ? found - (const char *)out : -1;
     memset(out, 7, sizeof out);
@@ -113,10 +119,9 @@ static ptrdiff_t place_of(const char *part, uint32_t format, const urlcheck_viol
 }
 
 static void diagnostics(void) {
-    urlcheck_violation it = space();
-    gives(diagnostic(URLCHECK_GNU, &it, "a.md", TEXT, MENDED),
-          "a.md:3:15: error: U+0020 SPACE is not allowed in a URL [code-point]\n");
-    gives(diagnostic(URLCHECK_JSON, &it, "a.md", TEXT, MENDED),
+    urlcheck_reported it = space();
+    gives(diagnostic(URLCHECK_GNU, &it), "a.md:3:15: error: U+0020 SPACE is not allowed in a URL [code-point]\n");
+    gives(diagnostic(URLCHECK_JSON, &it),
           "{\"column\":15,\"cut\":false,\"file\":\"a.md\",\"kind\":\"same\",\"line\":3,\"mended\":\"http://h/a%20b\","
           "\"message\":\"U+0020 SPACE is not allowed in a URL\",\"offered\":true,\"rule\":\"code-point\","
           "\"text\":\"http://h/a b\"}\n");
@@ -125,44 +130,64 @@ static void diagnostics(void) {
     expect(place_of("{\"fixes\":", URLCHECK_SARIF, &it) == 0, "no comma before the first result");
     const char *region = "\"region\":{\"endColumn\":16,\"startColumn\":15,\"startLine\":3}";
     expect(place_of(region, URLCHECK_SARIF, &it) > 0, "the region of a result");
-    more_diagnostics(&it);
-    it.has_region = 0;
+    more_diagnostics(it);
+    it.numbers.offered = 0;
+    expect(place_of("{\"level\":", URLCHECK_SARIF, &it) == 0, "no fix that isn't offered");
+    it = space();
+    memset(&it.numbers.fix_region, 0, sizeof it.numbers.fix_region);
     expect(place_of("{\"level\":", URLCHECK_SARIF, &it) == 0, "no fix without a region");
     expect(place_of("\"suggestions\"", URLCHECK_RDJSON, &it) == -1, "no suggestion without a region");
-    it.first_column = it.end_column = 0;
     expect(place_of("\"mended\":\"http://h/a%20b\"", URLCHECK_JSON, &it) > 0, "a mended text without a region");
+    urlcheck_written pointed;
+    urlcheck_diagnostic_to(&pointed, URLCHECK_GNU, 1, &it, out, sizeof out);
+    gives(pointed, "a.md:3:15: error: U+0020 SPACE is not allowed in a URL [code-point]\n");
 }
 
 /* A diagnostic in which a member has this value is refused so. */
 #define REFUSES_WITH(member, value, outcome, what) \
     do { \
-        urlcheck_violation wrong = space(); \
-        wrong.member = value; \
-        refuses(diagnostic(0, &wrong, "a", TEXT, MENDED), outcome, what); \
+        urlcheck_reported wrong = space(); \
+        wrong.numbers.member = value; \
+        refuses(diagnostic(0, &wrong), outcome, what); \
+    } while (0)
+
+/* One in which a text is no UTF-8, or null. */
+#define REFUSES_TEXT(member, outcome) \
+    do { \
+        urlcheck_reported wrong = space(); \
+        SAYS(&wrong, member, "\xff"); \
+        refuses(diagnostic(0, &wrong), outcome, #member " is no UTF-8"); \
+        wrong.member = NULL; \
+        refuses(diagnostic(0, &wrong), URLCHECK_NULL, #member " is null"); \
     } while (0)
 
 static void bad_diagnostics(void) {
-    urlcheck_violation it = space();
-    refuses(diagnostic(9, &it, "a", TEXT, MENDED), URLCHECK_NO_FORMAT, "a diagnostic in no format");
-    refuses(diagnostic(0, &it, "\xff", TEXT, MENDED), URLCHECK_FILE_NO_UTF8, "a file's name that is no UTF-8");
-    refuses(diagnostic(0, &it, "a", "\xff", MENDED), URLCHECK_NO_UTF8, "a diagnostic on what is no UTF-8");
-    refuses(diagnostic(0, &it, "a", TEXT, "\xff"), URLCHECK_MENDED_NO_UTF8, "a mended text that is no UTF-8");
+    urlcheck_reported it = space();
+    refuses(diagnostic(9, &it), URLCHECK_NO_FORMAT, "a diagnostic in no format");
+    REFUSES_TEXT(file, URLCHECK_FILE_NO_UTF8);
+    REFUSES_TEXT(rule, URLCHECK_REPORTED_NO_UTF8);
+    REFUSES_TEXT(uri, URLCHECK_REPORTED_NO_UTF8);
+    REFUSES_TEXT(message, URLCHECK_REPORTED_NO_UTF8);
+    REFUSES_TEXT(within, URLCHECK_REPORTED_NO_UTF8);
+    REFUSES_TEXT(text, URLCHECK_NO_UTF8);
+    REFUSES_TEXT(fix, URLCHECK_MENDED_NO_UTF8);
     const uint64_t beyond[] = {0, 4294967296, UINT64_MAX};
     for (int i = 0; i < 3; i++) {
-        REFUSES_WITH(line, beyond[i], URLCHECK_NO_COLUMN, "a line out of range");
-        REFUSES_WITH(column, beyond[i], URLCHECK_NO_COLUMN, "a column out of range");
-        REFUSES_WITH(end, beyond[i], URLCHECK_NO_COLUMN, "an end out of range");
-        REFUSES_WITH(first_column, beyond[i], URLCHECK_NO_COLUMN, "a first column out of range");
-        REFUSES_WITH(end_column, beyond[i], URLCHECK_NO_COLUMN, "an end column out of range");
+        REFUSES_WITH(region.line, beyond[i], URLCHECK_NO_COLUMN, "a line out of range");
+        REFUSES_WITH(region.column, beyond[i], URLCHECK_NO_COLUMN, "a column out of range");
+        REFUSES_WITH(region.end_line, beyond[i], URLCHECK_NO_COLUMN, "a last line out of range");
+        REFUSES_WITH(region.end_column, beyond[i], URLCHECK_NO_COLUMN, "an end out of range");
+        REFUSES_WITH(fix_region.line, beyond[i], URLCHECK_NO_COLUMN, "the line of a fix out of range");
+        REFUSES_WITH(fix_region.column, beyond[i], URLCHECK_NO_COLUMN, "the column of a fix out of range");
+        REFUSES_WITH(fix_region.end_line, beyond[i], URLCHECK_NO_COLUMN, "the last line of a fix out of range");
+        REFUSES_WITH(fix_region.end_column, beyond[i], URLCHECK_NO_COLUMN, "the end of a fix out of range");
     }
+    REFUSES_WITH(region.end_column, 14, URLCHECK_NO_COLUMN, "a region that ends before it begins");
+    REFUSES_WITH(region.end_line, 2, URLCHECK_NO_COLUMN, "a region that ends in a line before");
     REFUSES_WITH(kind, 4, URLCHECK_NO_KIND, "a diagnostic of no kind");
     REFUSES_WITH(place, 13, URLCHECK_NO_PLACE, "a diagnostic after the end");
-    REFUSES_WITH(profile, 9, URLCHECK_NO_PROFILE, "a diagnostic by no profile");
-    REFUSES_WITH(rule, 100, URLCHECK_NO_RULE, "a diagnostic of no rule");
-    refuses(diagnostic(0, NULL, "a", TEXT, MENDED), URLCHECK_NULL, "no violation");
-    refuses(urlcheck_diagnostic(0, 1, &it, NULL, 1, NULL, 0, NULL, 0, out, 9), URLCHECK_NULL, "no file");
-    refuses(urlcheck_diagnostic(0, 1, &it, NULL, 0, NULL, 1, NULL, 0, out, 9), URLCHECK_NULL, "no text");
-    refuses(urlcheck_diagnostic(0, 1, &it, NULL, 0, NULL, 0, NULL, 1, out, 9), URLCHECK_NULL, "no mended text");
+    refuses(diagnostic(0, NULL), URLCHECK_NULL, "no diagnostic");
+    refuses(urlcheck_diagnostic(0, 1, &it, NULL, 9), URLCHECK_NULL, "a diagnostic into null");
 }
 
 static void rounds(void) {
@@ -184,7 +209,7 @@ static void rounds(void) {
     gives(urlcheck_report_begin(URLCHECK_GITLAB, URLCHECK_BYTES, out, sizeof out), "[\n");
     gives(urlcheck_report_end(URLCHECK_GITLAB, URLCHECK_UNREAD, out, sizeof out), "]\n");
     gives(urlcheck_report_begin(URLCHECK_RDJSON, URLCHECK_BYTES, out, sizeof out),
-          "{\"source\":{\"name\":\"urlcheck\",\"url\":\"https://yuccaeave.example/urlcheck/\"},"
+          "{\"source\":{\"name\":\"urlcheck\"},"
           "\"severity\":\"ERROR\",\"diagnostics\":[\n");
     gives(urlcheck_report_end(URLCHECK_RDJSON, URLCHECK_UNREAD, out, sizeof out), "]}\n");
     gives(urlcheck_report_end(URLCHECK_SARIF, URLCHECK_WHOLE, out, sizeof out),
@@ -236,21 +261,35 @@ static void is_text(size_t length, const char *text) {
     memset(out, 7, sizeof out);
 }
 
+static void is_fixed(uint32_t what, uint32_t number, const char *text) {
+    is_text(urlcheck_text(what, number, out, sizeof out), text);
+    expect(urlcheck_text(what, number, NULL, 9) == strlen(text), "a fixed text into null");
+}
+
 static void names(void) {
     const char *formats[] = {"gnu", "caret", "json", "github", "sarif", "checkstyle", "junit", "gitlab", "rdjson", ""};
     const char *units[] = {"code-points", "bytes", "utf16", "screen", ""};
-    for (uint32_t i = 0; i < 10; i++) is_text(urlcheck_format_name(i, out, sizeof out), formats[i]);
-    for (uint32_t i = 0; i < 5; i++) is_text(urlcheck_unit_name(i, out, sizeof out), units[i]);
-    is_text(urlcheck_explain(URLCHECK_PORT_RANGE, URLCHECK_ASKS, out, sizeof out), "A port is at most 65535.");
-    is_text(urlcheck_explain(URLCHECK_PORT_RANGE, URLCHECK_SECTION, out, sizeof out), "4.3, URL-port string");
-    is_text(urlcheck_explain(URLCHECK_PORT_RANGE, URLCHECK_EXAMPLE_BASE, out, sizeof out), "");
-    is_text(urlcheck_explain(URLCHECK_OPAQUE_BASE, URLCHECK_EXAMPLE_BASE, out, sizeof out), "urn:isbn:0451450523");
-    is_text(urlcheck_explain(URLCHECK_PORT_RANGE, URLCHECK_EXAMPLE, out, sizeof out), "http://h:65536/");
-    is_text(urlcheck_explain(URLCHECK_PORT_RANGE, URLCHECK_EXAMPLE_MENDED, out, sizeof out), "http://h:65535/");
-    is_text(urlcheck_explain(URLCHECK_PORT_RANGE, 5, out, sizeof out), "");
-    is_text(urlcheck_explain(15, URLCHECK_ASKS, out, sizeof out), "");
-    expect(urlcheck_explain(URLCHECK_PORT_RANGE, 0, NULL, 9) == 24, "an explanation into null");
-    expect(urlcheck_format_name(0, NULL, 9) == 3 && urlcheck_unit_name(1, NULL, 9) == 5, "a name into null");
+    const char *lines[] = {"",            "not-utf8",    "line-too-long", "not-located", "not-located",
+                           "not-located", "not-located", "not-located",   "not-located", ""};
+    for (uint32_t i = 0; i < 10; i++) is_fixed(URLCHECK_FORMAT_NAME, i, formats[i]);
+    for (uint32_t i = 0; i < 5; i++) is_fixed(URLCHECK_UNIT_NAME, i, units[i]);
+    for (uint32_t i = 0; i < 10; i++) is_fixed(URLCHECK_RULE_NAME, 100 + i, lines[i]);
+    is_fixed(URLCHECK_RULE_NAME, URLCHECK_PERCENT, "percent");
+    is_fixed(URLCHECK_RULE_NAME, 0, "");
+    is_fixed(URLCHECK_RULE_NAME, 15, "");
+    is_fixed(URLCHECK_RULE_SENTENCE, URLCHECK_PORT_DIGIT, "a port has digits only");
+    is_fixed(URLCHECK_RULE_ADDRESS, URLCHECK_PORT_RANGE, "https://url.spec.whatwg.org/#url-port-string");
+    is_fixed(URLCHECK_RULE_ADDRESS, URLCHECK_LINE_NO_UTF8, "");
+    is_fixed(URLCHECK_RULE_ADDRESS, 15, "");
+    is_fixed(URLCHECK_RULE_REQUIRES, URLCHECK_PORT_RANGE, "A port is at most 65535.");
+    is_fixed(URLCHECK_RULE_SECTION, URLCHECK_PORT_RANGE, "4.3, URL-port string");
+    is_fixed(URLCHECK_EXAMPLE_BASE, URLCHECK_PORT_RANGE, "");
+    is_fixed(URLCHECK_EXAMPLE_BASE, URLCHECK_OPAQUE_BASE, "urn:isbn:0451450523");
+    is_fixed(URLCHECK_EXAMPLE, URLCHECK_PORT_RANGE, "http://h:65536/");
+    is_fixed(URLCHECK_EXAMPLE_MENDED, URLCHECK_PORT_RANGE, "http://h:65535/");
+    is_fixed(URLCHECK_EXAMPLE, URLCHECK_LINE_TOO_LONG, "");
+    is_fixed(10, URLCHECK_PORT_RANGE, "");
+    is_fixed(URLCHECK_RULE_REQUIRES, 15, "");
     expect(urlcheck_example_place(URLCHECK_PORT_RANGE) == 9 && urlcheck_example_place(0) == 0, "an example's place");
 }
 
@@ -310,49 +349,141 @@ static void records(void) {
     for (size_t at = 0; at < sizeof PLACED / sizeof *PLACED; at++) {
         const struct placed *row = &PLACED[at];
         size_t length = strlen(row->text);
-        is_placed(row, urlcheck_resolve_record(bytes(row->text), length, URLCHECK_STANDARD, out, sizeof out));
-        urlcheck_record asked = urlcheck_resolve_record(bytes(row->text), length, URLCHECK_STANDARD, NULL, 0);
+        is_placed(row, urlcheck_resolve(bytes(row->text), length, URLCHECK_STANDARD, NULL, 0, out, sizeof out));
+        urlcheck_record asked = urlcheck_resolve(bytes(row->text), length, URLCHECK_STANDARD, NULL, 0, NULL, 0);
         expect(asked.length == strlen(row->written) && asked.parts.path.start == row->path_start, row->text);
     }
     /* A path that would be read as one with a host has `/.` before it, which is no part of it. */
     const struct placed dotted = {"..//x", "a:/.//x", "a", NULL, NULL, "//x", NULL, NULL, 0, 4, 0, 0};
-    urlcheck_base base = urlcheck_prepare(bytes("a:/b"), 4, URLCHECK_STANDARD), none = {0};
-    is_placed(&dotted, urlcheck_resolve_record_against(bytes("..//x"), 5, bytes("a:/b"), 4, 0, out, sizeof out));
-    is_placed(&dotted, urlcheck_resolve_record_with(bytes("..//x"), 5, &base, bytes("a:/b"), 4, out, sizeof out));
-    is_unplaced(urlcheck_resolve_record(bytes("a b"), 3, 0, out, 9), URLCHECK_REFUSED, "a record of a refused text");
-    is_unplaced(urlcheck_resolve_record(bytes("\xff"), 1, 0, out, 9), URLCHECK_NO_UTF8, "a record of no UTF-8");
-    is_unplaced(urlcheck_resolve_record(bytes("a:"), 2, 3, out, 9), URLCHECK_NO_PROFILE, "a record by no profile");
-    is_unplaced(urlcheck_resolve_record_against(bytes("x"), 1, bytes("a"), 1, 0, out, 9), URLCHECK_BASE_REFUSED,
+    is_placed(&dotted, urlcheck_resolve(bytes("..//x"), 5, 0, bytes("a:/b"), 4, out, sizeof out));
+    is_unplaced(urlcheck_resolve(bytes("a b"), 3, 0, NULL, 0, out, 9), URLCHECK_REFUSED, "a record of a refused text");
+    is_unplaced(urlcheck_resolve(bytes("\xff"), 1, 0, NULL, 0, out, 9), URLCHECK_NO_UTF8, "a record of no UTF-8");
+    is_unplaced(urlcheck_resolve(bytes("a:"), 2, 3, NULL, 0, out, 9), URLCHECK_NO_PROFILE, "a record by no profile");
+    is_unplaced(urlcheck_resolve(bytes("x"), 1, 0, bytes("a"), 1, out, 9), URLCHECK_BASE_REFUSED,
                 "a record against a refused base");
-    is_unplaced(urlcheck_resolve_record_with(bytes("x"), 1, &none, NULL, 0, out, 9), URLCHECK_NO_BASE, "no base");
-    is_unplaced(urlcheck_resolve_record_with(bytes("x"), 1, NULL, NULL, 0, out, 9), URLCHECK_NO_BASE, "a null base");
-    is_unplaced(urlcheck_resolve_record(NULL, 1, 0, out, 9), URLCHECK_NULL, "a record of null");
-    is_unplaced(urlcheck_resolve_record(bytes("a:"), 2, 0, NULL, 9), URLCHECK_NULL, "a record into null");
-    is_unplaced(urlcheck_resolve_record_against(bytes("x"), 1, NULL, 1, 0, out, 9), URLCHECK_NULL, "a base of null");
-    is_unplaced(urlcheck_resolve_record_with(bytes("x"), 1, &base, NULL, 4, out, 9), URLCHECK_NULL, "its text null");
+    is_unplaced(urlcheck_resolve(bytes("x"), 1, 0, bytes(""), 0, out, 9), URLCHECK_BASE_REFUSED,
+                "a record against an empty base");
+    is_unplaced(urlcheck_resolve(bytes("x"), 1, 0, bytes("\xff"), 1, out, 9), URLCHECK_BASE_NO_UTF8,
+                "a record against a base of no UTF-8");
+    is_unplaced(urlcheck_resolve(NULL, 1, 0, NULL, 0, out, 9), URLCHECK_NULL, "a record of null");
+    is_unplaced(urlcheck_resolve(bytes("a:"), 2, 0, NULL, 0, NULL, 9), URLCHECK_NULL, "a record into null");
+    is_unplaced(urlcheck_resolve(bytes("x"), 1, 0, NULL, 1, out, 9), URLCHECK_NULL, "a base of null");
+}
+
+static urlcheck_mended mend(const char *text, const char *base) {
+    return urlcheck_mend(bytes(text), strlen(text), 0, base ? bytes(base) : NULL, base ? strlen(base) : 0, out,
+                         sizeof out);
+}
+
+/* What is mended has this text, of this kind, and reports say to write it or not. */
+static void is_mended(urlcheck_mended mended, uint32_t kind, uint32_t offered, const char *text) {
+    expect(mended.found.verdict == URLCHECK_MENDED && mended.kind == kind && mended.offered == offered, text);
+    is_text(mended.length, text);
+}
+
+static void is_unmended(urlcheck_mended mended, uint32_t outcome, const char *what) {
+    expect(mended.found.verdict == outcome && !mended.kind && !mended.offered && !mended.length && out[0] == 7, what);
+}
+
+static void mended_texts(void) {
+    is_mended(mend("http://h/a b", NULL), URLCHECK_SAME, 1, "http://h/a%20b");
+    is_mended(mend("x y", "http://h/a/b"), URLCHECK_SAME, 1, "x%20y");
+    /* (a template is mended, and not to be written so) */
+    is_mended(mend("http://h/{{a}}", NULL), URLCHECK_ESCAPED, 0, "http://h/%7B%7Ba%7D%7D");
+    is_unmended(mend("http://h/", NULL), URLCHECK_VALID, "a valid text is mended");
+    is_unmended(mend("x", "http://h/"), URLCHECK_VALID, "a valid reference is mended");
+    is_unmended(mend("a", NULL), URLCHECK_REFUSED, "a text without a scheme is mended");
+    is_unmended(mend("x", "a"), URLCHECK_BASE_REFUSED, "a text is mended against a refused base");
+    is_unmended(mend("x", ""), URLCHECK_BASE_REFUSED, "a text is mended against an empty base");
+    is_unmended(urlcheck_mend(bytes("x"), 1, 0, NULL, 1, out, 9), URLCHECK_NULL, "a base of null");
+    is_unmended(urlcheck_mend(NULL, 1, 0, NULL, 0, out, 9), URLCHECK_NULL, "null is mended");
+    is_unmended(urlcheck_mend(bytes("a b"), 3, 0, NULL, 0, NULL, 9), URLCHECK_NULL, "mended into null");
+}
+
+/* What a text is against a base that is held: the verdict, the rule and the place in code points and in bytes. */
+static void finds(const char *text, uint32_t profile, const urlcheck_base *base, urlcheck_finding wanted) {
+    urlcheck_answer answer = urlcheck_check(bytes(text), strlen(text), profile, base);
+    expect(memcmp(&answer.found, &wanted, sizeof wanted) == 0, text);
+    int is_valid = urlcheck_is_valid(bytes(text), strlen(text), profile, base);
+    expect(is_valid == (wanted.verdict == URLCHECK_VALID), text);
+    urlcheck_fault_count count = urlcheck_faults(bytes(text), strlen(text), profile, base, NULL, 0);
+    expect(memcmp(&count.found, &wanted, sizeof wanted) == 0, text);
+    expect((count.count > 0) == (wanted.verdict == URLCHECK_REFUSED), text);
+}
+
+static urlcheck_finding finding(uint32_t verdict, uint32_t rule, size_t place, size_t byte_place) {
+    urlcheck_finding found = {verdict, rule, place, byte_place};
+    return found;
+}
+
+static urlcheck_base prepared(const char *base, uint32_t profile) {
+    return urlcheck_prepare(bytes(base), strlen(base), profile);
+}
+
+/* A text is refused so up to the profile of this number, which takes it as the wider ones do. */
+static void is_taken_from(const char *text, uint32_t first, urlcheck_finding refused) {
+    for (uint32_t profile = 0; profile < 3; profile++) {
+        finds(text, profile, NULL, profile < first ? refused : finding(URLCHECK_VALID, 0, 0, 0));
+    }
+}
+
+static void profiles(void) {
+    is_taken_from("http://x_y/", 1, finding(URLCHECK_REFUSED, URLCHECK_HOST_DOMAIN, 7, 7));
+    is_taken_from("http://1.2.3/", 2, finding(URLCHECK_REFUSED, URLCHECK_HOST_NUMBER, 7, 7));
+    is_taken_from("http://a%2Db/", 2, finding(URLCHECK_REFUSED, URLCHECK_HOST_DOMAIN, 7, 7));
+    is_taken_from("file://", 2, finding(URLCHECK_REFUSED, URLCHECK_HOST_MISSING, 7, 7));
+    is_taken_from("urn:a b", 2, finding(URLCHECK_REFUSED, URLCHECK_CODE_POINT, 5, 5));
+    is_taken_from("http://xn--a/", 3, finding(URLCHECK_REFUSED, URLCHECK_HOST_DOMAIN, 7, 7));
+    is_taken_from("http://h/\xc3\xa9 b", 3, finding(URLCHECK_REFUSED, URLCHECK_CODE_POINT, 10, 11));
+    is_taken_from("http://h/\xc3\xa9\xff", 3, finding(URLCHECK_NO_UTF8, 0, 10, 11));
 }
 
 static void held_bases(void) {
-    const char *base_text = "http://h/a/b";
-    urlcheck_base base = urlcheck_prepare(bytes(base_text), 12, URLCHECK_WIDE), none = {0};
-    urlcheck_resolved record = urlcheck_resolve_with(bytes("../x"), 4, &base, bytes(base_text), 12, out, sizeof out);
-    expect(record.found.verdict == URLCHECK_VALID, "a record against a held base");
-    is_text(record.length, "http://h/x");
-    urlcheck_mended mended = urlcheck_mend_with(bytes("x y"), 3, &base, bytes(base_text), 12, out, sizeof out);
-    expect(mended.found.verdict == URLCHECK_MENDED && mended.kind == URLCHECK_SAME, "mended against a held base");
-    is_text(mended.length, "x%20y");
-    expect(urlcheck_resolve_with(bytes("x"), 1, &none, NULL, 0, out, 9).found.verdict == URLCHECK_NO_BASE, "no base");
-    expect(urlcheck_resolve_with(bytes("x"), 1, NULL, NULL, 0, out, 9).found.verdict == URLCHECK_NO_BASE, "null base");
-    expect(urlcheck_mend_with(bytes("x"), 1, &none, NULL, 0, out, 9).found.verdict == URLCHECK_NO_BASE, "by none");
-    base = urlcheck_prepare(bytes("a"), 1, URLCHECK_STANDARD);
-    record = urlcheck_resolve_with(bytes("x"), 1, &base, bytes("a"), 1, out, 9);
-    mended = urlcheck_mend_with(bytes("x"), 1, &base, bytes("a"), 1, out, 9);
-    expect(record.found.verdict == URLCHECK_BASE_REFUSED && mended.found.verdict == URLCHECK_BASE_REFUSED,
-           "a base that is refused");
-    expect(urlcheck_resolve_with(NULL, 1, &base, bytes("a"), 1, out, 9).found.verdict == URLCHECK_NULL
-               && urlcheck_mend_with(bytes("x"), 1, &base, NULL, 1, out, 9).found.verdict == URLCHECK_NULL,
-           "bytes of null");
-    expect(out[0] == 7, "nothing is written");
+    const urlcheck_finding valid = finding(URLCHECK_VALID, 0, 0, 0), no_base = finding(URLCHECK_NO_BASE, 0, 0, 0);
+    urlcheck_base wide = prepared("ws://h/a", 1), opaque = prepared("urn:a", 0), hosted = prepared("file://h/a", 0);
+    urlcheck_base local = prepared("file:///a", 0), parsers = prepared("file://h/C:/a", 2);
+    expect(wide.profile == 1 && wide.scheme == 2 && !wide.opaque_path && !wide.empty_host, "a base that is held");
+    expect(local.scheme == 4 && local.empty_host == 1 && opaque.scheme == 5 && opaque.opaque_path == 1, "its kind");
+    finds("//x_:80/b", 1, &wide, valid);
+    finds("a\xff", 1, &wide, finding(URLCHECK_NO_UTF8, 0, 1, 1));
+    finds("//x/b", 0, &wide, no_base);
+    finds("//x/b", 2, &wide, no_base);
+    finds("a\xff", 0, &wide, finding(URLCHECK_NO_UTF8, 0, 1, 1));
+    finds("x", 3, &wide, finding(URLCHECK_NO_PROFILE, 0, 0, 0));
+    finds("x", 0, &opaque, finding(URLCHECK_REFUSED, URLCHECK_OPAQUE_BASE, 0, 0));
+    finds("#x", 0, &opaque, valid);
+    finds("/C:/x", 0, &hosted, finding(URLCHECK_REFUSED, URLCHECK_DRIVE_AFTER_HOST, 0, 0));
+    finds("/C:/x", 0, &local, valid);
+    finds("/C:/x", 2, &parsers, valid);
+    finds("//C:/x", 2, &parsers, finding(URLCHECK_REFUSED, URLCHECK_HOST_DOMAIN, 2, 2));
+    urlcheck_base refused = prepared("http://h/\xc3\xa9 b", 0), broken = prepared("h\xff", 0), none = prepared("a:", 9);
+    finds("x", 0, &refused, finding(URLCHECK_BASE_REFUSED, URLCHECK_CODE_POINT, 10, 11));
+    finds("x", 1, &refused, no_base);
+    finds("a\xff", 0, &refused, finding(URLCHECK_NO_UTF8, 0, 1, 1));
+    finds("x", 0, &broken, finding(URLCHECK_BASE_NO_UTF8, 0, 1, 1));
+    finds("x", 0, &none, no_base);
+    finds("a\xff", 9, &none, finding(URLCHECK_NO_PROFILE, 0, 0, 0));
+    urlcheck_base lacking = urlcheck_prepare(NULL, 1, 0);
+    expect(lacking.found.verdict == URLCHECK_NULL && lacking.scheme == 0, "a base of null");
+    finds("x", 0, &lacking, no_base);
+    expect(urlcheck_check(NULL, 1, 0, NULL).found.verdict == URLCHECK_NULL && !urlcheck_is_valid(NULL, 1, 0, NULL) &&
+               urlcheck_faults(NULL, 1, 0, &wide, NULL, 0).found.verdict == URLCHECK_NULL &&
+               urlcheck_faults(bytes("x"), 1, 0, NULL, NULL, 1).found.verdict == URLCHECK_NULL,
+           "a text of null");
+    finds("", 0, NULL, finding(URLCHECK_REFUSED, URLCHECK_NO_SCHEME, 0, 0));
+}
+
+/* A byte beyond ASCII is seen at each place of a text, whatever its length. */
+static void ascii(void) {
+    uint8_t text[100];
+    for (size_t length = 1; length < sizeof text; length++) {
+        for (size_t place = 0; place < length; place++) {
+            memset(text, 0x7F, sizeof text);
+            text[place] = 0x80;
+            urlcheck_finding found = urlcheck_check(text, length, 0, NULL).found;
+            expect(found.verdict == URLCHECK_NO_UTF8 && found.place == place && found.byte_place == place, "ASCII");
+        }
+    }
 }
 
 int main(void) {
@@ -364,7 +495,10 @@ int main(void) {
     columns();
     names();
     records();
+    mended_texts();
+    profiles();
     held_bases();
-    if (!failed) puts("library: reports, columns, explanations, records and held bases, and bad input of each");
+    ascii();
+    if (!failed) puts("library: reports, columns, fixed texts, records, mended texts and bases, and bad input of each");
     return failed;
 }

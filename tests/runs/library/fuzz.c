@@ -37,26 +37,17 @@ static uint64_t number(void) {
 
 static void many(void) {
     uint64_t offsets[5], places[4];
-    uint32_t narrow[5];
     uint8_t verdicts[4] = {99, 99, 99, 99}, rules[4];
     for (int i = 0; i < 5; i++) offsets[i] = number();
-    int is_small = 1;
-    for (int i = 0; i < 5; i++) {
-        narrow[i] = (uint32_t)offsets[i];
-        is_small = is_small && narrow[i] == offsets[i];
-    }
     uint32_t profile = (uint32_t)number();
-    urlcheck_batch wide = urlcheck_check_many(input, left, offsets, 4, profile, verdicts, rules, places);
-    if (is_small) {
-        urlcheck_batch other = urlcheck_check_many_32(input, left, narrow, 4, profile, NULL, NULL, NULL);
-        must(other.outcome == wide.outcome && other.valid == wide.valid && other.row == wide.row);
-    }
+    urlcheck_base held = urlcheck_prepare(input, left / 2, (uint32_t)number() % 4), *base = number() % 2 ? &held : NULL;
+    urlcheck_batch wide = urlcheck_check_many(input, left, offsets, 4, profile, base, verdicts, rules, places);
     if (wide.outcome != URLCHECK_DONE) {
         must(wide.outcome == (profile > 2 ? URLCHECK_NO_PROFILE : URLCHECK_NO_OFFSETS) && verdicts[0] == 99);
         return;
     }
     for (int i = 0; i < 4; i++) {
-        urlcheck_finding found = urlcheck_check(input + offsets[i], offsets[i + 1] - offsets[i], profile).found;
+        urlcheck_finding found = urlcheck_check(input + offsets[i], offsets[i + 1] - offsets[i], profile, base).found;
         must(verdicts[i] == found.verdict && rules[i] == found.rule && places[i] == found.place);
     }
 }
@@ -74,44 +65,61 @@ static void lines(void) {
         return;
     }
     must(line.start >= from && line.length <= left - line.start && line.next > line.start && line.next <= left);
-    urlcheck_finding found = urlcheck_check(input + line.start, line.length, profile).found;
+    urlcheck_finding found = urlcheck_check(input + line.start, line.length, profile, NULL).found;
     must(memcmp(&found, &line.found, sizeof found) == 0);
 }
 
 enum { MESSAGE, DIAGNOSTIC, BEGIN, FILE_BEGIN, FILE_END, END, CALLS };
 
-static urlcheck_written written(int call, const urlcheck_violation *it, const uint64_t *numbers, uint8_t *out,
-                                size_t room) {
-    size_t third = left / 3;
+/* What the calls that write a text are given beside what is left of the input. */
+typedef struct {
+    uint32_t profile, wording, rule, first, second;
+    size_t place;
+    urlcheck_reported reported;
+} numbers;
+
+static urlcheck_written written(int call, const numbers *it, uint8_t *out, size_t room) {
     switch (call) {
-        case MESSAGE: return urlcheck_message(input, left, it->profile, it->rule, it->place, out, room);
-        case BEGIN: return urlcheck_report_begin((uint32_t)numbers[0], (uint32_t)numbers[1], out, room);
-        case FILE_BEGIN: return urlcheck_report_file_begin((uint32_t)numbers[0], input, left, out, room);
-        case FILE_END: return urlcheck_report_file_end((uint32_t)numbers[0], out, room);
-        case END: return urlcheck_report_end((uint32_t)numbers[0], (uint32_t)numbers[1], out, room);
-        default:
-            return urlcheck_diagnostic((uint32_t)numbers[0], (uint32_t)numbers[1], it, input, third, input + third,
-                                       third, input + 2 * third, third, out, room);
+        case MESSAGE: return urlcheck_message(input, left, it->profile, it->wording, it->rule, it->place, out, room);
+        case BEGIN: return urlcheck_report_begin(it->first, it->second, out, room);
+        case FILE_BEGIN: return urlcheck_report_file_begin(it->first, input, left, out, room);
+        case FILE_END: return urlcheck_report_file_end(it->first, out, room);
+        case END: return urlcheck_report_end(it->first, it->second, out, room);
+        default: return urlcheck_diagnostic(it->first, it->second, &it->reported, out, room);
     }
+}
+
+static urlcheck_region region(void) {
+    urlcheck_region read = {number(), number(), number(), number()};
+    return read;
 }
 
 static void texts(int call) {
     static const uint32_t rules[] = {101, 102, 103, 104, 105, 106, 107, 108};
-    urlcheck_violation it = {0};
+    numbers it = {0};
+    urlcheck_reported *of = &it.reported;
     it.profile = (uint32_t)number();
+    it.wording = (uint32_t)number() % 5;
     it.rule = (uint32_t)number();
     if (it.rule > 15 && it.rule < 24) it.rule = rules[it.rule - 16];
-    it.place = number();
-    it.line = number();
-    it.column = number();
-    it.kind = (uint32_t)number() % 5;
-    it.has_region = (uint32_t)number() % 2;
-    it.first_column = number();
-    it.end_column = number();
-    it.end = number();
-    const uint64_t numbers[] = {number() % 11, number() % 6};
+    it.place = of->numbers.place = number();
+    of->numbers.region = region();
+    of->numbers.fix_region = region();
+    of->numbers.repeat = number();
+    of->numbers.kind = (uint32_t)number() % 5;
+    of->numbers.offered = (uint32_t)number() % 2;
+    it.first = (uint32_t)number() % 11;
+    it.second = (uint32_t)number() % 6;
+    size_t part = left / 7;
+    of->file = input, of->file_length = part;
+    of->rule = input + part, of->rule_length = part;
+    of->uri = input + 2 * part, of->uri_length = part;
+    of->message = input + 3 * part, of->message_length = part;
+    of->within = input + 4 * part, of->within_length = part;
+    of->text = input + 5 * part, of->text_length = part;
+    of->fix = input + 6 * part, of->fix_length = part;
     uint8_t none = 'x';
-    urlcheck_written asked = written(call, &it, numbers, &none, 0);
+    urlcheck_written asked = written(call, &it, &none, 0);
     must(none == 'x');
     if (asked.found.verdict != URLCHECK_DONE) {
         must(asked.length == 0 && asked.found.verdict >= URLCHECK_NO_UTF8);
@@ -121,10 +129,10 @@ static void texts(int call) {
     must(out != NULL);
     memset(out, 0xFF, asked.length + 1);
     if (asked.length) {
-        must(written(call, &it, numbers, out, asked.length - 1).length == asked.length);
+        must(written(call, &it, out, asked.length - 1).length == asked.length);
         for (size_t i = 0; i <= asked.length; i++) must(out[i] == 0xFF);
     }
-    must(written(call, &it, numbers, out, asked.length + 1).length == asked.length && out[asked.length] == 0xFF);
+    must(written(call, &it, out, asked.length + 1).length == asked.length && out[asked.length] == 0xFF);
     /* (no text has the byte FF) */
     for (size_t i = 0; i < asked.length; i++) must(out[i] != 0xFF);
     free(out);
@@ -139,23 +147,24 @@ static void column(void) {
     if (told.column) must(told.column >= start && told.column <= start + 8 * (uint64_t)place);
 }
 
+/* What a base is by one profile it isn't by another, and the two ways to get an answer give one. */
 static void held(void) {
+    uint32_t profile = (uint32_t)number() % 4, other = (uint32_t)number() % 4;
     size_t half = left / 2;
-    uint8_t one[512], other[512];
-    urlcheck_base base = urlcheck_prepare(input, half, (uint32_t)number() % 4);
-    half = left / 2;
-    base = urlcheck_prepare(input, half, base.profile);
     const uint8_t *text = input + half;
-    memset(one, 7, sizeof one);
-    memset(other, 7, sizeof other);
-    urlcheck_resolved with = urlcheck_resolve_with(text, half, &base, input, half, one, sizeof one);
-    urlcheck_resolved against = urlcheck_resolve_against(text, half, input, half, base.profile, other, sizeof other);
-    must(memcmp(&with.found, &against.found, sizeof with.found) == 0 && with.length == against.length);
-    must(memcmp(one, other, sizeof one) == 0);
-    urlcheck_mended made = urlcheck_mend_with(text, half, &base, input, half, one, sizeof one);
-    urlcheck_mended wanted = urlcheck_mend_against(text, half, input, half, base.profile, other, sizeof other);
-    must(memcmp(&made.found, &wanted.found, sizeof made.found) == 0 && made.length == wanted.length);
-    must(made.kind == wanted.kind && memcmp(one, other, sizeof one) == 0);
+    urlcheck_base base = urlcheck_prepare(input, half, profile);
+    urlcheck_answer answer = urlcheck_check(text, half, other, &base), pointed;
+    urlcheck_check_to(&pointed, text, half, other, &base);
+    must(memcmp(&answer.found, &pointed.found, sizeof answer.found) == 0);
+    must(urlcheck_is_valid(text, half, other, &base) == (answer.found.verdict == URLCHECK_VALID));
+    must(urlcheck_faults(text, half, other, &base, NULL, 0).found.verdict == answer.found.verdict);
+    if (profile != other && other < 3) {
+        must(answer.found.verdict == URLCHECK_NO_BASE || answer.found.verdict == URLCHECK_NO_UTF8);
+    }
+    if (profile != other) return;
+    urlcheck_mended made = urlcheck_mend(text, half, profile, input, half, NULL, 0);
+    must(made.kind == 0 ? memcmp(&made.found, &answer.found, sizeof made.found) == 0
+                        : answer.found.verdict == URLCHECK_REFUSED && made.length > 0 && made.offered <= 1);
 }
 
 /* The parts of a record lie one after the other in its text. */
@@ -176,18 +185,18 @@ static void records(void) {
     const uint8_t *text = input + half;
     memset(one, 7, sizeof one);
     memset(other, 7, sizeof other);
-    urlcheck_record placed = urlcheck_resolve_record_against(text, half, input, half, profile, one, sizeof one);
-    urlcheck_resolved wanted = urlcheck_resolve_against(text, half, input, half, profile, other, sizeof other);
-    must(memcmp(&placed.found, &wanted.found, sizeof placed.found) == 0 && placed.length == wanted.length);
-    must(memcmp(one, other, sizeof one) == 0);
+    urlcheck_record placed = urlcheck_resolve(text, half, profile, input, half, one, sizeof one), pointed;
     in_order(&placed.parts, placed.length);
     must((placed.parts.host.present == 1) == (placed.host != 0) && placed.host <= URLCHECK_EMPTY_HOST);
+    urlcheck_resolve_to(&pointed, text, half, profile, input, half, other, sizeof other);
+    must(memcmp(&pointed.found, &placed.found, sizeof placed.found) == 0 && pointed.length == placed.length);
+    must(pointed.parts.path.start == placed.parts.path.start && memcmp(one, other, sizeof one) == 0);
     urlcheck_base base = urlcheck_prepare(input, half, profile);
-    urlcheck_record with = urlcheck_resolve_record_with(text, half, &base, input, half, other, sizeof other);
-    must(memcmp(&with.found, &placed.found, sizeof with.found) == 0 && with.length == placed.length);
-    must(with.parts.path.start == placed.parts.path.start && with.host == placed.host && memcmp(one, other, sizeof one) == 0);
-    urlcheck_record alone = urlcheck_resolve_record(text, half, profile, one, 0);
-    must(alone.length == urlcheck_resolve(text, half, profile, one, 0).length && memcmp(one, other, sizeof one) == 0);
+    urlcheck_finding found = urlcheck_check(text, half, profile, &base).found;
+    must(memcmp(&found, &placed.found, sizeof found) == 0);
+    urlcheck_record alone = urlcheck_resolve(text, half, profile, NULL, 0, one, 0);
+    found = urlcheck_check(text, half, profile, NULL).found;
+    must(memcmp(&found, &alone.found, sizeof found) == 0 && memcmp(one, other, sizeof one) == 0);
 }
 
 static void resolved_many(void) {
@@ -204,8 +213,8 @@ static void resolved_many(void) {
     urlcheck_batch made = urlcheck_resolve_many(input, left, offsets, 4, profile, NULL, NULL, NULL, NULL, out, asked.length);
     must(made.length == asked.length && made.valid == asked.valid && out[asked.length] == 0xFF);
     for (int i = 0; i < 4; i++) {
-        urlcheck_resolved found =
-            urlcheck_resolve(input + offsets[i], offsets[i + 1] - offsets[i], profile, one, sizeof one);
+        urlcheck_record found =
+            urlcheck_resolve(input + offsets[i], offsets[i + 1] - offsets[i], profile, NULL, 0, one, sizeof one);
         must(found.found.verdict == verdicts[i] && found.length == ends[i + 1] - ends[i] && found.length <= sizeof one);
         must(memcmp(one, out + ends[i], found.length) == 0);
     }
@@ -216,9 +225,9 @@ static void names(void) {
     uint32_t first = (uint32_t)number(), second = (uint32_t)number();
     uint8_t out[128];
     memset(out, 0xFF, sizeof out);
-    size_t length = urlcheck_explain(first, second, out, sizeof out);
+    size_t length = urlcheck_text(first, second, out, sizeof out);
     must(length < sizeof out && out[length] == 0xFF);
-    must(urlcheck_format_name(first, out, sizeof out) <= 10 && urlcheck_unit_name(first, out, sizeof out) <= 11);
+    must(first < 10 || length == 0);
     must(urlcheck_example_place(first) < 32);
     must(!urlcheck_takes_unit(first, second) || (first < 9 && second < 4));
     must(!urlcheck_shows_mended(first) || first < 9);

@@ -25,25 +25,21 @@ static void *taken(size_t bytes) {
 /* A call that writes a text, with all but where it is written. */
 typedef struct {
     enum { BEGIN, FILE_BEGIN, DIAGNOSTIC, FILE_END, END, MESSAGE } call;
-    uint32_t is_first;
-    urlcheck_violation violation;
-    const uint8_t *text, *mended;
-    size_t length, mended_length;
+    uint32_t is_first, rule; /* (the rule by its number) */
+    urlcheck_reported reported;
 } asked;
 
 static urlcheck_written written(const asked *it, uint8_t *out, size_t room) {
-    const uint8_t *file = (const uint8_t *)name;
+    const urlcheck_reported *of = &it->reported;
     switch (it->call) {
         case BEGIN: return urlcheck_report_begin(format, unit, out, room);
-        case FILE_BEGIN: return urlcheck_report_file_begin(format, file, strlen(name), out, room);
+        case FILE_BEGIN: return urlcheck_report_file_begin(format, (const uint8_t *)name, strlen(name), out, room);
         case FILE_END: return urlcheck_report_file_end(format, out, room);
         case END: return urlcheck_report_end(format, URLCHECK_WHOLE, out, room);
         case MESSAGE:
-            return urlcheck_message(it->text, it->length, it->violation.profile, it->violation.rule,
-                                    it->violation.place, out, room);
-        default:
-            return urlcheck_diagnostic(format, it->is_first, &it->violation, file, strlen(name), it->text, it->length,
-                                       it->mended, it->mended_length, out, room);
+            return urlcheck_message(of->text, of->text_length, URLCHECK_STANDARD, URLCHECK_WORDING_OPTIONS, it->rule,
+                                    of->numbers.place, out, room);
+        default: return urlcheck_diagnostic(format, it->is_first, of, out, room);
     }
 }
 
@@ -84,66 +80,104 @@ static uint64_t column(const uint8_t *text, size_t length, size_t place) {
     return told.column;
 }
 
-/* What the message says is in the line of a compiler. */
-static void see_message(const asked *it) {
-    asked message = *it;
-    message.call = MESSAGE;
-    size_t length, whole;
-    uint8_t *said = text_of(&message, &length);
-    uint8_t *line = text_of(it, &whole);
-    char *seen = taken(whole + 1);
-    memcpy(seen, line, whole);
-    seen[whole] = 0;
-    char *from = strstr(seen, ": error: ");
-    if (!from || memcmp(from + 9, said, length) != 0) fail("the message isn't that of the line");
-    free(said);
-    free(line);
-    free(seen);
+/* A fixed text of the rule, in memory of exactly its length. A rule of lines has no address. */
+static const uint8_t *rule_text(uint32_t what, uint32_t rule, size_t *length) {
+    int is_there = what != URLCHECK_RULE_ADDRESS || rule < URLCHECK_LINE_NO_UTF8;
+    *length = urlcheck_text(what, rule, NULL, 0);
+    uint8_t *out = taken(*length);
+    if (urlcheck_text(what, rule, out, *length) != *length || (*length > 0) != is_there) fail("no text of a rule");
+    return out;
 }
 
-static void report(const uint8_t *text, size_t length, uint64_t line, int *is_first) {
+/* The region of one line. */
+static urlcheck_region region_in(uint64_t line, uint64_t from, uint64_t to) {
+    urlcheck_region region = {line, from, line, to};
+    return region;
+}
+
+/* The mended text, where there is one and the format says it. */
+static void mend(asked *it, const uint8_t *text, size_t length, uint64_t line) {
+    urlcheck_mended told = urlcheck_mend(text, length, URLCHECK_STANDARD, NULL, 0, NULL, 0);
+    if (!urlcheck_shows_mended(format) || told.found.verdict != URLCHECK_MENDED) return;
+    uint8_t *mended = taken(told.length);
+    urlcheck_mend(text, length, URLCHECK_STANDARD, NULL, 0, mended, told.length);
+    it->reported.fix = mended;
+    it->reported.fix_length = told.length;
+    it->reported.numbers.kind = told.kind;
+    it->reported.numbers.offered = told.offered;
+    it->reported.numbers.fix_region = region_in(line, 1, column(text, length, code_points(text, length)));
+}
+
+/* What is wrong with a line: its rule, its place and its text. Not so where nothing is. */
+static int find(asked *it, const uint8_t *text, size_t length, uint64_t line) {
     static const uint8_t replacement[] = {0xEF, 0xBF, 0xBD};
-    urlcheck_finding found = urlcheck_check(text, length, URLCHECK_STANDARD).found;
-    asked it = {DIAGNOSTIC, *is_first, {0}, text, NULL, length, 0};
-    uint8_t *mended = NULL;
-    it.violation.profile = URLCHECK_STANDARD;
-    it.violation.line = line;
+    urlcheck_reported *of = &it->reported;
+    urlcheck_finding found = urlcheck_check(text, length, URLCHECK_STANDARD, NULL).found;
+    of->text = text;
+    of->text_length = length;
     if (length > 65536) {
-        it.violation.rule = URLCHECK_LINE_TOO_LONG;
-        it.text = NULL;
-        it.length = 0;
+        it->rule = URLCHECK_LINE_TOO_LONG;
+        of->text = NULL;
+        of->text_length = 0;
     } else if (found.verdict == URLCHECK_NO_UTF8) {
         if (length != 1) fail("no line of the file but one byte may be no UTF-8");
-        it.violation.rule = URLCHECK_LINE_NO_UTF8;
-        it.text = replacement;
-        it.length = 3;
+        it->rule = URLCHECK_LINE_NO_UTF8;
+        of->text = replacement;
+        of->text_length = 3;
     } else if (found.verdict == URLCHECK_REFUSED) {
-        it.violation.rule = found.rule;
-        it.violation.place = found.place;
-        if (urlcheck_shows_mended(format)) {
-            urlcheck_mended asked_for = urlcheck_mend(text, length, URLCHECK_STANDARD, NULL, 0);
-            if (asked_for.found.verdict == URLCHECK_MENDED) {
-                mended = taken(asked_for.length);
-                urlcheck_mend(text, length, URLCHECK_STANDARD, mended, asked_for.length);
-                it.mended = mended;
-                it.mended_length = asked_for.length;
-                it.violation.kind = asked_for.kind;
-                it.violation.has_region = 1;
-                it.violation.first_column = 1;
-                it.violation.end_column = column(text, length, code_points(text, length));
-            }
-        }
+        it->rule = found.rule;
+        of->numbers.place = found.place;
+        mend(it, text, length, line);
     } else {
-        return;
+        return 0;
     }
-    it.violation.column = column(it.text, it.length, it.violation.place);
-    it.violation.end = it.violation.column;
-    if (it.violation.rule < URLCHECK_LINE_NO_UTF8 && it.violation.place < code_points(it.text, it.length))
-        it.violation.end = column(it.text, it.length, it.violation.place + 1);
+    return 1;
+}
+
+/* How many lines before this one have the same text, and so the same rule and place: the file is read once more. */
+static uint64_t repeats(const uint8_t *text, size_t length);
+
+static void report(const uint8_t *text, size_t length, uint64_t line, int *is_first) {
+    asked it;
+    memset(&it, 0, sizeof it);
+    it.call = DIAGNOSTIC;
+    it.is_first = (uint32_t)*is_first;
+    urlcheck_reported *of = &it.reported;
+    if (!find(&it, text, length, line)) return;
+    uint64_t from = column(of->text, of->text_length, of->numbers.place), to = from;
+    if (it.rule < URLCHECK_LINE_NO_UTF8 && of->numbers.place < code_points(of->text, of->text_length))
+        to = column(of->text, of->text_length, of->numbers.place + 1);
+    of->numbers.region = region_in(line, from, to);
+    of->numbers.repeat = repeats(text, length);
+    of->file = (const uint8_t *)name;
+    of->file_length = strlen(name);
+    of->rule = rule_text(URLCHECK_RULE_NAME, it.rule, &of->rule_length);
+    of->uri = rule_text(URLCHECK_RULE_ADDRESS, it.rule, &of->uri_length);
+    asked message = it;
+    message.call = MESSAGE;
+    of->message = text_of(&message, &of->message_length);
     say(&it);
-    if (format == URLCHECK_GNU) see_message(&it);
     *is_first = 0;
-    free(mended);
+    free((void *)of->rule);
+    free((void *)of->uri);
+    free((void *)of->message);
+    free((void *)of->fix);
+}
+
+/* The lines up to here, for what is repeated. */
+static const uint8_t *whole_file;
+static size_t before_line;
+
+static uint64_t repeats(const uint8_t *text, size_t length) {
+    uint64_t count = 0;
+    for (size_t at = 0; at < before_line;) {
+        const uint8_t *end = memchr(whole_file + at, '\n', before_line - at);
+        size_t whole = end ? (size_t)(end - (whole_file + at)) : before_line - at;
+        size_t size = whole && whole_file[at + whole - 1] == '\r' ? whole - 1 : whole;
+        count += size == length && memcmp(whole_file + at, text, length) == 0;
+        at += whole + 1;
+    }
+    return count;
 }
 
 int main(int count, char **words) {
@@ -158,17 +192,20 @@ int main(int count, char **words) {
     uint8_t *bytes = taken(length);
     if (fread(bytes, 1, length, file) != length) fail("the file can't be read");
     fclose(file);
-    asked round = {BEGIN, 0, {0}, NULL, NULL, 0, 0};
+    asked round;
+    memset(&round, 0, sizeof round);
     say(&round);
     round.call = FILE_BEGIN;
     say(&round);
     int is_first = 1;
     uint64_t line = 0;
+    whole_file = bytes;
     for (size_t at = 0; at < length;) {
         const uint8_t *end = memchr(bytes + at, '\n', length - at);
         size_t whole = end ? (size_t)(end - (bytes + at)) : length - at;
         size_t text = end && whole && bytes[at + whole - 1] == '\r' ? whole - 1 : whole;
         line++;
+        before_line = at;
         if (text) {
             /* (a copy of its own, so that a read beyond it is seen) */
             uint8_t *copy = taken(text);

@@ -56,16 +56,26 @@ static const char BASE[] = "http://B\xc3\xbc" "cher.de/d/e";
 
 /* A diagnostic on a text, with a mended one. */
 static uint32_t diagnostic(uint32_t format, uint8_t *out, size_t room) {
-    urlcheck_violation it = {0};
-    it.rule = URLCHECK_CODE_POINT;
-    it.place = 13;
-    it.line = it.column = it.end = it.first_column = it.end_column = 1;
-    it.kind = URLCHECK_CHANGED;
-    it.has_region = 1;
-    const uint8_t *wrong = (const uint8_t *)WRONG, *base = (const uint8_t *)BASE;
-    return urlcheck_diagnostic(format, 1, &it, base, sizeof BASE - 1, wrong, sizeof WRONG - 1, base, sizeof BASE - 1,
-                               out, room)
-        .found.verdict;
+    static const char rule[] = "code-point", message[] = "no code point of a URL";
+    const urlcheck_region region = {1, 1, 1, 2};
+    urlcheck_reported it = {0};
+    it.numbers.region = it.numbers.fix_region = region;
+    it.numbers.place = 13;
+    it.numbers.kind = URLCHECK_CHANGED;
+    it.numbers.offered = 1;
+    it.file = it.fix = (const uint8_t *)BASE, it.file_length = it.fix_length = sizeof BASE - 1;
+    it.rule = (const uint8_t *)rule, it.rule_length = sizeof rule - 1;
+    it.message = (const uint8_t *)message, it.message_length = sizeof message - 1;
+    it.text = (const uint8_t *)WRONG, it.text_length = sizeof WRONG - 1;
+    return urlcheck_diagnostic(format, 1, &it, out, room).found.verdict;
+}
+
+/* The verdict against a base that is prepared, by the check and by all the faults. */
+static uint32_t against(const uint8_t *text, size_t length, uint32_t profile, urlcheck_fault *faults, size_t room) {
+    urlcheck_base base = urlcheck_prepare((const uint8_t *)BASE, sizeof BASE - 1, profile);
+    if (base.found.verdict != URLCHECK_VALID) return base.found.verdict;
+    if (faults) return urlcheck_faults(text, length, profile, &base, faults, room).found.verdict;
+    return urlcheck_check(text, length, profile, &base).found.verdict;
 }
 
 /* One call of each kind that allocates; the verdict. */
@@ -76,16 +86,16 @@ static uint32_t call(int kind, uint8_t *out, size_t room) {
     size_t mendable_length = sizeof MENDABLE - 1;
     urlcheck_fault faults[8];
     switch (kind) {
-    case 0: return urlcheck_check(text, length, URLCHECK_STANDARD).found.verdict;
-    case 1: return urlcheck_check_against(text, length, base, base_length, URLCHECK_STANDARD).found.verdict;
-    case 2: return urlcheck_resolve(text, length, URLCHECK_WIDE, out, room).found.verdict;
-    case 3: return urlcheck_resolve_against(text, 0, base, base_length, URLCHECK_STANDARD, out, room).found.verdict;
-    case 4: return urlcheck_faults(wrong, wrong_length, URLCHECK_STANDARD, faults, 8).found.verdict;
-    case 5:
-        return urlcheck_faults_against(wrong, wrong_length, base, base_length, URLCHECK_WIDE, faults, 8).found.verdict;
-    case 6: return urlcheck_check((const uint8_t *)ESCAPED, sizeof ESCAPED - 1, URLCHECK_PARSER).found.verdict;
+    case 0: return urlcheck_check(text, length, URLCHECK_STANDARD, NULL).found.verdict;
+    case 1: return against(text, length, URLCHECK_STANDARD, NULL, 0);
+    case 2: return urlcheck_resolve(text, length, URLCHECK_WIDE, NULL, 0, out, room).found.verdict;
+    case 3: return urlcheck_resolve(text, 0, URLCHECK_STANDARD, base, base_length, out, room).found.verdict;
+    case 4: return urlcheck_faults(wrong, wrong_length, URLCHECK_STANDARD, NULL, faults, 8).found.verdict;
+    case 5: return against(wrong, wrong_length, URLCHECK_WIDE, faults, 8);
+    case 6: return urlcheck_check((const uint8_t *)ESCAPED, sizeof ESCAPED - 1, URLCHECK_PARSER, NULL).found.verdict;
     case 7:
-        return urlcheck_message(wrong, wrong_length, URLCHECK_STANDARD, URLCHECK_CODE_POINT, 13, out, room)
+        return urlcheck_message(wrong, wrong_length, URLCHECK_STANDARD, URLCHECK_WORDING_OPTIONS, URLCHECK_CODE_POINT,
+                                13, out, room)
             .found.verdict;
     case 8: return diagnostic(URLCHECK_CARET, out, room);
     case 9: return diagnostic(URLCHECK_JSON, out, room);
@@ -96,11 +106,15 @@ static uint32_t call(int kind, uint8_t *out, size_t room) {
         const uint64_t offsets[] = {0, sizeof TEXT - 1};
         uint8_t verdict = URLCHECK_DONE;
         uint32_t outcome =
-            urlcheck_check_many(text, length, offsets, 1, URLCHECK_STANDARD, &verdict, NULL, NULL).outcome;
+            urlcheck_check_many(text, length, offsets, 1, URLCHECK_STANDARD, NULL, &verdict, NULL, NULL).outcome;
         return outcome == URLCHECK_DONE ? verdict : outcome;
     }
     case 14: return urlcheck_next_refused(text, length, 0, URLCHECK_STANDARD).found.verdict;
-    case 15: return urlcheck_resolve_record(text, length, URLCHECK_WIDE, out, room).found.verdict;
+    case 15: {
+        urlcheck_record record;
+        urlcheck_resolve_to(&record, text, length, URLCHECK_WIDE, NULL, 0, out, room);
+        return record.found.verdict;
+    }
     case 16: {
         const uint64_t offsets[] = {0, sizeof TEXT - 1};
         uint8_t verdict = URLCHECK_DONE;
@@ -115,7 +129,7 @@ static uint32_t call(int kind, uint8_t *out, size_t room) {
     case 20: return urlcheck_report_file_begin(URLCHECK_JUNIT, base, base_length, out, room).found.verdict;
     case 21: return urlcheck_report_begin(URLCHECK_RDJSON, URLCHECK_BYTES, out, room).found.verdict;
     default:
-        return urlcheck_mend_against(mendable, mendable_length, base, base_length, URLCHECK_WIDE, out, room)
+        return urlcheck_mend(mendable, mendable_length, URLCHECK_WIDE, base, base_length, out, room)
             .found.verdict;
     }
 }
@@ -180,9 +194,9 @@ static void list_faults_of(const struct repeated *row, const uint8_t *text, size
     urlcheck_fault *all = malloc(wanted * sizeof *all);
     if (!all) exit(1);
     const uint8_t *base = (const uint8_t *)row->base;
-    urlcheck_fault_count found =
-        base ? urlcheck_faults_against(text, length, base, strlen(row->base), profile, all, wanted)
-             : urlcheck_faults(text, length, profile, all, wanted);
+    urlcheck_base held;
+    if (base) held = urlcheck_prepare(base, strlen(row->base), profile);
+    urlcheck_fault_count found = urlcheck_faults(text, length, profile, base ? &held : NULL, all, wanted);
     expect(found.found.verdict == URLCHECK_REFUSED && found.count == wanted, "another count of a million faults");
     expect(found.found.place == row->place && found.found.rule == row->rule, "another first one of a million faults");
     for (size_t at = 0; at < wanted && found.count == wanted; at++) {
@@ -216,18 +230,18 @@ static void check_100_mb(void) {
     if (!text) exit(1);
     memset(text, 'a', size);
     memcpy(text, "http://h/", front);
-    urlcheck_answer answer = urlcheck_check(text, size, URLCHECK_STANDARD);
+    urlcheck_answer answer = urlcheck_check(text, size, URLCHECK_STANDARD, NULL);
     expect(answer.found.verdict == URLCHECK_VALID, "100 MB refused");
     expect(answer.parts.path.start == front - 1 && answer.parts.path.length == size - front + 1, "the path of 100 MB");
     text[size - 3] = 0xe2;
     text[size - 2] = 0x82;
     text[size - 1] = 0xac;
     text[size - 4] = '%';
-    answer = urlcheck_check(text, size, URLCHECK_STANDARD);
+    answer = urlcheck_check(text, size, URLCHECK_STANDARD, NULL);
     expect(answer.found.verdict == URLCHECK_REFUSED && answer.found.rule == URLCHECK_PERCENT, "100 MB with a bare %");
     expect(answer.found.place == size - 4 && answer.found.byte_place == size - 4, "the place in 100 MB");
     text[size - 1] = 'x';
-    answer = urlcheck_check(text, size, URLCHECK_STANDARD);
+    answer = urlcheck_check(text, size, URLCHECK_STANDARD, NULL);
     expect(answer.found.verdict == URLCHECK_NO_UTF8 && answer.found.byte_place == size - 3, "100 MB of no UTF-8");
     free(text);
     printf("library: a text of %zu bytes\n", size);

@@ -56,69 +56,46 @@ static void says_no_more(int holds, const char *call) {
     is_untouched(call);
 }
 
-/* The calls that answer on a text alone, or against a base that comes with it. */
-static void checks_by_none(const char *text, const char *base, uint32_t profile) {
-    const uint8_t *it = bytes(text), *other = bytes(base);
-    size_t length = strlen(text), other_length = strlen(base);
-    urlcheck_answer alone = urlcheck_check(it, length, profile);
-    urlcheck_answer against = urlcheck_check_against(it, length, other, other_length, profile);
-    says_no_more(is_no_profile(alone.found) && has_no_parts(&alone.parts), "check by no profile");
-    says_no_more(is_no_profile(against.found) && has_no_parts(&against.parts), "check_against by no profile");
-    says_no_more(!urlcheck_is_valid(it, length, profile), "is_valid by no profile");
-    urlcheck_fault_count count = urlcheck_faults(it, length, profile, room.faults, 2);
+/* The calls that answer on a text alone, or against a base: one of this number, one of a profile, or one of zeros. */
+static void checks_by_none(const char *text, const urlcheck_base *base, uint32_t profile) {
+    const uint8_t *it = bytes(text);
+    size_t length = strlen(text);
+    urlcheck_answer answer = urlcheck_check(it, length, profile, base);
+    says_no_more(is_no_profile(answer.found) && has_no_parts(&answer.parts), "check by no profile");
+    says_no_more(!urlcheck_is_valid(it, length, profile, base), "is_valid by no profile");
+    urlcheck_fault_count count = urlcheck_faults(it, length, profile, base, room.faults, 2);
     says_no_more(is_no_profile(count.found) && !count.count, "faults by no profile");
-    count = urlcheck_faults_against(it, length, other, other_length, profile, room.faults, 2);
-    says_no_more(is_no_profile(count.found) && !count.count, "faults_against by no profile");
 }
 
-/* The calls that write a text. */
+/* The calls that write a text, alone where the base is null. */
 static void writes_by_none(const char *text, const char *base, uint32_t profile) {
-    const uint8_t *it = bytes(text), *other = bytes(base);
+    const uint8_t *it = bytes(text), *other = base ? bytes(base) : NULL;
     uint8_t *out = room.bytes;
-    size_t length = strlen(text), other_length = strlen(base), most = sizeof room.bytes;
-    urlcheck_resolved resolved = urlcheck_resolve(it, length, profile, out, most);
-    says_no_more(is_no_profile(resolved.found) && !resolved.length, "resolve by no profile");
-    resolved = urlcheck_resolve_against(it, length, other, other_length, profile, out, most);
-    says_no_more(is_no_profile(resolved.found) && !resolved.length, "resolve_against by no profile");
-    urlcheck_mended mended = urlcheck_mend(it, length, profile, out, most);
-    says_no_more(is_no_profile(mended.found) && !mended.kind && !mended.length, "mend by no profile");
-    mended = urlcheck_mend_against(it, length, other, other_length, profile, out, most);
-    says_no_more(is_no_profile(mended.found) && !mended.kind && !mended.length, "mend_against by no profile");
-    urlcheck_record record = urlcheck_resolve_record(it, length, profile, out, most);
+    size_t length = strlen(text), other_length = base ? strlen(base) : 0, most = sizeof room.bytes;
+    urlcheck_mended mended = urlcheck_mend(it, length, profile, other, other_length, out, most);
+    says_no_more(is_no_profile(mended.found) && !mended.kind && !mended.offered && !mended.length,
+                 "mend by no profile");
+    urlcheck_record record = urlcheck_resolve(it, length, profile, other, other_length, out, most);
     says_no_more(is_no_profile(record.found) && !record.length && !record.host && !record.opaque_path &&
                      has_no_parts(&record.parts),
-                 "resolve_record by no profile");
-    record = urlcheck_resolve_record_against(it, length, other, other_length, profile, out, most);
-    says_no_more(is_no_profile(record.found) && !record.length && !record.host && !record.opaque_path &&
-                     has_no_parts(&record.parts),
-                 "resolve_record_against by no profile");
-    urlcheck_written said = urlcheck_message(it, length, profile, URLCHECK_PERCENT, 0, out, most);
+                 "resolve by no profile");
+    urlcheck_written said =
+        urlcheck_message(it, length, profile, URLCHECK_WORDING_OPTIONS, URLCHECK_PERCENT, 0, out, most);
     says_no_more(is_no_profile(said.found) && !said.length, "a message by no profile");
-    urlcheck_violation of_text = {0};
-    of_text.profile = profile, of_text.rule = URLCHECK_PERCENT, of_text.line = of_text.column = of_text.end = 1;
-    said = urlcheck_diagnostic(URLCHECK_GNU, 1, &of_text, bytes("a"), 1, it, length, NULL, 0, out, most);
-    says_no_more(is_no_profile(said.found) && !said.length, "a diagnostic by no profile");
 }
 
-/* A base that is prepared by none, and each call that takes it. */
+/* A base that is prepared by none, and each call that takes a base. */
 static void bases_by_none(const char *text, const char *base, uint32_t profile) {
-    const uint8_t *it = bytes(text), *other = bytes(base);
-    size_t length = strlen(text), other_length = strlen(base), most = sizeof room.bytes;
-    urlcheck_base held = urlcheck_prepare(other, other_length, profile);
+    static const urlcheck_base zeros;
+    const uint8_t *other = bytes(base);
+    urlcheck_base held = urlcheck_prepare(other, strlen(base), profile);
     expect(is_no_profile(held.found) && held.profile == profile, "the profile of a base that is prepared by none");
     expect(!held.scheme && !held.opaque_path && !held.empty_host, "what a base is that is prepared by no profile");
-    urlcheck_answer answer = urlcheck_check_with(it, length, &held);
-    says_no_more(is_no_profile(answer.found) && has_no_parts(&answer.parts), "check_with by no profile");
-    says_no_more(!urlcheck_is_valid_with(it, length, &held), "is_valid_with by no profile");
-    urlcheck_fault_count count = urlcheck_faults_with(it, length, &held, room.faults, 2);
-    says_no_more(is_no_profile(count.found) && !count.count, "faults_with by no profile");
-    urlcheck_resolved resolved = urlcheck_resolve_with(it, length, &held, other, other_length, room.bytes, most);
-    says_no_more(is_no_profile(resolved.found) && !resolved.length, "resolve_with by no profile");
-    urlcheck_record record = urlcheck_resolve_record_with(it, length, &held, other, other_length, room.bytes, most);
-    says_no_more(is_no_profile(record.found) && !record.length && has_no_parts(&record.parts),
-                 "resolve_record_with by no profile");
-    urlcheck_mended mended = urlcheck_mend_with(it, length, &held, other, other_length, room.bytes, most);
-    says_no_more(is_no_profile(mended.found) && !mended.kind && !mended.length, "mend_with by no profile");
+    urlcheck_base known = urlcheck_prepare(other, strlen(base), URLCHECK_STANDARD);
+    checks_by_none(text, NULL, profile);
+    checks_by_none(text, &held, profile);
+    checks_by_none(text, &known, profile);
+    checks_by_none(text, &zeros, profile);
 }
 
 static int is_no_batch(urlcheck_batch batch) {
@@ -128,21 +105,18 @@ static int is_no_batch(urlcheck_batch batch) {
 /* The calls for many texts: of none, and of two. */
 static void batches_by_none(uint32_t profile) {
     const uint8_t *texts = bytes("http://h/a b");
-    const uint64_t wide[] = {0, 9, 12};
-    const uint32_t narrow[] = {0, 9, 12};
+    const uint64_t offsets[] = {0, 9, 12};
+    urlcheck_base base = urlcheck_prepare(texts, 9, URLCHECK_STANDARD);
     for (size_t count = 0; count <= 2; count += 2) {
-        says_no_more(is_no_batch(urlcheck_check_many(texts, 12, wide, count, profile, room.verdicts, room.rules,
-                                                     room.places)),
+        says_no_more(is_no_batch(urlcheck_check_many(texts, 12, offsets, count, profile, NULL, room.verdicts,
+                                                     room.rules, room.places)),
                      "check_many by no profile");
-        says_no_more(is_no_batch(urlcheck_check_many_32(texts, 12, narrow, count, profile, room.verdicts, room.rules,
-                                                        room.places)),
-                     "check_many_32 by no profile");
-        says_no_more(is_no_batch(urlcheck_resolve_many(texts, 12, wide, count, profile, room.verdicts, room.rules,
+        says_no_more(is_no_batch(urlcheck_check_many(texts, 12, offsets, count, profile, &base, room.verdicts,
+                                                     room.rules, room.places)),
+                     "check_many against a base by no profile");
+        says_no_more(is_no_batch(urlcheck_resolve_many(texts, 12, offsets, count, profile, room.verdicts, room.rules,
                                                        room.places, room.ends, room.bytes, sizeof room.bytes)),
                      "resolve_many by no profile");
-        says_no_more(is_no_batch(urlcheck_resolve_many_32(texts, 12, narrow, count, profile, room.verdicts, room.rules,
-                                                          room.places, room.ends, room.bytes, sizeof room.bytes)),
-                     "resolve_many_32 by no profile");
     }
 }
 
@@ -166,8 +140,8 @@ static void no_profile(void) {
     memset(&room, 7, sizeof room);
     for (size_t number = 0; number < sizeof numbers / sizeof *numbers; number++) {
         for (size_t text = 0; text < sizeof texts / sizeof *texts; text++) {
+            writes_by_none(texts[text], NULL, numbers[number]);
             for (size_t base = 0; base < sizeof bases / sizeof *bases; base++) {
-                checks_by_none(texts[text], bases[base], numbers[number]);
                 writes_by_none(texts[text], bases[base], numbers[number]);
                 bases_by_none(texts[text], bases[base], numbers[number]);
             }
@@ -216,11 +190,12 @@ static void no_room(void) {
         expect(0, "memory");
         return;
     }
-    WRITES_NOWHERE(urlcheck_rule_name, URLCHECK_PERCENT);
-    WRITES_NOWHERE(urlcheck_rule_sentence, URLCHECK_PERCENT);
-    WRITES_NOWHERE(urlcheck_format_name, URLCHECK_SARIF);
-    WRITES_NOWHERE(urlcheck_unit_name, URLCHECK_CODE_POINTS);
-    WRITES_NOWHERE(urlcheck_explain, URLCHECK_PORT_RANGE, URLCHECK_ASKS);
+    WRITES_NOWHERE(urlcheck_text, URLCHECK_RULE_NAME, URLCHECK_PERCENT);
+    WRITES_NOWHERE(urlcheck_text, URLCHECK_RULE_SENTENCE, URLCHECK_PERCENT);
+    WRITES_NOWHERE(urlcheck_text, URLCHECK_RULE_ADDRESS, URLCHECK_PERCENT);
+    WRITES_NOWHERE(urlcheck_text, URLCHECK_RULE_REQUIRES, URLCHECK_PORT_RANGE);
+    WRITES_NOWHERE(urlcheck_text, URLCHECK_FORMAT_NAME, URLCHECK_SARIF);
+    WRITES_NOWHERE(urlcheck_text, URLCHECK_UNIT_NAME, URLCHECK_CODE_POINTS);
     free(before);
 }
 

@@ -12,11 +12,12 @@ static const char *const TEXTS[] = {"https://example.com/a?q#f", "http://h/a b",
 enum { COUNT = sizeof TEXTS / sizeof TEXTS[0] };
 
 static size_t hash(const char *text) {
-    urlcheck_answer answer = urlcheck_check((const uint8_t *)text, strlen(text), URLCHECK_STANDARD);
+    urlcheck_answer answer = urlcheck_check((const uint8_t *)text, strlen(text), URLCHECK_STANDARD, NULL);
     uint8_t out[64] = {0};
-    urlcheck_resolved resolved = urlcheck_resolve((const uint8_t *)text, strlen(text), URLCHECK_WIDE, out, sizeof out);
+    urlcheck_record resolved =
+        urlcheck_resolve((const uint8_t *)text, strlen(text), URLCHECK_WIDE, NULL, 0, out, sizeof out);
     urlcheck_fault faults[4];
-    urlcheck_fault_count count = urlcheck_faults((const uint8_t *)text, strlen(text), URLCHECK_STANDARD, faults, 4);
+    urlcheck_fault_count count = urlcheck_faults((const uint8_t *)text, strlen(text), URLCHECK_STANDARD, NULL, faults, 4);
     size_t sum = answer.found.verdict + 31 * answer.found.place + 1009 * answer.parts.path.start
                  + 65537 * resolved.length + 1000003 * count.count;
     for (size_t at = 0; at < sizeof out; at++) sum = 31 * sum + out[at];

@@ -1,6 +1,7 @@
 //! Many texts in one call, with the texts of their records.
 ghost use Rattle.std.specs.Prelude.{◌≡◌, ◌+◌, ◌<◌, ◌≤◌, ◌++◌, ℕ, List, length, string_bytes};
-ghost use Rattle.urlcheck_c.specs.Offsets.{AreRows, offset_list, row_count};
+ghost use Rattle.urlcheck_c.specs.Finding.{IsSmall};
+ghost use Rattle.urlcheck_c.specs.Offsets.{AreRows, row_count};
 ghost use Rattle.urlcheck_c.specs.Batch.{IsPut};
 ghost use Rattle.urlcheck_c.specs.ResolvedBatch.{AreRowsResolved, IsAppended, IsRequestResolved, IsResolvedBatch};
 ghost use Rattle.urlcheck_c.specs.ResolvedBatch.{IsResolvedRow, IsTextResolved, resolved_columns};
@@ -8,9 +9,10 @@ ghost use Rattle.urlcheck_c.specs.ResolvedBatch.{IsResolvedRow, IsTextResolved, 
 use crate::batches::{Batch, put};
 use crate::buffers::write_prefix;
 use crate::finding::{CallOutcome, Finding};
-use crate::offsets::Offsets;
-use crate::request::{LoneRequest, prepared_alone, profile_of};
+use crate::offsets::{first_wrong, row_count, row_text};
+use crate::request::{profile_of, text_of};
 use std::alloc::{AllocError, Global};
+use uv_model::Profile;
 use uv_resolve::{ResolveFault, resolve_serialized};
 
 /// Resolves texts that are one after the other in a buffer, alone, by the profile with this number, and writes the
@@ -34,69 +36,10 @@ pub extern "C" fn urlcheck_resolve_many(
         (resolved_columns verdicts.old rules.old places.old ends.old)
         (resolved_columns verdicts.new rules.new places.new ends.new) out.old out.new result }
 {
-    resolved(
-        alloc,
-        texts,
-        Offsets::Wide(offsets),
-        profile,
-        verdicts,
-        rules,
-        places,
-        ends,
-        out,
-    )
-}
-
-/// The same where the offsets have 32 bits.
-#[unsafe(no_mangle)]
-pub extern "C" fn urlcheck_resolve_many_32(
-    alloc: Global,
-    texts: &[u8],
-    offsets: &[u32],
-    profile: u32,
-    verdicts: &mut [u8],
-    rules: &mut [u8],
-    places: &mut [u64],
-    ends: &mut [u64],
-    out: &mut [u8],
-) -> Batch
-    ensures { IsResolvedBatch profile texts.now offsets.now
-        (resolved_columns verdicts.old rules.old places.old ends.old)
-        (resolved_columns verdicts.new rules.new places.new ends.new) out.old out.new result }
-{
-    resolved(
-        alloc,
-        texts,
-        Offsets::Narrow(offsets),
-        profile,
-        verdicts,
-        rules,
-        places,
-        ends,
-        out,
-    )
-}
-
-// The same by offsets of either width.
-fn resolved(
-    alloc: Global,
-    texts: &[u8],
-    offsets: Offsets<'_>,
-    profile: u32,
-    verdicts: &mut [u8],
-    rules: &mut [u8],
-    places: &mut [u64],
-    ends: &mut [u64],
-    out: &mut [u8],
-) -> Batch
-    ensures { IsResolvedBatch profile texts.now (offset_list offsets.entry)
-        (resolved_columns verdicts.old rules.old places.old ends.old)
-        (resolved_columns verdicts.new rules.new places.new ends.new) out.old out.new result }
-{
     if profile_of(profile).is_none() {
         return Batch::unchecked(CallOutcome::NoProfile, 0);
     }
-    if let Some(row) = offsets.first_wrong(texts.len()) {
+    if let Some(row) = first_wrong(offsets, texts.len()) {
         return Batch::unchecked(CallOutcome::NoOffsets, row);
     }
     let rows = resolve_rows(
@@ -121,24 +64,25 @@ struct ResolvedRows {
 fn resolve_rows(
     alloc: Global,
     texts: &[u8],
-    offsets: Offsets<'_>,
+    offsets: &[u64],
     profile: u32,
     verdicts: &mut [u8],
     rules: &mut [u8],
     places: &mut [u64],
     ends: &mut [u64],
 ) -> ResolvedRows
-    requires { AreRows (length texts.now) (offset_list offsets) (row_count (offset_list offsets)) }
-    ensures { AreRowsResolved profile texts.now (offset_list offsets.entry) (row_count (offset_list offsets.entry))
+    requires { AreRows (length texts.now) offsets.now (row_count offsets.now) }
+    ensures { AreRowsResolved profile texts.now offsets.now (row_count offsets.now)
         (resolved_columns verdicts.old rules.old places.old ends.old)
         (resolved_columns verdicts.new rules.new places.new ends.new) (string_bytes result.text) result.valid }
 {
-    let rows = offsets.rows();
+    let rows = row_count(offsets);
     let mut text = String::new(alloc);
     let mut valid = 0;
     put_end(ends, rows, 0, 0);
     for row in 0..rows {
-        let found = append_resolved(alloc, offsets.text(texts, row), profile, &mut text);
+        let bytes = row_text(texts, offsets, row);
+        let found = append_resolved(alloc, bytes, profile, &mut text);
         if found.verdict == 0 {
             valid += 1;
         }
@@ -167,8 +111,7 @@ fn put_end(ends: &mut [u64], rows: usize, at: usize, end: usize)
 fn append_resolved(alloc: Global, bytes: &[u8], profile: u32, out: &mut String) -> Finding
     ensures found { (text : List ℕ) × IsResolvedRow profile bytes.now result text
         × (string_bytes out.new ≡ string_bytes out.old ++ text) }
-    ensures verdict { result.verdict < 256 }
-    ensures rule { result.rule < 256 }
+    ensures small { IsSmall result }
 {
     match text_resolved(alloc, bytes, profile) {
         Ok(text) => appended(text.as_str(), out),
@@ -190,18 +133,20 @@ fn appended(text: &str, out: &mut String) -> Finding
 fn text_resolved(alloc: Global, bytes: &[u8], profile: u32) -> Result<String, Finding>
     ensures { IsTextResolved profile bytes.now result }
 {
-    match prepared_alone(bytes, profile) {
-        Ok(request) => request_resolved(alloc, &request),
+    let Some(profile) = profile_of(profile) else {
+        return Err(Finding::plain(CallOutcome::NoProfile));
+    };
+    match text_of(bytes, CallOutcome::NoUtf8) {
+        Ok(text) => text_denoted(alloc, text, profile),
         Err(found) => Err(found),
     }
 }
 
 // The text of the record that a text denotes alone, or why it denotes none.
-fn request_resolved(alloc: Global, request: &LoneRequest<'_>) -> Result<String, Finding>
-    ensures { IsRequestResolved request.now.profile request.now.text.now result }
+fn text_denoted(alloc: Global, text: &str, profile: Profile) -> Result<String, Finding>
+    ensures { IsRequestResolved profile text.now result }
 {
-    let text = request.text;
-    match resolve_serialized(alloc, text, None, request.profile) {
+    match resolve_serialized(alloc, text, None, profile) {
         Ok(written) => Ok(written),
         Err(ResolveFault::Refused(refusal)) => {
             Err(Finding::refused(CallOutcome::Refused, text, refusal))

@@ -1,17 +1,16 @@
 //! All that is wrong with a text, in the caller's buffer.
-ghost use Rattle.std.specs.Prelude.{◌≡◌, ℕ, IfOk, List, None, Option, Some};
+ghost use Rattle.std.specs.Prelude.{◌≡◌, IfOk, Option};
 ghost use Rattle.std.specs.Str.{chars};
-ghost use Rattle.uv_grammar.specs.Bases.{IsOfKind};
 ghost use Rattle.uv_model.specs.declared.profile.Profile.{Profile};
 ghost use Rattle.uv_model.specs.Records.Url.{Url};
 ghost use Rattle.uv_model.specs.Violations.AllViolations.{AreFaults};
-ghost use Rattle.urlcheck_c.specs.Base.{IsPreparedBase, IsUncheckedWith, SaysNoBase};
-ghost use Rattle.urlcheck_c.specs.Faults.{IsFaultsAnswer, IsFaultsChecked, first_finding};
+ghost use Rattle.urlcheck_c.specs.Base.{IsOfKindGiven};
+ghost use Rattle.urlcheck_c.specs.Faults.{IsFaultsChecked, IsFaultsTo, first_finding};
+ghost use Rattle.urlcheck_c.specs.Request.{given};
 
-use crate::bases::{Base, HeldRequest, prepared_against, prepared_with};
+use crate::bases::{Base, CheckRequest, asked, given_base};
 use crate::buffers::store;
 use crate::finding::{CallOutcome, Finding};
-use crate::request::prepared_alone;
 use std::alloc::{AllocError, Global};
 use uv_grammar::{faults, faults_of_kind};
 use uv_model::Refusal;
@@ -38,69 +37,43 @@ pub struct FaultCount {
     pub count: usize,
 }
 
-/// Writes the faults of the bytes alone to the start of `out`, by place and at one place by the rule's number, as many
-/// as it holds, and gives their count. After them `out` stays as it is.
+/// Writes the faults of the bytes, alone or against a base as `urlcheck_check` has it, to the start of `out`, by place
+/// and at one place by the rule's number, as many as it holds, and gives their count. After them `out` stays as it is.
 #[unsafe(no_mangle)]
 pub extern "C" fn urlcheck_faults(
     alloc: Global,
     text: &[u8],
     profile: u32,
-    out: &mut [Fault],
-) -> FaultCount
-    ensures { IsFaultsAnswer profile None text.now out.old out.new result }
-{
-    match prepared_alone(text, profile) {
-        Ok(request) => {
-            let all = faults(alloc, request.text, None, request.profile);
-            listed(request.text, &all, out)
-        }
-        Err(found) => FaultCount { found, count: 0 },
-    }
-}
-
-/// The same against the bytes of a base, which is checked alone by the same profile.
-#[unsafe(no_mangle)]
-pub extern "C" fn urlcheck_faults_against(
-    alloc: Global,
-    text: &[u8],
-    base: &[u8],
-    profile: u32,
-    out: &mut [Fault],
-) -> FaultCount
-    ensures { IsFaultsAnswer profile (Some base.now) text.now out.old out.new result }
-{
-    match prepared_against(alloc, text, base, profile) {
-        Ok(request) => listed_with(alloc, &request, out),
-        Err(found) => FaultCount { found, count: 0 },
-    }
-}
-
-/// The same against a base that `urlcheck_prepare` gave, by the base's profile.
-#[unsafe(no_mangle)]
-pub extern "C" fn urlcheck_faults_with(
-    alloc: Global,
-    text: &[u8],
     base: &Base,
+    has_base: bool,
     out: &mut [Fault],
 ) -> FaultCount
-    ensures held { (number : ℕ) (bytes : List ℕ) → IsPreparedBase number bytes base.now
-        → IsFaultsAnswer number (Some bytes) text.now out.old out.new result }
-    ensures none { SaysNoBase base.now
-        → (result.count ≡ 0) × (out.new ≡ out.old) × IsUncheckedWith base.now text.now result.found }
+    ensures { IsFaultsTo profile (given has_base base.now) text.now out.old out.new result }
 {
-    match prepared_with(text, base) {
-        Ok(request) => listed_with(alloc, &request, out),
+    match asked(text, profile, given_base(base, has_base)) {
+        Ok(request) => listed_of(alloc, &request, out),
         Err(found) => FaultCount { found, count: 0 },
     }
 }
 
-// The faults of a text that is checked against a base that is held.
-fn listed_with(alloc: Global, request: &HeldRequest<'_>, out: &mut [Fault]) -> FaultCount
-    ensures { (url : Url) → IsOfKind url request.now.base.kind
-        → IsFaultsChecked request.now.base.profile (Some url) request.now.text.now out.old out.new result }
+// The faults of a text that is checked, in the caller's buffer.
+fn listed_of(alloc: Global, request: &CheckRequest<'_>, out: &mut [Fault]) -> FaultCount
+    ensures { (url : Option Url) → IsOfKindGiven url request.now.kind
+        → IsFaultsChecked request.now.profile url request.now.text.now out.old out.new result }
 {
-    let all = faults_of_kind(alloc, request.text, request.base.kind, request.base.profile);
+    let all = faults_on(alloc, request);
     listed(request.text, &all, out)
+}
+
+// The faults of a text that is checked.
+fn faults_on(alloc: Global, request: &CheckRequest<'_>) -> Result<Vec<Refusal>, AllocError>
+    ensures { (url : Option Url) → IsOfKindGiven url request.now.kind
+        → IfOk result (λ found. AreFaults request.now.profile url (chars request.now.text.now) found.items) }
+{
+    match request.kind {
+        Some(kind) => faults_of_kind(alloc, request.text, kind, request.profile),
+        None => faults(alloc, request.text, None, request.profile),
+    }
 }
 
 // The answer by the faults of a text, as many of which are written as the buffer holds.

@@ -3,8 +3,8 @@ use Rattle.std.proofs.Common.{◌∙◌, inr}
 use Rattle.std.proofs.lemmas.Bool.{false≢true}
 use Rattle.urlcheck_c.proofs.checks.answer_of.Goals as goal
 
-pub returns-in-Err : goal.returns-in-Err
-returns-in-Err c = λ profile base is takes.
+pub returns-in-Err-clause-answer : goal.returns-in-Err-clause-answer
+returns-in-Err-clause-answer c = λ profile base is takes.
     inr (
       c.unchecked-in-Err.ensures.parts,
       inr (record {

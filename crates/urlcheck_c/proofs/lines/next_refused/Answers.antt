@@ -22,7 +22,7 @@ returns-then-found-ne0 c =
       passed =
           subst (λ lines. Passes c.args.profile c.loop-start.passed (lines_of (drop c.args.from bytes)) lines) first
           c.loop-start.invariant.lines;
-      found = c.found_alone-found.ensures.found;
+      found = c.found_of-found.ensures.found;
       refused = c.if-found-ne0.true;
       stands = first;
       begins = c.loop-start.invariant.begins before;
@@ -48,9 +48,9 @@ loop-start-preserved c =
     let few = c.loop-start.invariant.few in
     record {
       lines = passes_more c.args.profile c.loop-start.passed (lines_of (drop c.args.from bytes))
-          (lines_of (drop start bytes)) (lines_of (drop (start + extent) bytes)) text c.found_alone-found.result
+          (lines_of (drop start bytes)) (lines_of (drop (start + extent) bytes)) text c.found_of-found.result
           c.loop-start.invariant.lines (lines_after bytes text start extent line.first)
-          c.found_alone-found.ensures.found c.if-found-ne0.false;
+          c.found_of-found.ensures.found c.if-found-ne0.false;
       begins = λ below.
           start_after bytes c.args.from (start + length text) (start + extent) (omega (arith, after))
           (end_after bytes start (length text) extent (omega (arith, rest, before)) line.ended) below;

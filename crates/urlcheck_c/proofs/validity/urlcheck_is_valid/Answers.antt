@@ -1,14 +1,41 @@
--- The verdict is that on the text's bytes.
-use Rattle.std.proofs.Common.{ℕ, List, None, inr, subst}
+-- The verdict is that on the text's bytes, and the base is what the bytes that it was made of denote.
+use Rattle.std.proofs.Common.{ℕ, List, inl, inr, refl, subst}
+use Rattle.std.specs.Prelude.{Err, Ok, Option}
+use Rattle.urlcheck_c.specs.declared.bases.Base.{Base}
+use Rattle.urlcheck_c.specs.Base.{IsAsked}
 use Rattle.urlcheck_c.specs.Validity.{IsKnownValid}
+use Rattle.urlcheck_c.specs.Request.{given}
+use Rattle.urlcheck_c.proofs.BaseLemmas.{asked_request, not_stray, unasked}
 use Rattle.urlcheck_c.proofs.validity.urlcheck_is_valid.Goals as goal
 
 pub returns-in-Ok : goal.returns-in-Ok
 returns-in-Ok c =
-    inr (
-      c.in-Ok.request.profile,
-      None,
-      c.in-Ok.ensures.1,
-      subst (λ (text : List ℕ). IsKnownValid c.in-Ok.request.profile None text c.is_known_valid.result)
-          c.in-Ok.ensures.0 c.is_known_valid.ensures,
-    )
+    let base = given c.args.has_base c.args.base.now in
+    let request = c.in-Ok.request in
+    let is = subst (λ (b : Option Base). IsAsked c.args.profile b c.args.text.now (Ok request)) c.given_base.ensures
+    c.in-Ok.ensures in
+    record {
+      made = λ of made.
+          let asked = asked_request c.args.profile base c.args.text.now request of is made in
+          inr (
+            request.profile,
+            asked.0,
+            asked.1,
+            subst
+                (λ (bytes : List ℕ).
+                IsKnownValid request.profile asked.0 bytes c.is_known_valid.result)
+                is.0 (c.is_known_valid.ensures asked.0 asked.2),
+          );
+      stray = λ stray. absurd (not_stray c.args.profile base c.args.text.now request is stray);
+    }
+
+pub returns-in-Err : goal.returns-in-Err
+returns-in-Err c =
+    let base = given c.args.has_base c.args.base.now in
+    let found = c.in-Err.field-0 in
+    let is = subst (λ (b : Option Base). IsAsked c.args.profile b c.args.text.now (Err found)) c.given_base.ensures
+    c.in-Err.ensures in
+    record {
+      made = λ of made. inl (refl, found, unasked c.args.profile base c.args.text.now found of is made);
+      stray = λ stray. refl;
+    }

@@ -8,24 +8,15 @@ returns-in-Ok-clause-found c =
     (appended_row c.args.profile c.args.bytes.now c.in-Ok.text _ _ _ c.appended.result c.in-Ok.ensures
     c.as_str.ensures.value c.appended.ensures).0
 
-pub returns-in-Ok-clause-verdict : goal.returns-in-Ok-clause-verdict
-returns-in-Ok-clause-verdict c =
+pub returns-in-Ok-clause-small : goal.returns-in-Ok-clause-small
+returns-in-Ok-clause-small c =
     (appended_row c.args.profile c.args.bytes.now c.in-Ok.text _ _ _ c.appended.result c.in-Ok.ensures
-    c.as_str.ensures.value c.appended.ensures).1.0
-
-pub returns-in-Ok-clause-rule : goal.returns-in-Ok-clause-rule
-returns-in-Ok-clause-rule c =
-    (appended_row c.args.profile c.args.bytes.now c.in-Ok.text _ _ _ c.appended.result c.in-Ok.ensures
-    c.as_str.ensures.value c.appended.ensures).1.1
+    c.as_str.ensures.value c.appended.ensures).1
 
 pub returns-in-Err-clause-found : goal.returns-in-Err-clause-found
 returns-in-Err-clause-found c =
     ([], (refused_row c.args.profile c.args.bytes.now c.in-Err.found c.in-Err.ensures).0, sym (append-nil _))
 
-pub returns-in-Err-clause-verdict : goal.returns-in-Err-clause-verdict
-returns-in-Err-clause-verdict c =
-    (refused_row c.args.profile c.args.bytes.now c.in-Err.found c.in-Err.ensures).1.0
-
-pub returns-in-Err-clause-rule : goal.returns-in-Err-clause-rule
-returns-in-Err-clause-rule c =
-    (refused_row c.args.profile c.args.bytes.now c.in-Err.found c.in-Err.ensures).1.1
+pub returns-in-Err-clause-small : goal.returns-in-Err-clause-small
+returns-in-Err-clause-small c =
+    (refused_row c.args.profile c.args.bytes.now c.in-Err.found c.in-Err.ensures).1

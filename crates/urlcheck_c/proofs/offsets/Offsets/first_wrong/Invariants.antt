@@ -1,6 +1,0 @@
--- The offsets of the texts so far ascend.
-use Rattle.urlcheck_c.specs.Offsets.{AreRows, offset_list}
-use Rattle.urlcheck_c.proofs.offsets.Offsets.first_wrong.Given as goal
-
-abbrev pub invariant-loop-row : goal.invariant-loop-row
-invariant-loop-row l = AreRows l.bytes (offset_list l.self) l.row

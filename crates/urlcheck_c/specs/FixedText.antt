@@ -1,0 +1,87 @@
+-- The fixed texts that a caller asks for by numbers.
+use Rattle.std.specs.Prelude.{◌≡◌, ℕ, ◌⊎◌, ◌==◌, ◌||◌, if◌then◌else◌, Bool, true, false, List, [], Option, Some, None}
+use Rattle.std.specs.Prelude.{unwrap_or}
+use Rattle.uv_model.specs.declared.rule.Rule.{Rule}
+use Rattle.uv_report.specs.declared.format.Format.{Format}
+use Rattle.uv_report.specs.declared.line_violation.LineViolation.{LineViolation}
+use Rattle.uv_report.specs.declared.line_violation.LineViolation.TheVariants.{Refused}
+use Rattle.uv_report.specs.declared.places.column.Columns.{Columns}
+use Rattle.uv_report.specs.Format.{format_name}
+use Rattle.uv_report.specs.LineViolation.{violation_name}
+use Rattle.uv_report.specs.Places.Column.{columns_name}
+use Rattle.uv_report.specs.Rules.Explanation.{rule_base, rule_mended, rule_place, rule_wrong}
+use Rattle.uv_report.specs.Rules.Page.{rule_page}
+use Rattle.urlcheck_c.specs.Buffer.{IsWritten}
+use Rattle.urlcheck_c.specs.Names.{rule_with_number}
+use Rattle.urlcheck_c.specs.ReportNumbers.{format_of, unit_of, violation_of}
+
+-- ---- texts that programs read
+
+-- of the example of a rule: its base, a text that is refused, and a valid one
+abbrev pub example_text : ℕ → Rule → List ℕ
+example_text what rule =
+    if what == 5 then unwrap_or (rule_base rule) []
+    else (if what == 6 then rule_wrong rule else (if what == 7 then rule_mended rule else []))
+
+-- the same of what is wrong with a text; of a line that isn't checked there is no example
+abbrev pub violation_example : ℕ → LineViolation → List ℕ
+violation_example what (Refused refusal) = example_text what refusal.rule
+violation_example what violation = []
+
+-- of what is wrong with a text or a line: the name, the address of the page, or the example
+abbrev pub violation_text : ℕ → LineViolation → List ℕ
+violation_text what violation =
+    if what == 0 then violation_name violation
+    else (if what == 2 then rule_page violation else violation_example what violation)
+
+-- the same where something is wrong
+abbrev pub violation_text_or_none : ℕ → Option LineViolation → List ℕ
+violation_text_or_none what None = []
+violation_text_or_none what (Some violation) = violation_text what violation
+
+-- the name of a format, or no text
+abbrev pub format_name_or_none : Option Format → List ℕ
+format_name_or_none None = []
+format_name_or_none (Some format) = format_name format
+
+-- the name of a unit, or no text
+abbrev pub unit_name_or_none : Option Columns → List ℕ
+unit_name_or_none None = []
+unit_name_or_none (Some columns) = columns_name columns
+
+-- the text that is asked for, by the number of a rule of texts or of lines, of a format or of a unit
+abbrev pub known_text : ℕ → ℕ → List ℕ
+known_text what number =
+    if what == 8 then format_name_or_none (format_of number)
+    else (if what == 9 then unit_name_or_none (unit_of number)
+    else violation_text_or_none what (violation_of number 0))
+
+-- ---- what is given
+
+-- a sentence for people is asked for: what is wrong, what the rule requires, or the section of the Standard
+abbrev pub is_sentence : ℕ → Bool
+is_sentence what = what == 1 || (what == 3 || what == 4)
+
+-- the text is the one that is asked for; there is no sentence where no rule has the number
+abbrev pub IsFixedText : ℕ → ℕ → List ℕ → Type 0
+IsFixedText what number text =
+    (is_sentence what ≡ false → text ≡ known_text what number) × (violation_of number 0 ≡ None
+    → is_sentence what ≡ true → text ≡ [])
+
+-- The text is at the start of the buffer where it fits, and its length is given; or memory ran out for the address of a
+-- page, and nothing was written.
+abbrev pub IsTextAnswer : ℕ → ℕ → List ℕ → List ℕ → ℕ → Type 0
+IsTextAnswer what number old new answer =
+    ((text : List ℕ) × IsFixedText what number text × IsWritten text old new answer)
+    ⊎ ((what ≡ 2) × (answer ≡ 0) × (new ≡ old))
+
+-- ---- the place of an example
+
+-- the place of a rule's example, where there is a rule
+abbrev pub place_or_none : Option Rule → ℕ
+place_or_none None = 0
+place_or_none (Some rule) = rule_place rule
+
+-- the same by the number of a rule
+abbrev pub example_place : ℕ → ℕ
+example_place number = place_or_none (rule_with_number number)

@@ -1,0 +1,134 @@
+//! The fixed texts that a caller asks for by numbers.
+ghost use Rattle.std.specs.Prelude.{◌≡◌, ◌≢◌, IfOk, false, string_bytes};
+ghost use Rattle.urlcheck_c.specs.FixedText.{IsFixedText, IsTextAnswer, example_place, example_text};
+ghost use Rattle.urlcheck_c.specs.FixedText.{format_name_or_none, is_sentence, known_text, unit_name_or_none};
+ghost use Rattle.urlcheck_c.specs.FixedText.{violation_example, violation_text};
+ghost use Rattle.urlcheck_c.specs.ReportNumbers as spec;
+
+use crate::buffers::write_prefix;
+use crate::names::rule_of;
+use crate::reports::report_numbers::{format_of, unit_of, violation_of};
+use std::alloc::{AllocError, Global};
+use uv_model::Rule;
+use uv_report::{LineViolation, explain, rule_page};
+
+/// Writes a fixed text to the start of `out` where it fits, and gives its length: 0 where there is none. It is told by
+/// what is asked for and by the number of what it is about. Of a rule of texts or of lines: 0 its name, 1 its sentence,
+/// 2 the address of its page and 3 what it requires. Of a rule of texts: 4 its section, 5 the base of its example,
+/// 6 the example and 7 a valid text that may have been meant. 8 the name of a format, and 9 that of a unit. Where memory
+/// runs out for the address of a page, none is given.
+#[unsafe(no_mangle)]
+pub extern "C" fn urlcheck_text(alloc: Global, what: u32, number: u32, out: &mut [u8]) -> usize
+    ensures { IsTextAnswer what number out.old out.new result }
+{
+    if what != 2 {
+        return write_prefix(fixed_text(what, number).as_bytes(), out);
+    }
+    match page(alloc, number) {
+        Ok(page) => write_prefix(page.as_bytes(), out),
+        Err(AllocError) => 0,
+    }
+}
+
+/// The place at which the example of the rule with this number is refused, in code points, or 0 without such a rule.
+#[unsafe(no_mangle)]
+pub extern "C" fn urlcheck_example_place(rule: u32) -> usize
+    ensures { result ≡ example_place rule }
+{
+    match rule_of(rule) {
+        Some(rule) => explain(rule).place,
+        None => 0,
+    }
+}
+
+// The address of the page on what is wrong with a text or a line, by its number, or no text.
+fn page(alloc: Global, number: u32) -> Result<String, AllocError>
+    ensures { IfOk result (λ page. string_bytes page ≡ known_text 2 number) }
+{
+    match violation_of(number, 0) {
+        Some(violation) => rule_page(alloc, violation),
+        None => Ok(String::new(alloc)),
+    }
+}
+
+// The text that is asked for, but for the address of a page.
+fn fixed_text(what: u32, number: u32) -> &'static str
+    requires { what ≢ 2 }
+    ensures { IsFixedText what number result.now }
+{
+    match what {
+        8 => format_name(number),
+        9 => unit_name(number),
+        _ => rule_text(what, number),
+    }
+}
+
+// The name of the format with this number, or no text.
+fn format_name(number: u32) -> &'static str
+    ensures { result.now ≡ format_name_or_none (spec.format_of number) }
+{
+    match format_of(number) {
+        Some(format) => format.name(),
+        None => "",
+    }
+}
+
+// The name of the unit with this number, or no text.
+fn unit_name(number: u32) -> &'static str
+    ensures { result.now ≡ unit_name_or_none (spec.unit_of number) }
+{
+    match unit_of(number) {
+        Some(columns) => columns.name(),
+        None => "",
+    }
+}
+
+// A text of the rule with this number, or no text.
+fn rule_text(what: u32, number: u32) -> &'static str
+    requires page { what ≢ 2 }
+    requires format { what ≢ 8 }
+    requires unit { what ≢ 9 }
+    ensures { IsFixedText what number result.now }
+{
+    match violation_of(number, 0) {
+        Some(violation) => violation_text(what, violation),
+        None => "",
+    }
+}
+
+// A text of what is wrong with a text or a line.
+fn violation_text(what: u32, violation: LineViolation) -> &'static str
+    requires { what ≢ 2 }
+    ensures { is_sentence what ≡ false → result.now ≡ violation_text what violation }
+{
+    match what {
+        0 => violation.name(),
+        1 => violation.sentence(),
+        3 => violation.help(),
+        _ => explanation_text(what, violation),
+    }
+}
+
+// A text that explains what is wrong with a text; of a line that isn't checked there is none.
+fn explanation_text(what: u32, violation: LineViolation) -> &'static str
+    ensures { what ≢ 4 → result.now ≡ violation_example what violation }
+{
+    match violation {
+        LineViolation::Refused(refusal) => example_text(what, refusal.rule),
+        LineViolation::NotUtf8(_) | LineViolation::TooLong | LineViolation::NotLocated(_) => "",
+    }
+}
+
+// A text that explains a rule.
+fn example_text(what: u32, rule: Rule) -> &'static str
+    ensures { what ≢ 4 → result.now ≡ example_text what rule }
+{
+    let explanation = explain(rule);
+    match what {
+        4 => explanation.section,
+        5 => explanation.base.unwrap_or(""),
+        6 => explanation.wrong,
+        7 => explanation.mended,
+        _ => "",
+    }
+}
