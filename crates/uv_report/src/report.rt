@@ -111,14 +111,11 @@ pub fn push_diagnostic(
     ensures err { OnErr result (string_bytes text.new ≡ string_bytes text.old) }
 {
     let seen = SeenText::new(diagnostic.text);
-    let mut reported = String::new(alloc);
-    push_seen_diagnostic(alloc, &mut reported, format, diagnostic, &seen, is_first)?;
-    text.push_str(reported.as_str())
+    push_seen_diagnostic(alloc, text, format, diagnostic, &seen, is_first)
 }
 
 /// The same of a diagnostic whose text was seen. Several diagnostics on one text take no more time than the text and
 /// what is written of it, where they come in the order of their places, and the text is led to each place before.
-/// Where an allocation fails, a beginning of it was pushed.
 pub fn push_seen_diagnostic(
     alloc: Global,
     text: &mut String,
@@ -128,22 +125,40 @@ pub fn push_seen_diagnostic(
     is_first: bool,
 ) -> Result<(), AllocError>
     requires { seen.now ≡ diagnostic.now.text.now }
-    ensures { OnOk result (string_bytes text.new
+    ensures ok { OnOk result (string_bytes text.new
         ≡ string_bytes text.old ++ diagnostic_text format is_first diagnostic.now) }
+    ensures err { OnErr result (string_bytes text.new ≡ string_bytes text.old) }
+{
+    let reported = reported(alloc, format, diagnostic, seen, is_first)?;
+    text.push_str(reported.as_str())
+}
+
+// The text of a diagnostic whose text was seen.
+fn reported(
+    alloc: Global,
+    format: Format,
+    diagnostic: &Diagnostic<'_>,
+    seen: &SeenText<'_>,
+    is_first: bool,
+) -> Result<String, AllocError>
+    requires { seen.now ≡ diagnostic.now.text.now }
+    ensures { IfOk result (λ text. string_bytes text ≡ diagnostic_text format is_first diagnostic.now) }
 {
     let violation = diagnostic.violation;
     let said = message(alloc, diagnostic.profile, seen, violation)?;
     let kept = carried(alloc, seen, violation.place())?;
+    let mut text = String::new(alloc);
     push_made(
         alloc,
-        text,
+        &mut text,
         format,
         diagnostic,
         seen,
         said.as_str(),
         kept.as_str(),
         is_first,
-    )
+    )?;
+    Ok(text)
 }
 
 // Pushes a diagnostic of which this is reported, and whose text is carried so.
