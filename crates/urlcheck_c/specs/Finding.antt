@@ -12,7 +12,7 @@ use Rattle.urlcheck_c.specs.declared.finding.CallOutcome.TheVariants.{Valid, Ref
 use Rattle.urlcheck_c.specs.declared.finding.CallOutcome.TheVariants.{Memory, NoProfile, NoBase, Mended, Done}
 use Rattle.urlcheck_c.specs.declared.finding.CallOutcome.TheVariants.{NoFormat, NoUnit, NoRule, NoKind, NoCompletion}
 use Rattle.urlcheck_c.specs.declared.finding.CallOutcome.TheVariants.{NoPlace, NoColumn, NoOffsets, FileNoUtf8}
-use Rattle.urlcheck_c.specs.declared.finding.CallOutcome.TheVariants.{MendedNoUtf8}
+use Rattle.urlcheck_c.specs.declared.finding.CallOutcome.TheVariants.{MendedNoUtf8, ReportedNoUtf8}
 
 -- the number of an outcome
 abbrev pub outcome_number : CallOutcome → ℕ
@@ -36,6 +36,7 @@ outcome_number NoColumn = 16
 outcome_number NoOffsets = 17
 outcome_number FileNoUtf8 = 19
 outcome_number MendedNoUtf8 = 20
+outcome_number ReportedNoUtf8 = 21
 
 -- the profile with a number
 abbrev pub profile_of : ℕ → Option Profile

@@ -68,6 +68,8 @@ pub(crate) enum CallOutcome {
     FileNoUtf8,
     /// The mended text is no UTF-8.
     MendedNoUtf8,
+    /// The name of a rule, the address of its page, the message, or within what it is: one of them is no UTF-8.
+    ReportedNoUtf8,
 }
 
 impl CallOutcome {
@@ -96,6 +98,7 @@ impl CallOutcome {
             CallOutcome::NoOffsets => 17,
             CallOutcome::FileNoUtf8 => 19,
             CallOutcome::MendedNoUtf8 => 20,
+            CallOutcome::ReportedNoUtf8 => 21,
         }
     }
 }

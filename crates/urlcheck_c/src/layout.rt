@@ -10,7 +10,7 @@ use crate::lines::Line;
 use crate::mended::Mended;
 use crate::records::Resolved;
 use crate::records::placed_records::PlacedRecord;
-use crate::reports::diagnostics::Violation;
+use crate::reports::diagnostics::ReportedNumbers;
 use crate::reports::fault_lists::{Fault, FaultCount};
 use crate::spans::{Span, Spans};
 use crate::written::Written;
@@ -41,6 +41,6 @@ const _: () = prove!(size_of::<Written>() == 32);
 
 const _: () = prove!(size_of::<Counted>() == 32);
 
-const _: () = prove!(size_of::<Violation>() == 64);
+const _: () = prove!(size_of::<ReportedNumbers>() == 88);
 
 const _: () = prove!(size_of::<Line>() == 56);
