@@ -1,12 +1,8 @@
 pub mod PieceLemmas
 mod ColumnLemmas
-mod EntryLemmas
 pub mod FirstLemmas
 mod IntentionLemmas
-mod Ipv6Lemmas
-mod NameLemmas
 mod PlaceLemmas
-mod PointLemmas
 mod PrintableLemmas
 mod RowsLemmas
 mod UriLemmas
