@@ -16,8 +16,8 @@ try:
     from lxml import etree
 except ImportError:
     sys.exit("bench/documents.py: lxml is missing (Debian: python3-lxml)")
-from urlcheck._html_links import CANDIDATES, LISTS, URLS, candidates, has
-from urlcheck._source import SPACES
+from urlcheck._readers.html_links import CANDIDATES, LISTS, URLS, candidates, has
+from urlcheck._readers.source import SPACES
 from urlcheck.documents import links_in
 
 REFRESH = re.compile(r"[\s0-9.]*[;,]?\s*(?:url\s*=\s*)?[\"']?([^\"']*)", re.IGNORECASE)

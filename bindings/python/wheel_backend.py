@@ -125,13 +125,15 @@ def _scripts():
 
 
 def _held(folder, within):
-    """The files of a folder, by their names within the wheel."""
+    """The files of a folder and of those in it, by their names within the wheel; what Python compiled is left out."""
     files = {}
     for name in sorted(os.listdir(folder)):
         path = os.path.join(folder, name)
         if os.path.isfile(path):
             with open(path, "rb") as file:
                 files[within + name] = file.read()
+        elif name != "__pycache__":
+            files.update(_held(path, within + name + "/"))
     return files
 
 

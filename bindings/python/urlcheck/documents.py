@@ -11,17 +11,18 @@ import signal
 import sys
 from typing import BinaryIO, Callable, Iterator, List, Optional, Tuple
 
-from . import BaseRefused, Profile, _baseline, check, message
-from ._colours import COLOURED, are_wanted, coloured
-from ._config import NONE, Misconfigured, configuration_of
-from ._finding import Report
-from ._folders import Excluded, NoGit, Passed, configured_folder, documents_of
-from ._limits import limit_memory
-from ._progress import Progress
-from ._run import Counts, Run
-from ._screen import Paint, Screen
+from . import BaseRefused, Profile, check, message
+from ._documents.arguments import Asked, Settings, asked, with_format
+from ._documents.configuration import NONE, Misconfigured, configuration_of
+from ._documents.folders import Excluded, NoGit, Passed, configured_folder, documents_of
+from ._documents.limits import limit_memory
+from ._documents.progress import Progress
+from ._documents.run import Counts, Run
+from ._documents.screen import Paint, Screen
+from ._reports import baseline
+from ._reports.colours import COLOURED, are_wanted, coloured
+from ._reports.finding import Report
 from ._streams import as_utf8, flush, is_closed_pipe, named, reason_of, stop, tell, write_nowhere
-from ._words import Asked, Settings, asked, with_format
 
 
 def run(words: Optional[List[str]] = None) -> int:
@@ -118,7 +119,7 @@ def _ended(given: Asked, seen: Run, passed: Passed) -> int:
     """Writes the baseline that is asked for, says what was seen, and gives the status."""
     if given.baseline is not None:
         with _written(given.baseline) as file:
-            file.write(_baseline.written(seen.faults))
+            file.write(baseline.written(seen.faults))
     gone = len(given.settings.known - seen.met)
     if gone and not given.is_quiet:
         tell("{} of the baseline {} gone".format(_number(gone, "fault"), "is" if gone == 1 else "are"))

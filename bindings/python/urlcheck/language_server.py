@@ -23,14 +23,14 @@ except ImportError:
     sys.exit("{}: needs {}".format(PROGRAM, NEEDED))
 
 from . import MendKind, version
-from ._config import NONE, Configuration, Misconfigured, configuration_of
-from ._editing import Text, encoding_for
-from ._checking import Asked, Checking, Mistake, Range, Remark, Seen
-from ._kinds import kind_of
-from ._readers import LIST
-from ._rpc import Endpoint, NoMessage, message_of
-from ._rules import TITLES, rule_of
-from ._settings import Options, options_of
+from ._documents.configuration import NONE, Configuration, Misconfigured, configuration_of
+from ._editors.checking import Asked, Checking, Mistake, Range, Remark, Seen
+from ._editors.editing import Text, encoding_for
+from ._editors.rpc import Endpoint, NoMessage, message_of
+from ._editors.settings import Options, options_of
+from ._readers.kinds import kind_of
+from ._readers.reading import LIST
+from ._reports.rules import TITLES, rule_of
 
 KINDS_BY_LANGUAGE = {
     **{"html": "html", "markdown": "markdown", "mdx": "markdown", "quarto": "markdown", "rmd": "markdown"},

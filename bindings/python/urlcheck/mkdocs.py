@@ -11,12 +11,12 @@ import re
 from typing import Any, Optional, Set, Tuple
 
 from . import BaseRefused, Profile
-from . import _html_links, _markdown_links
-from ._config import Misconfigured, configuration_of
-from ._front_matter import front_matter_of
-from ._checker import Checker
-from ._literal import Literals
-from ._source import Link, Source
+from ._documents.configuration import Misconfigured, configuration_of
+from ._readers import html_links, markdown_links
+from ._readers.front_matter import front_matter_of
+from ._readers.literals import Literals
+from ._readers.source import Link, Source
+from ._reports.checker import Checker
 
 _OPTIONS: Any = importlib.import_module("mkdocs.config.config_options")
 _PLUGINS: Any = importlib.import_module("mkdocs.plugins")
@@ -70,7 +70,7 @@ class Plugin(_PLUGINS.BasePlugin):  # type: ignore[misc]
         text = source if source is not None and is_written else Source(markdown)
         front = front_matter_of(text.text)
         self._first = text.position(front[0])[0] if front and is_written else 1
-        links, ignored, *_more = _markdown_links.links_of(text, self._is_gfm)
+        links, ignored, *_more = markdown_links.links_of(text, self._is_gfm)
         for link in links:
             line, _column = text.position(link.offset)
             # (the page's HTML doesn't have what is before its text)
@@ -83,7 +83,7 @@ class Plugin(_PLUGINS.BasePlugin):  # type: ignore[misc]
     def on_page_content(self, html: str, page: Any, config: Any, files: Any, **_: Any) -> Optional[str]:
         """Checks what Python-Markdown made of it, for links that CommonMark doesn't have."""
         if self.config["rendered"]:
-            for link in _html_links.links_of(Source(html))[0]:
+            for link in html_links.links_of(Source(html))[0]:
                 text = _ABOVE.sub("", link.text)
                 if text not in self._seen:
                     self._seen.add(text)

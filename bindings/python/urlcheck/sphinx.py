@@ -10,12 +10,12 @@ import re
 from typing import Any, Dict, Iterator, List, NamedTuple, Optional, Set, Tuple
 
 from . import BaseRefused, Profile, version
-from . import _markdown_links, _rst_links
-from ._config import Misconfigured, configuration_of
-from ._checker import Checker
-from ._kinds import kind_of
-from ._literal import Literals
-from ._source import Link, Source
+from ._documents.configuration import Misconfigured, configuration_of
+from ._readers import markdown_links, rst_links
+from ._readers.kinds import kind_of
+from ._readers.literals import Literals
+from ._readers.source import Link, Source
+from ._reports.checker import Checker
 
 _LOG: Any = importlib.import_module("sphinx.util.logging").getLogger(__name__)
 
@@ -98,9 +98,9 @@ def _check_document(app: Any, tree: Any) -> None:
 def _links_of(settings: _Settings, literals: Literals, said: _Said) -> Iterator[Tuple[Link, bool]]:
     """The links that a node says and that may be refused, and whether it is known where each is."""
     if said.markup is None:
-        yield from _rst_links.links_of_raw(literals, said.path, said.line, said.text)
+        yield from rst_links.links_of_raw(literals, said.path, said.line, said.text)
     elif _is_sought(settings, said):
-        yield from _rst_links.found_once(literals, said.path, said.line, said.text, said.markup)
+        yield from rst_links.found_once(literals, said.path, said.line, said.text, said.markup)
 
 
 def _is_sought(settings: _Settings, said: _Said) -> bool:
@@ -114,7 +114,7 @@ def _check_markdown(settings: _Settings, literals: Literals, path: str) -> Set[T
     source = literals.source(path)
     if source is None:
         return set()
-    links, ignored, _, _ = _markdown_links.links_of(source, settings.is_gfm)
+    links, ignored, _, _ = markdown_links.links_of(source, settings.is_gfm)
     read = set()
     for link in links:
         line, _ = source.position(link.offset)
@@ -139,8 +139,8 @@ def _said(tree: Any, path: str) -> Iterator[_Said]:
         elif isinstance(node, addnodes.download_reference):
             if "://" in node.get("reftarget", ""):
                 yield _Said(*_place(node, path), node["reftarget"], node.rawsource)
-        elif _rst_links.is_link(node) and not node.get("internal"):
-            yield _Said(*_place(node, path), _rst_links.link_of(node), _rst_links.markup_of(node))
+        elif rst_links.is_link(node) and not node.get("internal"):
+            yield _Said(*_place(node, path), rst_links.link_of(node), rst_links.markup_of(node))
 
 
 def _place(node: Any, path: str) -> Tuple[str, int]:

@@ -13,7 +13,7 @@ import tempfile
 import time
 import unittest
 
-from urlcheck._editing import LinePlaces, Text, lines_of
+from urlcheck._editors.editing import LinePlaces, Text, lines_of
 
 TOP = pathlib.Path(__file__).resolve().parents[3]
 ADDRESSED = TOP / "crates" / "uv_report" / "src" / "rules" / "page.rt"

@@ -15,11 +15,12 @@ import time
 import unittest
 from unittest import mock
 
+import urlcheck
 from room import PROGRAM, TOP, Texts
-from urlcheck import _apart, _limits
+from urlcheck._documents import apart, limits
 from urlcheck._streams import REASONS, reason_of
 
-PART = _apart.Taken(1, 1, 0, 0, b"x" * 300_000)
+PART = apart.Taken(1, 1, 0, 0, b"x" * 300_000)
 
 MEMORY_OF_LINKS = 120_000
 """How much memory, in KiB, the program has for 100,000 links, a report on which has 54 MB as SARIF."""
@@ -178,7 +179,7 @@ class Limits(Texts):
         """A copy of the package, with these bytes as its extension module or with none."""
         folder = os.path.join(self.room, "copy")
         shutil.rmtree(folder, ignore_errors=True)
-        own = os.path.dirname(_apart.__file__)
+        own = os.path.dirname(urlcheck.__file__)
         shutil.copytree(own, os.path.join(folder, "urlcheck"), ignore=shutil.ignore_patterns("_native*", "__pycache__"))
         file = os.path.join(folder, "urlcheck", "_native.abi3.so")
         if module is not None:
@@ -276,8 +277,8 @@ class Limits(Texts):
     def taken(self, parts, pause=0):
         """The lines and the faults of what is taken of parts, by limits of one second and a reader that pauses."""
         lines, faults = b"", []
-        with mock.patch.object(_limits, "MOST_SECONDS", 1):
-            for taken in _apart.apart(parts):
+        with mock.patch.object(limits, "MOST_SECONDS", 1):
+            for taken in apart.apart(parts):
                 lines += taken.lines
                 faults += [taken.fault] * (taken.fault is not None)
                 time.sleep(pause)
@@ -286,7 +287,7 @@ class Limits(Texts):
     def test_parts(self):
         """What a document has given before it takes too long or too much memory is taken, in whole parts."""
         def endless():
-            _limits.has_come()
+            limits.has_come()
             yield PART
             while True:
                 pass
@@ -319,7 +320,7 @@ class Limits(Texts):
             (lambda: iter([]), 0, None),
         ):
             with self.subTest(fault):
-                faults = [] if fault is None else [_apart.Fault(fault)]
+                faults = [] if fault is None else [apart.Fault(fault)]
                 self.assertEqual(self.taken(parts), (PART.lines * count, faults))
         _, (fault,) = self.taken(busy)
         self.assertRegex(fault.after(), "^: takes more than 1 seconds (of processor time )?to read$")
@@ -328,17 +329,17 @@ class Limits(Texts):
         """What ends a process is said of the document that did it, and the others are read: of each is said what is
         said of it alone."""
         def good():
-            _limits.has_come()
+            limits.has_come()
             yield PART
 
         def endless():
-            _limits.has_come()
+            limits.has_come()
             yield PART
             while True:
                 pass
 
         def silent():
-            _limits.has_come()
+            limits.has_come()
             while True:
                 pass
             yield PART
@@ -373,18 +374,18 @@ class Limits(Texts):
             killed: (0, "lost its process to SIGKILL"), left: (1, memory + rest),
         }
         bad = [it for it in said if it is not good]
-        with mock.patch.object(_limits, "MOST_SECONDS", 1):
+        with mock.patch.object(limits, "MOST_SECONDS", 1):
             between = [it for each in bad for it in (good, each)] + [good]
             for documents in (between, bad, bad[::-1], [killed] * 3, [good] * 100):
-                apart = _apart.Apart(documents)
+                taking = apart.Apart(documents)
                 for number, document in enumerate(documents):
-                    parts = list(apart.taken())
+                    parts = list(taking.taken())
                     faults = [it.fault.reason for it in parts if it.fault is not None]
                     count, fault = said[document]
                     with self.subTest(number=number, document=document.__name__):
                         self.assertEqual((b"".join(it.lines for it in parts), faults),
                                          (PART.lines * count, [] if fault is None else [fault]))
-                apart.end()
+                taking.end()
         with self.assertRaises(ChildProcessError):
             os.wait()
 
@@ -396,16 +397,16 @@ class Limits(Texts):
         def numbered(length, is_killed=False):
             def parts():
                 kept.append(b"x" * length)
-                yield _apart.Taken(1, 1, 0, 0, b"%d " % os.getpid())
+                yield apart.Taken(1, 1, 0, 0, b"%d " % os.getpid())
                 if is_killed and len(kept) > 1:
                     os.kill(os.getpid(), signal.SIGKILL)
-                yield _apart.Taken(0, 0, 0, 0, b"end")
+                yield apart.Taken(0, 0, 0, 0, b"end")
             return parts
 
-        large = 2 * _apart.MOST_GROWN
-        apart = _apart.Apart([numbered(9), numbered(9), numbered(large), numbered(9), numbered(9, True), numbered(9)])
-        given = [b"".join(it.lines for it in apart.taken()).split() for _ in range(6)]
-        apart.end()
+        large = 2 * apart.MOST_GROWN
+        taking = apart.Apart([numbered(9), numbered(9), numbered(large), numbered(9), numbered(9, True), numbered(9)])
+        given = [b"".join(it.lines for it in taking.taken()).split() for _ in range(6)]
+        taking.end()
         self.assertEqual({len(it) for it in given}, {2})
         processes = [int(it[0]) for it in given]
         self.assertEqual(len(set(processes[:3])), 1)
@@ -432,7 +433,8 @@ class Limits(Texts):
         )] + ["urlcheck-documents: 7 documents, 7 links, 7 refused, 0 ignored\n"]
         places = ["{}c.html:1:11".format(number) for number in range(6)]
         places[4:4] = ["4a.xml:2:15"]
-        run = "from urlcheck import _limits, documents; _limits.MOST_SECONDS = 2; _limits.MOST_MEMORY = 160 << 20; "
+        run = "from urlcheck import documents; from urlcheck._documents import limits; "
+        run += "limits.MOST_SECONDS = 2; limits.MOST_MEMORY = 160 << 20; "
         run += "import sys; sys.argv[1:] = ['--check', '--jobs', sys.argv[1], 'd']; documents.main()"
         for jobs in ("1", "2", "4"):
             ran = subprocess.run([sys.executable, "-c", run, jobs], cwd=self.room, capture_output=True)
@@ -448,8 +450,8 @@ class Limits(Texts):
         self.write("d/06.xml", "<urlset><loc>http://h/ a</loc>")
         wanted = self.run_on("--check", "d")
         self.assertEqual((wanted[0], wanted[1].count("\n")), (2, sum(it % 7 for it in range(90)) - 5 + 1))
-        run = "from urlcheck import _apart, documents; begun = []; known = _apart.started; "
-        run += "_apart.started = lambda module: begun.append(1) or known(module); "
+        run = "from urlcheck import documents; from urlcheck._documents import apart; begun = []; known = apart.started; "
+        run += "apart.started = lambda module: begun.append(1) or known(module); "
         run += "sys.argv[1:] = ['--check', '--jobs', '{}', 'd']\ntry: documents.main()\nfinally: print(len(begun))"
         for jobs in (1, 3):
             ran = self.without_fork(run.format(jobs))
@@ -460,7 +462,7 @@ class Limits(Texts):
     def test_a_slow_reader(self):
         """A report that is read slowly takes no processor time."""
         def parts():
-            _limits.has_come()
+            limits.has_come()
             return iter([PART] * 6)
 
         self.assertEqual(self.taken(parts, pause=0.4), (PART.lines * 6, []))
@@ -472,15 +474,15 @@ class Limits(Texts):
 
     def test_waiting_without_signals(self):
         """A process for which a document's bytes don't come is ended, and not one for which they have come."""
-        begins = "from urlcheck import _limits as limits; limits.MOST_SECONDS = 0.5; limits.limit_waiting(); "
-        self.assertEqual(self.without_fork(begins + "time.sleep(60)").returncode, _limits.LATE)
+        begins = "from urlcheck._documents import limits; limits.MOST_SECONDS = 0.5; limits.limit_waiting(); "
+        self.assertEqual(self.without_fork(begins + "time.sleep(60)").returncode, limits.LATE)
         self.assertEqual(self.without_fork(begins + "limits.has_come(); time.sleep(1)").returncode, 0)
-        with mock.patch.object(_limits, "MOST_SECONDS", 7):
-            self.assertEqual(_limits.ended_by(_limits.LATE), "takes more than 7 seconds")
+        with mock.patch.object(limits, "MOST_SECONDS", 7):
+            self.assertEqual(limits.ended_by(limits.LATE), "takes more than 7 seconds")
 
     def test_input_without_fork(self):
         """Standard input is handed to a process that begins anew, also where it comes late, or not at all."""
-        run = "from urlcheck import _limits, documents; _limits.MOST_SECONDS = 2; "
+        run = "from urlcheck import documents; from urlcheck._documents import limits; limits.MOST_SECONDS = 2; "
         run += "sys.argv[1:] = ['-q', '--type', 'html', '-']; documents.main()"
         for text, links in (("<a href='x y'>" * 30_000, 30_000), ("", 0)):
             ran = self.without_fork(run, input=text.encode())
@@ -493,12 +495,12 @@ class Limits(Texts):
 
     def test_modules_of_strangers(self):
         """No process of the package takes a module of the current folder, which may be a stranger's."""
-        for name in ("urlcheck/__init__.py", "urlcheck/_checking.py", "urlcheck/_apart.py", "pickle.py", "queue.py"):
+        for name in ("urlcheck/__init__.py", "urlcheck/_editors/checking.py", "urlcheck/_documents/apart.py", "pickle.py", "queue.py"):
             self.write(name, "import os\nos.open('taken', os.O_CREAT)\n")
         self.write("a.html", "<a href='x y'>")
-        folder = os.path.dirname(os.path.dirname(_apart.__file__))
+        folder = os.path.dirname(os.path.dirname(urlcheck.__file__))
         first = "sys.path.remove(''); sys.path.append({!r}); ".format(folder)
-        checks = first + "from urlcheck import _checking as it; "
+        checks = first + "from urlcheck._editors import checking as it; "
         checks += "print(len(it.Checking().check(it.Asked('[a](b c)', 'markdown', 'utf-16'), lambda: False).remarks))"
         reads = first + "from urlcheck import documents; sys.argv[1:] = ['-q', 'a.html']; "
         reads += "documents.main()"

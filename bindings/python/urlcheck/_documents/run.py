@@ -1,0 +1,388 @@
+"""A run over documents: they are read and checked in processes of their own, some in each, and reported in their
+order."""
+
+import errno
+import os
+import re
+import stat
+import sys
+from collections import deque
+from typing import Deque, Iterable, Iterator, List, Optional, Set, Tuple
+
+from .._fixes.edits import Edit
+from .._fixes.fixing import Fixed, Fixing, fixed, is_fixable
+from .._fixes.writing import Unwritten, replace
+from .._readers.kinds import ARCHIVES, PACKAGES, is_list, kind_of
+from .._readers.reading import MOST_BYTES, Found, Reading, Unread, found_in, prepare
+from .._readers.source import Broken, Foreign, Link
+from .._reports.baseline import Known, Numbered
+from .._reports.checker import Checker
+from .._reports.columns import Places
+from .._reports.finding import Finding, Report, lines_on, not_read
+from .._reports.report import shows_mended
+from .._reports.statistics import Statistics
+from .._streams import closed, named, reason_of
+from .apart import Apart, Counted, Fault, Part, Parts, Taken, apart, nothing
+from .arguments import Settings
+from .configuration import NONE, Configuration, configuration_of
+from .folders import configured_folder, no_document, with_slashes
+from .limits import has_come
+from .screen import Screen
+
+_URL = re.compile("[A-Za-z][A-Za-z0-9+.-]*://")
+"""How a URL begins that is no name of a file."""
+
+_COMMANDS = ("check", "lint")
+"""The commands of ``urlcheck`` for what ``--check`` does."""
+
+_CONTROL = re.compile("[\x00-\x1f\x7f-\x9f]")
+"""What no located line can hold in the name of its file."""
+
+_PLACE = re.compile(":[0-9]+:[0-9]+:")
+"""What ends the name of the file in a located line."""
+
+
+_ENOUGH = 2 * 1024 * 1024
+"""How much work a process is given: about so much as so many bytes of HTML take."""
+
+_LEAST = 32 * 1024
+"""How much work the smallest document is."""
+
+_SLOWER = 8
+"""How many times the work is of a document that a package reads."""
+
+
+class Counts:
+    """What was seen of all documents."""
+
+    def __init__(self) -> None:
+        self.documents = 0
+        self.links = 0
+        self.refused = 0
+        self.ignored = 0
+        self.known = 0
+        self.fixed = 0
+        self.shown = 0
+        self.unread = 0
+
+    def add(self, taken: Taken) -> None:
+        """Adds what a document gave."""
+        self.documents += taken.documents
+        self.links += taken.links
+        self.refused += taken.refused
+        self.ignored += taken.ignored
+        self.known += len(taken.known)
+        self.unread += taken.fault is not None
+
+    def status(self) -> int:
+        """2 where a document wasn't read, else 1 where a link is refused, or would be if nothing were written, else 0."""
+        return 2 if self.unread else 1 if self.refused or self.shown else 0
+
+
+def located(name: str, places: Places, link: Link) -> str:
+    """The line that says where a link is. A line feed or a carriage return within it is written as a tab, which is
+    refused alike."""
+    line, column = places.position(link.offset)
+    return "{}:{}:{}:{}".format(name, line, column, re.sub("[\r\n]", "\t", link.text))
+
+
+def read_document(name: str) -> bytes:
+    """The document's bytes, at most one more than it may have; those of standard input for ``-``. Raises ``Unread``."""
+    try:
+        if name == "-":
+            # (there is none where it was closed before the start)
+            if sys.stdin is None:
+                raise closed()
+            return sys.stdin.buffer.read(MOST_BYTES + 1)
+        with open(name, "rb") as file:
+            return file.read(MOST_BYTES + 1)
+    except OSError as error:
+        raise Unread("can't be read: {}{}".format(reason_of(error), _meant(name, error))) from None
+
+
+def _meant(name: str, error: OSError) -> str:
+    """What is said of a name that can't be read, where it was perhaps meant otherwise: a URL, or a command as those of
+    ``urlcheck``."""
+    if _URL.match(name):
+        return ", and no URL is fetched"
+    return "; --check checks the links" if name in _COMMANDS and error.errno == errno.ENOENT else ""
+
+
+def _placed(places: Places, offset: int, reason: str, inner: str = "") -> Fault:
+    """Why a document can't be read to its end, which is found at a place of it."""
+    return Fault(reason, *places.position(offset), inner)
+
+
+def _stopped(places: Places, found: Found) -> Optional[Fault]:
+    """Why a document can't be read from where its reader stopped, if it did."""
+    broken: Optional[Broken] = found.broken
+    if broken is None:
+        return None
+    return _placed(places, broken.offset, "can't be read from here on: " + broken.reason, found.inner)
+
+
+class Document:
+    """A document that is read: its name as it is shown, and what it is read and checked by."""
+
+    def __init__(self, settings: Settings, is_checked: bool, name: str, folder: Optional[str] = None) -> None:
+        self._settings = settings
+        self._is_checked = is_checked
+        self.path = name
+        self.folder = folder
+        """The folder in which it was found, if it wasn't named itself."""
+        self.is_input = name == "-"
+        # (a text of standard input may have the name of the file that an editor holds)
+        given = settings.stdin_name if name == "-" else None
+        self.name = with_slashes(name if given is None else given)
+        file = given if name == "-" else name
+        config = configuration_of(configured_folder(file)) if settings.is_configured else NONE
+        self.kind = settings.kind or config.kind_of(self.name) or kind_of(self.name)
+        self._ignored = settings.ignored + config.ignored
+        self._is_empty_taken = settings.is_empty_taken or config.is_empty_taken
+        self._reading = Reading(settings.gfm or config.gfm)
+        self._checker = self._checker_of(config) if is_checked else None
+        self._numbered = Numbered(self.name)
+
+    def unfixed(self) -> "Document":
+        """The same, as it is."""
+        return Document(self._settings._replace(fixing=None), self._is_checked, self.path, self.folder)
+
+    def _checker_of(self, config: Configuration) -> Checker:
+        settings = self._settings
+        base = settings.base or config.base
+        profile = config.profile if settings.is_profile_left and config.profile is not None else settings.profile
+        has_mended = shows_mended(settings.format) or settings.fixing is not None
+        selected = settings.selected.among(config.selected)
+        return Checker(base, profile, has_mended, self._is_empty_taken, selected=selected)
+
+    def work(self) -> int:
+        """About how much work it is: enough for a process of its own where it is no file, and so can't be read
+        twice."""
+        try:
+            found = os.stat(self.path)
+        except OSError:
+            return _ENOUGH if self.is_input else _LEAST
+        if not stat.S_ISREG(found.st_mode):
+            return _ENOUGH
+        return (_LEAST + found.st_size) * (_SLOWER if self.kind in PACKAGES else 1)
+
+    def parts(self) -> Iterator[Taken]:
+        """What the document gives, part by part."""
+        try:
+            for number, (found, fixed) in enumerate(self._found()):
+                yield from self._parts_of(found, Part(int(number == 0), fixed))
+        except Unread as reason:
+            yield nothing(str(reason))
+        except Foreign as foreign:
+            before = foreign.before
+            places = Places(before, self._settings.unit)
+            yield Part(0).taken(_placed(places, len(before.text), str(foreign)))
+        except RecursionError:
+            yield nothing("is nested too deeply")
+
+    def _parts_of(self, found: Found, part: Part) -> Iterator[Taken]:
+        places = Places(found.source, self._settings.unit)
+        name = self.name + ("/" + found.inner if found.inner else "")
+        for link in found.links:
+            if self._is_left_out(found, link):
+                part.add_ignored()
+            elif self._checker is None:
+                part.add(located(name, places, link) + "\n", False)
+            else:
+                self._add(part, self._checker.finding(name, places, link))
+            if part.is_full():
+                yield part.taken()
+                part = Part(0)
+        yield part.taken(_stopped(places, found), found.notes)
+
+    def _add(self, part: Part, finding: Optional[Finding]) -> None:
+        """Adds a link that is checked, and what is wrong with it, if something is."""
+        if finding is None:
+            part.add("", True)
+            return
+        it = finding.diagnostic
+        known = self._numbered.next(it.rule, it.place, it.text)
+        if known.fingerprint in self._settings.known:
+            part.add_known(known.fingerprint)
+            return
+        part.add(lines_on(self._settings.format, finding), True)
+        if self._settings.is_counted:
+            part.add_counted(Counted(it.rule, it.text, known))
+
+    def _found(self) -> Iterator[Tuple[Found, Optional[Fixed]]]:
+        """What is found in the document, or in each one that it holds; after its links are fixed, where that is asked for."""
+        data = self._read()
+        assert self.kind is not None
+        kind = self.kind
+        if self._settings.fixing is None or kind in ARCHIVES:
+            for found in found_in(data, kind, self._reading):
+                yield found, None
+            return
+        found, *_ = found_in(data, kind, self._reading)
+        edits = self._edits(found, self._settings.fixing)
+        fix = fixed(self.name, data, found, edits, lambda new: next(found_in(new, kind, self._reading)))
+        yield (found, None) if fix is None else (fix[1], fix[0])
+
+    def _edits(self, found: Found, fixing: Fixing) -> Iterator[Edit]:
+        """What is written in the place of wrong links."""
+        checker = self._checker
+        for link in found.links if checker is not None else ():
+            if checker is None or self._is_left_out(found, link) or not checker.may_be_written(link):
+                continue
+            wrong = checker.wrong(link)
+            if wrong and wrong.mended and is_fixable(link.text, wrong.mended, fixing.is_unsafe):
+                yield Edit(link.offset, link.offset + len(link.text), wrong.mended.text)
+
+    def _read(self) -> bytes:
+        """The document's bytes."""
+        name = self.path
+        if os.path.isdir(name):
+            raise Unread(no_document(name, not self._settings.excluded))
+        if self.kind is None:
+            if name != "-" and not os.path.exists(name):
+                read_document(name)
+            says = "it has no name that says its kind" if self.name == "-" else "its name's end says no kind"
+            more = "; urlcheck lint checks a list of links" if is_list(name) else ""
+            raise Unread(says + ": give --type html, xml, markdown or another kind" + more)
+        if self._checker is None and _CONTROL.search(self.name):
+            raise Unread("its name has a control, which no located line can hold")
+        place = _PLACE.search(self.name + ":1:1:")
+        if self._checker is None and place is not None and place.start() != len(self.name):
+            raise Unread("its name has what a located line would read as its line and column")
+        data = read_document(name)
+        has_come()
+        return data
+
+    def _is_left_out(self, found: Found, link: Link) -> bool:
+        """Whether a comment or a regular expression leaves a link out."""
+        if found.ignored and found.source.position(link.offset)[0] in found.ignored:
+            return True
+        return any(it.search(link.text) for it in self._ignored)
+
+
+class Run:
+    """The documents read so far: what was asked for, and what was seen."""
+
+    def __init__(self, settings: Settings, is_checked: bool, is_quiet: bool, report: Report, screen: Screen) -> None:
+        self._settings = settings
+        self._is_checked = is_checked
+        self._is_quiet = is_quiet
+        self._report = report
+        self._screen = screen
+        self._noted: Set[str] = set()
+        self._paths: Set[str] = set()
+        self._waiting: List[Document] = []
+        self._work = 0
+        self._kinds: Set[Optional[str]] = set()
+        self._begun: Deque[Tuple[List[Document], Apart]] = deque()
+        self.counts = Counts()
+        self.statistics = Statistics()
+        self.faults: List[Known] = []
+        """The faults, where they are counted."""
+        self.met: Set[str] = set()
+        """The fingerprints of the known faults that are there."""
+
+    def take(self, name: str, folder: Optional[str] = None) -> None:
+        """Takes a document, which was found in that folder if it wasn't named itself. It is read with others in a process,
+        and those before it are reported for which there is no room. Raises ``Misconfigured``."""
+        document = Document(self._settings, self._is_checked, name, folder)
+        work = document.work()
+        if self._work + work >= _ENOUGH:
+            self._begin()
+        self._waiting.append(document)
+        self._work += work
+        if self._work >= _ENOUGH:
+            self._begin()
+
+    def end(self) -> None:
+        """Reports all documents that were taken."""
+        self._begin()
+        while self._begun:
+            self._end_first()
+
+    def _begin(self) -> None:
+        """Begins to read the documents that wait."""
+        if not self._waiting:
+            return
+        documents, self._waiting, self._work = self._waiting, [], 0
+        for kind in {it.kind for it in documents} - self._kinds:
+            self._kinds.add(kind)
+            prepare(kind)
+        parts: List[Parts] = [it.parts for it in documents]
+        self._begun.append((documents, Apart(parts, documents[0].is_input)))
+        while len(self._begun) >= self._settings.jobs:
+            self._end_first()
+
+    def _end_first(self) -> None:
+        """Reports the documents whose process was begun first."""
+        documents, apart = self._begun.popleft()
+        for document in documents:
+            self._end(document, apart)
+        apart.end()
+
+    def _end(self, document: Document, apart: Apart) -> None:
+        """Writes the located links of a document or what is wrong with them."""
+        self._screen.at(self.counts.documents, self.counts.refused, document.name)
+        is_passed = self._is_checked
+        for taken in self._fixed(document, apart):
+            self.counts.add(taken)
+            self._report.add(taken.lines)
+            self._count(taken)
+            is_passed = is_passed and not taken.lines and taken.fault is None
+            for note in taken.notes:
+                self._note(document.name, note)
+            if taken.fault is not None:
+                self._tell_fault(document, taken.fault)
+        if is_passed:
+            self._report.passed(document.name)
+
+    def _tell_fault(self, document: Document, fault: Fault) -> None:
+        name = document.name + ("/" + fault.inner if fault.inner else "")
+        self._report.add(not_read(self._settings.format, name, fault).encode("utf-8"))
+        is_input = name == "-" and fault.line is None
+        self._screen.tell(("standard input" if is_input else named(name) or "''") + fault.after())
+
+    def _count(self, taken: Taken) -> None:
+        for fault in taken.counted:
+            self.statistics.add(fault.rule, fault.text)
+            self.faults.append(fault.known)
+        self.met.update(taken.known)
+
+    def _fixed(self, document: Document, given: Apart) -> Iterable[Taken]:
+        """What a document gives, after what is fixed in it was written. Where that can't be it is read as it is."""
+        fixing = self._settings.fixing
+        if fixing is None:
+            return given.taken()
+        held = list(given.taken())
+        fix = held[0].fixed if held else None
+        if fix is None:
+            return held
+        # (a file that has several names is written once)
+        path = os.path.realpath(document.path)
+        is_new, is_whole = path not in self._paths, all(it.fault is None for it in held)
+        self._paths.add(path)
+        if is_new and is_whole and self._is_written(document, fix, fixing):
+            return held
+        return apart(document.unfixed().parts)
+
+    def _is_written(self, document: Document, fix: Fixed, fixing: Fixing) -> bool:
+        """Writes a document as it is fixed, or shows what would be written. Says where that can't be."""
+        if fixing.is_shown:
+            self._screen.write(fix.difference)
+            self.counts.shown += fix.texts
+            return True
+        try:
+            replace(document.path, fix.digest, fix.data, document.folder)
+        except (OSError, Unwritten) as error:
+            why = str(error) if isinstance(error, Unwritten) else "can't be written: " + reason_of(error)
+            self._screen.tell("{}: {}".format(named(document.name), why))
+            self.counts.unread += 1
+            return False
+        self.counts.fixed += fix.texts
+        return True
+
+    def _note(self, name: str, note: str) -> None:
+        """Says what a reader passed over, each once."""
+        if not self._is_quiet and note not in self._noted:
+            self._noted.add(note)
+            self._screen.tell("{}: {}".format("standard input" if name == "-" else named(name) or "''", note))

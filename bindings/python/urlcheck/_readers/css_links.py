@@ -1,0 +1,77 @@
+"""The links of a style sheet: each ``url()`` and the name after ``@import``, by the package ``tinycss2``."""
+
+import re
+from typing import Any, Iterator, List, Set, Tuple
+
+from .source import IGNORE, Link, Source
+
+_END = re.compile("\r\n|[\r\n\f]")
+"""What ends a line of CSS."""
+
+NEEDED = re.compile(r"url\(|@import", re.IGNORECASE)
+"""What a style sheet has that has a link."""
+
+MISSING = "styles aren't read, which needs the package tinycss2: pip install tinycss2, or Debian's python3-tinycss2"
+"""What is said of HTML with styles that have links, where nothing reads them."""
+
+
+def links_of(source: Source) -> Tuple[List[Link], Set[int]]:
+    """The links of a style sheet, and the lines whose links are to be ignored. Raises ``ImportError`` where ``tinycss2``
+    isn't installed."""
+    import tinycss2
+
+    rules = tinycss2.parse_stylesheet(source.text)
+    return _taken(source, rules, True)
+
+
+def links_of_declarations(source: Source) -> List[Link]:
+    """The links of declarations, as the attribute ``style`` has them. Raises what ``links_of`` raises."""
+    import tinycss2
+
+    return _taken(source, tinycss2.parse_component_value_list(source.text), False)[0]
+
+
+def _taken(source: Source, nodes: List[Any], is_sheet: bool) -> Tuple[List[Link], Set[int]]:
+    """The links of these nodes and of those within them, and the lines to be ignored."""
+    starts = [0] + [it.end() for it in _END.finditer(source.text)]
+    links: List[Link] = []
+    ignored: Set[int] = set()
+    for node in _within(nodes):
+        at = min(starts[min(node.source_line, len(starts)) - 1] + node.source_column - 1, len(source.text))
+        if node.type == "comment" and node.value.strip() == IGNORE:
+            line, _ = source.position(at)
+            ignored.add(line + node.value.count("\n") + 1)
+        elif node.type == "url":
+            begin = source.text.find("(", at) + 1
+            links.append(_link(source, node.value, begin))
+        elif node.type == "function" and node.lower_name in ("url", "src"):
+            links += [_link(source, it.value, _after(source, it, starts)) for it in node.arguments if it.type == "string"]
+        elif node.type == "at-rule" and node.lower_at_keyword == "import" and is_sheet:
+            links += [_link(source, it.value, _after(source, it, starts)) for it in node.prelude if it.type == "string"][:1]
+    return links, ignored
+
+
+def _after(source: Source, node: Any, starts: List[int]) -> int:
+    """Where the text of a string begins, after its quote."""
+    line, column = int(node.source_line), int(node.source_column)
+    return min(starts[min(line, len(starts)) - 1] + column, len(source.text))
+
+
+def _within(nodes: List[Any]) -> Iterator[Any]:
+    """These nodes and those within them, in their order."""
+    waiting = list(reversed(nodes))
+    while waiting:
+        node = waiting.pop()
+        yield node
+        # (the string of a url() is its own)
+        parts = () if node.type == "function" and node.lower_name in ("url", "src") else ("prelude", "content", "arguments")
+        for part in reversed(parts):
+            waiting += reversed(getattr(node, part, None) or ())
+
+
+def _link(source: Source, value: str, at: int) -> Link:
+    """A link that is there, after spaces; with escapes its text is another."""
+    while at < len(source.text) and source.text[at] in " \t\n\r\f":
+        at += 1
+    text = value.strip(" \t\n\r\f")
+    return Link(text, at, source.text.startswith(text, at))
