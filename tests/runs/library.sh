@@ -156,10 +156,10 @@ for python in python3 /usr/bin/python3; do
 done
 if [ -n "$with_markdown" ]; then
     pages=("$top"/*.md "$top"/{bindings,bindings/engines,tests}/*/README.md "$top/docs")
-    "$with_markdown" -m urlcheck.documents --check "${pages[@]}" >"$room/own" 2>&1 ||
+    "$with_markdown" -m urlcheck.documents "${pages[@]}" >"$room/own" 2>&1 ||
         { echo "FAILED: the links of the pages: $(cat "$room/own")"; exit 1; }
     sed 's/(docs\/COMMANDS.md)/(docs\/COM^MANDS.md)/' "$top/README.md" >"$room/spoiled.md"
-    if "$with_markdown" -m urlcheck.documents --check "$room/spoiled.md" >"$room/own" 2>&1; then
+    if "$with_markdown" -m urlcheck.documents "$room/spoiled.md" >"$room/own" 2>&1; then
         echo 'FAILED: a page with a wrong link passes'
         exit 1
     fi

@@ -112,7 +112,7 @@ else
 fi
 # (the package finds the library that was installed with it)
 printf '<a href="http://x_y/">\n' >"$room/page.html"
-{ (cd "$room" && PYTHONPATH=$at/lib/$python python3 "$at/bin/urlcheck-documents" --check page.html 2>"$room/said") ||
+{ (cd "$room" && PYTHONPATH=$at/lib/$python python3 "$at/bin/urlcheck-documents" page.html 2>"$room/said") ||
     [ $? = 1 ]; } | cmp - <(echo 'page.html:1:17: error: U+005F LOW LINE is not allowed in a domain; --profile wide allows it [host-domain]') ||
     { cat "$room/said"; fail "urlcheck-documents"; }
 told=$(PYTHONPATH=$at/lib/$python python3 -c 'import urlcheck; print(urlcheck.version())')

@@ -1,8 +1,8 @@
 """The links of documents, where they are: the program ``urlcheck-documents``.
 
-``python3 -m urlcheck.documents FILE..`` (or ``urlcheck-documents FILE..``) prints a line ``FILE:LINE:COLUMN:LINK`` for
-each link, as ``rg --vimgrep -o`` does; with ``--check`` it checks them, and reports each that is refused. The lines are
-those that ``urlcheck lint --located -`` reads, which checks them too.
+``python3 -m urlcheck.documents FILE..`` (or ``urlcheck-documents FILE..``) checks how they are written, and reports each
+that is refused. With ``--list`` it prints a line ``FILE:LINE:COLUMN:LINK`` for each link, as ``rg --vimgrep -o`` does,
+which ``urlcheck lint --located -`` reads.
 """
 
 import contextlib

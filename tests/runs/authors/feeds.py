@@ -61,7 +61,7 @@ def main():
             path = os.path.join(room, name)
             with open(path, "w", encoding="utf-8") as file:
                 file.write(text)
-            ran = subprocess.run([sys.executable, "-m", "urlcheck.documents", path], stdout=subprocess.PIPE, stderr=subprocess.DEVNULL)
+            ran = subprocess.run([sys.executable, "-m", "urlcheck.documents", "--list", path], stdout=subprocess.PIPE, stderr=subprocess.DEVNULL)
         links = {line.split(":", 3)[3] for line in ran.stdout.decode().splitlines()}
         urls = {"http://h/{}".format(at) for at in range(70) if '"http://h/{}"'.format(at) in text or ">http://h/{}<".format(at) in text}
         known = " ".join(texts_in(feedparser.parse(text)))

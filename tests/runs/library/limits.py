@@ -32,7 +32,7 @@ class Limits(Texts):
         self.write("utf16.html", "<a href=x>".encode("utf-16"))
         self.write("broken.xml", "<urlset>\n<loc>http://h/</loc><b></urlset>")
         self.write("a.txt", "x")
-        status, out, said = self.run_on("missing.html", "missing", "", "utf16.html", "broken.xml", "a.txt", "a.html")
+        status, out, said = self.run_on("--list", "missing.html", "missing", "", "utf16.html", "broken.xml", "a.txt", "a.html")
         self.assertEqual(status, 2)
         self.assertEqual(out, "broken.xml:2:6:http://h/\na.html:1:9:x\n")
         for word in ("missing.html: can't be read: there is no such file",
@@ -58,15 +58,15 @@ class Limits(Texts):
             for unit, place in zip(("code-points", "bytes", "utf16", "screen"), places):
                 with self.subTest(data=data, unit=unit):
                     wanted = "urlcheck-documents: {}:" + place + ": this isn't UTF-8\n"
-                    for words in (["a.html"], ["--check", "a.html"], ["--check", "--type", "xml", "a.html"]):
+                    for words in (["--list", "a.html"], ["a.html"], ["--type", "xml", "a.html"]):
                         found = self.run_on("-q", "--columns", unit, *words)
                         self.assertEqual(found, (2, "", wanted.format("a.html")))
-                    found = self.run_on("-q", "--columns", unit, "--type", "html", "-", stdin=data)
+                    found = self.run_on("--list", "-q", "--columns", unit, "--type", "html", "-", stdin=data)
                     self.assertEqual(found, (2, "", wanted.format("-")))
         self.write("b.html", "<a href=x>")
         counts = "urlcheck-documents: 1 document, 1 link, 0 ignored\n"
         wanted = "urlcheck-documents: a.html:2:1: this isn't UTF-8\n" + counts
-        self.assertEqual(self.run_on("a.html", "b.html"), (2, "b.html:1:9:x\n", wanted))
+        self.assertEqual(self.run_on("--list", "a.html", "b.html"), (2, "b.html:1:9:x\n", wanted))
 
     def test_what_github_shows(self):
         """A document that isn't read to its end has an annotation after those of its links, and a line as by all formats."""
@@ -80,7 +80,7 @@ class Limits(Texts):
               "::error file=broken.xml,line=2,col=28,title=not-read::can't be read from here on: mismatched tag",
               "::error file=c.html,line=2,col=1,title=not-read::this isn't UTF-8",
               "::error file=100%25,title=not-read::has no document: no name in this folder ends in .html, "]
-        status, out, said = self.run_on("-q", "--check", "--format", "github", "a,b.html", "missing.html", "broken.xml",
+        status, out, said = self.run_on("-q", "--format", "github", "a,b.html", "missing.html", "broken.xml",
                                         "c.html", "100%")
         lines = out.splitlines()
         self.assertEqual((status, len(lines), lines[:-1]), (2, len(at), at[:-1]))
@@ -88,14 +88,14 @@ class Limits(Texts):
         self.assertEqual(said.count("\n"), 4)
         self.assertIn("urlcheck-documents: broken.xml:2:28: can't be read from here on: mismatched tag\n", said)
         # (a name with a line's end is one annotation)
-        found = self.run_on("-q", "--check", "--format", "github", "x\ny.html")
+        found = self.run_on("-q", "--format", "github", "x\ny.html")
         self.assertEqual(found[1], "::error file=x%0Ay.html,title=not-read::can't be read: there is no such file\n")
-        found = self.run_on("-q", "--check", "--format", "github", "-")
+        found = self.run_on("-q", "--format", "github", "-")
         self.assertEqual(found[1], "::error file=-,title=not-read::it has no name that says its kind: give --type html, "
                          "xml, markdown or another kind\n")
         # The other formats have no line for it.
         for form in ("gnu", "caret", "json"):
-            self.assertEqual(self.run_on("-q", "--check", "--format", form, "missing.html")[:2], (2, ""))
+            self.assertEqual(self.run_on("-q", "--format", form, "missing.html")[:2], (2, ""))
 
     def test_the_encoding_that_a_document_names(self):
         """It is said where the document isn't UTF-8, with what makes it so: the place is that of what iconv writes."""
@@ -112,28 +112,28 @@ class Limits(Texts):
             wanted = ":{}: this isn't UTF-8{}\n".format(place, remedy.format(encoding) if encoding else "")
             with self.subTest(text):
                 self.write("a.html", text.encode("latin-1"))
-                self.assertEqual(self.run_on("-q", "a.html"), (2, "", "urlcheck-documents: a.html" + wanted))
+                self.assertEqual(self.run_on("--list", "-q", "a.html"), (2, "", "urlcheck-documents: a.html" + wanted))
         self.write("a.html", "<a href='x y'>".encode("utf-16-be").join((b"\xfe\xff", b"")))
-        self.assertIn("a.html:1:1: this isn't UTF-8" + remedy.format("UTF-16"), self.run_on("-q", "a.html")[2])
+        self.assertIn("a.html:1:1: this isn't UTF-8" + remedy.format("UTF-16"), self.run_on("--list", "-q", "a.html")[2])
         # (of a FILE of --ignore there is no such word)
-        self.assertEqual(self.run_on("-q", "--ignore", "a.html", "b.html"),
+        self.assertEqual(self.run_on("--list", "-q", "--ignore", "a.html", "b.html"),
                          (2, "", "urlcheck-documents: a.html:1:1: this isn't UTF-8\n"))
         # What iconv writes is read, whatever it says of itself.
         latin = "<?xml version='1.0' encoding='ISO-8859-1'?>\n<urlset><loc>http://h/\xe9 x</loc></urlset>".encode()
-        self.assertEqual(self.run_on("-q", "--check", "--type", "xml", "-", stdin=latin)[1].split(": error")[0], "-:2:24")
+        self.assertEqual(self.run_on("-q", "--type", "xml", "-", stdin=latin)[1].split(": error")[0], "-:2:24")
 
     def test_what_is_no_document(self):
         """What is compressed is named as such, and so is a URL: both look like a document to a new user."""
         packed = gzip.compress(b"<urlset><loc>http://h/ a</loc></urlset>")
         self.write("a.xml", packed)
         wanted = "is compressed: gzip -dc unpacks it, and - reads what that writes\n"
-        self.assertEqual(self.run_on("--quiet", "a.xml"), (2, "", "urlcheck-documents: a.xml: " + wanted))
-        status, out, said = self.run_on("--quiet", "--type", "xml", "-", stdin=packed)
+        self.assertEqual(self.run_on("--list", "--quiet", "a.xml"), (2, "", "urlcheck-documents: a.xml: " + wanted))
+        status, out, said = self.run_on("--list", "--quiet", "--type", "xml", "-", stdin=packed)
         self.assertEqual((status, out, said), (2, "", "urlcheck-documents: standard input: " + wanted))
         wanted = "urlcheck-documents: {}: can't be read: there is no such file{}\n"
         for name, more in (("https://h/a", ", and no URL is fetched"), ("file://h/a.html", ", and no URL is fetched"),
                            ("http:a.html", ""), ("h/a.html", "")):
-            self.assertEqual(self.run_on("--quiet", name), (2, "", wanted.format(name, more)))
+            self.assertEqual(self.run_on("--list", "--quiet", name), (2, "", wanted.format(name, more)))
 
     def test_reasons(self):
         """Why a file can't be read or written, in the words of `urlcheck`."""
@@ -157,10 +157,10 @@ class Limits(Texts):
 
     def test_names(self):
         self.write("a\nb.html", "<a href='x y'>")
-        status, out, said = self.run_on("a\nb.html")
+        status, out, said = self.run_on("--list", "a\nb.html")
         self.assertEqual((status, out), (2, ""))
         self.assertIn("a\ufffdb.html: its name has a control", said)
-        self.assertIn("a\ufffdb.html:1:11: error: ", self.run_on("--check", "a\nb.html")[1])
+        self.assertIn("a\ufffdb.html:1:11: error: ", self.run_on("a\nb.html")[1])
 
     def test_names_with_a_place(self):
         """A name that a located line would cut elsewhere: it is checked, and not written."""
@@ -168,12 +168,12 @@ class Limits(Texts):
             with self.subTest(name):
                 self.write(name, "<a href='x y'>")
                 is_written = name in ("a:1:2.html", "C:\\b.html", "a:1b:2:.html")
-                status, out, said = self.run_on(name)
+                status, out, said = self.run_on("--list", name)
                 self.assertEqual((status, out), (0, name + ":1:10:x y\n") if is_written else (2, ""))
                 self.assertEqual("what a located line would read" in said, not is_written)
-                self.assertIn(name + ":1:11: error: ", self.run_on("--check", name)[1])
+                self.assertIn(name + ":1:11: error: ", self.run_on(name)[1])
         self.write("a.html:7", "<a href='x y'>")
-        self.assertEqual(self.run_on("--type", "html", "a.html:7")[:2], (2, ""))
+        self.assertEqual(self.run_on("--list", "--type", "html", "a.html:7")[:2], (2, ""))
 
     def copied(self, module):
         """A copy of the package, with these bytes as its extension module or with none."""
@@ -214,7 +214,7 @@ class Limits(Texts):
 
     def test_full_output(self):
         self.write("a.html", "<a href=x>")
-        for words in (["a.html"], ["--help"], ["-V"]):
+        for words in (["--list", "a.html"], ["--help"], ["-V"]):
             with open("/dev/full", "wb") as full:
                 ran = subprocess.run([*PROGRAM, *words], cwd=self.room, stdout=full, stderr=subprocess.PIPE)
             self.assertEqual(ran.returncode, 3)
@@ -223,7 +223,7 @@ class Limits(Texts):
     def test_a_closed_pipe(self):
         """Where a reader of the report ends before it, that is the status, and nothing is said of it."""
         self.write("a.html", "<a href='x y'>\n" * 20_000)
-        for words in ("a.html", "--check a.html", "--check --format sarif a.html"):
+        for words in ("--list a.html", "a.html", "--format sarif a.html"):
             line = '"{}" -m urlcheck.documents {} | head -c 1 >/dev/null; echo "${{PIPESTATUS[0]}}"'
             ran = subprocess.run(["bash", "-c", line.format(sys.executable, words)], cwd=self.room, capture_output=True)
             self.assertEqual((ran.stdout, ran.stderr), (b"3\n", b""), words)
@@ -232,8 +232,8 @@ class Limits(Texts):
         """Where a file of the three was closed before the start: a status of the page, and no traceback."""
         self.write("a.html", "<a href='x y'>")
         for closed, words, wanted in (
-            ("0", "--type html -", 2), ("1", "a.html", 3), ("1", "--help", 3), ("1", "--check a.html", 3),
-            ("2", "--check a.html", 1), ("12", "a.html", 3), ("012", "--type html -", 2), ("02", "a.html", 0),
+            ("0", "--type html -", 2), ("1", "--list a.html", 3), ("1", "--help", 3), ("1", "a.html", 3),
+            ("2", "a.html", 1), ("12", "a.html", 3), ("012", "--type html -", 2), ("02", "--list a.html", 0),
         ):
             with self.subTest(closed=closed, words=words):
                 shut = "".join(" {}>&-".format(number) for number in closed)
@@ -242,24 +242,24 @@ class Limits(Texts):
                 self.assertEqual(ran.returncode, wanted, ran.stderr)
                 self.assertNotIn(b"Traceback", ran.stderr)
         with open("/dev/full", "wb") as full:
-            ran = subprocess.run([*PROGRAM, "--check", "a.html"], cwd=self.room, stderr=full, stdout=subprocess.PIPE)
+            ran = subprocess.run([*PROGRAM, "a.html"], cwd=self.room, stderr=full, stdout=subprocess.PIPE)
         self.assertEqual((ran.returncode, ran.stdout.count(b"\n")), (1, 1))
 
     def test_a_terminal(self):
         """What drives a terminal isn't written to one, and to all else it is."""
         self.write("a.html", "<a href='x\x1b[31m\u202ey\tz\u00e9'>")
         terminal, end = os.openpty()
-        subprocess.run([*PROGRAM, "a.html"], cwd=self.room, stdout=end, stderr=subprocess.DEVNULL)
+        subprocess.run([*PROGRAM, "--list", "a.html"], cwd=self.room, stdout=end, stderr=subprocess.DEVNULL)
         self.assertEqual(os.read(terminal, 1000).decode(), "a.html:1:10:x\ufffd[31m\ufffdy\tz\u00e9\r\n")
         os.close(end)
         os.close(terminal)
-        self.assertEqual(self.run_on("a.html")[1], "a.html:1:10:x\x1b[31m\u202ey\tz\u00e9\n")
+        self.assertEqual(self.run_on("--list", "a.html")[1], "a.html:1:10:x\x1b[31m\u202ey\tz\u00e9\n")
 
     def test_less_memory_than_is_taken(self):
         """A limit of the caller's that is lower than the program's own stays."""
         self.write("a.html", "<a href=x>")
         for limit in ("-v", "-Sv"):
-            line = 'ulimit {} 400000; "{}" -m urlcheck.documents a.html'.format(limit, sys.executable)
+            line = 'ulimit {} 400000; "{}" -m urlcheck.documents --list a.html'.format(limit, sys.executable)
             ran = subprocess.run(["bash", "-c", line], cwd=self.room, capture_output=True)
             self.assertEqual((ran.returncode, ran.stdout), (0, b"a.html:1:9:x\n"), ran.stderr)
 
@@ -268,7 +268,7 @@ class Limits(Texts):
         """A document that takes all memory is reported, and the next one is read."""
         self.write("a.md", "[a](<b c>)\n\n" * 600_000)
         self.write("b.html", "<a href='x y'>")
-        status, out, said = self.run_on("--check", "a.md", "b.html")
+        status, out, said = self.run_on("a.md", "b.html")
         self.assertEqual((status, out.count("\n")), (2, 1))
         wanted = "^urlcheck-documents: a.md: (needs more than 480 MiB of memory|takes more than 60 seconds)"
         self.assertRegex(said, wanted)
@@ -435,7 +435,7 @@ class Limits(Texts):
         places[4:4] = ["4a.xml:2:15"]
         run = "from urlcheck import documents; from urlcheck._documents import limits; "
         run += "limits.MOST_SECONDS = 2; limits.MOST_MEMORY = 160 << 20; "
-        run += "import sys; sys.argv[1:] = ['--check', '--jobs', sys.argv[1], 'd']; documents.main()"
+        run += "import sys; sys.argv[1:] = ['--jobs', sys.argv[1], 'd']; documents.main()"
         for jobs in ("1", "2", "4"):
             ran = subprocess.run([sys.executable, "-c", run, jobs], cwd=self.room, capture_output=True)
             found = [it.partition(": error")[0] for it in ran.stdout.decode().splitlines()]
@@ -448,11 +448,11 @@ class Limits(Texts):
             self.write("d/{:02}.html".format(number), "<a href='{} y'>\n".format(number) * (number % 7))
         self.write("d/05.html", b"<a href='x y'>\xff")
         self.write("d/06.xml", "<urlset><loc>http://h/ a</loc>")
-        wanted = self.run_on("--check", "d")
+        wanted = self.run_on("d")
         self.assertEqual((wanted[0], wanted[1].count("\n")), (2, sum(it % 7 for it in range(90)) - 5 + 1))
         run = "from urlcheck import documents; from urlcheck._documents import apart; begun = []; known = apart.started; "
         run += "apart.started = lambda module: begun.append(1) or known(module); "
-        run += "sys.argv[1:] = ['--check', '--jobs', '{}', 'd']\ntry: documents.main()\nfinally: print(len(begun))"
+        run += "sys.argv[1:] = ['--jobs', '{}', 'd']\ntry: documents.main()\nfinally: print(len(begun))"
         for jobs in (1, 3):
             ran = self.without_fork(run.format(jobs))
             self.assertEqual((ran.returncode, ran.stderr.decode()), (2, wanted[2]))
@@ -483,7 +483,7 @@ class Limits(Texts):
     def test_input_without_fork(self):
         """Standard input is handed to a process that begins anew, also where it comes late, or not at all."""
         run = "from urlcheck import documents; from urlcheck._documents import limits; limits.MOST_SECONDS = 2; "
-        run += "sys.argv[1:] = ['-q', '--type', 'html', '-']; documents.main()"
+        run += "sys.argv[1:] = ['--list', '-q', '--type', 'html', '-']; documents.main()"
         for text, links in (("<a href='x y'>" * 30_000, 30_000), ("", 0)):
             ran = self.without_fork(run, input=text.encode())
             self.assertEqual((ran.returncode, ran.stdout.count(b"\n"), ran.stderr), (0, links, b""))
@@ -502,7 +502,7 @@ class Limits(Texts):
         first = "sys.path.remove(''); sys.path.append({!r}); ".format(folder)
         checks = first + "from urlcheck._editors import checking as it; "
         checks += "print(len(it.Checking().check(it.Asked('[a](b c)', 'markdown', 'utf-16'), lambda: False).remarks))"
-        reads = first + "from urlcheck import documents; sys.argv[1:] = ['-q', 'a.html']; "
+        reads = first + "from urlcheck import documents; sys.argv[1:] = ['--list', '-q', 'a.html']; "
         reads += "documents.main()"
         for program in (checks, reads):
             ran = self.without_fork(program)
@@ -512,7 +512,7 @@ class Limits(Texts):
     def test_many_refused_links(self):
         """A report is written part by part, so that a long one takes no more memory than a short one."""
         self.write("a.html", "<a href='a b'>\n" * 100_000)
-        line = 'ulimit -v {}; "{}" -m urlcheck.documents --check --format sarif a.html'
+        line = 'ulimit -v {}; "{}" -m urlcheck.documents --format sarif a.html'
         line = line.format(MEMORY_OF_LINKS, sys.executable)
         ran = subprocess.run(["bash", "-c", line], cwd=self.room, capture_output=True)
         self.assertEqual(ran.stderr, b"urlcheck-documents: 1 document, 100000 links, 100000 refused, 0 ignored\n")
@@ -543,7 +543,7 @@ class Limits(Texts):
         for name, (text, wanted) in documents.items():
             with self.subTest(name):
                 self.write(name, text)
-                status, _, said = self.run_on("--check", name)
+                status, _, said = self.run_on(name)
                 self.assertEqual(status, wanted, said)
                 self.assertNotIn("Traceback", said)
         self.assertLess(resource.getrusage(resource.RUSAGE_CHILDREN).ru_maxrss, 500 * 1024)

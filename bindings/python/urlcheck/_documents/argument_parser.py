@@ -35,7 +35,7 @@ class Parser(argparse.ArgumentParser):
 
 _OF_LINT = {
     "--wide": "; write --profile wide",
-    "--all": "; pipe the links, without --check, into urlcheck lint --located --all -",
+    "--all": "; pipe the links, which --list prints, into urlcheck lint --located --all -",
 }
 """What is said of options of ``urlcheck lint`` for which there is something else."""
 

@@ -5,7 +5,7 @@ import os
 import re
 import sys
 import textwrap
-from typing import FrozenSet, List, NamedTuple, Optional, Tuple
+from typing import Any, Callable, FrozenSet, List, NamedTuple, Optional, Tuple
 
 from .. import FORMATS, UNITS, Profile, version
 from .._fixes.fixing import Fixing
@@ -79,14 +79,16 @@ class Asked(NamedTuple):
     colour: str = "auto"
 
 
+Add = Callable[..., Any]
+"""What adds an option to a group of them."""
+
 _PROFILES = [it.name.lower() for it in Profile]
 _KINDS = list(KINDS)
 _MOST_JOBS = 256
 
 _ABOUT = """\
-Prints the links of HTML, XML, Markdown, reStructuredText, notebooks, books and
-feeds as lines FILE:LINE:COLUMN:LINK, which 'urlcheck lint --located -' reads;
-with --check, checks how they are written. Nothing is fetched."""
+Checks how the links of HTML, XML, Markdown, reStructuredText, notebooks, books
+and feeds are written, and reports each that is refused. Nothing is fetched."""
 
 _NOTES = """\
 A folder stands for all documents in it whose names end in
@@ -107,9 +109,10 @@ Exit statuses:
   3  the output can't be written
 
 Examples:
-  urlcheck-documents --check site
-  urlcheck-documents --check --format caret README.md
-  gzip -dc sitemap.xml.gz | urlcheck-documents --check --type xml -
+  urlcheck-documents site
+  urlcheck-documents --format caret README.md
+  urlcheck-documents --list site | urlcheck lint --located --all -
+  gzip -dc sitemap.xml.gz | urlcheck-documents --type xml -
 """.format(textwrap.fill(", ".join("." + it for it in ENDS), 79), SOMEWHERE)
 
 
@@ -152,23 +155,34 @@ def asked(words: List[str]) -> Asked:
     return Asked(given.files, settings, is_checked, given.quiet, *more)
 
 
-_OF_CHECKS = ("format", "select", "statistics", "exit_zero", "baseline", "write_baseline", "unsafe_fixes")
-"""What is said of links that are checked alone."""
+_OF_CHECKS = (
+    "check",
+    "fix",
+    "diff",
+    "unsafe_fixes",
+    "format",
+    "select",
+    "statistics",
+    "exit_zero",
+    "baseline",
+    "write_baseline",
+)
+"""The options that are about links that are checked."""
 
 
 def _is_checked(parser: Parser, given: argparse.Namespace) -> bool:
-    """Whether links are checked: --check, --fix and --diff do it."""
-    is_checked: bool = given.check or given.fix or given.diff
-    for name in _OF_CHECKS:
-        if getattr(given, name) and not is_checked:
-            parser.error("--{} is for --check".format(name.replace("_", "-")))
+    """Whether links are checked, as they are where they aren't listed. (``--check`` says the same, as earlier versions
+    wanted it.)"""
+    for name in _OF_CHECKS if given.list else ():
+        if getattr(given, name):
+            parser.error("--list checks nothing, so that --{} has no use".format(name.replace("_", "-")))
     if given.unsafe_fixes and not (given.fix or given.diff):
         parser.error("--unsafe-fixes is for --fix and --diff")
     if (given.fix or given.diff) and "-" in given.files:
         parser.error("--fix and --diff are for files, and - is standard input")
     if given.diff and (given.format or given.statistics):
         parser.error("--diff shows what --fix would write, in place of a report")
-    return is_checked
+    return not given.list
 
 
 def _selected(given: argparse.Namespace) -> Selected:
@@ -250,64 +264,80 @@ def _parser() -> Parser:
         add_help=False,
         allow_abbrev=False,
     )
-    add = parser.add_argument
-    add("files", nargs="*", metavar="FILE", help="a document, a folder of documents, or - for standard input")
-    add("--check", action="store_true", help="check the links, and report those that are refused")
-    helped = "how --check reports them: {}; without it gnu, as compilers do"
-    add("--format", metavar="FORMAT", help=helped.format(listed(list(FORMATS))))
-    helped = "what columns count: {}; without it code-points"
-    add("--columns", metavar="UNIT", help=helped.format(listed(list(UNITS))))
+    parser.add_argument("files", nargs="*", metavar="FILE", help="a document, a folder of documents, or - for standard input")
+    _add_of_input(parser.add_argument_group("input").add_argument)
+    _add_of_checks(parser.add_argument_group("checks").add_argument)
+    _add_of_fixes(parser.add_argument_group("fixes").add_argument)
+    _add_of_output(parser.add_argument_group("output").add_argument)
+    _add_others(parser.add_argument_group("other").add_argument)
+    return parser
+
+
+def _add_of_input(add: Add) -> None:
+    """Adds the options that say which documents are read, and how."""
+    helped = "the kind of all documents: {}; without it by their names"
+    add("--type", dest="kind", metavar="KIND", help=helped.format(listed(_KINDS)))
+    helped = (
+        "a pattern of the shell: what is found in a folder is left out where its name, or its path below that "
+        "folder, matches; it may be given more than once"
+    )
+    add("--exclude", action="append", default=[], metavar="PATTERN", help=helped)
+    add("--git", action="store_true", help="in a folder, read only what Git tracks or doesn't ignore")
+    add("--gfm", action="store_true", help="read Markdown as GitHub does, with addresses that nothing encloses")
+    helped = "the name of the document on standard input, which says its kind"
+    add("--stdin-name", metavar="NAME", help=helped)
+    add("--no-config", action="store_true", help="leave out the configuration of the project")
+    helped = "how many documents are read at once; without it as many as there are processors"
+    add("--jobs", default=str(_processors()), metavar="N", help=helped)
+
+
+def _add_of_checks(add: Add) -> None:
+    """Adds the options that say by what links are checked, and which faults count."""
+    add("--check", action="store_true", help=argparse.SUPPRESS)
+    helped = "list the links, and check none: lines FILE:LINE:COLUMN:LINK, which 'urlcheck lint --located -' reads"
+    add("--list", action="store_true", help=helped)
     add("--base", metavar="URL", help="what references are relative to where their document names no base")
     helped = "the profile to check by: {}; without it standard"
     add("--profile", metavar="PROFILE", help=helped.format(listed(_PROFILES)))
-    helped = "the kind of all documents: {}; without it by their names"
-    add("--type", dest="kind", metavar="KIND", help=helped.format(listed(_KINDS)))
-    add(
-        "--ignore",
-        action="append",
-        default=[],
-        metavar="FILE",
-        help="regular expressions, one a line, of links that are meant as they are; or RULES, as for --select, that aren't "
-        "reported; it may be given more than once",
+    helped = "report only what violates these rules, with commas between; it may be given more than once"
+    add("--select", action="append", metavar="RULES", help=helped)
+    helped = (
+        "regular expressions, one a line, of links that are meant as they are; or RULES, as for --select, that aren't "
+        "reported; it may be given more than once"
     )
-    add(
-        "--select",
-        action="append",
-        metavar="RULES",
-        help="report only what violates these rules, with commas between; it may be given more than once",
-    )
-    add("--fix", action="store_true", help="check, and write what is offered in the place of wrong links")
+    add("--ignore", action="append", default=[], metavar="FILE", help=helped)
+    add("--no-empty", action="store_true", help="leave out what is said of links that are empty")
+    add("--baseline", metavar="FILE", help="leave out the faults that FILE has, which --write-baseline wrote")
+    add("--write-baseline", metavar="FILE", help="write the faults into FILE, which are known from then on")
+
+
+def _add_of_fixes(add: Add) -> None:
+    """Adds the options that say what is written in the place of links."""
+    add("--fix", action="store_true", help="write what is offered in the place of wrong links, and report what is left")
     helped = "write also what may be another URL than was meant"
     add("--unsafe-fixes", action="store_true", help=helped)
     add("--diff", action="store_true", help="show what --fix would write, as a unified diff, and write nothing")
+
+
+def _add_of_output(add: Add) -> None:
+    """Adds the options that say how links are reported."""
+    helped = "how refused links are reported: {}; without it gnu, as compilers do"
+    add("--format", metavar="FORMAT", help=helped.format(listed(list(FORMATS))))
+    helped = "what columns count: {}; without it code-points"
+    add("--columns", metavar="UNIT", help=helped.format(listed(list(UNITS))))
     helped = "print how often each rule is violated, and the wrong links that are there more than once, and no report"
     add("--statistics", action="store_true", help=helped)
-    add("--baseline", metavar="FILE", help="leave out the faults that FILE has, which --write-baseline wrote")
-    add("--write-baseline", metavar="FILE", help="write the faults into FILE, which are known from then on")
-    add("--exit-zero", action="store_true", help="end with 0 also where a link is refused")
     add("--output", metavar="FILE", help="write the report into FILE")
     helped = "whether gnu and caret have colours: {}; without it auto, at a terminal"
     add("--color", default="auto", metavar="WHEN", help=helped.format(listed(list(WHENS))))
-    add(
-        "--exclude",
-        action="append",
-        default=[],
-        metavar="PATTERN",
-        help="a pattern of the shell: what is found in a folder is left out where its name, or its path below that "
-        "folder, matches; it may be given more than once",
-    )
-    add("--git", action="store_true", help="in a folder, read only what Git tracks or doesn't ignore")
-    add("--gfm", action="store_true", help="read Markdown as GitHub does, with addresses that nothing encloses")
-    add("--no-empty", action="store_true", help="leave out what is said of links that are empty")
-    add("--no-config", action="store_true", help="leave out the configuration of the project")
-    helped = "the name of the document on standard input, which says its kind"
-    add("--stdin-name", metavar="NAME", help=helped)
-    helped = "how many documents are read at once; without it as many as there are processors"
-    add("--jobs", default=str(_processors()), metavar="N", help=helped)
+    add("--exit-zero", action="store_true", help="end with 0 also where a link is refused")
     add("-q", "--quiet", action="store_true", help="leave out the counts on standard error")
+
+
+def _add_others(add: Add) -> None:
+    """Adds the options after which nothing is read."""
     add("-h", "--help", action=_Printed, help="print this help")
     add("-V", "--version", action=_Printed, const="urlcheck-documents " + version() + "\n", help="print the version")
-    return parser
 
 
 class _Printed(argparse.Action):

@@ -33,7 +33,7 @@ _URL = re.compile("[A-Za-z][A-Za-z0-9+.-]*://")
 """How a URL begins that is no name of a file."""
 
 _COMMANDS = ("check", "lint")
-"""The commands of ``urlcheck`` for what ``--check`` does."""
+"""The commands of ``urlcheck`` that check, which this program does without one."""
 
 _CONTROL = re.compile("[\x00-\x1f\x7f-\x9f]")
 """What no located line can hold in the name of its file."""
@@ -105,7 +105,7 @@ def _meant(name: str, error: OSError) -> str:
     ``urlcheck``."""
     if _URL.match(name):
         return ", and no URL is fetched"
-    return "; --check checks the links" if name in _COMMANDS and error.errno == errno.ENOENT else ""
+    return "; links are checked without a command" if name in _COMMANDS and error.errno == errno.ENOENT else ""
 
 
 def _placed(places: Places, offset: int, reason: str, inner: str = "") -> Fault:
