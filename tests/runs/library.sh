@@ -130,7 +130,7 @@ if command -v pkg-config >/dev/null && command -v cc >/dev/null; then
 else
     echo "library: the lines that build a program are left out, since pkg-config or cc isn't installed"
 fi
-for tests in documents sources projects standards words choices fixing limits errors; do
+for tests in documents sources comments projects standards words choices fixing limits errors; do
     python3 $tests.py >"$room/tests" 2>&1 || { cat "$room/tests"; exit 1; }
 done
 # Where the system copies no process, as Windows, documents are read by a Python that begins anew.

@@ -24,7 +24,7 @@ except ImportError:
 
 from . import MendKind, version
 from ._documents.configuration import NONE, Configuration, Misconfigured, configuration_of
-from ._editors.checking import Asked, Checking, Mistake, Range, Remark, Seen
+from ._editors.checking import NOT_READ, NOTE, Asked, Checking, Mistake, Range, Remark, Seen
 from ._editors.editing import Text, encoding_for
 from ._editors.rpc import Endpoint, NoMessage, message_of
 from ._editors.settings import Options, options_of
@@ -278,7 +278,7 @@ class Server(MethodDispatcher):  # type: ignore[misc]
         try:
             config = _configuration(document.uri)
         except Misconfigured as misconfigured:
-            remarks.append(Remark(((0, 0), (0, 0)), str(misconfigured), False))
+            remarks.append(Remark(((0, 0), (0, 0)), str(misconfigured), NOTE))
         kind = config.kind_of(urlsplit(document.uri).path) or document.kind
         if kind is None:
             return Seen([], [])
@@ -297,7 +297,7 @@ class Server(MethodDispatcher):  # type: ignore[misc]
         try:
             seen = self._checking.check(asked, is_superseded)
         except OSError as error:
-            seen = Seen([], [Remark(((0, 0), (0, 0)), "can't be checked: {}".format(error.strerror), True)])
+            seen = Seen([], [Remark(((0, 0), (0, 0)), "can't be checked: {}".format(error.strerror), NOT_READ)])
         return seen and seen._replace(remarks=seen.remarks + remarks)
 
     def _publish(self, uri: str, diagnostics: List[Json], number: Optional[int]) -> None:
@@ -428,8 +428,7 @@ def _diagnostic(found: Mistake, severity: int) -> Json:
 
 
 def _remark(remark: Remark) -> Json:
-    is_unread = remark.is_unread
-    return _said(remark.range, _WARNING if is_unread else _INFORMATION, "not-read" if is_unread else "note", remark.message)
+    return _said(remark.range, _INFORMATION if remark.code == NOTE else _WARNING, remark.code, remark.message)
 
 
 def _said(range: Range, severity: int, code: str, message: str) -> Json:

@@ -14,15 +14,15 @@ from .started import hand_on, started
 
 
 class Fault(NamedTuple):
-    """Why a document wasn't read to its end."""
+    """Why a document wasn't read to its end, or what is said of a comment in it."""
 
     reason: str
     line: Optional[int] = None
-    """The line where its reader stopped, from 1, if it had begun."""
+    """The line where its reader stopped or the comment is, from 1, if it had begun."""
     column: Optional[int] = None
     """The column there, from 1."""
     inner: str = ""
-    """The document within it that wasn't, if it holds others."""
+    """The document within it that it is about, if it holds others."""
 
     def after(self) -> str:
         """What is said after the document's name."""
@@ -56,6 +56,8 @@ class Taken(NamedTuple):
     """The fingerprints of its faults that are known, and not reported."""
     fixed: Optional[Fixed] = None
     """The document with other texts in the place of links, which the others are of then; in the first part alone."""
+    warnings: Tuple[Fault, ...] = ()
+    """What is said of its comments."""
 
 
 class Part:
@@ -95,10 +97,12 @@ class Part:
         """Whether it has as much as a part is to have."""
         return len(self._lines) >= _ENOUGH or len(self._counted) + len(self._known) >= _MOST_COUNTED
 
-    def taken(self, fault: Optional[Fault] = None, notes: Tuple[str, ...] = ()) -> Taken:
+    def taken(
+        self, fault: Optional[Fault] = None, notes: Tuple[str, ...] = (), warnings: Tuple[Fault, ...] = ()
+    ) -> Taken:
         """What it has given."""
         numbers = self._documents, self._links, self._refused, self._ignored
-        more = tuple(self._counted), tuple(self._known), self._fixed
+        more = tuple(self._counted), tuple(self._known), self._fixed, warnings
         return Taken(*numbers, bytes(self._lines), fault, notes, *more)
 
 

@@ -99,7 +99,7 @@ folder of a document or above it.
 
 A reference is checked against the base that its document names, else against
 --base, else against {}. A link is left out where a comment
-on the line before it is 'urlcheck: ignore'.
+on its line, or on the line before it, is 'urlcheck: ignore'.
 
 Exit statuses:
   0  no link is refused

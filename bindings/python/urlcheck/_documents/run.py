@@ -19,6 +19,7 @@ from .._reports.baseline import Known, Numbered
 from .._reports.checker import Checker
 from .._reports.columns import Places
 from .._reports.finding import Finding, Report, lines_on, not_read
+from .._reports.ignoring import Ignoring
 from .._reports.report import shows_mended
 from .._reports.statistics import Statistics
 from .._streams import closed, named, reason_of
@@ -140,6 +141,7 @@ class Document:
         self._ignored = settings.ignored + config.ignored
         self._is_empty_taken = settings.is_empty_taken or config.is_empty_taken
         self._reading = Reading(settings.gfm or config.gfm)
+        self._selected = settings.selected.among(config.selected)
         self._checker = self._checker_of(config) if is_checked else None
         self._numbered = Numbered(self.name)
 
@@ -152,8 +154,7 @@ class Document:
         base = settings.base or config.base
         profile = config.profile if settings.is_profile_left and config.profile is not None else settings.profile
         has_mended = shows_mended(settings.format) or settings.fixing is not None
-        selected = settings.selected.among(config.selected)
-        return Checker(base, profile, has_mended, self._is_empty_taken, selected=selected)
+        return Checker(base, profile, has_mended, self._is_empty_taken, selected=self._selected)
 
     def work(self) -> int:
         """About how much work it is: enough for a process of its own where it is no file, and so can't be read
@@ -183,23 +184,43 @@ class Document:
     def _parts_of(self, found: Found, part: Part) -> Iterator[Taken]:
         places = Places(found.source, self._settings.unit)
         name = self.name + ("/" + found.inner if found.inner else "")
+        ignoring = Ignoring(found.comments)
         for link in found.links:
-            if self._is_left_out(found, link):
-                part.add_ignored()
-            elif self._checker is None:
-                part.add(located(name, places, link) + "\n", False)
+            if self._checker is None:
+                self._list(part, located(name, places, link), ignoring.leaves_out(link) or self._is_left_out(link))
             else:
-                self._add(part, self._checker.finding(name, places, link))
+                self._check(part, self._checker, (name, places, link), ignoring)
             if part.is_full():
                 yield part.taken()
                 part = Part(0)
-        yield part.taken(_stopped(places, found), found.notes)
+        yield part.taken(_stopped(places, found), found.notes, self._warnings(found, places, ignoring))
 
-    def _add(self, part: Part, finding: Optional[Finding]) -> None:
-        """Adds a link that is checked, and what is wrong with it, if something is."""
-        if finding is None:
+    def _warnings(self, found: Found, places: Places, ignoring: Ignoring) -> Tuple[Fault, ...]:
+        """What is said of comments, where links are checked."""
+        is_all = self._selected.are_all() and found.broken is None
+        remarks = ignoring.remarks(is_all) if self._checker is not None else ()
+        return tuple(_placed(places, it.offset, "warning: " + it.message, found.inner) for it in remarks)
+
+    def _list(self, part: Part, line: str, is_left_out: bool) -> None:
+        """Adds the line of a link that is listed, unless it is left out."""
+        if is_left_out:
+            part.add_ignored()
+        else:
+            part.add(line + "\n", False)
+
+    def _check(self, part: Part, checker: Checker, given: Tuple[str, Places, Link], ignoring: Ignoring) -> None:
+        """Adds a link of the document of that name, and what is wrong with it, if something is."""
+        name, places, link = given
+        wrong, is_left_out = ignoring.wrong(checker, link)
+        if is_left_out or self._is_left_out(link):
+            part.add_ignored()
+        elif wrong is None:
             part.add("", True)
-            return
+        else:
+            self._add(part, checker.finding(name, places, link, wrong))
+
+    def _add(self, part: Part, finding: Finding) -> None:
+        """Adds what is wrong with a link, unless it is known."""
         it = finding.diagnostic
         known = self._numbered.next(it.rule, it.place, it.text)
         if known.fingerprint in self._settings.known:
@@ -225,9 +246,10 @@ class Document:
 
     def _edits(self, found: Found, fixing: Fixing) -> Iterator[Edit]:
         """What is written in the place of wrong links."""
-        checker = self._checker
-        for link in found.links if checker is not None else ():
-            if checker is None or self._is_left_out(found, link) or not checker.may_be_written(link):
+        checker, ignoring = self._checker, Ignoring(found.comments)
+        for link in found.links:
+            is_meant = ignoring.is_about(link) or self._is_left_out(link)
+            if checker is None or is_meant or not checker.may_be_written(link):
                 continue
             wrong = checker.wrong(link)
             if wrong and wrong.mended and is_fixable(link.text, wrong.mended, fixing.is_unsafe):
@@ -253,10 +275,8 @@ class Document:
         has_come()
         return data
 
-    def _is_left_out(self, found: Found, link: Link) -> bool:
-        """Whether a comment or a regular expression leaves a link out."""
-        if found.ignored and found.source.position(link.offset)[0] in found.ignored:
-            return True
+    def _is_left_out(self, link: Link) -> bool:
+        """Whether a regular expression leaves a link out."""
         return any(it.search(link.text) for it in self._ignored)
 
 
@@ -331,6 +351,8 @@ class Run:
             is_passed = is_passed and not taken.lines and taken.fault is None
             for note in taken.notes:
                 self._note(document.name, note)
+            for warning in taken.warnings:
+                self._warn(document.name, warning)
             if taken.fault is not None:
                 self._tell_fault(document, taken.fault)
         if is_passed:
@@ -380,6 +402,11 @@ class Run:
             return False
         self.counts.fixed += fix.texts
         return True
+
+    def _warn(self, name: str, warning: Fault) -> None:
+        """Says what is wrong with a comment."""
+        if not self._is_quiet:
+            self._screen.tell(named(name + ("/" + warning.inner if warning.inner else "")) + warning.after())
 
     def _note(self, name: str, note: str) -> None:
         """Says what a reader passed over, each once."""

@@ -11,7 +11,7 @@ import subprocess
 import sys
 import threading
 import time
-from typing import IO, Any, Callable, Dict, List, NamedTuple, Optional, Tuple
+from typing import IO, Any, Callable, Dict, Iterator, List, NamedTuple, Optional, Tuple
 
 from .. import MendKind, Profile
 from .._documents.limits import MOST_SECONDS, ended_by, limit_memory, limit_time
@@ -19,7 +19,8 @@ from .._documents.started import started
 from .._readers.markdown_links import Inlines
 from .._readers.reading import LIST, Found, Reading, Unread, found_in
 from .._readers.source import Foreign, Link
-from .._reports.checker import Checker, Verdicts
+from .._reports.checker import Checker, Verdicts, Wrong
+from .._reports.ignoring import Ignoring
 from .._reports.report import is_offered
 from .._reports.selected import Selected
 from .editing import LinePlaces
@@ -88,8 +89,18 @@ class Remark(NamedTuple):
 
     range: Range
     message: str
-    is_unread: bool
-    """Whether it can't be read from there on."""
+    code: str
+    """What kind of a remark it is: one of these three."""
+
+
+NOTE = "note"
+"""The code of what a reader passed over."""
+
+NOT_READ = "not-read"
+"""The code of why a text can't be read from there on."""
+
+COMMENT = "comment"
+"""The code of what is wrong with a comment."""
 
 
 class Seen(NamedTuple):
@@ -111,36 +122,49 @@ def _seen_in(asked: Asked, kept: Kept) -> Seen:
             checker = Checker(asked.base, asked.profile, True, *settings)
             places = LinePlaces(found.source.text, asked.encoding)
             links += len(found.links)
-            seen.mistakes.extend(_mistakes_in(asked, found, checker, places))
-            seen.remarks.extend(Remark(start, it, False) for it in found.notes)
-            if found.broken is not None:
-                at = places.position(found.broken.offset)
-                seen.remarks.append(Remark((at, at), "can't be read from here on: " + found.broken.reason, True))
+            ignoring = Ignoring(found.comments)
+            seen.mistakes.extend(_mistakes_in(asked, found, checker, places, ignoring))
+            seen.remarks.extend(_remarks_on(asked, found, places, ignoring))
     except (Unread, Foreign) as reason:
-        seen.remarks.append(Remark(start, str(reason), True))
+        seen.remarks.append(Remark(start, str(reason), NOT_READ))
     except RecursionError:
-        seen.remarks.append(Remark(start, "is nested too deeply", True))
+        seen.remarks.append(Remark(start, "is nested too deeply", NOT_READ))
     return seen._replace(links=links)
 
 
-def _mistakes_in(asked: Asked, found: Found, checker: Checker, places: LinePlaces) -> List[Mistake]:
-    mistakes = []
+def _remarks_on(asked: Asked, found: Found, places: LinePlaces, ignoring: Ignoring) -> Iterator[Remark]:
+    """What is said of a text, once its links were looked at."""
+    start = ((0, 0), (0, 0))
+    yield from (Remark(start, it, NOTE) for it in found.notes)
+    for it in ignoring.remarks(asked.selected.are_all() and found.broken is None):
+        at = places.position(it.offset)
+        yield Remark((at, at), it.message, COMMENT)
+    if found.broken is not None:
+        at = places.position(found.broken.offset)
+        yield Remark((at, at), "can't be read from here on: " + found.broken.reason, NOT_READ)
+
+
+def _mistakes_in(
+    asked: Asked, found: Found, checker: Checker, places: LinePlaces, ignoring: Ignoring
+) -> Iterator[Mistake]:
+    """The links that are wrong, but for those that are meant as they are."""
     for link in found.links:
-        wrong = checker.wrong(link)
-        if wrong is None or any(it.search(link.text) for it in asked.ignored):
-            continue
-        if found.ignored and found.source.position(link.offset)[0] in found.ignored:
-            continue
-        at, end = link.place(wrong.place), _end_of(link)
-        whole = places.position(link.offset), places.position(max(end, link.offset))
-        region = places.position(at), places.position(max(end, at + 1 if wrong.place < len(link.text) else at))
-        offered = wrong.mended if wrong.mended is not None and is_offered(link.text, wrong.mended) else None
-        named = wrong.mended.text if wrong.mended is not None and offered is None else None
-        mended = offered.text if offered is not None and checker.may_be_written(link) else None
-        said = wrong.message if not link.within else "{}, in {}".format(wrong.message, link.within)
-        kind = wrong.mended.kind if wrong.mended is not None else None
-        mistakes.append(Mistake(region, whole, wrong.rule, said, mended, kind, named))
-    return mistakes
+        wrong, is_left_out = ignoring.wrong(checker, link)
+        if wrong is not None and not is_left_out and not any(it.search(link.text) for it in asked.ignored):
+            yield _mistake(link, wrong, checker, places)
+
+
+def _mistake(link: Link, wrong: Wrong, checker: Checker, places: LinePlaces) -> Mistake:
+    """A link that is wrong, with its places."""
+    at, end = link.place(wrong.place), _end_of(link)
+    whole = places.position(link.offset), places.position(max(end, link.offset))
+    region = places.position(at), places.position(max(end, at + 1 if wrong.place < len(link.text) else at))
+    offered = wrong.mended if wrong.mended is not None and is_offered(link.text, wrong.mended) else None
+    named = wrong.mended.text if wrong.mended is not None and offered is None else None
+    mended = offered.text if offered is not None and checker.may_be_written(link) else None
+    said = wrong.message if not link.within else "{}, in {}".format(wrong.message, link.within)
+    kind = wrong.mended.kind if wrong.mended is not None else None
+    return Mistake(region, whole, wrong.rule, said, mended, kind, named)
 
 
 def _end_of(link: Link) -> int:
@@ -194,7 +218,7 @@ class Checking:
         status = process.wait() if process is not None else 0
         self.end()
         why = why or ended_by(status)
-        return Seen([], [Remark(((0, 0), (0, 0)), "can't be checked: " + why, True)])
+        return Seen([], [Remark(((0, 0), (0, 0)), "can't be checked: " + why, NOT_READ)])
 
     def end(self) -> None:
         """Ends the process, if there is one."""

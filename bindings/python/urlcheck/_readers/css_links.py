@@ -1,9 +1,10 @@
 """The links of a style sheet: each ``url()`` and the name after ``@import``, by the package ``tinycss2``."""
 
 import re
-from typing import Any, Iterator, List, Set, Tuple
+from typing import Any, Iterator, List, Tuple
 
-from .source import IGNORE, Link, Source
+from .comments import comments_of
+from .source import Comment, Link, Source
 
 _END = re.compile("\r\n|[\r\n\f]")
 """What ends a line of CSS."""
@@ -15,9 +16,9 @@ MISSING = "styles aren't read, which needs the package tinycss2: pip install tin
 """What is said of HTML with styles that have links, where nothing reads them."""
 
 
-def links_of(source: Source) -> Tuple[List[Link], Set[int]]:
-    """The links of a style sheet, and the lines whose links are to be ignored. Raises ``ImportError`` where ``tinycss2``
-    isn't installed."""
+def links_of(source: Source) -> Tuple[List[Link], List[Comment]]:
+    """The links of a style sheet, and the comments about them. Raises ``ImportError`` where ``tinycss2`` isn't
+    installed."""
     import tinycss2
 
     rules = tinycss2.parse_stylesheet(source.text)
@@ -31,16 +32,15 @@ def links_of_declarations(source: Source) -> List[Link]:
     return _taken(source, tinycss2.parse_component_value_list(source.text), False)[0]
 
 
-def _taken(source: Source, nodes: List[Any], is_sheet: bool) -> Tuple[List[Link], Set[int]]:
-    """The links of these nodes and of those within them, and the lines to be ignored."""
+def _taken(source: Source, nodes: List[Any], is_sheet: bool) -> Tuple[List[Link], List[Comment]]:
+    """The links of these nodes and of those within them, and the comments about them."""
     starts = [0] + [it.end() for it in _END.finditer(source.text)]
     links: List[Link] = []
-    ignored: Set[int] = set()
+    comments: List[Comment] = []
     for node in _within(nodes):
         at = min(starts[min(node.source_line, len(starts)) - 1] + node.source_column - 1, len(source.text))
-        if node.type == "comment" and node.value.strip() == IGNORE:
-            line, _ = source.position(at)
-            ignored.add(line + node.value.count("\n") + 1)
+        if node.type == "comment":
+            comments += comments_of(node.value, at + 2)
         elif node.type == "url":
             begin = source.text.find("(", at) + 1
             links.append(_link(source, node.value, begin))
@@ -48,7 +48,7 @@ def _taken(source: Source, nodes: List[Any], is_sheet: bool) -> Tuple[List[Link]
             links += [_link(source, it.value, _after(source, it, starts)) for it in node.arguments if it.type == "string"]
         elif node.type == "at-rule" and node.lower_at_keyword == "import" and is_sheet:
             links += [_link(source, it.value, _after(source, it, starts)) for it in node.prelude if it.type == "string"][:1]
-    return links, ignored
+    return links, comments
 
 
 def _after(source: Source, node: Any, starts: List[int]) -> int:

@@ -8,7 +8,8 @@ from typing import Dict, FrozenSet, Iterator, List, Match, Optional, Set, Tuple
 
 from . import css_links
 from .attributes import CANDIDATES, LISTS, NON_EMPTY, URLS
-from .source import IGNORE, SPACES, Asks, Link, NamedBase, Source, Written, base_of, moved, read, words_of
+from .comments import comments_of
+from .source import SPACES, Asks, Comment, Link, NamedBase, Source, Written, base_of, moved, read, words_of
 
 _TAKEN = {*URLS, *LISTS, *CANDIDATES, "style"}
 _KEPT = {*_TAKEN, "content", "http-equiv"}
@@ -58,11 +59,11 @@ _BREAK = re.compile("[(," + SPACES + "]")
 _LIKE_DESCRIPTOR = re.compile(r"[-+]?[0-9.]+(?:e[-+]?[0-9]+)?[a-z]{0,2}|[wxh][0-9.]*", re.IGNORECASE)
 
 
-def links_of(source: Source) -> Tuple[List[Link], Set[int], Tuple[str, ...]]:
-    """The links of an HTML document, the lines whose links are to be ignored, and what was passed over."""
+def links_of(source: Source) -> Tuple[List[Link], List[Comment], Tuple[str, ...]]:
+    """The links of an HTML document, the comments about them, and what was passed over."""
     reader = _Reader(source)
     reader.read()
-    return reader.links, reader.ignored, tuple(reader.notes)
+    return reader.links, reader.comments, tuple(reader.notes)
 
 
 class _Reader:
@@ -71,7 +72,7 @@ class _Reader:
 
     def __init__(self, source: Source) -> None:
         self.links: List[Link] = []
-        self.ignored: Set[int] = set()
+        self.comments: List[Comment] = []
         self.notes: Set[str] = set()
         self._source = source
         self._text = source.text
@@ -97,10 +98,7 @@ class _Reader:
         ends = _NO_COMMENT.match(self._text, start) or _COMMENT_END.search(self._text, start)
         if ends is None:
             return len(self._text)
-        comment = self._text[start : ends.start()]
-        if comment.strip() == IGNORE:
-            line, _ = self._source.position(start)
-            self.ignored.add(line + comment.count("\n") + 1)
+        self.comments += comments_of(self._text[start : ends.start()], start)
         return ends.end()
 
     def _read_tag(self, found: Match[str]) -> int:

@@ -5,10 +5,11 @@ import json
 import json.decoder
 import json.scanner
 import re
-from typing import Any, Callable, Dict, Iterator, List, Match, Optional, Set, Tuple
+from typing import Any, Callable, Dict, Iterator, List, Match, Optional, Tuple
 
 from . import html_links, markdown_links
-from .source import Asks, Broken, Link, Source, Written, moved, read
+from .comments import covered
+from .source import Asks, Broken, Comment, Link, Source, Written, moved, read
 
 _ESCAPE = re.compile(r"\\u[dD][89abAB][0-9a-fA-F]{2}\\u[dD][c-fC-F][0-9a-fA-F]{2}|\\u[0-9a-fA-F]{4}|\\.")
 """What stands for a code point in a string of JSON."""
@@ -92,44 +93,51 @@ def _place_in(source: Source, texts: List[Text]) -> Callable[[int], int]:
     return place_of
 
 
-def links_of_notebook(source: Source, is_gfm: bool) -> Tuple[List[Link], Set[int], Optional[Broken]]:
-    """The links of a notebook's cells of Markdown, each with the number of its cell, from 1, and its line there."""
+def links_of_notebook(source: Source, is_gfm: bool) -> Tuple[List[Link], List[Comment], Optional[Broken]]:
+    """The links of a notebook's cells of Markdown, each with the number of its cell, from 1, and its line there, and with
+    the comments about it; and these comments."""
     try:
         notebook = _parsed(source)
     except Broken as broken:
-        return [], set(), broken
+        return [], [], broken
     if not isinstance(notebook, dict) or not isinstance(notebook.get("cells"), list):
         raise NoJson("is no notebook that can be read: it has no cells")
     links: List[Link] = []
+    comments: List[Comment] = []
     for number, cell in enumerate(notebook["cells"], 1):
         if isinstance(cell, dict) and cell.get("cell_type") == "markdown":
-            links += _of_cell(source, number, cell.get("source"), is_gfm)
-    return links, set(), None
+            of_cell, about_them = _of_cell(source, number, cell.get("source"), is_gfm)
+            links += of_cell
+            comments += about_them
+    return links, comments, None
 
 
-def _of_cell(source: Source, number: int, given: Any, is_gfm: bool) -> Iterator[Link]:
-    """The links of a cell, which is a string or a list of them; those that a comment leaves out aren't there."""
+def _of_cell(source: Source, number: int, given: Any, is_gfm: bool) -> Tuple[List[Link], List[Comment]]:
+    """The links of a cell, which is a string or a list of them, and the comments about them."""
     texts = [it for it in (given if isinstance(given, list) else [given]) if isinstance(it, Text)]
     cell = Source("".join(texts).encode("utf-8", "replace").decode("utf-8"))
     if not cell.text:
-        return
+        return [], []
     place_of = _place_in(source, texts)
-    links, ignored, _, _ = markdown_links.links_of(cell, is_gfm)
-    for link in links:
-        line, _ = cell.position(link.offset)
-        if line not in ignored:
-            yield moved(link, source, place_of)._replace(within="cell {}, line {}".format(number, line))
+    read_links, read_comments, _, _ = markdown_links.links_of(cell, is_gfm)
+    placed = {it: it._replace(offset=place_of(it.offset)) for it in read_comments}
+    links = []
+    for link in covered(cell, read_links, read_comments):
+        where = "cell {}, line {}".format(number, cell.position(link.offset)[0])
+        about = tuple(placed[it] for it in link.comments)
+        links.append(moved(link, source, place_of)._replace(within=where, comments=about))
+    return links, list(placed.values())
 
 
-def links_of_feed(source: Source) -> Tuple[List[Link], Set[int], Optional[Broken]]:
+def links_of_feed(source: Source) -> Tuple[List[Link], List[Comment], Optional[Broken]]:
     """The links of a JSON Feed (1.0 and 1.1), and those of the HTML that it holds."""
     try:
         feed = _parsed(source)
     except Broken as broken:
-        return [], set(), broken
+        return [], [], broken
     if not isinstance(feed, dict) or not ("items" in feed or "version" in feed):
         raise NoJson("is no JSON Feed: it has no items and no version")
-    return sorted(_of_feed(source, feed), key=lambda link: link.offset), set(), None
+    return sorted(_of_feed(source, feed), key=lambda link: link.offset), [], None
 
 
 def _of_feed(source: Source, feed: Dict[str, Any]) -> Iterator[Link]:

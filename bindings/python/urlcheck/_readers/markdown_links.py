@@ -9,7 +9,7 @@ from typing import Any, Callable, Dict, List, Optional, Set, Tuple
 
 from . import bare_links, html_links
 from .front_matter import front_matter_of
-from .source import Broken, Link, Source
+from .source import Broken, Comment, Link, Source
 
 
 class _Destination(str):
@@ -48,9 +48,11 @@ class Inlines:
         return found
 
 
-def links_of(source: Source, is_gfm: bool = False, inlines: Optional[Inlines] = None) -> Tuple[List[Link], Set[int], Optional[Broken], Tuple[str, ...]]:
-    """The links of a Markdown document, the lines whose links are to be ignored, why its reader stopped, which it
-    doesn't, and what was passed over.
+def links_of(
+    source: Source, is_gfm: bool = False, inlines: Optional[Inlines] = None
+) -> Tuple[List[Link], List[Comment], Optional[Broken], Tuple[str, ...]]:
+    """The links of a Markdown document, the comments about them, why its reader stopped, which it doesn't, and what was
+    passed over.
 
     Its front matter is no text. What blocks were read as is kept in ``inlines``, for one choice of ``is_gfm``. Raises
     ``ImportError`` where ``markdown-it-py`` isn't installed.
@@ -65,7 +67,7 @@ def links_of(source: Source, is_gfm: bool = False, inlines: Optional[Inlines] = 
     reader.take_references(environment)
     reader.links += front[1] if front else []
     reader.links.sort(key=lambda link: link.offset)
-    return reader.links, reader.ignored, None, tuple(reader.notes)
+    return reader.links, reader.comments, None, tuple(reader.notes)
 
 
 def _without(text: str, end: int) -> str:
@@ -104,7 +106,7 @@ class _Reader:
         self._parse = helpers.parseLinkDestination
         self._last: Tuple[str, int, Any] = ("", 0, None)
         self.links: List[Link] = []
-        self.ignored: Set[int] = set()
+        self.comments: List[Comment] = []
         self.notes: Set[str] = set()
         self._source = source
         # The same as the package reads it, place by place: there a carriage return ends a line too.
@@ -195,13 +197,13 @@ class _Reader:
     def _take_html(self, line: int, content: str, html: str, at: int) -> None:
         """Takes the links of HTML that is at a place of a block's content. It is read without what nests the block,
         which may be within a tag of several lines."""
-        links, ignored, notes = html_links.links_of(Source(html))
+        links, comments, notes = html_links.links_of(Source(html))
         self.notes |= set(notes)
         self.links += [self._moved(link, line, content, at) for link in links]
-        start = self._offset(line, content, at) if ignored else None
-        if start is not None:
-            before = self._seen.position(start)[0] - 1
-            self.ignored |= {before + it for it in ignored}
+        for comment in comments:
+            start = self._offset(line, content, at + comment.offset)
+            if start is not None:
+                self.comments.append(comment._replace(offset=start))
 
     def _moved(self, link: Link, line: int, content: str, at: int) -> Link:
         """A link of HTML that begins at a place of a block's content, with its places in the source."""

@@ -4,11 +4,12 @@ import contextlib
 import gc
 import os
 import re
-from typing import Iterator, List, NamedTuple, Optional, Set, Tuple, Union
+from typing import Iterator, List, NamedTuple, Optional, Sequence, Tuple, Union
 
 from . import css_links, epub, html_links, json_links, markdown_links, rst_links, xml_links
+from .comments import covered
 from .kinds import PACKAGES
-from .source import Broken, Foreign, Link, Source, decoded, encoding_of, without_mark
+from .source import Broken, Comment, Foreign, Link, Source, decoded, encoding_of, without_mark
 
 MOST_BYTES = 32 * 1024 * 1024
 """How many bytes a document may have."""
@@ -40,8 +41,8 @@ class Found(NamedTuple):
 
     source: Source
     links: List[Link]
-    ignored: Set[int]
-    """The lines whose links are to be ignored."""
+    comments: Sequence[Comment]
+    """The comments about the links, each of which has its own."""
     broken: Optional[Broken] = None
     """Why the reader stopped before the document's end, if it did."""
     notes: Tuple[str, ...] = ()
@@ -101,22 +102,25 @@ def _found(data: bytes, kind: str, reading: Reading) -> Found:
         source = decoded(data)
     except Foreign as foreign:
         raise Foreign(foreign.before, encoding_of(data)) from None
-    if kind == "xml":
-        return Found(source, *xml_links.links_of(source, without_mark(data)))
-    if kind == "html":
-        links, ignored, notes = html_links.links_of(source)
-        return Found(source, links, ignored, None, notes)
-    if kind == "rst":
-        links, ignored, notes = rst_links.links_of(source)
-        return Found(source, links, ignored, None, notes)
-    if kind == "css":
-        return Found(source, *css_links.links_of(source))
     if kind == "notebook":
         return Found(source, *json_links.links_of_notebook(source, reading.gfm))
+    found = _read(source, data, kind, reading)
+    return found._replace(links=covered(source, found.links, found.comments))
+
+
+def _read(source: Source, data: bytes, kind: str, reading: Reading) -> Found:
+    """What is found in a document that is one text. Raises ``ImportError`` where its reader isn't installed."""
+    if kind == "xml":
+        return Found(source, *xml_links.links_of(source, without_mark(data)))
+    if kind in ("html", "rst"):
+        links, comments, notes = (html_links if kind == "html" else rst_links).links_of(source)
+        return Found(source, links, comments, None, notes)
+    if kind == "css":
+        return Found(source, *css_links.links_of(source))
     if kind == "json-feed":
         return Found(source, *json_links.links_of_feed(source))
     if kind == LIST:
-        return Found(source, [Link(it.group(), it.start(), True) for it in _LINE.finditer(source.text)], set())
+        return Found(source, [Link(it.group(), it.start(), True) for it in _LINE.finditer(source.text)], ())
     return Found(source, *markdown_links.links_of(source, reading.gfm, reading.inlines))
 
 
@@ -127,5 +131,5 @@ def _found_in_archive(data: bytes, reading: Reading) -> Iterator[Found]:
             found = _found(held, kind, reading)
         except Foreign as foreign:
             before = foreign.before
-            found = Found(before, [], set(), Broken(len(before.text), str(foreign)))
+            found = Found(before, [], (), Broken(len(before.text), str(foreign)))
         yield found._replace(inner=name)

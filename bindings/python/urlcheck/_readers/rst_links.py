@@ -4,11 +4,12 @@ those of Sphinx among them, are read through."""
 import contextlib
 import importlib
 import re
-from typing import Any, Dict, Iterator, List, NamedTuple, Optional, Set, Tuple
+from typing import Any, Dict, Iterable, Iterator, List, NamedTuple, Optional, Set, Tuple
 
+from .comments import comments_of
 from .html_links import links_of as links_of_html
 from .literals import Literals
-from .source import IGNORE, SPACES, Link, Source
+from .source import SPACES, Comment, Link, Source
 
 PASSED_OVER = (
     "roles and directives that docutils doesn't know are read for their text alone; the extension urlcheck.sphinx reads "
@@ -38,25 +39,38 @@ _CODE = frozenset(
 """The directives that docutils doesn't know whose content isn't reStructuredText."""
 
 
-def links_of(source: Source) -> Tuple[List[Link], Set[int], Tuple[str, ...]]:
-    """The links of a document, the lines whose links are to be ignored, and what was passed over. Raises ``ImportError``
-    where ``docutils`` isn't installed."""
+def links_of(source: Source) -> Tuple[List[Link], List[Comment], Tuple[str, ...]]:
+    """The links of a document, the comments about them, and what was passed over. Raises ``ImportError`` where
+    ``docutils`` isn't installed."""
     core: Any = importlib.import_module("docutils.core")
+    nodes: Any = importlib.import_module("docutils.nodes")
     notes: Set[str] = set()
     with _read_through(notes):
         tree = core.publish_doctree(source.text, "<text>", settings_overrides=_SETTINGS)
     literals = Literals()
     literals.put("", source)
     links: List[Link] = []
-    ignored: Set[int] = set()
-    for said in _said(tree, ignored):
+    for said in _said(tree):
         if said.markup is None:
             found = links_of_raw(literals, "", said.line, said.text)
         else:
             found = found_once(literals, "", said.line, said.text, said.markup)
         # (what isn't written, as what :rfc: makes, isn't the author's)
         links += [link for link, is_there in found if is_there]
-    return sorted(links, key=lambda link: link.offset), ignored, tuple(notes)
+    return sorted(links, key=lambda link: link.offset), comments_in(source, tree.findall(nodes.comment)), tuple(notes)
+
+
+def comments_in(source: Source, nodes: Iterable[Any]) -> List[Comment]:
+    """The comments of a source that are for this program, by their nodes. docutils says a line of each, its first or its
+    last."""
+    comments: List[Comment] = []
+    for node in nodes:
+        text = node.astext()
+        end = source.offset(min(_line(node), source.position(len(source.text))[0]), 0)
+        end += len(source.line(_line(node)))
+        start = source.text.rfind(text.partition("\n")[0], 0, end)
+        comments += comments_of(text, start) if start >= 0 else ()
+    return comments
 
 
 class _Said(NamedTuple):
@@ -69,14 +83,12 @@ class _Said(NamedTuple):
     """How it is written, where that is known; none for HTML."""
 
 
-def _said(tree: Any, ignored: Set[int]) -> Iterator[_Said]:
+def _said(tree: Any) -> Iterator[_Said]:
     """The links and the HTML of a document's nodes."""
     nodes: Any = importlib.import_module("docutils.nodes")
     for node in tree.findall():
         line = _line(node)
-        if isinstance(node, nodes.comment) and node.astext().strip() == IGNORE:
-            ignored.add(line + 1 + node.astext().count("\n"))
-        elif isinstance(node, nodes.raw) and "html" in node.get("format", "").split():
+        if isinstance(node, nodes.raw) and "html" in node.get("format", "").split():
             yield _Said(node.astext(), line, None)
         elif is_link(node):
             yield _Said(link_of(node), line, markup_of(node))

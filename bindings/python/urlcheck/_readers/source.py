@@ -10,9 +10,6 @@ from typing import Callable, Iterator, List, Match, NamedTuple, Optional, Patter
 SPACES = " \t\n\f\r"
 """What HTML and XML allow around a URL: ASCII whitespace."""
 
-IGNORE = "urlcheck: ignore"
-"""What a comment says on the line before a link that is meant as it is."""
-
 _WORD = re.compile("[^" + SPACES + "]+")
 
 
@@ -40,6 +37,17 @@ class Asks(enum.Enum):
     """Another destination: as it is written it is text and no link, though an author meant one."""
 
 
+class Comment(NamedTuple):
+    """A comment of a document that is for this program."""
+
+    text: str
+    """What it says, without the spaces around it."""
+    offset: int
+    """Where its text begins in the source, in code points from 0."""
+    line_feeds: int = 0
+    """How many line feeds it has."""
+
+
 class Link(NamedTuple):
     """A link of a document."""
 
@@ -57,6 +65,8 @@ class Link(NamedTuple):
     """What its format asks of it."""
     within: str = ""
     """Where it is within the document besides, as a cell of a notebook and its line."""
+    comments: Tuple[Comment, ...] = ()
+    """The comments that are about it."""
 
     def place(self, at: int) -> int:
         """Where a place of the link is in the source, or its beginning where that isn't known."""

@@ -7,11 +7,12 @@ from typing import Dict, List, NamedTuple, Optional, Set, Tuple
 from xml.parsers import expat
 
 from . import attributes, html_links
+from .comments import comments_of
 from .source import (
-    IGNORE,
     SPACES,
     Asks,
     Broken,
+    Comment,
     Link,
     NamedBase,
     Pieces,
@@ -76,9 +77,9 @@ _TARGET = re.compile(r"<\?[^\s?]+")
 _ATTRIBUTE = re.compile(r"\s+(?P<name>[^\s=]+)\s*=\s*(?:\"(?P<double>[^\"]*)\"|'(?P<single>[^']*)')")
 
 
-def links_of(source: Source, data: bytes) -> Tuple[List[Link], Set[int], Optional[Broken], Tuple[str, ...]]:
-    """The links of an XML document, the lines whose links are to be ignored, why the reader stopped before the end, if it
-    did, and what was passed over."""
+def links_of(source: Source, data: bytes) -> Tuple[List[Link], List[Comment], Optional[Broken], Tuple[str, ...]]:
+    """The links of an XML document, the comments about them, why the reader stopped before the end, if it did, and what
+    was passed over."""
     reader = _Reader(source, data)
     broken = None
     try:
@@ -88,8 +89,8 @@ def links_of(source: Source, data: bytes) -> Tuple[List[Link], Set[int], Optiona
     except Broken as stopped:
         broken = stopped
     if reader.is_known or broken is not None:
-        return reader.links, reader.ignored, broken, tuple(reader.notes)
-    return reader.links + reader.likely, reader.ignored, broken, (*reader.notes, UNKNOWN)
+        return reader.links, reader.comments, broken, tuple(reader.notes)
+    return reader.links + reader.likely, reader.comments, broken, (*reader.notes, UNKNOWN)
 
 
 class _Reader:
@@ -108,7 +109,7 @@ class _Reader:
         self.parser.ProcessingInstructionHandler = self._instruction
         self.parser.EntityDeclHandler = self._entity
         self.links: List[Link] = []
-        self.ignored: Set[int] = set()
+        self.comments: List[Comment] = []
         self._source = source
         self._data = data
         # (code points and bytes are the same places in a document of ASCII)
@@ -155,9 +156,7 @@ class _Reader:
         raise self.broken("an entity is declared, but only the five of XML are expanded")
 
     def _comment(self, data: str) -> None:
-        if data.strip() == IGNORE:
-            line, _ = self._source.position(self._offset())
-            self.ignored.add(line + data.count("\n") + 1)
+        self.comments += comments_of(data, self._offset() + len("<!--"))
 
     def _instruction(self, target: str, data: str) -> None:
         """Takes the link of a style sheet's instruction before the outermost element; further down it is none."""

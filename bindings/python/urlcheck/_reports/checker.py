@@ -1,7 +1,7 @@
 """What is wrong with the links of documents."""
 
 import re
-from typing import Dict, List, NamedTuple, Optional, Protocol, Tuple, Union
+from typing import Dict, FrozenSet, List, NamedTuple, Optional, Protocol, Tuple, Union
 
 from .. import Base, BaseRefused, Diagnostic, Fault, Mended, Profile, Refused, Region, check, faults, mend, message, resolve
 from .._readers.source import Asks, Link, NamedBase
@@ -38,8 +38,11 @@ class Wrong(NamedTuple):
     mended: Optional[Mended]
 
 
-Verdicts = Dict[Tuple[str, Optional[str], Asks], Optional[Wrong]]
-"""What is wrong with texts, if something is, by what they are checked against and what their formats ask."""
+Verdicts = Dict[Tuple[str, Optional[str], Asks, FrozenSet[str]], Optional[Wrong]]
+"""What is wrong with texts, if something is, by what they are checked against, what their formats ask, and the rules
+that don't count."""
+
+_NONE: FrozenSet[str] = frozenset()
 
 
 class Checker:
@@ -91,32 +94,30 @@ class Checker:
         except BaseRefused:
             return around
 
-    def finding(self, name: str, places: Positions, link: Link) -> Optional[Finding]:
-        """What is wrong with a link of the document of that name, if something is."""
-        wrong = self.wrong(link)
-        if wrong is None:
-            return None
+    def finding(self, name: str, places: Positions, link: Link, wrong: Wrong) -> Finding:
+        """What is wrong with a link of the document of that name, with its places."""
         line, column = places.position(link.place(wrong.place))
         region = None if wrong.mended is None else region_of(places, link)
         where = name, line, column, link.text, wrong.rule, wrong.place
         end = end_of(places, link, wrong.place)
         return Finding(Diagnostic(*where, self._profile, wrong.mended, region, end), wrong.message, link.within)
 
-    def wrong(self, link: Link) -> Optional[Wrong]:
-        """What is wrong with a link, if something is."""
+    def wrong(self, link: Link, without: FrozenSet[str] = _NONE) -> Optional[Wrong]:
+        """What is wrong with a link, if something is, but for what violates these rules."""
         base = self._base(link.base)
-        key = link.text, None if base is None else base.text, link.asks
+        key = link.text, None if base is None else base.text, link.asks, without
         if key in self._verdicts:
             return self._verdicts[key]
         if len(self._verdicts) >= MOST_KEPT:
             self._verdicts.clear()
-        found = self._verdicts[key] = self._checked(link.text, link.asks, base)
+        selected = Selected(self._selected.names - without) if without else self._selected
+        found = self._verdicts[key] = self._checked(link.text, link.asks, base, selected)
         return found
 
-    def _checked(self, text: str, asks: Asks, base: Optional[Base]) -> Optional[Wrong]:
+    def _checked(self, text: str, asks: Asks, base: Optional[Base], selected: Selected) -> Optional[Wrong]:
         if asks is Asks.ANOTHER or (asks is Asks.SOME and not text and not self._is_empty_taken):
             rule = OF_FORMATS[OF_ASKS[asks]]
-            if not self._selected.has(rule.name):
+            if not selected.has(rule.name):
                 return None
             place = 0 if rule.name == EMPTY else text.find(" ")
             return Wrong(rule.name, place, rule.sentence, None if rule.name == EMPTY else self._mended(text, base))
@@ -127,17 +128,19 @@ class Checker:
         answer = check(text, base, self._profile)
         if answer:
             return None
-        fault = self._reported(text, base, answer)
+        fault = self._reported(text, base, answer, selected)
         if fault is None:
             return None
         return Wrong(fault.rule, fault.place, message(text, fault, self._profile), self._mended(text, base))
 
-    def _reported(self, text: str, base: Optional[Base], refused: Refused) -> Union[Refused, Fault, None]:
+    def _reported(
+        self, text: str, base: Optional[Base], refused: Refused, selected: Selected
+    ) -> Union[Refused, Fault, None]:
         """The first fault of a refused text whose rule is one that is reported."""
-        if self._selected.has(refused.rule):
+        if selected.has(refused.rule):
             return refused
         found = faults(text, base, self._profile)
-        return next((it for it in found if self._selected.has(it.rule)), None)
+        return next((it for it in found if selected.has(it.rule)), None)
 
     def _mended(self, text: str, base: Optional[Base]) -> Optional[Mended]:
         """What to write in place of a refused link, where that is wanted and there is such a text."""

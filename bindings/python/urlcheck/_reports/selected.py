@@ -23,6 +23,10 @@ class Selected(NamedTuple):
         """Whether what violates a rule is reported."""
         return rule in self.names
 
+    def are_all(self) -> bool:
+        """Whether what violates any rule is reported."""
+        return len(self.names) == len(NAMES)
+
     def among(self, other: "Selected") -> "Selected":
         """Those of its rules that another one has too."""
         return Selected(self.names & other.names)
