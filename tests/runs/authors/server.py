@@ -293,6 +293,20 @@ class Served(unittest.TestCase):
         self.assertEqual(client.open(uri, "<http://a_b/>"), [])
         client.end()
 
+    def test_comments(self):
+        """A comment leaves out links; one that isn't needed or understood is a warning where it is."""
+        client = self.start()
+        uri = "file:///c/comments.html"
+        wrong = "<a href='http://h/ ^'>\n"
+        seen = client.open(uri, "<!-- urlcheck: ignore -->\n" + wrong + "<!-- urlcheck:ignore[code-point] -->\n" + wrong)
+        self.assertEqual(seen, [])
+        for comment, links in (("urlcheck: ingore", 1), ("urlcheck: ignore[percent]", 1), ("urlcheck: ignore-file", 0)):
+            client.change(uri, {"text": "<!-- " + comment + " -->\n" + (wrong if links else "<a href='x'>")})
+            seen = client.diagnostics(uri)
+            self.assertEqual([(it["code"], it["severity"]) for it in seen], [("code-point", 1)] * links + [("comment", 2)])
+            self.assertEqual(seen[-1]["range"], at(0, 4))
+            self.assertIn("'" + comment + "' isn't ", seen[-1]["message"])
+
     def test_gfm_that_changes(self):
         """What blocks of Markdown were read as is kept for one choice of ``gfm``: of the text of code none is a link by it."""
         client = self.start()
