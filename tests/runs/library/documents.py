@@ -163,6 +163,21 @@ class Documents(Texts):
         self.finds("videos.xml", VIDEOS, "3:27:http://h/t\n4:17:http://h/ c\n5:16:p\n")
         self.finds("podcast.rss", PODCAST, "2:21:http://h/ b\n4:28:http://h/c\n5:20:d.png\n")
 
+    def test_what_names_something_in_feeds(self):
+        """What may name something by a URL is a link where it begins as one, and else it is another word."""
+        spaces = 'xmlns:m="http://search.yahoo.com/mrss/" xmlns:d="http://purl.org/dc/elements/1.1/"'
+        text = """<rss {0}><item>
+<category domain="{1}">x</category><m:category scheme="{1}">x</m:category>
+<m:rating scheme="{1}">x</m:rating>
+<d:source>{1}</d:source>
+<d:identifier> {1}</d:identifier></item></rss>"""
+        for name in ("http://h/a b", "urn:a b", "HTTPS://h/^"):
+            places = (2, 19), (2, 53 + len(name)), (3, 19), (4, 11), (5, 16)
+            self.finds("a.rss", text.format(spaces, name), "".join("{}:{}:{}\n".format(*it, name) for it in places))
+        for name in ("no link", "DOI: 10.1000/182", "urn", "a b:c", ""):
+            self.finds("a.rss", text.format(spaces, name), "")
+        self.finds("a.rss", '<rss {}>\n<m:copyright url="a b">x</m:copyright></rss>'.format(spaces), "2:19:a b\n")
+
     @unittest.skipUnless(importlib.util.find_spec("markdown_it"), "markdown-it-py isn't installed")
     def test_markdown(self):
         self.finds("a.md", NOTES, NOTES_LINKS)

@@ -31,6 +31,8 @@ from .xml_names import (
     KNOWN,
     LIKE_LINKS,
     LIKE_TEXTS,
+    NAMING_ATTRIBUTES,
+    NAMING_TEXTS,
     NOWHERE,
     OF_ANY_ELEMENT,
     OF_PAGES,
@@ -56,6 +58,9 @@ UNKNOWN = (
 
 _SCHEME = re.compile("[A-Za-z][A-Za-z0-9+.-]*:")
 
+_NAMING = re.compile("[A-Za-z][A-Za-z0-9+.-]*://|urn:", re.IGNORECASE)
+"""How a value begins that names something by a URL, where it may do so by another word."""
+
 _PLACEHOLDER = "${"
 """What a value of a project's file has that is filled in later."""
 
@@ -66,6 +71,8 @@ class _Taking(NamedTuple):
     is_html: bool = False
     is_likely: bool = False
     """Whether it is taken where no name of the document is known alone."""
+    is_naming: bool = False
+    """Whether it is taken only where it begins as a URL."""
     asks: Asks = Asks.REFERENCE
 
 
@@ -196,7 +203,9 @@ class _Reader:
         """Takes the links of a start tag, and gives what ``xml:base`` names within the element."""
         base = self._bases[-1]
         is_meta = element == (XHTML, "meta")
-        is_wanted = is_meta or any(_is_url(element, it) or it == (XML, "base") or it in _STYLES for it in names)
+        is_wanted = is_meta or any(
+            _is_url(element, it) or it == (XML, "base") or it in _STYLES or _is_naming(element, it) for it in names
+        )
         if not is_wanted and (self.is_known or not any(it[1] in LIKE_LINKS for it in names)):
             return base
         places = self._places(self._offset(), values)
@@ -207,7 +216,7 @@ class _Reader:
                 key = self.links[-1].text, around
                 base = self._named.setdefault(key, NamedBase(*key))
         for name, value, written in zip(names, values, places):
-            if _is_url(element, name):
+            if _is_url(element, name) or (_is_naming(element, name) and _NAMING.match(value.lstrip(SPACES))):
                 self.is_known = True
                 self._take(element, name[1], value, written, base)
             elif name in _STYLES and element[0] in OF_PAGES:
@@ -284,6 +293,8 @@ class _Reader:
             link = link._replace(is_verbatim=True, pieces=())
         if self._taking.is_likely:
             self.likely += [link] * bool(_SCHEME.match(link.text))
+        elif self._taking.is_naming:
+            self.links += [link] * bool(_NAMING.match(link.text))
         elif (link.text or link.asks is Asks.ABSOLUTE) and _PLACEHOLDER not in link.text:
             self.links.append(link)
 
@@ -316,6 +327,8 @@ def _taking(element: Name, values: Dict[Name, str]) -> Optional[_Taking]:
         return _Taking(asks=Asks.ABSOLUTE)
     if element in TEXTS:
         return _Taking(asks=TEXTS[element])
+    if element in NAMING_TEXTS:
+        return _Taking(is_naming=True)
     if element[0] not in KNOWN and element[1] in LIKE_TEXTS:
         return _Taking(is_likely=True)
     return None
@@ -346,6 +359,11 @@ def _split(name: str) -> Name:
 def _is_refresh(names: List[Name], values: List[str]) -> bool:
     """Whether the attributes are those of a refresh."""
     return any(name == ("", "http-equiv") and value.lower() == "refresh" for name, value in zip(names, values))
+
+
+def _is_naming(element: Name, name: Name) -> bool:
+    """Whether an attribute's value names something, by a URL or by another word."""
+    return element in NAMING_ATTRIBUTES and name[0] == "" and name[1] in NAMING_ATTRIBUTES[element]
 
 
 def _is_url(element: Name, name: Name) -> bool:

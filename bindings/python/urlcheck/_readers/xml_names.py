@@ -22,6 +22,7 @@ ITUNES = "http://www.itunes.com/dtds/podcast-1.0.dtd"
 MEDIA = "http://search.yahoo.com/mrss/"
 PODCAST = "https://podcastindex.org/namespace/1.0"
 PLAY = "http://www.google.com/schemas/play-podcasts/1.0"
+DUBLIN_CORE = "http://purl.org/dc/elements/1.1/"
 COMMENTS = "http://wellformedweb.org/CommentAPI/"
 FEEDBURNER = "http://rssnamespace.org/feedburner/ext/1.0"
 THREADS = "http://purl.org/syndication/thread/1.0"
@@ -111,6 +112,7 @@ ATTRIBUTES: Dict[Name, Set[str]] = {
     (PLAY, "image"): {"href"},
     **{(MEDIA, name): {"url"} for name in ("content", "thumbnail", "player", "embed")},
     **{(MEDIA, name): {"href"} for name in ("license", "peerLink", "subTitle")},
+    (MEDIA, "copyright"): {"url"},
     **{(PODCAST, name): {"url"} for name in ("transcript", "chapters", "funding", "trailer", "license", "socialInteract")},
     (PODCAST, "person"): {"href", "img"},
     (PODCAST, "image"): {"href"},
@@ -137,6 +139,15 @@ ATTRIBUTES: Dict[Name, Set[str]] = {
     (XINCLUDE, "include"): {"href"},
 }
 """The attributes of no namespace whose value is a URL, by their element."""
+
+NAMING_ATTRIBUTES: Dict[Name, Set[str]] = {
+    (RSS, "category"): {"domain"},
+    **{(MEDIA, name): {"scheme"} for name in ("category", "rating")},
+}
+"""The attributes whose value names something, by a URL or by another word."""
+
+NAMING_TEXTS: Set[Name] = {(DUBLIN_CORE, name) for name in ("identifier", "source")}
+"""The elements whose text does."""
 
 OF_ANY_ELEMENT: Dict[str, FrozenSet[str]] = {PROSE: frozenset(("href", "conref", "conrefend", "copy-to"))}
 """The attributes of any element of a namespace whose value is a URL."""
