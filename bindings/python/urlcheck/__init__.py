@@ -10,7 +10,7 @@
 >>> urlcheck.resolve("../x", "http://h/a/b")
 'http://h/x'
 >>> urlcheck.mend("http://h/a b")
-Mended(text='http://h/a%20b', kind=<MendKind.SAME: 'same'>)
+Mended(text='http://h/a%20b', kind=<MendKind.SAME: 'same'>, is_offered=True)
 
 A text without a scheme is valid against a base alone: ``check("../x", "http://h/a/b")``. The functions keep no state
 and may be called from any thread.
@@ -18,7 +18,7 @@ and may be called from any thread.
 
 import enum
 from dataclasses import dataclass
-from typing import Any, Iterable, Iterator, Literal, Optional, Tuple, Union
+from typing import Any, Iterable, Iterator, List, Literal, Optional, Tuple, Union
 
 from ._library import native
 
@@ -103,8 +103,8 @@ class Refused:
         return False
 
 
-class MendKind(enum.Enum):
-    """How a mended text differs from the refused one.
+class MendKind(str, enum.Enum):
+    """How a mended text differs from the refused one. Each is a ``str`` too, so that JSON has it.
 
     ``SAME``: a second parser reads both as the same URL. ``ESCAPED``: not so, and some code points of the refused text
     are percent-encoded, and nothing else. ``CHANGED``: neither, so its author has to look.
@@ -124,6 +124,8 @@ class Mended:
 
     text: str
     kind: MendKind
+    is_offered: bool = True
+    """Whether a report says to write it: nothing shows that the text's author meant something else."""
 
 
 @dataclass(frozen=True)
@@ -210,6 +212,11 @@ def version() -> str:
     """The version of the library that is called."""
     number = native.version()
     return "{}.{}.{}".format(number // 10000, number // 100 % 100, number % 100)
+
+
+def __dir__() -> List[str]:
+    """What the package has for its callers."""
+    return sorted(__all__)
 
 
 def _answers(texts: Iterator[str], base: AnyBase, profile: Profile) -> Iterator[Union[Valid, Refused]]:

@@ -8,11 +8,11 @@ PROGRAM = "urlcheck-documents"
 
 
 def _is_asked_for() -> bool:
-    """Whether Python loads the package to run the program: by its name, or by ``-m urlcheck.documents``, where it loads
-    the package before the module. (Before 3.10 Python doesn't tell that.)"""
+    """Whether Python loads the package to run the program: by its name, or by ``-m``, where it loads the package before
+    the module. (Before 3.10 Python doesn't tell that.)"""
     if sys.argv[:1] == ["-m"]:
         words = getattr(sys, "orig_argv", [])
-        return ("-m", "urlcheck.documents") in zip(words, words[1:])
+        return any(pair in zip(words, words[1:]) for pair in (("-m", "urlcheck"), ("-m", "urlcheck.documents")))
     # (on Windows it has an ending)
     return [os.path.basename(word).partition(".")[0] for word in sys.argv[:1]] == [PROGRAM]
 

@@ -1,7 +1,9 @@
 """Tests of the package's errors and types: what is raised, that it can be sent to another process, and several texts."""
 
 import copy
+import dataclasses
 import gc
+import json
 import multiprocessing
 import pickle
 import sys
@@ -22,6 +24,22 @@ class Errors(unittest.TestCase):
             self.assertEqual((other.rule, other.place, str(other)), (refused.rule, refused.place, str(refused)))
         with multiprocessing.Pool(2) as pool, self.assertRaises(urlcheck.BaseRefused):
             pool.map(against, ["http://h/", "no base"])
+
+    def test_names(self):
+        """The package shows what it has for its callers."""
+        self.assertEqual(dir(urlcheck), sorted(urlcheck.__all__))
+        for name in urlcheck.__all__:
+            self.assertTrue(hasattr(urlcheck, name), name)
+
+    def test_json(self):
+        """An answer is a dictionary by `dataclasses.asdict`, and JSON has that."""
+        answer = dataclasses.asdict(urlcheck.check("http://h:8/a?b"))
+        wanted = {"scheme": "http", "host": "h", "port": "8", "path": "/a", "query": "b", "fragment": None}
+        self.assertEqual(json.loads(json.dumps(answer)), wanted)
+        self.assertEqual(dataclasses.asdict(urlcheck.check("http://h/ ")), {"rule": "code-point", "place": 9})
+        self.assertEqual([dataclasses.asdict(it) for it in urlcheck.faults("http://h/^")], [{"rule": "code-point", "place": 9}])
+        mended = json.loads(json.dumps(dataclasses.asdict(urlcheck.mend("http://h/^"))))
+        self.assertEqual(mended, {"text": "http://h/%5E", "kind": "same", "is_offered": True})
 
     def test_what_is_wanted_is_said(self):
         for words, error, said in (

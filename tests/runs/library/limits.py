@@ -198,7 +198,7 @@ class Limits(Texts):
             wanted = "the module urlcheck._native can't be loaded: " + why.format(file) + remedy
             runs = [(["urlcheck-documents"], 2), (["-c", "import urlcheck"], 1), (["-m", "other"], 1)]
             if hasattr(sys, "orig_argv"):
-                runs += [(["-m", "urlcheck.documents", "a.html"], 2), (["-m", "urlcheck.documents"], 2)]
+                runs += [(["-m", "urlcheck.documents", "a.html"], 2), (["-m", "urlcheck.documents"], 2), (["-m", "urlcheck"], 2)]
             for words, status in runs:
                 with self.subTest(module=module, words=words):
                     ran = subprocess.run([sys.executable, *words], cwd=self.room, env=given, capture_output=True)

@@ -96,6 +96,14 @@ class Words(Texts):
         self.assertEqual((status, out), (2, ""))
         self.assertIn("d: has no document: no name in this folder that isn't excluded ends in .html, ", said)
 
+    def test_the_package_as_a_program(self):
+        """`python3 -m urlcheck` is the same program."""
+        self.write("a.html", "<a href='x y'>")
+        for words in (["a.html"], ["--list", "a.html"], ["--version"], ["--no"]):
+            ran = [subprocess.run([sys.executable, "-m", name, *words], cwd=self.room, capture_output=True)
+                   for name in ("urlcheck", "urlcheck.documents")]
+            self.assertEqual(*((it.returncode, it.stdout, it.stderr) for it in ran))
+
     def test_quiet(self):
         """The counts alone are left out."""
         self.write("a.html", "<a href='x y'>")
