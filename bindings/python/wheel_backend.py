@@ -1,16 +1,21 @@
-"""Builds the wheel of the package (PEP 517) by the standard library alone, so that installing it needs no network.
+"""Builds the wheel of the package, and an archive of what it is built from (PEP 517), by the standard library alone, so
+that installing it needs no network.
 
 The folder is what tools/build-library writes: beside pyproject.toml are VERSION, PLATFORM (the tag of the systems on
-which the extension module runs), the licences, and the package with that module. Where there is a folder `bin` too,
-the programs in it are installed with the package, as those of a release's wheel. Two builds give the same bytes.
+which the extension module runs), the licences, and the package with that module, which the archive has too. Where there
+is a folder `bin`, the programs in it are installed with the package, as those of a release's wheel. Two builds give the
+same bytes.
 """
 
 import base64
 import glob
+import gzip
 import hashlib
+import io
 import os
 import re
 import stat
+import tarfile
 import time
 import zipfile
 
@@ -86,6 +91,7 @@ def _metadata():
         "Keywords: " + ",".join(_listed("keywords")),
     ]
     lines += ["Classifier: " + it for it in _listed("classifiers")]
+    lines += ["Project-URL: {}, {}".format(name, address.strip('"')) for name, address in _lines("urls")]
     lines += ["License-File: " + file for file in _licences()]
     lines += ["Requires-Python: " + _project('requires-python = "(.*)"')]
     lines += _extras()
@@ -153,14 +159,26 @@ def _files(tag):
     return files
 
 
+def _sources():
+    """What the archive holds, by its names within its folder."""
+    names = [TABLE, "wheel_backend.py", _project('readme = "(.*)"'), "VERSION", "PLATFORM", *_licences()]
+    files = {"PKG-INFO": _metadata().encode()}
+    for name in names:
+        with open(name, "rb") as file:
+            files[name] = file.read()
+    files.update(_held(NAME, NAME + "/"))
+    if os.path.isdir(PROGRAMS):
+        files.update(_held(PROGRAMS, PROGRAMS + "/"))
+    return files
+
+
 def _digest(data):
     return base64.urlsafe_b64encode(hashlib.sha256(data).digest()).rstrip(b"=").decode()
 
 
-def _date():
-    """The date of each file in the wheel: that of SOURCE_DATE_EPOCH, else the first that a zip file can tell."""
-    seconds = int(os.environ.get("SOURCE_DATE_EPOCH", "315532800"))
-    return time.gmtime(max(seconds, 315532800))[:6]
+def _seconds():
+    """The time of each file that is written: that of SOURCE_DATE_EPOCH, else the first that a zip file can tell."""
+    return max(int(os.environ.get("SOURCE_DATE_EPOCH", "315532800")), 315532800)
 
 
 def build_wheel(wheel_directory, config_settings=None, metadata_directory=None):
@@ -173,9 +191,23 @@ def build_wheel(wheel_directory, config_settings=None, metadata_directory=None):
     wheel = "{}-{}-{}.whl".format(NAME, _text("VERSION"), tag)
     with zipfile.ZipFile(os.path.join(wheel_directory, wheel), "w", zipfile.ZIP_DEFLATED) as out:
         for name, data in files.items():
-            entry = zipfile.ZipInfo(name, _date())
+            entry = zipfile.ZipInfo(name, time.gmtime(_seconds())[:6])
             entry.compress_type = zipfile.ZIP_DEFLATED
             # (an installer makes a script executable where its mode says so, as that of a regular file)
             entry.external_attr = (stat.S_IFREG | (0o755 if name.startswith(_scripts()) else 0o644)) << 16
             out.writestr(entry, data)
     return wheel
+
+
+def build_sdist(sdist_directory, config_settings=None):
+    """Writes the archive into the folder, and gives its name."""
+    base = "{}-{}".format(NAME, _text("VERSION"))
+    path = os.path.join(sdist_directory, base + ".tar.gz")
+    with open(path, "wb") as file, gzip.GzipFile("", "wb", fileobj=file, mtime=_seconds()) as packed:
+        with tarfile.open(fileobj=packed, mode="w", format=tarfile.PAX_FORMAT) as out:
+            for name, data in sorted(_sources().items()):
+                entry = tarfile.TarInfo(base + "/" + name)
+                entry.size, entry.mtime = len(data), _seconds()
+                entry.mode = 0o755 if name.startswith(PROGRAMS + "/") else 0o644
+                out.addfile(entry, io.BytesIO(data))
+    return os.path.basename(path)

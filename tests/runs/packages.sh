@@ -125,8 +125,9 @@ done
 # The metadata of the wheel are such that the tool of registries takes it.
 if command -v twine >/dev/null; then
     mkdir "$room/wheels"
-    (cd "$library/python" && quietly python3 -B -c 'import sys, wheel_backend; wheel_backend.build_wheel(sys.argv[1])' "$room/wheels")
-    quietly twine check --strict "$room"/wheels/*.whl
+    (cd "$library/python" && quietly python3 -B -c 'import sys, wheel_backend as it
+it.build_wheel(sys.argv[1]); it.build_sdist(sys.argv[1])' "$room/wheels")
+    quietly twine check --strict "$room"/wheels/*
 else
     echo "packages: the wheel's metadata are left out, since twine isn't installed"
 fi
@@ -184,6 +185,14 @@ if python3 -m pip --version >/dev/null 2>&1; then
     grep -qx 'urlcheck = urlcheck.mkdocs:Plugin' "$room"/site/*.dist-info/entry_points.txt ||
         fail "the wheel has no plugin for MkDocs"
     [ -x "$room/site/bin/urlcheck-language-server" ] || fail "the wheel has no urlcheck-language-server"
+    # The archive that it is built from gives the same wheel, and is the same each time.
+    for folder in "$room/wheel" "$room/again"; do
+        mkdir "$folder.out"
+        (cd "$folder" && quietly python3 -B -c 'import sys, wheel_backend as it
+it.build_wheel(sys.argv[1]); it.build_sdist(sys.argv[1])' "$folder.out")
+        [ -d "$room/again" ] || { mkdir "$room/again"; tar -C "$room/again" --strip-components 1 -xzf "$folder"/../wheel.out/*.tar.gz; }
+    done
+    diff -r "$room/wheel.out" "$room/again.out" || fail "the archive of the package gives another wheel"
     PYTHONPATH=$room/site "$room/site/bin/urlcheck-documents" --version >"$room/said" || fail "the wheel's urlcheck-documents"
     grep -qF "$version" "$room/said" || fail "the wheel's urlcheck-documents says: $(cat "$room/said")"
 else
