@@ -136,6 +136,7 @@ done
 for python in python3 /usr/bin/python3; do
     [ -z "$(command -v "$python")" ] || "$python" forms.py || exit 1
 done
+python3 schemas.py "$program" || exit 1
 # Where the system copies no process, as Windows, documents are read by a Python that begins anew.
 WITHOUT_FORK=1 python3 documents.py Documents.test_{html,xml,bases,messages} >"$room/tests" 2>&1 ||
     { cat "$room/tests"; exit 1; }
