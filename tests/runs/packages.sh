@@ -70,6 +70,7 @@ for page in urlcheck.1 urlcheck-documents.1 urlcheck-language-server.1; do
     grep -qF "urlcheck $version" docs/share/man/$page || fail "docs/share/man/$page has another version than VERSION"
 done
 [ "$(grep -cF "rev: v$version " docs/guides/hook.md)" = 2 ] || fail "docs/guides/hook.md names another tag than VERSION"
+grep -qF "urlcheck@v$version " docs/guides/github.md || fail "docs/guides/github.md names another tag than VERSION"
 for page in github gitlab; do
     found=$(grep -oE '(/v|urlcheck-)[0-9]+[.][0-9]+[.][0-9]+' docs/guides/$page.md | sort -u | xargs)
     [ "$found" = "/v$version urlcheck-$version" ] || fail "docs/guides/$page.md fetches another release than that of VERSION"
