@@ -38,6 +38,7 @@ ENDED = ("../library/limits.py", "Limits.test_documents_of_one_process")
 GREW = ("../library/limits.py", "Limits.test_a_process_ends_that_grew")
 TOKENS = ("../library/documents.py", "Documents.test_tokens_of_html")
 SPACED = ("builds.py", "Sphinx.test_a_space_beside_the_same_link")
+COMMENTS = ("../library/comments.py", "Comments.test_comments_of_html")
 
 COPIES = (
     Spoiled("a kind is dropped", "_readers/kinds.py", '    "rst": ("rst", "rest"),\n', "", ("expectations.py", "reStructuredText"), ("docutils",)),
@@ -83,6 +84,12 @@ COPIES = (
             ("../library/sources.py", "Markdown.test_a_broken_link_counts_once"), ("markdown_it",)),
     Spoiled("names have ./ before them in formats for programs", "_reports/finding.py", '_HERE.sub("", name)', "name",
             ("../library/projects.py", "Several.test_names_of_the_current_folder")),
+    Spoiled("a comment beside a link is about the next line", "_readers/comments.py", "for line in own or [after[last]]]", "for line in [_line_after(source, last)]]", COMMENTS),
+    Spoiled("an empty line counts after a comment", "_readers/comments.py", "while line <= last and not", "while line < 0 and not", COMMENTS),
+    Spoiled("a comment for a rule leaves out all", "_reports/ignoring.py", "any(left.rule in self._meant[it].rules for it in about)", "True", COMMENTS),
+    Spoiled("a comment that isn't needed isn't told", "_reports/ignoring.py", "if comment not in self._needed:", "if False:", COMMENTS),
+    Spoiled("a misspelt comment isn't told", "_readers/comments.py", "if _OURS.match(text) else ()", "if text.strip().startswith('urlcheck: ignore') else ()", COMMENTS),
+    Spoiled("links are listed where nothing is said", "_documents/arguments.py", "return not given.list", "return given.check", ("../library/words.py", "Words.test_options_between_documents")),
     Spoiled("front matter isn't counted in MkDocs", "mkdocs.py", "text = source if source is not None and is_written else Source(markdown)", "text = Source(markdown)", ("builds.py", "MkDocs.test_each_link_at_its_place"), ("mkdocs",)),
 )
 

@@ -1,7 +1,7 @@
 """Comments of documents that say of links that they are meant as they are."""
 
 import re
-from typing import Dict, List, Sequence, Tuple
+from typing import Dict, List, Sequence, Set, Tuple
 
 from .source import Comment, Link, Source
 
@@ -30,7 +30,7 @@ def covered(source: Source, links: List[Link], comments: Sequence[Comment]) -> L
     return [link._replace(comments=tuple(about.get(line, ()))) for link, line in zip(links, lines)]
 
 
-def _lines_of(source: Source, linked: "set[int]", comments: Sequence[Comment]) -> List[Tuple[int, Comment]]:
+def _lines_of(source: Source, linked: Set[int], comments: Sequence[Comment]) -> List[Tuple[int, Comment]]:
     """The lines that each comment is about, of a source whose links begin on those lines."""
     found = []
     after: Dict[int, int] = {}
