@@ -51,7 +51,8 @@ def _extras():
         for needed in re.findall('"(.*?)"', value):
             package, _, marker = needed.partition("; ")
             condition = 'extra == "{}"'.format(name)
-            lines.append("Requires-Dist: {}; {}".format(package, "{} and {}".format(marker, condition) if marker else condition))
+            condition = "{} and {}".format(marker, condition) if marker else condition
+            lines.append("Requires-Dist: {}; {}".format(package, condition))
     return lines
 
 
@@ -78,7 +79,8 @@ def _listed(name):
 
 
 def _metadata():
-    """The metadata of the package (core metadata 2.1, which the tools of older systems read too), with its README.md."""
+    """The metadata of the package (core metadata 2.1, which the tools of older systems read too), with its
+    README.md."""
     author = '"(.*)", email = "(.*)"'
     name, email = re.search("^authors = .*name = " + author, _text(TABLE), re.M).groups()
     lines = [
@@ -95,7 +97,8 @@ def _metadata():
     lines += ["License-File: " + file for file in _licences()]
     lines += ["Requires-Python: " + _project('requires-python = "(.*)"')]
     lines += _extras()
-    lines += ["Description-Content-Type: text/markdown; charset=UTF-8; variant=CommonMark", "", _text(_project('readme = "(.*)"'))]
+    lines += ["Description-Content-Type: text/markdown; charset=UTF-8; variant=CommonMark", ""]
+    lines += [_text(_project('readme = "(.*)"'))]
     return "\n".join(lines) + "\n"
 
 

@@ -256,4 +256,5 @@ native.use(
 __version__ = version()
 
 from ._many import Findings, Mendings, check_many, is_valid_many, mend_many, resolve_many  # noqa: E402
-from ._reports.report import FORMATS, UNITS, Diagnostic, Explanation, Region, column, explain, message, report  # noqa: E402
+from ._reports.report import FORMATS, UNITS, Diagnostic, Explanation, Region  # noqa: E402
+from ._reports.report import column, explain, message, report  # noqa: E402

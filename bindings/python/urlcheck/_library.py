@@ -21,7 +21,8 @@ def _unloaded(why: str) -> BaseException:
     """What is raised where no module fits: an ``ImportError``, and for the program an end with status 2, once its
     standard error says why."""
     said = (
-        "the module urlcheck._native {}; the wheel of a release has it, and 'tools/build-library DIR' makes it in a checkout"
+        "the module urlcheck._native {}; the wheel of a release has it, and 'tools/build-library DIR' makes it in a "
+        "checkout"
     ).format(why)
     if not _is_asked_for():
         return ImportError(said)

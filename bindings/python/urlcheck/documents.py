@@ -1,8 +1,8 @@
 """The links of documents, where they are: the program ``urlcheck-documents``.
 
-``python3 -m urlcheck.documents FILE..`` (or ``urlcheck-documents FILE..``) checks how they are written, and reports each
-that is refused. With ``--list`` it prints a line ``FILE:LINE:COLUMN:LINK`` for each link, as ``rg --vimgrep -o`` does,
-which ``urlcheck lint --located -`` reads.
+``python3 -m urlcheck.documents FILE..`` (or ``urlcheck-documents FILE..``) checks how they are written, and reports
+each that is refused. With ``--list`` it prints a line ``FILE:LINE:COLUMN:LINK`` for each link, as ``rg --vimgrep -o``
+does, which ``urlcheck lint --located -`` reads.
 """
 
 import contextlib
@@ -101,8 +101,9 @@ def _excluded_by(settings: Settings) -> Callable[[str], Tuple[Excluded, ...]]:
 
 def _paint(given: Asked, format: str) -> Optional[Paint]:
     """What gives a report its colours, if it has some."""
-    is_painted = given.is_checked and given.output is None and format in COLOURED and are_wanted(given.colour, sys.stdout)
-    return (lambda lines: coloured(format, lines)) if is_painted and not given.has_statistics else None
+    is_report = given.is_checked and given.output is None and not given.has_statistics
+    is_painted = is_report and format in COLOURED and are_wanted(given.colour, sys.stdout)
+    return (lambda lines: coloured(format, lines)) if is_painted else None
 
 
 @contextlib.contextmanager

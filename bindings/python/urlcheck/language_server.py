@@ -1,4 +1,5 @@
-"""A language server for links: diagnostics as one types, the mended text as a code action, and on hover what the rule asks.
+"""A language server for links: diagnostics as one types, the mended text as a code action, and on hover what the rule
+asks.
 
 ``urlcheck-language-server`` speaks the Language Server Protocol 3.17 on standard input and output. It needs the package
 ``python-lsp-jsonrpc`` (Debian: python3-pylsp-jsonrpc).
@@ -307,8 +308,8 @@ class Server(MethodDispatcher):  # type: ignore[misc]
         self._endpoint.notify("textDocument/publishDiagnostics", said)
 
     def _seeing(self, uri: str) -> Callable[[], Seen]:
-        """What gives what is seen in a text as it is now, once that is known. It raises ``JsonRpcException`` where the text
-        changes before."""
+        """What gives what is seen in a text as it is now, once that is known. It raises ``JsonRpcException`` where the
+        text changes before."""
         with self._changed:
             document = self._documents.get(uri)
             changes = document.changes if document is not None else 0
@@ -355,11 +356,13 @@ class Server(MethodDispatcher):  # type: ignore[misc]
         def actions() -> List[Json]:
             seen = seeing()
             found = [it for it in _at(seen, within) if it.mended is not None]
-            said = [_action(textDocument["uri"], it, self._options.severity) for it in found] if _is_wanted("quickfix", wanted) else []
+            uri, severity = textDocument["uri"], self._options.severity
+            said = [_action(uri, it, severity) for it in found] if _is_wanted("quickfix", wanted) else []
             same = [it for it in seen.mistakes if it.mended is not None and it.kind is MendKind.SAME]
             if same and wanted is not None and _is_wanted(_FIX_ALL, wanted):
                 edits = {textDocument["uri"]: [_edit(it) for it in same]}
-                said.append({"title": "Write all links that stay the same URL", "kind": _FIX_ALL, "edit": {"changes": edits}})
+                title = "Write all links that stay the same URL"
+                said.append({"title": title, "kind": _FIX_ALL, "edit": {"changes": edits}})
             return said
 
         return actions

@@ -69,7 +69,8 @@ class Plugin(_PLUGINS.BasePlugin):  # type: ignore[misc]
         self._seen: Set[str] = set()
         self._path = str(page.file.abs_src_path or "")
         source = self._literals.source(self._path) if self._path else None
-        is_written = source is not None and "\n".join(source.text.splitlines()).endswith("\n".join(markdown.splitlines()))
+        lines = "\n".join(markdown.splitlines())
+        is_written = source is not None and "\n".join(source.text.splitlines()).endswith(lines)
         text = source if source is not None and is_written else Source(markdown)
         front = front_matter_of(text.text)
         self._first = text.position(front[0])[0] if front and is_written else 1

@@ -68,7 +68,8 @@ def setup(app: Any) -> Dict[str, Any]:
 
 
 def _settings(app: Any) -> _Settings:
-    """What links are checked by: what conf.py says, else the project's configuration. Raises Sphinx's ``ConfigError``."""
+    """What links are checked by: what conf.py says, else the project's configuration. Raises Sphinx's
+    ``ConfigError``."""
     failed: Any = importlib.import_module("sphinx.errors").ConfigError
     config = app.config
     try:
@@ -78,7 +79,8 @@ def _settings(app: Any) -> _Settings:
             raise failed("urlcheck_profile is one of {}".format(", ".join(it.name.lower() for it in Profile)))
         profile = Profile[name.upper()] if name is not None else project.profile or Profile.STANDARD
         is_empty_taken = config.urlcheck_no_empty or project.is_empty_taken
-        checker = Checker(config.urlcheck_base or project.base, profile, False, is_empty_taken, selected=project.selected)
+        base = config.urlcheck_base or project.base
+        checker = Checker(base, profile, False, is_empty_taken, selected=project.selected)
         ignored = tuple(re.compile(it) for it in config.urlcheck_ignore) + project.ignored
     except BaseRefused as refused:
         raise failed("urlcheck_base: {}".format(refused)) from None
@@ -124,7 +126,8 @@ def _tell_all(settings: _Settings, found: List[_Found], comments: List[Comment],
     own = [it for it in found if it.source is source]
     if source is not None:
         links = covered(source, [it.link for it in own], comments)
-        found = [it for it in found if it.source is not source] + [it._replace(link=link) for it, link in zip(own, links)]
+        others = [it for it in found if it.source is not source]
+        found = others + [it._replace(link=link) for it, link in zip(own, links)]
     for it in found:
         _tell(settings, it, ignoring)
     for remark in ignoring.remarks(settings.is_all_reported):
@@ -193,5 +196,5 @@ def _tell(settings: _Settings, found: _Found, ignoring: Ignoring) -> None:
         where[1], at = source.position(link.place(wrong.place))
         column = "" if settings.has_columns else ", column {}".format(at)
         where += [at] if settings.has_columns else []
-    location = ":".join(map(str, where))
-    _LOG.warning("%s: %s%s [%s]", said.text, wrong.message, column, wrong.rule, location=location, type="urlcheck", subtype=wrong.rule)
+    kind = {"location": ":".join(map(str, where)), "type": "urlcheck", "subtype": wrong.rule}
+    _LOG.warning("%s: %s%s [%s]", said.text, wrong.message, column, wrong.rule, **kind)

@@ -237,8 +237,8 @@ if sys.platform != "win32":
 
 
 class _Started(_Child):
-    """One that begins anew, where the system copies none. It is told what it takes, and handed standard input if that is
-    the document."""
+    """One that begins anew, where the system copies none. It is told what it takes, and handed standard input if that
+    is the document."""
 
     def __init__(self, documents: Sequence[Parts], is_input: bool) -> None:
         self._process: "subprocess.Popen[bytes]" = started(__name__)

@@ -205,7 +205,8 @@ def _known(name: str) -> FrozenSet[str]:
 
 
 def with_format(settings: Settings, name: Optional[str], is_checked: bool) -> Settings:
-    """The settings with the format that a project's configuration names, where none is given. Raises ``Misconfigured``."""
+    """The settings with the format that a project's configuration names, where none is given. Raises
+    ``Misconfigured``."""
     if name is None or not settings.is_format_left or not is_checked:
         return settings
     if name not in FORMATS:
@@ -264,7 +265,8 @@ def _parser() -> Parser:
         add_help=False,
         allow_abbrev=False,
     )
-    parser.add_argument("files", nargs="*", metavar="FILE", help="a document, a folder of documents, or - for standard input")
+    helped = "a document, a folder of documents, or - for standard input"
+    parser.add_argument("files", nargs="*", metavar="FILE", help=helped)
     _add_of_input(parser.add_argument_group("input").add_argument)
     _add_of_checks(parser.add_argument_group("checks").add_argument)
     _add_of_fixes(parser.add_argument_group("fixes").add_argument)
@@ -341,8 +343,8 @@ def _add_others(add: Add) -> None:
 
 
 class _Printed(argparse.Action):
-    """An option that prints a text, or the help, and ends the program. (Argparse's own hold their peace where that can't be
-    written.)"""
+    """An option that prints a text, or the help, and ends the program. (Argparse's own hold their peace where that
+    can't be written.)"""
 
     def __init__(self, option_strings: List[str], dest: str, const: Optional[str] = None, help: str = "") -> None:
         super().__init__(option_strings, argparse.SUPPRESS, 0, const, argparse.SUPPRESS, help=help)

@@ -16,7 +16,9 @@ from .folders import Excluded
 
 OWN = ".urlcheck.toml"
 PROJECT = "pyproject.toml"
-_TABLE = re.compile(rb"^[ \t]*\[[ \t]*tool[ \t]*\.[ \t]*urlcheck[ \t]*[\].]|^[ \t]*tool[ \t]*\.[ \t]*urlcheck", re.MULTILINE)
+_TABLE = re.compile(
+    rb"^[ \t]*\[[ \t]*tool[ \t]*\.[ \t]*urlcheck[ \t]*[\].]|^[ \t]*tool[ \t]*\.[ \t]*urlcheck", re.MULTILINE
+)
 """What a project's file has that has a configuration."""
 
 READER = "the package tomli: pip install tomli, or Debian's python3-tomli"
@@ -104,7 +106,8 @@ def _read(file: str, table: Dict[str, Any]) -> Configuration:
     for key in table:
         if key not in _KEYS:
             near = difflib.get_close_matches(key, _KEYS, 1)
-            raise Misconfigured("{}: there is no key {}{}".format(file, key, "; the nearest is " + near[0] if near else ""))
+            more = "; the nearest is " + near[0] if near else ""
+            raise Misconfigured("{}: there is no key {}{}".format(file, key, more))
     profile = _text(file, table, "profile")
     profiles = [it.name.lower() for it in Profile]
     if profile is not None and profile not in profiles:
@@ -136,7 +139,8 @@ def _base(file: str, table: Dict[str, Any], profile: Optional[Profile]) -> Optio
 
 def _selected(file: str, table: Dict[str, Any]) -> Selected:
     try:
-        return selected(_texts(file, table, "select") if "select" in table else None, _texts(file, table, "ignore-rules"))
+        only = _texts(file, table, "select") if "select" in table else None
+        return selected(only, _texts(file, table, "ignore-rules"))
     except NoRule as no_rule:
         raise Misconfigured("{}: {}".format(file, no_rule)) from None
 

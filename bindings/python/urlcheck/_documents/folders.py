@@ -95,8 +95,8 @@ def documents_of(
     is_by_git: bool = False,
 ) -> Iterator[Tuple[str, Optional[str]]]:
     """The documents of these names, and those within a folder whose names' ends say a kind, each with that folder, in
-    order, but for what is left out of folders; then a folder of them that can't be read, and one that has no document in
-    it. Raises ``NoGit``."""
+    order, but for what is left out of folders; then a folder of them that can't be read, and one that has no document
+    in it. Raises ``NoGit``."""
     for name in names:
         if name == "-" or not os.path.isdir(name):
             yield name, None
@@ -128,7 +128,8 @@ def _by_git(name: str, excluded: Tuple[Excluded, ...]) -> Iterator[str]:
     """The files in a folder and those within it that Git tracks, or doesn't ignore."""
     command = [_git(), "-C", name, "ls-files", "-z", "--cached", "--others", "--exclude-standard"]
     try:
-        ran = subprocess.run(command, stdin=subprocess.DEVNULL, stdout=subprocess.PIPE, stderr=subprocess.PIPE, check=False)
+        pipe, nothing = subprocess.PIPE, subprocess.DEVNULL
+        ran = subprocess.run(command, stdin=nothing, stdout=pipe, stderr=pipe, check=False)
     except OSError as error:
         raise NoGit("git can't be run: {}".format(reason_of(error))) from None
     if ran.returncode != 0:

@@ -114,8 +114,8 @@ def ended_by(status: int) -> str:
 
 
 def job_limits(seconds: float) -> bytes:
-    """What Windows is told of a job: how much memory each of its processes may have, and how much processor time, unless
-    that is 0. It counts in 100 nanoseconds."""
+    """What Windows is told of a job: how much memory each of its processes may have, and how much processor time,
+    unless that is 0. It counts in 100 nanoseconds."""
     flags = _OF_MEMORY | (_OF_TIME if seconds else 0)
     return _JOB_LIMITS.pack(int(seconds * 10_000_000), 0, flags, 0, 0, 0, 0, 0, 0, MOST_MEMORY, 0, 0, 0)
 

@@ -22,11 +22,12 @@ _ERASE = "\r\x1b[2K"
 
 
 class Progress:
-    """A line on standard error, where that is a terminal: how many documents were read of all, and how many of their links
-    are refused. Where the system has no signal for time it is written as documents end."""
+    """A line on standard error, where that is a terminal: how many documents were read of all, and how many of their
+    links are refused. Where the system has no signal for time it is written as documents end."""
 
     def __init__(self, total: int, is_quiet: bool) -> None:
-        self._is_shown = not is_quiet and sys.stderr is not None and sys.stderr.isatty() and os.environ.get("TERM") != "dumb"
+        is_terminal = sys.stderr is not None and sys.stderr.isatty() and os.environ.get("TERM") != "dumb"
+        self._is_shown = is_terminal and not is_quiet
         self._total = total
         self._read = self._refused = 0
         self._name = ""

@@ -76,7 +76,8 @@ class Counts:
         self.unread += taken.fault is not None
 
     def status(self) -> int:
-        """2 where a document wasn't read, else 1 where a link is refused, or would be if nothing were written, else 0."""
+        """2 where a document wasn't read, else 1 where a link is refused, or would be if nothing were written, else
+        0."""
         return 2 if self.unread else 1 if self.refused or self.shown else 0
 
 
@@ -231,7 +232,8 @@ class Document:
             part.add_counted(Counted(it.rule, it.text, known))
 
     def _found(self) -> Iterator[Tuple[Found, Optional[Fixed]]]:
-        """What is found in the document, or in each one that it holds; after its links are fixed, where that is asked for."""
+        """What is found in the document, or in each one that it holds; after its links are fixed, where that is asked
+        for."""
         data = self._read()
         assert self.kind is not None
         kind = self.kind
@@ -303,8 +305,8 @@ class Run:
         """The fingerprints of the known faults that are there."""
 
     def take(self, name: str, folder: Optional[str] = None) -> None:
-        """Takes a document, which was found in that folder if it wasn't named itself. It is read with others in a process,
-        and those before it are reported for which there is no room. Raises ``Misconfigured``."""
+        """Takes a document, which was found in that folder if it wasn't named itself. It is read with others in a
+        process, and those before it are reported for which there is no room. Raises ``Misconfigured``."""
         document = Document(self._settings, self._is_checked, name, folder)
         work = document.work()
         if self._work + work >= _ENOUGH:

@@ -11,8 +11,8 @@ _BEGINS = "import sys; sys.path[:] = sys.argv[2:]; __import__('importlib').impor
 
 
 def started(module: str) -> "subprocess.Popen[bytes]":
-    """A process that serves by a module of the package. It looks for modules where this one does, and so not in the current
-    folder, which may be a stranger's."""
+    """A process that serves by a module of the package. It looks for modules where this one does, and so not in the
+    current folder, which may be a stranger's."""
     words = [sys.executable, "-I", *["-B"] * sys.dont_write_bytecode, "-c", _BEGINS, module]
     words += [os.path.abspath(it) for it in sys.path]
     return subprocess.Popen(words, stdin=subprocess.PIPE, stdout=subprocess.PIPE, stderr=subprocess.DEVNULL)

@@ -1,5 +1,5 @@
-"""A process that checks the texts which an editor holds, by the limits that files have, and what starts it anew where it was
-ended."""
+"""A process that checks the texts which an editor holds, by the limits that files have, and what starts it anew where
+it was ended."""
 
 import gc
 import os

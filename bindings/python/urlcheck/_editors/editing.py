@@ -86,8 +86,8 @@ class Text:
 
 
 class LinePlaces:
-    """Finds the line and the unit of a place of a text, both from 0. Of the line that it was asked for last it keeps how
-    far it has counted."""
+    """Finds the line and the unit of a place of a text, both from 0. Of the line that it was asked for last it keeps
+    how far it has counted."""
 
     def __init__(self, text: str, encoding: str) -> None:
         self._text = text
@@ -116,8 +116,8 @@ def is_text(value: Any) -> bool:
 
 
 def encoding_for(offered: Any, columns: Optional[str]) -> str:
-    """What units a client counts: the first of those that it offers, UTF-16 where it offers none, or those that its user
-    says that it counts."""
+    """What units a client counts: the first of those that it offers, UTF-16 where it offers none, or those that its
+    user says that it counts."""
     if columns in ("bytes", "utf-8"):
         return "utf-8"
     if columns in ENCODINGS:

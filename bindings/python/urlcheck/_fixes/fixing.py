@@ -1,4 +1,5 @@
-"""The fixes of a document: which texts are written in the place of its refused links, and the document that this gives."""
+"""The fixes of a document: which texts are written in the place of its refused links, and the document that this
+gives."""
 
 import bisect
 import hashlib
@@ -48,9 +49,9 @@ class Fixed(NamedTuple):
 
 
 def is_fixable(text: str, mended: Mended, is_unsafe: bool) -> bool:
-    """Whether a mended text may be written in a document without asking its author: it is offered, and it is the same URL
-    or the same text percent-encoded, unless ``is_unsafe``. Of a host that is read as numbers it never is, since these may
-    be read otherwise than they look."""
+    """Whether a mended text may be written in a document without asking its author: it is offered, and it is the same
+    URL or the same text percent-encoded, unless ``is_unsafe``. Of a host that is read as numbers it never is, since
+    these may be read otherwise than they look."""
     if mended.kind is MendKind.CHANGED and not is_unsafe:
         return False
     host = _HOST.match(text.translate(_PASSED_OVER))
@@ -83,9 +84,9 @@ def _shifts(edits: Sequence[Edit]) -> Tuple[List[int], List[int]]:
 
 
 def fixed(name: str, data: bytes, found: Found, texts: Iterable[Edit], read: Read) -> Optional[Tuple[Fixed, Found]]:
-    """The document of that name and of these bytes, in which these links were found, after edits, and what is found in it
-    then. There is none without edits, where a reader stopped, and where other links are found than those of before with
-    the texts of the edits."""
+    """The document of that name and of these bytes, in which these links were found, after edits, and what is found in
+    it then. There is none without edits, where a reader stopped, and where other links are found than those of before
+    with the texts of the edits."""
     edits = in_order(texts)
     if not edits or found.broken is not None:
         return None

@@ -15,8 +15,8 @@ class Unwritten(Exception):
 def replace(name: str, digest: bytes, data: bytes, folder: Optional[str] = None) -> None:
     """Writes these bytes into the file of that name, as a new file that takes its place in one step, so that any other
     program finds either of both whole. Its mode and, as far as the system allows it, its owner stay, and what symbolic
-    links lead to is written. Raises ``OSError``; and ``Unwritten`` where its bytes aren't those of the digest any more, or
-    where it isn't in the folder, if one is given, since a link leads out of it."""
+    links lead to is written. Raises ``OSError``; and ``Unwritten`` where its bytes aren't those of the digest any more,
+    or where it isn't in the folder, if one is given, since a link leads out of it."""
     path = os.path.realpath(name)
     if folder is not None and not _is_within(os.path.realpath(folder), path):
         raise Unwritten("is a symbolic link out of the folder, and isn't written")

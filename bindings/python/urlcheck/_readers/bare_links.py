@@ -1,5 +1,5 @@
-"""Bare addresses in a text of GitHub's Markdown, as its specification finds them (GFM 0.29, section 6.9), and what looks like
-a link and is none for a space in its destination."""
+"""Bare addresses in a text of GitHub's Markdown, as its specification finds them (GFM 0.29, section 6.9), and what
+looks like a link and is none for a space in its destination."""
 
 import bisect
 import re

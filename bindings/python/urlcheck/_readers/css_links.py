@@ -45,10 +45,15 @@ def _taken(source: Source, nodes: List[Any], is_sheet: bool) -> Tuple[List[Link]
             begin = source.text.find("(", at) + 1
             links.append(_link(source, node.value, begin))
         elif node.type == "function" and node.lower_name in ("url", "src"):
-            links += [_link(source, it.value, _after(source, it, starts)) for it in node.arguments if it.type == "string"]
+            links += _strings(source, node.arguments, starts)
         elif node.type == "at-rule" and node.lower_at_keyword == "import" and is_sheet:
-            links += [_link(source, it.value, _after(source, it, starts)) for it in node.prelude if it.type == "string"][:1]
+            links += _strings(source, node.prelude, starts)[:1]
     return links, comments
+
+
+def _strings(source: Source, nodes: List[Any], starts: List[int]) -> List[Link]:
+    """The links of those nodes that are strings."""
+    return [_link(source, it.value, _after(source, it, starts)) for it in nodes if it.type == "string"]
 
 
 def _after(source: Source, node: Any, starts: List[int]) -> int:
@@ -64,8 +69,8 @@ def _within(nodes: List[Any]) -> Iterator[Any]:
         node = waiting.pop()
         yield node
         # (the string of a url() is its own)
-        parts = () if node.type == "function" and node.lower_name in ("url", "src") else ("prelude", "content", "arguments")
-        for part in reversed(parts):
+        is_link = node.type == "function" and node.lower_name in ("url", "src")
+        for part in () if is_link else ("arguments", "content", "prelude"):
             waiting += reversed(getattr(node, part, None) or ())
 
 

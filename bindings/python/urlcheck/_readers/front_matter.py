@@ -6,7 +6,8 @@ from typing import Iterator, List, Optional, Tuple
 from .source import Link
 
 _BLOCK = re.compile(
-    r"\A(?:---[ \t]*\r?\n(?P<yaml>.*?)(?<![^\n])(?:---|\.\.\.)|\+\+\+[ \t]*\r?\n(?P<toml>.*?)(?<![^\n])\+\+\+)[ \t]*\r?(?:\n|\Z)",
+    r"\A(?:---[ \t]*\r?\n(?P<yaml>.*?)(?<![^\n])(?:---|\.\.\.)|"
+    r"\+\+\+[ \t]*\r?\n(?P<toml>.*?)(?<![^\n])\+\+\+)[ \t]*\r?(?:\n|\Z)",
     re.DOTALL,
 )
 _URL = "[A-Za-z][A-Za-z0-9+.-]*://"

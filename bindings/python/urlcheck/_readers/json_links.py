@@ -45,8 +45,8 @@ class Text(str):
 
 
 def _parsed(source: Source) -> Any:
-    """The document's value, with each string as a ``Text``. Raises ``Broken``, and ``RecursionError`` where it is nested
-    too deeply."""
+    """The document's value, with each string as a ``Text``. Raises ``Broken``, and ``RecursionError`` where it is
+    nested too deeply."""
 
     def string(text: str, begin: int, strict: bool = True) -> Tuple[Text, int]:
         value, end = _decoding.py_scanstring(text, begin, strict)
@@ -94,8 +94,8 @@ def _place_in(source: Source, texts: List[Text]) -> Callable[[int], int]:
 
 
 def links_of_notebook(source: Source, is_gfm: bool) -> Tuple[List[Link], List[Comment], Optional[Broken]]:
-    """The links of a notebook's cells of Markdown, each with the number of its cell, from 1, and its line there, and with
-    the comments about it; and these comments."""
+    """The links of a notebook's cells of Markdown, each with the number of its cell, from 1, and its line there, and
+    with the comments about it; and these comments."""
     try:
         notebook = _parsed(source)
     except Broken as broken:

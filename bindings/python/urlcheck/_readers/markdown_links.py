@@ -21,8 +21,8 @@ class _Destination(str):
 
 
 class Inlines:
-    """What blocks of Markdown were read as, kept from one reading of a text to the next: most of a text that is edited stays
-    as it is. A block is read by its content and by the references that there are."""
+    """What blocks of Markdown were read as, kept from one reading of a text to the next: most of a text that is edited
+    stays as it is. A block is read by its content and by the references that there are."""
 
     def __init__(self) -> None:
         self._kept: Dict[str, List[Any]] = {}
@@ -207,7 +207,8 @@ class _Reader:
 
     def _moved(self, link: Link, line: int, content: str, at: int) -> Link:
         """A link of HTML that begins at a place of a block's content, with its places in the source."""
-        found = [(begin, self._offset(line, content, at + place)) for begin, place in link.pieces or ((0, link.offset),)]
+        begins = link.pieces or ((0, link.offset),)
+        found = [(begin, self._offset(line, content, at + place)) for begin, place in begins]
         pieces = tuple((begin, place) for begin, place in found if place is not None)
         if len(pieces) < len(found):
             return link._replace(offset=self._seen.offset(line + 1, 0), is_verbatim=False, base=None, pieces=())

@@ -64,7 +64,8 @@ def found_in(given: Union[bytes, str], kind: str, reading: Reading = Reading()) 
         yield from _found_in_archive(data, reading) if kind == "epub" else [_found(data, kind, reading)]
     except ImportError:
         package = PACKAGES.get(kind)
-        raise Unread("is {}, which needs {}".format(package.kind, package.said()) if package else "has no reader") from None
+        why = "is {}, which needs {}".format(package.kind, package.said()) if package else "has no reader"
+        raise Unread(why) from None
     except json_links.NoJson as no_json:
         raise Unread(str(no_json)) from None
     except epub.NoBook as no_book:

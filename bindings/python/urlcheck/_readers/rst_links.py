@@ -1,5 +1,5 @@
-"""The links of a reStructuredText document, by the package ``docutils`` alone: roles and directives that it doesn't know,
-those of Sphinx among them, are read through."""
+"""The links of a reStructuredText document, by the package ``docutils`` alone: roles and directives that it doesn't
+know, those of Sphinx among them, are read through."""
 
 import contextlib
 import importlib
@@ -12,8 +12,8 @@ from .literals import Literals
 from .source import SPACES, Comment, Link, Source
 
 PASSED_OVER = (
-    "roles and directives that docutils doesn't know are read for their text alone; the extension urlcheck.sphinx reads "
-    "those of Sphinx"
+    "roles and directives that docutils doesn't know are read for their text alone; the extension urlcheck.sphinx "
+    "reads those of Sphinx"
 )
 """What is said where there was one."""
 
@@ -61,8 +61,8 @@ def links_of(source: Source) -> Tuple[List[Link], List[Comment], Tuple[str, ...]
 
 
 def comments_in(source: Source, nodes: Iterable[Any]) -> List[Comment]:
-    """The comments of a source that are for this program, by their nodes. docutils says a line of each, its first or its
-    last."""
+    """The comments of a source that are for this program, by their nodes. docutils says a line of each, its first or
+    its last."""
     comments: List[Comment] = []
     for node in nodes:
         text = node.astext()

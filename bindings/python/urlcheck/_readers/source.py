@@ -115,8 +115,8 @@ MOST_MOVED = 4_000
 
 
 def moved(link: Link, source: "Source", place_of: Callable[[int], int]) -> Link:
-    """A link of a text that was read out of a source, with its places there: ``place_of`` says where a place of the text
-    is."""
+    """A link of a text that was read out of a source, with its places there: ``place_of`` says where a place of the
+    text is."""
     offset = place_of(link.offset)
     if link.is_verbatim and source.text.startswith(link.text, offset):
         return link._replace(offset=offset, base=link.base, pieces=())
@@ -137,7 +137,9 @@ MOST_REFERENCES = 10_000
 """How many character references a value may have whose places are kept."""
 
 
-def read(raw: str, offset: int, reference: "Pattern[str]", text_of: "Callable[[Match[str]], str]") -> Tuple[str, Written]:
+def read(
+    raw: str, offset: int, reference: "Pattern[str]", text_of: "Callable[[Match[str]], str]"
+) -> Tuple[str, Written]:
     """A value that is there in the source, with its references read, and where its code points are."""
     texts: List[str] = []
     pieces, most = [(0, offset)], 2 * MOST_REFERENCES + 1
@@ -204,7 +206,8 @@ class Foreign(ValueError):
 _REMEDY = ", and the document names {0}: iconv -f {0} -t UTF-8 makes it UTF-8, and - reads what that writes"
 
 _ENCODING = re.compile(
-    rb"""\A<\?xml[^>]*?\sencoding\s*=\s*["']([\w.:-]{1,40})["']|<meta\s[^>]*?\bcharset\s*=\s*["']?([\w.:-]{1,40})["'\s/>;]""",
+    rb"""\A<\?xml[^>]*?\sencoding\s*=\s*["']([\w.:-]{1,40})["']|"""
+    rb"""<meta\s[^>]*?\bcharset\s*=\s*["']?([\w.:-]{1,40})["'\s/>;]""",
     re.IGNORECASE,
 )
 """What names the encoding of a document of XML or HTML."""

@@ -1,5 +1,5 @@
-"""The links of an XML document, by Python's own ``xml.parsers.expat``: sitemaps, feeds, outlines, XHTML, SVG, XLink, and the
-formats of ``_xml_names``."""
+"""The links of an XML document, by Python's own ``xml.parsers.expat``: sitemaps, feeds, outlines, XHTML, SVG, XLink,
+and the formats of ``_xml_names``."""
 
 import re
 from itertools import accumulate
@@ -51,8 +51,8 @@ MOST_DEPTH = 10_000
 """How many elements may be within one another."""
 
 UNKNOWN = (
-    "its names aren't known: only each href, url and src, and each element url and link, is read, where its value has a "
-    "scheme"
+    "its names aren't known: only each href, url and src, and each element url and link, is read, where its value has "
+    "a scheme"
 )
 """What is said of a document of which no name is known."""
 

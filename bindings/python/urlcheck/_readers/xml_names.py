@@ -27,7 +27,10 @@ COMMENTS = "http://wellformedweb.org/CommentAPI/"
 FEEDBURNER = "http://rssnamespace.org/feedburner/ext/1.0"
 THREADS = "http://purl.org/syndication/thread/1.0"
 TRACKBACK = "http://madskills.com/public/xml/rss/module/trackback/"
-LICENCES = ("http://backend.userland.com/creativeCommonsRssModule", "http://cyber.law.harvard.edu/rss/creativeCommonsRssModule.html")
+LICENCES = (
+    "http://backend.userland.com/creativeCommonsRssModule",
+    "http://cyber.law.harvard.edu/rss/creativeCommonsRssModule.html",
+)
 SITEMAP = "http://www.sitemaps.org/schemas/sitemap/0.9"
 IMAGE = "http://www.google.com/schemas/sitemap-image/1.1"
 VIDEO = "http://www.google.com/schemas/sitemap-video/1.1"
@@ -48,9 +51,9 @@ NOWHERE = " "
 """Any other one, in which no name means anything."""
 
 _PROSE_ROOTS = (
-    *("article", "book", "chapter", "appendix", "preface", "part", "set", "section", "refentry", "glossary", "bibliography"),
-    *("sect1", "sect2", "sect3", "sect4", "sect5", "dita", "topic", "concept", "task", "reference", "map", "bookmap"),
-    *("glossentry", "glossgroup", "troubleshooting"),
+    *("article", "book", "chapter", "appendix", "preface", "part", "set", "section", "refentry", "glossary"),
+    *("bibliography", "sect1", "sect2", "sect3", "sect4", "sect5", "dita", "topic", "concept", "task", "reference"),
+    *("map", "bookmap", "glossentry", "glossgroup", "troubleshooting"),
 )
 
 _OBJECTS = ("imagedata", "videodata", "audiodata", "textdata", "graphic", "inlinegraphic")
@@ -113,7 +116,7 @@ ATTRIBUTES: Dict[Name, Set[str]] = {
     **{(MEDIA, name): {"url"} for name in ("content", "thumbnail", "player", "embed")},
     **{(MEDIA, name): {"href"} for name in ("license", "peerLink", "subTitle")},
     (MEDIA, "copyright"): {"url"},
-    **{(PODCAST, name): {"url"} for name in ("transcript", "chapters", "funding", "trailer", "license", "socialInteract")},
+    **{(PODCAST, name): {"url"} for name in ("transcript", "chapters", "funding", "trailer", "license")},
     (PODCAST, "person"): {"href", "img"},
     (PODCAST, "image"): {"href"},
     (PODCAST, "contentLink"): {"href"},

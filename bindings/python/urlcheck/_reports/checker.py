@@ -3,7 +3,8 @@
 import re
 from typing import Dict, FrozenSet, List, NamedTuple, Optional, Protocol, Tuple, Union
 
-from .. import Base, BaseRefused, Diagnostic, Fault, Mended, Profile, Refused, Region, check, faults, mend, message, resolve
+from .. import Base, BaseRefused, Diagnostic, Fault, Mended, Profile, Refused, Region
+from .. import check, faults, mend, message, resolve
 from .._readers.source import Asks, Link, NamedBase
 from .finding import Finding
 from .rules import EMPTY, OF_ASKS, OF_FORMATS

@@ -19,8 +19,8 @@ _NOTE = re.compile(r"(help|note): ")
 
 
 def are_wanted(when: str, stream: Any) -> bool:
-    """Whether what is written to this stream has colours. ``NO_COLOR`` and ``FORCE_COLOR`` of the environment count where
-    they aren't empty, as no-color.org and force-color.org say."""
+    """Whether what is written to this stream has colours. ``NO_COLOR`` and ``FORCE_COLOR`` of the environment count
+    where they aren't empty, as no-color.org and force-color.org say."""
     if when != "auto":
         return when == "always"
     if os.environ.get("NO_COLOR"):
@@ -42,7 +42,8 @@ def _painted(format: str, lines: List[str]) -> Iterator[str]:
         head = _HEAD.fullmatch(line) if since >= 2 or format == "gnu" else None
         since = 0 if head else since + 1
         if head:
-            yield "{}{}{} {}{}{} {} {}{}{}".format(_BOLD, head[1], _PLAIN, _RED, head[2], _PLAIN, head[3], _DIM, head[4], _PLAIN)
+            place, error, rule = _BOLD + head[1] + _PLAIN, _RED + head[2] + _PLAIN, _DIM + head[4] + _PLAIN
+            yield "{} {} {} {}".format(place, error, head[3], rule)
         elif since == 2 and line:
             yield _RED + line + _PLAIN
         elif since > 2 and _NOTE.match(line):

@@ -58,8 +58,8 @@ _STAND_INS = (explain("two-slashes"), explain("opaque-base"))
 
 
 def _of_format(format: str, it: Diagnostic) -> str:
-    """What is said by a rule of the document's format, which the library doesn't have: what it writes of two others, with
-    the rule's own words where these differ. SARIF has no number for it among the rules of its document."""
+    """What is said by a rule of the document's format, which the library doesn't have: what it writes of two others,
+    with the rule's own words where these differ. SARIF has no number for it among the rules of its document."""
     rule, (one, other) = OF_FORMATS[it.rule], _STAND_INS
     first, second = (said(format, it._replace(rule=each.rule), False) for each in _STAND_INS)
     words = [(one.rule, other.rule, rule.name), (one.sentence, other.sentence, rule.sentence)]
@@ -69,7 +69,8 @@ def _of_format(format: str, it: Diagnostic) -> str:
 
 
 def _reworded(first: str, second: str, words: List[Tuple[str, str, str]]) -> str:
-    """The first of two texts that differ in some words: that of the first, that of the second, and what replaces both."""
+    """The first of two texts that differ in some words: that of the first, that of the second, and what replaces
+    both."""
     written = ""
     while first != second:
         at = len(os.path.commonprefix([first, second]))
@@ -112,8 +113,8 @@ _IN_PROPERTY = {**_IN_MESSAGE, ":": "%3A", ",": "%2C"}
 
 
 def not_read(format: str, name: str, fault: Fault) -> str:
-    """What is said of a document of that name that isn't read to its end: a workflow command of GitHub, which shows it at
-    the first line of its file or where the reader stopped. No other format says that."""
+    """What is said of a document of that name that isn't read to its end: a workflow command of GitHub, which shows it
+    at the first line of its file or where the reader stopped. No other format says that."""
     if format != "github":
         return ""
     place = "" if fault.line is None else ",line={},col={}".format(fault.line, fault.column)

@@ -1,4 +1,5 @@
-"""What comments leave out of what is wrong with the links of a document, and what is said of the comments themselves."""
+"""What comments leave out of what is wrong with the links of a document, and what is said of the comments
+themselves."""
 
 import re
 from typing import Dict, FrozenSet, Iterator, List, NamedTuple, Optional, Sequence, Set, Tuple

@@ -62,9 +62,11 @@ class Diagnostic(NamedTuple):
     mended: Optional[Mended] = None
     """What to write in place of the text; a format that doesn't say it leaves it out."""
     region: Optional[Region] = None
-    """Where the text is, if that may be written there as it is; without it SARIF has no fix, and rdjson no suggestion."""
+    """Where the text is, if that may be written there as it is; without it SARIF has no fix, and rdjson no
+    suggestion."""
     end: Optional[int] = None
-    """The column at which what is wrong ends; without it the one after the code point at the place, in the line of that."""
+    """The column at which what is wrong ends; without it the one after the code point at the place, in the line of
+    that."""
 
 
 class Explanation(NamedTuple):
@@ -131,9 +133,9 @@ def explain(rule: str) -> Explanation:
 
 
 def column(text: str, place: int, unit: str = "code-points", start: int = 1) -> int:
-    """The column of a place of a text, which is counted in code points, where the text begins in the column ``start`` of
-    its line. ``unit`` is one of ``UNITS``. Raises ``ValueError`` for another name, where the place is after the text's
-    end, and where ``start`` isn't from 1 to 4294967295."""
+    """The column of a place of a text, which is counted in code points, where the text begins in the column ``start``
+    of its line. ``unit`` is one of ``UNITS``. Raises ``ValueError`` for another name, where the place is after the
+    text's end, and where ``start`` isn't from 1 to 4294967295."""
     _numbered(start)
     return native.column(text, _named(unit, UNITS, "column unit"), start, _placed(text, place))
 
@@ -141,13 +143,13 @@ def column(text: str, place: int, unit: str = "code-points", start: int = 1) -> 
 def report(
     diagnostics: Iterable[Diagnostic], format: str = "gnu", columns: Optional[str] = None, is_whole: bool = True
 ) -> Iterator[str]:
-    """A report on these, as ``urlcheck lint --located`` writes it, text by text: its beginning, what is said of each, and
-    its end.
+    """A report on these, as ``urlcheck lint --located`` writes it, text by text: its beginning, what is said of each,
+    and its end.
 
-    ``format`` is one of ``FORMATS``, and ``columns``, one of ``UNITS``, says what the columns count: without it the first
-    of them for which the format has a word, code points as a rule. ``is_whole`` is false where a file couldn't be read to
-    its end. Raises ``ValueError`` for another name, for a unit for which the format has no
-    word, and at the text on a diagnostic whose place, line, column or region is none.
+    ``format`` is one of ``FORMATS``, and ``columns``, one of ``UNITS``, says what the columns count: without it the
+    first of them for which the format has a word, code points as a rule. ``is_whole`` is false where a file couldn't be
+    read to its end. Raises ``ValueError`` for another name, for a unit for which the format has no word, and at the
+    text on a diagnostic whose place, line, column or region is none.
     """
     unit = own_unit(format) if columns is None else columns
     if not takes_unit(format, unit):
@@ -190,7 +192,8 @@ def end(format: str, is_whole: bool) -> str:
 
 
 def passed(format: str, file: str) -> str:
-    """What is said of a file in which nothing is wrong: in JUnit a suite whose test passes, and nothing in another format."""
+    """What is said of a file in which nothing is wrong: in JUnit a suite whose test passes, and nothing in another
+    format."""
     number = _named(format, FORMATS, "format")
     return native.file_begin(number, file) + native.file_end(number) if format == "junit" else ""
 
@@ -215,7 +218,8 @@ def said(format: str, it: Diagnostic, is_first: bool, unit: str = "code-points")
 
 
 def is_offered(text: str, mended: Mended) -> bool:
-    """Whether a mended text is offered in place of a text: neither shows that the text's author meant something else."""
+    """Whether a mended text is offered in place of a text: neither shows that the text's author meant something
+    else."""
     it = Diagnostic("", 1, 1, text, "code-point", 0, mended=mended)
     return bool(json.loads(said("json", it, True))["offered"])
 
