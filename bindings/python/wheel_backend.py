@@ -93,7 +93,6 @@ def _metadata():
         "Keywords: " + ",".join(_listed("keywords")),
     ]
     lines += ["Classifier: " + it for it in _listed("classifiers")]
-    lines += ["Project-URL: {}, {}".format(name, address.strip('"')) for name, address in _lines("urls")]
     lines += ["License-File: " + file for file in _licences()]
     lines += ["Requires-Python: " + _project('requires-python = "(.*)"')]
     lines += _extras()
