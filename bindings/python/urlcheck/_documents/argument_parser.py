@@ -30,14 +30,17 @@ class Parser(argparse.ArgumentParser):
         """Says that there is no such option, and which one is near to it."""
         name = named(word.partition("=")[0])
         options = [it for action in self._actions for it in action.option_strings if it.startswith("--")]
-        self.error("there is no option {}{}".format(name, _OF_LINT.get(name) or _nearest(name, options)))
+        self.error("there is no option {}{}".format(name, _OF_OTHERS.get(name) or _nearest(name, options)))
 
 
-_OF_LINT = {
+_OF_OTHERS = {
     "--wide": "; write --profile wide",
+    "--output-format": "; write --format FORMAT",
+    "--json": "; write --format json",
+    "-j": "; write --jobs N",
     "--all": "; pipe the links, which --list prints, into urlcheck lint --located --all -",
 }
-"""What is said of options of ``urlcheck lint`` for which there is something else."""
+"""What is said of options of ``urlcheck lint`` and of other checkers for which there is something else."""
 
 
 def chosen(name: str, names: List[str], noun: str) -> str:
