@@ -239,8 +239,8 @@ def _profile(number: object) -> Profile:
 
 
 _NO_UTF8 = "no-utf8"
-_NAMES = tuple(native.rule_name(rule) for rule in range(15)) + (_NO_UTF8,)
-_SENTENCES = {name: native.rule_sentence(rule) for rule, name in enumerate(_NAMES[:-1]) if rule}
+_NAMES = tuple(native.text(0, rule) for rule in range(15)) + (_NO_UTF8,)
+_SENTENCES = {name: native.text(1, rule) for rule, name in enumerate(_NAMES[:-1]) if rule}
 
 RULES: Tuple[str, ...] = _NAMES[1:-1]
 """The names of the rules, in the order of their numbers."""

@@ -14,7 +14,7 @@ from ._library import native
 
 _MISSING = 255
 _NO_UTF8 = "no-utf8"
-_RULES: Tuple[Optional[str], ...] = (None, *(native.rule_name(rule) for rule in range(1, 15)), _NO_UTF8)
+_RULES: Tuple[Optional[str], ...] = (None, *(native.text(0, rule) for rule in range(1, 15)), _NO_UTF8)
 """The names of the rules by their numbers, and after them of bytes that are no UTF-8, as an Arrow array may hold."""
 
 

@@ -138,7 +138,7 @@ def _base_refused(base: Optional[str], profile: Profile) -> Optional[str]:
         check("", base, profile)
     except BaseRefused as refused:
         # A base is checked alone, so that it needs a scheme.
-        why = "it has no scheme" if refused.rule == "no-scheme" else message(base, refused, profile)
+        why = "it has no scheme" if refused.rule == "no-scheme" else message(base, refused, profile, "options")
         return "the base is refused at place {}: {} [{}]".format(refused.place, why, refused.rule)
     return None
 

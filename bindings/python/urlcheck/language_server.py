@@ -31,7 +31,7 @@ from ._editors.rpc import Endpoint, NoMessage, message_of
 from ._editors.settings import Options, options_of
 from ._readers.kinds import kind_of
 from ._readers.reading import LIST
-from ._reports.rules import TITLES, rule_of
+from ._reports.rules import TITLES, address_of, rule_of
 
 KINDS_BY_LANGUAGE = {
     **{"html": "html", "markdown": "markdown", "mdx": "markdown", "quarto": "markdown", "rmd": "markdown"},
@@ -424,9 +424,8 @@ def _span(range: Range) -> Json:
 
 
 def _diagnostic(found: Mistake, severity: int) -> Json:
-    rule = rule_of(found.rule)
     said = _said(found.range, severity, found.rule, found.message)
-    said["codeDescription"] = {"href": rule.page or rule.url}
+    said["codeDescription"] = {"href": address_of(found.rule)}
     return said
 
 

@@ -4,7 +4,6 @@ should send. The package is on PYTHONPATH."""
 import importlib.util
 import json
 import os
-import pathlib
 import random
 import re
 import subprocess
@@ -13,11 +12,9 @@ import tempfile
 import time
 import unittest
 
+import urlcheck
 from urlcheck._editors.editing import LinePlaces, Text, lines_of
 
-TOP = pathlib.Path(__file__).resolve().parents[3]
-ADDRESSED = TOP / "crates" / "uv_report" / "src" / "rules" / "page.rt"
-"""Where the address of the site is written, of which the server has no copy."""
 PROGRAM = [sys.executable, "-m", "urlcheck.language_server"]
 LINK = "[x](http://h/a^b)"
 
@@ -235,9 +232,8 @@ class Served(unittest.TestCase):
         self.assertEqual(client.diagnostics(uri), [])
         self.assertEqual(client.end(), 0)
 
-    def test_pages_of_the_rules(self):
-        """A diagnostic leads to the page of its rule, and by a rule of a format to where that is written."""
-        (site,) = re.findall(r'^pub\(crate\) const ADDRESS: &str = "(.*)";$', ADDRESSED.read_text(encoding="utf-8"), re.M)
+    def test_addresses_of_the_rules(self):
+        """A diagnostic leads to where its rule is in the URL Standard, and by a rule of a format to where that is."""
         client = self.start()
         lists = "x\nhttp:a\nhttps:///a\nhttp://a_b/\nhttp://256/\nhttp://[1]/\nfoo://a b/\nhttp://h:x/\nhttp://h:65536/\n"
         lists += "http://h//a\nfile://h/C:/\nurn:a b\nhttp://h/%z\n"
@@ -246,8 +242,9 @@ class Served(unittest.TestCase):
         found = client.open("file:///nowhere/a.links", lists)
         self.assertEqual([it["code"] for it in found], rules)
         for it in found:
-            self.assertEqual(it["codeDescription"], {"href": "{}/docs/rules/{}.html".format(site, it["code"])})
-            self.assertTrue((TOP / "docs" / "rules" / (it["code"] + ".md")).exists())
+            href = it["codeDescription"]["href"]
+            self.assertEqual(href, urlcheck.explain(it["code"]).url)
+            self.assertTrue(href.startswith("https://url.spec.whatwg.org/#"), href)
         (found,) = client.open("file:///nowhere/b.html", "<img src=''>")
         self.assertEqual(found["code"], "empty")
         self.assertTrue(found["codeDescription"]["href"].startswith("https://html.spec.whatwg.org/multipage/urls-and-fetching.html#"))

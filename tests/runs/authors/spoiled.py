@@ -32,7 +32,7 @@ class Spoiled(NamedTuple):
 SERVER = ("pylsp_jsonrpc", "markdown_it", "docutils", "tinycss2")
 PLACES = ("server.py", "Served.test_kinds_and_places")
 CHANGES = ("server.py", "Served.test_changes_actions_and_hover")
-PAGES = ("server.py", "Served.test_pages_of_the_rules")
+ADDRESSES = ("server.py", "Served.test_addresses_of_the_rules")
 SPHINX = ("builds.py", "Sphinx.test_each_link_at_its_place")
 ENDED = ("../library/limits.py", "Limits.test_documents_of_one_process")
 GREW = ("../library/limits.py", "Limits.test_a_process_ends_that_grew")
@@ -62,8 +62,7 @@ COPIES = (
     Spoiled("what was read of Markdown is kept when gfm changes", "_editors/checking.py",
             "if self._of_inlines != (asked.name, asked.gfm):", "if self._of_inlines[0] != asked.name:",
             ("server.py", "Served.test_gfm_that_changes"), SERVER),
-    Spoiled("a diagnostic leads to the standard, and not to its rule's page", "language_server.py", "rule.page or rule.url", "rule.url",
-            PAGES, SERVER),
+    Spoiled("a diagnostic leads nowhere", "language_server.py", '{"href": address_of(found.rule)}', '{"href": found.rule}', ADDRESSES, SERVER),
     Spoiled("a message of nonsense ends the server", "_editors/rpc.py", "except (ValueError, RecursionError):", "except KeyError:", ("server.py", "Served.test_nonsense"), SERVER),
     Spoiled("a link is sought from the first line on", "_readers/literals.py", "return source.offset(min(max(line, 1), ",
             "return source.offset(min(1, ", ("builds.py", "Sphinx.test_a_space_beside_the_same_link"), ("sphinx",)),

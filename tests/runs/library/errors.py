@@ -108,11 +108,22 @@ class Errors(unittest.TestCase):
         for other in (pickle.loads(pickle.dumps(mended)), copy.copy(mended), copy.deepcopy(mended)):
             self.assertEqual(other, mended)
         self.assertIsNone(urlcheck.mend("../x", urlcheck.Base("http://h/a")))
+        self.assertFalse(urlcheck.mend("http://h/{{ x }}").is_offered)
         self.assertEqual(urlcheck.mend("http://h:x/"), urlcheck.Refused("port-digit", 9))
 
     def test_what_is_said_of_a_text(self):
         refused = urlcheck.check("http://h_/\u65e5", None)
-        self.assertEqual(urlcheck.message("http://h_/", refused), "U+005F LOW LINE is not allowed in a domain; --profile wide allows it")
+        point = "U+005F LOW LINE is not allowed in a domain"
+        for wording, more in (("arguments", "; profile='wide' allows it"), ("options", "; --profile wide allows it"),
+                              ("sql", "; profile 'wide' allows it"), ("none", "")):
+            self.assertEqual(urlcheck.message("http://h_/", refused, wording=wording), point + more)
+            wrong = urlcheck.Diagnostic("f", 1, 8, "http://h_/", "host-domain", 7)
+            said = "".join(urlcheck.report([wrong], wording=wording))
+            self.assertEqual(said, "f:1:8: error: {}{} [host-domain]\n".format(point, more))
+        self.assertEqual(urlcheck.message("http://h_/", refused), point + "; profile='wide' allows it")
+        for call in (lambda: urlcheck.message("http://h_/", refused, wording="x"), lambda: urlcheck.report([], wording="x")):
+            with self.assertRaisesRegex(ValueError, "no wording is named 'x': there are options, arguments, sql, none"):
+                call()
         with self.assertRaises(urlcheck.BaseRefused) as base:
             urlcheck.Base("http://h/%")
         said = "U+0025 PERCENT SIGN has to be followed by two hex digits"
@@ -150,6 +161,11 @@ class Errors(unittest.TestCase):
         self.assertEqual(urlcheck.UNITS, ("code-points", "bytes", "utf16", "screen"))
         said = "a:1:2: error: U+0020 SPACE is not allowed in a URL [code-point]\n"
         self.assertEqual(list(urlcheck.report([wrong])), ["", said, ""])
+        # Equal ones of a file are told apart, and so are those of two files.
+        issues = json.loads("".join(urlcheck.report([wrong, wrong._replace(line=2), wrong._replace(file="b")], "gitlab")))
+        self.assertEqual(len({it["fingerprint"] for it in issues}), 3)
+        moved = json.loads("".join(urlcheck.report([wrong._replace(line=9)], "gitlab")))
+        self.assertEqual(moved[0]["fingerprint"], issues[0]["fingerprint"])
         for words, why in (
             (([], "xml"), "no format is named 'xml': there are gnu, "),
             (([], "gnu", "points"), "no column unit is named 'points': there are code-points, "),

@@ -212,7 +212,7 @@ class Alone(Reported):
             ("a\nb.html", "a\ufffdb.html", "a\nb.html", "a%0Ab.html", "a&#10;b.html"),
             ("\t\x1b\x7f.html", "\t\ufffd\ufffd.html", "\t\x1b\x7f.html", "%09%1B%7F.html", "&#9;\ufffd\x7f.html"),
             ("a\u202eb.html", "a\ufffdb.html", "a\u202eb.html", "a%E2%80%AEb.html", "a\u202eb.html"),
-            (b"\xff\xe9.html", os.fsdecode(b"\xff\xe9.html"), "\ufffd\ufffd.html", "%FF%E9.html", "\ufffd\ufffd.html"),
+            (b"\xff\xe9.html", os.fsdecode(b"\xff\xe9.html"), "\ufffd\ufffd.html", "%EF%BF%BD%EF%BF%BD.html", "\ufffd\ufffd.html"),
         ):
             self.write(name, "<a href='a b'>")
             with self.subTest(name):

@@ -46,6 +46,7 @@ class Taken(NamedTuple):
     refused: int
     ignored: int
     lines: bytes
+    """What is said of its links, but for the first of those of which something is."""
     fault: Optional[Fault] = None
     """Why it wasn't read to its end, if it wasn't."""
     notes: Tuple[str, ...] = ()
@@ -58,6 +59,8 @@ class Taken(NamedTuple):
     """The document with other texts in the place of links, which the others are of then; in the first part alone."""
     warnings: Tuple[Fault, ...] = ()
     """What is said of its comments."""
+    first: Tuple[bytes, bytes] = (b"", b"")
+    """What is said of the first, after others and where there are none; both empty where nothing is said of links."""
 
 
 class Part:
@@ -69,15 +72,29 @@ class Part:
         self._refused = 0
         self._ignored = 0
         self._lines = bytearray()
+        self._first = (b"", b"")
         self._counted: List[Counted] = []
         self._known: List[str] = []
         self._fixed = fixed
 
-    def add(self, lines: str, is_checked: bool) -> None:
-        """Adds a link, of which these lines are said: none where it is checked and valid."""
+    def add(self, line: str = "") -> None:
+        """Adds a link that is listed in this line, or is valid."""
         self._links += 1
-        self._refused += is_checked and lines != ""
-        self._lines += lines.encode("utf-8", "surrogateescape")
+        self._lines += line.encode("utf-8", "surrogateescape")
+
+    def says_nothing(self) -> bool:
+        """Whether nothing is said yet of its links."""
+        return not self._first[0]
+
+    def add_refused(self, after: str, first: str) -> None:
+        """Adds a link that is refused, of which this is said after others, and where there are none. The latter counts
+        for the first one."""
+        self._links += 1
+        self._refused += 1
+        if not self.says_nothing():
+            self._lines += after.encode("utf-8", "surrogateescape")
+        else:
+            self._first = after.encode("utf-8", "surrogateescape"), first.encode("utf-8", "surrogateescape")
 
     def add_ignored(self) -> None:
         """Adds a link that is left out."""
@@ -102,8 +119,8 @@ class Part:
     ) -> Taken:
         """What it has given."""
         numbers = self._documents, self._links, self._refused, self._ignored
-        more = tuple(self._counted), tuple(self._known), self._fixed, warnings
-        return Taken(*numbers, bytes(self._lines), fault, notes, *more)
+        more = tuple(self._counted), tuple(self._known), self._fixed
+        return Taken(*numbers, bytes(self._lines), fault, notes, *more, warnings=warnings, first=self._first)
 
 
 _ENOUGH = 256 * 1024

@@ -18,9 +18,9 @@ from .._readers.source import Broken, Foreign, Link
 from .._reports.baseline import Known, Numbered
 from .._reports.checker import Checker
 from .._reports.columns import Places
-from .._reports.finding import Finding, Report, lines_on, not_read
+from .._reports.finding import Report, lines_on, not_read
 from .._reports.ignoring import Ignoring
-from .._reports.report import shows_mended
+from .._reports.report import Reported, shows_mended
 from .._reports.statistics import Statistics
 from .._streams import closed, named, reason_of
 from .apart import Apart, Counted, Fault, Part, Parts, Taken, apart, nothing
@@ -155,7 +155,8 @@ class Document:
         base = settings.base or config.base
         profile = config.profile if settings.is_profile_left and config.profile is not None else settings.profile
         has_mended = shows_mended(settings.format) or settings.fixing is not None
-        return Checker(base, profile, has_mended, self._is_empty_taken, selected=self._selected)
+        settings_of = base, profile, has_mended, self._is_empty_taken
+        return Checker(*settings_of, selected=self._selected, wording="options")
 
     def work(self) -> int:
         """About how much work it is: enough for a process of its own where it is no file, and so can't be read
@@ -207,7 +208,7 @@ class Document:
         if is_left_out:
             part.add_ignored()
         else:
-            part.add(line + "\n", False)
+            part.add(line + "\n")
 
     def _check(self, part: Part, checker: Checker, given: Tuple[str, Places, Link], ignoring: Ignoring) -> None:
         """Adds a link of the document of that name, and what is wrong with it, if something is."""
@@ -216,20 +217,21 @@ class Document:
         if is_left_out or self._is_left_out(link):
             part.add_ignored()
         elif wrong is None:
-            part.add("", True)
+            part.add()
         else:
-            self._add(part, checker.finding(name, places, link, wrong))
+            known, repeat = self._numbered.next(wrong.rule, wrong.place, link.text)
+            self._add(part, checker.reported(name, places, link, wrong, repeat), known)
 
-    def _add(self, part: Part, finding: Finding) -> None:
+    def _add(self, part: Part, reported: Reported, known: Known) -> None:
         """Adds what is wrong with a link, unless it is known."""
-        it = finding.diagnostic
-        known = self._numbered.next(it.rule, it.place, it.text)
         if known.fingerprint in self._settings.known:
             part.add_known(known.fingerprint)
             return
-        part.add(lines_on(self._settings.format, finding), True)
+        format = self._settings.format
+        first = lines_on(format, reported, True) if part.says_nothing() else ""
+        part.add_refused(lines_on(format, reported, False), first)
         if self._settings.is_counted:
-            part.add_counted(Counted(it.rule, it.text, known))
+            part.add_counted(Counted(reported.rule, reported.text, known))
 
     def _found(self) -> Iterator[Tuple[Found, Optional[Fixed]]]:
         """What is found in the document, or in each one that it holds; after its links are fixed, where that is asked
@@ -348,9 +350,9 @@ class Run:
         is_passed = self._is_checked
         for taken in self._fixed(document, apart):
             self.counts.add(taken)
-            self._report.add(taken.lines)
+            self._report.add(*taken.first, taken.lines)
             self._count(taken)
-            is_passed = is_passed and not taken.lines and taken.fault is None
+            is_passed = is_passed and not taken.refused and taken.fault is None
             for note in taken.notes:
                 self._note(document.name, note)
             for warning in taken.warnings:
@@ -362,7 +364,7 @@ class Run:
 
     def _tell_fault(self, document: Document, fault: Fault) -> None:
         name = document.name + ("/" + fault.inner if fault.inner else "")
-        self._report.add(not_read(self._settings.format, name, fault).encode("utf-8"))
+        self._report.tell(not_read(self._settings.format, name, fault))
         is_input = name == "-" and fault.line is None
         self._screen.tell(("standard input" if is_input else named(name) or "''") + fault.after())
 

@@ -21,7 +21,6 @@ from .._readers.reading import LIST, Found, Reading, Unread, found_in
 from .._readers.source import Foreign, Link
 from .._reports.checker import Checker, Verdicts, Wrong
 from .._reports.ignoring import Ignoring
-from .._reports.report import is_offered
 from .._reports.selected import Selected
 from .editing import LinePlaces
 
@@ -159,7 +158,7 @@ def _mistake(link: Link, wrong: Wrong, checker: Checker, places: LinePlaces) -> 
     at, end = link.place(wrong.place), _end_of(link)
     whole = places.position(link.offset), places.position(max(end, link.offset))
     region = places.position(at), places.position(max(end, at + 1 if wrong.place < len(link.text) else at))
-    offered = wrong.mended if wrong.mended is not None and is_offered(link.text, wrong.mended) else None
+    offered = wrong.mended if wrong.mended is not None and wrong.mended.is_offered else None
     named = wrong.mended.text if wrong.mended is not None and offered is None else None
     mended = offered.text if offered is not None and checker.may_be_written(link) else None
     said = wrong.message if not link.within else "{}, in {}".format(wrong.message, link.within)

@@ -9,7 +9,6 @@ from typing import Callable, Iterable, List, NamedTuple, Optional, Sequence, Tup
 from .. import Mended, MendKind
 from .._readers.reading import Found
 from .._readers.source import Link
-from .._reports.report import is_offered
 from .difference import difference
 from .edits import Edit, edited, encoded, in_order
 
@@ -55,7 +54,7 @@ def is_fixable(text: str, mended: Mended, is_unsafe: bool) -> bool:
     if mended.kind is MendKind.CHANGED and not is_unsafe:
         return False
     host = _HOST.match(text.translate(_PASSED_OVER))
-    return is_offered(text, mended) and not (host and _NUMBERS.fullmatch(host[1]))
+    return mended.is_offered and not (host and _NUMBERS.fullmatch(host[1]))
 
 
 def digest_of(data: bytes) -> bytes:

@@ -33,18 +33,19 @@ class Known(NamedTuple):
 
 
 class Numbered:
-    """The faults of a document, numbered among those that are equal but for their lines."""
+    """Counts the faults of a document that are equal but for their lines."""
 
     def __init__(self, name: str) -> None:
         self._name = _normal(name)
         self._seen: Counts[Tuple[str, int, str]] = Counter()
 
-    def next(self, rule: str, place: int, text: str) -> Known:
-        """The next fault."""
+    def next(self, rule: str, place: int, text: str) -> Tuple[Known, int]:
+        """The next fault, and how many equal ones were before it."""
         self._seen[rule, place, text] += 1
-        parts = self._name, rule, str(place), str(self._seen[rule, place, text]), text
+        count = self._seen[rule, place, text]
+        parts = self._name, rule, str(place), str(count), text
         sum_of = hashlib.sha256("\0".join(parts).encode("utf-8", "surrogateescape"))
-        return Known(sum_of.hexdigest()[:_DIGITS], "{} {} {}".format(self._name, rule, text))
+        return Known(sum_of.hexdigest()[:_DIGITS], "{} {} {}".format(self._name, rule, text)), count - 1
 
 
 def _normal(name: str) -> str:

@@ -3,11 +3,10 @@
 import re
 from typing import Dict, FrozenSet, List, NamedTuple, Optional, Protocol, Tuple, Union
 
-from .. import Base, BaseRefused, Diagnostic, Fault, Mended, Profile, Refused, Region
-from .. import check, faults, mend, message, resolve
+from .. import Base, BaseRefused, Fault, Mended, Profile, Refused, Region, check, faults, mend, message, resolve
 from .._readers.source import Asks, Link, NamedBase
-from .finding import Finding
-from .rules import EMPTY, OF_ASKS, OF_FORMATS
+from .report import Reported
+from .rules import EMPTY, OF_ASKS, OF_FORMATS, address_of
 from .selected import Selected
 
 SOMEWHERE = "https://example.com/"
@@ -58,6 +57,7 @@ class Checker:
         verdicts: Optional[Verdicts] = None,
         is_of_lists: bool = False,
         selected: Selected = Selected(),
+        wording: str = "arguments",
     ) -> None:
         # (the lines of a list have no base but the caller's)
         self._outer = None if is_of_lists and base is None else Base(base or SOMEWHERE, profile)
@@ -65,6 +65,7 @@ class Checker:
         self._has_mended = has_mended
         self._is_empty_taken = is_empty_taken
         self._selected = selected
+        self._wording = wording
         self._bases: Dict[NamedBase, Base] = {}
         self._verdicts: Verdicts = {} if verdicts is None else verdicts
 
@@ -95,13 +96,14 @@ class Checker:
         except BaseRefused:
             return around
 
-    def finding(self, name: str, places: Positions, link: Link, wrong: Wrong) -> Finding:
+    @staticmethod
+    def reported(name: str, places: Positions, link: Link, wrong: Wrong, repeat: int) -> Reported:
         """What is wrong with a link of the document of that name, with its places."""
         line, column = places.position(link.place(wrong.place))
-        region = None if wrong.mended is None else region_of(places, link)
-        where = name, line, column, link.text, wrong.rule, wrong.place
-        end = end_of(places, link, wrong.place)
-        return Finding(Diagnostic(*where, self._profile, wrong.mended, region, end), wrong.message, link.within)
+        region = Region(line, column, line, end_of(places, link, wrong.place))
+        fixed = None if wrong.mended is None else region_of(places, link)
+        said = name, wrong.rule, address_of(wrong.rule), wrong.message, link.within, link.text
+        return Reported(*said, region, wrong.place, wrong.mended, fixed, repeat)
 
     def wrong(self, link: Link, without: FrozenSet[str] = _NONE) -> Optional[Wrong]:
         """What is wrong with a link, if something is, but for what violates these rules."""
@@ -132,7 +134,8 @@ class Checker:
         fault = self._reported(text, base, answer, selected)
         if fault is None:
             return None
-        return Wrong(fault.rule, fault.place, message(text, fault, self._profile), self._mended(text, base))
+        said = message(text, fault, self._profile, self._wording)
+        return Wrong(fault.rule, fault.place, said, self._mended(text, base))
 
     def _reported(
         self, text: str, base: Optional[Base], refused: Refused, selected: Selected

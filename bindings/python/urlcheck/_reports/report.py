@@ -1,8 +1,8 @@
 """Reports on texts that are refused, as ``urlcheck lint`` writes them: what is written is the library's."""
 
-import functools
-import json
-from typing import Dict, Iterable, Iterator, List, NamedTuple, Optional, Tuple, Union
+from collections import Counter
+from typing import Counter as Counts
+from typing import Dict, Iterable, Iterator, NamedTuple, Optional, Tuple, Union
 
 from .. import RULES, BaseRefused, Fault, Mended, MendKind, Profile, Refused, _profile, sentence
 from .._library import native
@@ -15,22 +15,28 @@ def _named(name: str, names: Tuple[str, ...], noun: str) -> int:
     return names.index(name)
 
 
-def _all_names(number: int = 0) -> Iterator[Tuple[str, str]]:
-    """The names of a format and a unit of each number, until there is neither."""
-    while native.format_name(number) or native.unit_name(number):
-        yield native.format_name(number), native.unit_name(number)
+_ADDRESS, _REQUIRES, _SECTION, _BASE, _EXAMPLE, _MENDED, _FORMAT, _UNIT = range(2, 10)
+"""The numbers of the library's fixed texts."""
+
+
+def _all_names(what: int, number: int = 0) -> Iterator[str]:
+    """The names of a format or a unit of each number, until there is none."""
+    while native.text(what, number):
+        yield native.text(what, number)
         number += 1
 
 
-FORMATS: Tuple[str, ...] = tuple(format for format, _ in _all_names() if format)
+FORMATS: Tuple[str, ...] = tuple(_all_names(_FORMAT))
 """The names of the formats, as ``urlcheck lint --format`` takes them."""
 
-UNITS: Tuple[str, ...] = tuple(unit for _, unit in _all_names() if unit)
+UNITS: Tuple[str, ...] = tuple(_all_names(_UNIT))
 """The names of what columns count, as ``urlcheck lint --columns`` takes them."""
+
+WORDINGS = ("options", "arguments", "sql", "none")
+"""How a sentence names a profile: ``--profile wide``, ``profile='wide'``, ``profile 'wide'``, or not at all."""
 
 _NUMBERS: Dict[str, int] = {name: number for number, name in enumerate(RULES, 1)}
 _KINDS: Dict[MendKind, int] = {kind: number for number, kind in enumerate(MendKind, 1)}
-_ASKS, _SECTION, _BASE, _EXAMPLE, _MENDED = range(5)
 _WHOLE, _UNREAD = range(2)
 
 
@@ -105,31 +111,44 @@ def _placed(text: str, place: int) -> int:
     return place if 0 <= place <= len(text) else -1
 
 
-def _within(region: Region) -> Tuple[int, int]:
-    """The columns of a region. Raises ``ValueError`` where it is none."""
+def _ordered(region: Region) -> None:
+    """Raises ``ValueError`` where a region is none."""
     _numbered(*region)
     if (region.last_line, region.end_column) < (region.line, region.column):
         raise ValueError("a region ends before it begins")
-    return region.column, region.end_column
 
 
-def message(text: str, found: Union[Refused, Fault, BaseRefused], profile: Profile = Profile.STANDARD) -> str:
+def message(
+    text: str,
+    found: Union[Refused, Fault, BaseRefused],
+    profile: Profile = Profile.STANDARD,
+    wording: str = "arguments",
+) -> str:
     """What is wrong with a text, as its refusal or one of its faults says by this profile: a sentence without its end,
     which names the code point. Of a ``BaseRefused`` the text is the base.
 
-    Raises ``ValueError`` where the place is after the text's end, and what ``check`` raises of a text and a profile.
+    ``wording`` is one of ``options`` (``--profile wide``), ``arguments`` (``profile='wide'``), ``sql`` and ``none``:
+    how the sentence names another profile that accepts the text, if it does. Raises ``ValueError`` for another one and
+    where the place is after the text's end, and what ``check`` raises of a text and a profile.
     """
     if not isinstance(text, str):
         raise TypeError("a text is a str, not {}".format(type(text).__name__))
-    return native.message(text, _profile(profile), _NUMBERS[found.rule], _placed(text, found.place))
+    words = _named(wording, WORDINGS, "wording")
+    return native.message(text, _profile(profile), words, _NUMBERS[found.rule], _placed(text, found.place))
 
 
 def explain(rule: str) -> Explanation:
     """What a rule asks, and an example. Raises ``KeyError`` where no rule has the name."""
     number = _NUMBERS[rule]
-    asks, section, base, example, mended = (native.explain(number, part) for part in range(5))
+    asks, section = native.text(_REQUIRES, number), native.text(_SECTION, number)
+    base, example, mended = (native.text(what, number) for what in (_BASE, _EXAMPLE, _MENDED))
     place = native.example_place(number)
-    return Explanation(rule, sentence(rule), asks, section, pages()[rule].section, base or None, example, place, mended)
+    return Explanation(rule, sentence(rule), asks, section, address_of(rule), base or None, example, place, mended)
+
+
+def address_of(rule: str) -> str:
+    """Where a rule is in the URL Standard. Raises ``KeyError`` where no rule has the name."""
+    return native.text(_ADDRESS, _NUMBERS[rule])
 
 
 def column(text: str, place: int, unit: str = "code-points", start: int = 1) -> int:
@@ -141,27 +160,37 @@ def column(text: str, place: int, unit: str = "code-points", start: int = 1) -> 
 
 
 def report(
-    diagnostics: Iterable[Diagnostic], format: str = "gnu", columns: Optional[str] = None, is_whole: bool = True
+    diagnostics: Iterable[Diagnostic],
+    format: str = "gnu",
+    columns: Optional[str] = None,
+    is_whole: bool = True,
+    wording: str = "arguments",
 ) -> Iterator[str]:
     """A report on these, as ``urlcheck lint --located`` writes it, text by text: its beginning, what is said of each,
     and its end.
 
     ``format`` is one of ``FORMATS``, and ``columns``, one of ``UNITS``, says what the columns count: without it the
     first of them for which the format has a word, code points as a rule. ``is_whole`` is false where a file couldn't be
-    read to its end. Raises ``ValueError`` for another name, for a unit for which the format has no word, and at the
-    text on a diagnostic whose place, line, column or region is none.
+    read to its end. ``wording`` is that of ``message``. Raises ``ValueError`` for another name, for a unit for which
+    the format has no word, and at the text on a diagnostic whose place, line, column or region is none.
     """
     unit = own_unit(format) if columns is None else columns
     if not takes_unit(format, unit):
         raise ValueError("{} doesn't support the column unit {}".format(format, unit))
-    return _reported(diagnostics, format, unit, is_whole)
+    _named(wording, WORDINGS, "wording")
+    return _report_on(diagnostics, format, unit, is_whole, wording)
 
 
-def _reported(diagnostics: Iterable[Diagnostic], format: str, unit: str, is_whole: bool) -> Iterator[str]:
+def _report_on(
+    diagnostics: Iterable[Diagnostic], format: str, unit: str, is_whole: bool, wording: str
+) -> Iterator[str]:
     yield begin(format, unit)
+    seen: Counts[Tuple[str, str, int, str]] = Counter()
     is_first = True
     for it in diagnostics:
-        yield said(format, it, is_first, unit)
+        key = it.file, it.rule, it.place, it.text
+        yield written(format, _reported(it, unit, wording, seen[key]), is_first)
+        seen[key] += 1
         is_first = False
     yield end(format, is_whole)
 
@@ -198,60 +227,51 @@ def passed(format: str, file: str) -> str:
     return native.file_begin(number, file) + native.file_end(number) if format == "junit" else ""
 
 
-def _end_of(it: Diagnostic, unit: str) -> int:
-    """The column at which what is wrong ends."""
-    wrong = it.text[it.place : it.place + 1]
-    return native.column(wrong, UNITS.index(unit), it.column, len(wrong)) if it.end is None else it.end
+class Reported(NamedTuple):
+    """A diagnostic as the library writes it."""
+
+    file: str
+    rule: str
+    """The name of a rule: one of ``RULES``, or of the caller's own."""
+    address: str
+    """Where the rule is told of."""
+    message: str
+    within: str
+    """Where in the file it is besides, or empty."""
+    text: str
+    region: Region
+    """Where what is wrong is."""
+    place: int
+    mended: Optional[Mended]
+    fixed: Optional[Region]
+    """Where the text is, if another one may be written there."""
+    repeat: int
+    """How many diagnostics before it in the file have the same rule, place and text."""
 
 
-def said(format: str, it: Diagnostic, is_first: bool, unit: str = "code-points") -> str:
-    """What is said of a text that is refused: whole lines. After another one it begins with what is between both."""
-    number = _named(format, FORMATS, "format")
-    kind, mended = (0, None) if it.mended is None else (_KINDS[it.mended.kind], it.mended.text)
+def _reported(it: Diagnostic, unit: str, wording: str, repeat: int) -> Reported:
+    """A diagnostic, with what the library says of it. Raises ``ValueError`` where one of its numbers is wrong."""
     _numbered(it.line, it.column, *(() if it.end is None else (it.end,)))
-    region = (0, 0) if it.region is None else _within(it.region)
-    place = it.profile, _NUMBERS[it.rule], _placed(it.text, it.place), it.line, it.column, _end_of(it, unit)
-    written = native.diagnostic(number, is_first, it.file, place, it.text, kind, mended, region)
-    if mended is not None and it.region is not None:
-        written = _over_lines(format, written, it.line, it.region)
-    return native.file_begin(number, it.file) + written + native.file_end(number)
+    wrong = it.text[it.place : it.place + 1]
+    end = native.column(wrong, UNITS.index(unit), it.column, len(wrong)) if it.end is None else it.end
+    said = message(it.text, Fault(it.rule, it.place), it.profile, wording)
+    region = Region(it.line, it.column, it.line, end)
+    if it.region is not None:
+        _ordered(it.region)
+    fixed = None if it.mended is None else it.region
+    return Reported(it.file, it.rule, address_of(it.rule), said, "", it.text, region, it.place, it.mended, fixed, repeat)
 
 
-def is_offered(text: str, mended: Mended) -> bool:
-    """Whether a mended text is offered in place of a text: neither shows that the text's author meant something
-    else."""
-    it = Diagnostic("", 1, 1, text, "code-point", 0, mended=mended)
-    return bool(json.loads(said("json", it, True))["offered"])
+def written(format: str, it: Reported, is_first: bool) -> str:
+    """What is said of a diagnostic: whole lines. After another one it begins with what is between both."""
+    number = _named(format, FORMATS, "format")
+    text, kind, offered = "", 0, 0
+    if it.mended is not None:
+        text, kind, offered = it.mended.text, _KINDS[it.mended.kind], int(it.mended.is_offered)
+    strings = it.file, it.rule, it.address, it.message, it.within, it.text, text
+    numbers = *it.region, *(it.fixed or _NOWHERE), _placed(it.text, it.place), it.repeat, kind, offered
+    said = native.diagnostic(number, is_first, strings, numbers)
+    return native.file_begin(number, it.file) + said + native.file_end(number)
 
 
-def _over_lines(format: str, written: str, line: int, region: Region) -> str:
-    """The same with the lines of an edit whose text isn't in the one line of its wrong place."""
-    if region.line == line == region.last_line:
-        return written
-    # (no text of a document of JSON has quotes as they are)
-    if format == "rdjson":
-        edit = '"suggestions":[{{"range":{{"end":{{"column":{},"line":{}}},"start":{{"column":{},"line":{}}}}}'
-        ends = region.end_column, line, region.column, line
-        own = region.end_column, region.last_line, region.column, region.line
-        return written.replace(edit.format(*ends), edit.format(*own), 1)
-    columns = '"deletedRegion":{{"endColumn":{},'.format(region.end_column)
-    last = "" if region.last_line == region.line else '"endLine":{},'.format(region.last_line)
-    start = '"startColumn":{},"startLine":'.format(region.column)
-    return written.replace(columns + start + str(line), columns + last + start + str(region.line), 1)
-
-
-class Pages(NamedTuple):
-    """Where a rule is told of."""
-
-    section: str
-    """What it asks, in the URL Standard."""
-    page: str
-    """Its page among those of the project."""
-
-
-@functools.lru_cache(maxsize=1)
-def pages() -> Dict[str, Pages]:
-    """Where the rules are told of, by their names: as a document of SARIF has it."""
-    document = json.loads(begin("sarif", "code-points") + end("sarif", True))
-    rules = document["runs"][0]["tool"]["driver"]["rules"]
-    return {it["id"]: Pages(it["properties"]["section"], it["helpUri"]) for it in rules}
+_NOWHERE = (0, 0, 0, 0)

@@ -1,11 +1,11 @@
 """What each rule asks, and where that is: those of the URL Standard, and those of the formats of documents, by which no
 text is checked that is alone."""
 
-from typing import Dict, NamedTuple, Optional
+from typing import Dict, NamedTuple
 
 from .. import RULES, MendKind, explain
 from .._readers.source import Asks
-from .report import pages
+from . import report
 
 
 class Rule(NamedTuple):
@@ -18,8 +18,6 @@ class Rule(NamedTuple):
     """What it asks, in a sentence."""
     url: str
     """Where that is."""
-    page: Optional[str] = None
-    """Its page among those of the project. A rule of a format has none."""
 
 
 EMPTY = "empty"
@@ -51,7 +49,12 @@ def rule_of(name: str) -> Rule:
     if name in OF_FORMATS:
         return OF_FORMATS[name]
     explained = explain(name)
-    return Rule(name, explained.sentence, explained.asks, explained.url, pages()[name].page)
+    return Rule(name, explained.sentence, explained.asks, explained.url)
+
+
+def address_of(name: str) -> str:
+    """Where a rule is told of. Raises ``KeyError`` where there is none of that name."""
+    return OF_FORMATS[name].url if name in OF_FORMATS else report.address_of(name)
 
 
 NAMES = (*RULES, *OF_FORMATS)
