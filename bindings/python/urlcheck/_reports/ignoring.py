@@ -62,6 +62,8 @@ class Ignoring:
 
     def _about(self, link: Link) -> List[Comment]:
         """The comments about a link that are understood."""
+        if not self._meant:
+            return []
         own = [it for it in link.comments if it in self._meant and not self._meant[it].is_of_file]
         return [*own, *self._of_file]
 
