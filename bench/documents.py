@@ -16,9 +16,9 @@ try:
     from lxml import etree
 except ImportError:
     sys.exit("bench/documents.py: lxml is missing (Debian: python3-lxml)")
-from urlcheck._html_links import CANDIDATES, LISTS, URLS, candidates, has
-from urlcheck._source import SPACES
-from urlcheck.documents import links_in
+from urlcheck._readers.html_links import CANDIDATES, LISTS, URLS, candidates, has
+from urlcheck._readers.reading import found_in
+from urlcheck._readers.source import SPACES
 
 REFRESH = re.compile(r"[\s0-9.]*[;,]?\s*(?:url\s*=\s*)?[\"']?([^\"']*)", re.IGNORECASE)
 
@@ -64,8 +64,9 @@ def main():
         with open(name, "rb") as file:
             data = file.read()
         started = time.perf_counter()
-        source, found, _, _ = links_in(data, "html")
+        (page,) = found_in(data, "html")
         seconds += time.perf_counter() - started
+        source, found = page.source, page.links
         pages += 1
         links += len(found)
         ours, others = Counter(link.text for link in found), by_lxml(data)

@@ -101,7 +101,7 @@ tar -C "$room/anywhere" -xzf "$room/one/urlcheck-$version-x86_64-linux.tar.gz"
 at=$room/anywhere/urlcheck-$version
 "$at/bin/urlcheck" -V | cmp - <(echo "urlcheck $version") || fail "the archive's program"
 printf '<a href="http://x_y/">\n' >"$room/page.html"
-{ "$at/bin/urlcheck-documents" --check "$room/page.html" 2>"$room/said" || [ $? = 1 ]; } | grep -q 'host-domain]$' ||
+{ "$at/bin/urlcheck-documents" "$room/page.html" 2>"$room/said" || [ $? = 1 ]; } | grep -q 'host-domain]$' ||
     { cat "$room/said"; fail "the archive's urlcheck-documents"; }
 export PKG_CONFIG_PATH=$at/lib/pkgconfig
 read -ra flags <<<"$(pkg-config --cflags --libs urlcheck)"

@@ -59,10 +59,11 @@ whole_library() {
 python_files() {
     local folder=$1 file
     rm -rf "$folder/python"
-    mkdir -p "$folder/python/urlcheck" "$work/native"
+    mkdir -p "$folder/python" "$work/native"
     cp bindings/python/native/*.[ch] bindings/c/include/urlcheck.h "$work/native/"
     cp VERSION bindings/python/{pyproject.toml,wheel_backend.py,README.md} "$folder/python/"
-    cp bindings/python/urlcheck/{*.py,*.pyi,py.typed} "$folder/python/urlcheck/"
+    cp -R bindings/python/urlcheck "$folder/python/"
+    find "$folder/python" -name __pycache__ -prune -exec rm -r {} +
     for file in LICENSE* NOTICE; do
         [ ! -f "$file" ] || cp "$file" "$folder/python/"
     done

@@ -1,16 +1,21 @@
-"""Builds the wheel of the package (PEP 517) by the standard library alone, so that installing it needs no network.
+"""Builds the wheel of the package, and an archive of what it is built from (PEP 517), by the standard library alone, so
+that installing it needs no network.
 
 The folder is what tools/build-library writes: beside pyproject.toml are VERSION, PLATFORM (the tag of the systems on
-which the extension module runs), the licences, and the package with that module. Where there is a folder `bin` too,
-the programs in it are installed with the package, as those of a release's wheel. Two builds give the same bytes.
+which the extension module runs), the licences, and the package with that module, which the archive has too. Where there
+is a folder `bin`, the programs in it are installed with the package, as those of a release's wheel. Two builds give the
+same bytes.
 """
 
 import base64
 import glob
+import gzip
 import hashlib
+import io
 import os
 import re
 import stat
+import tarfile
 import time
 import zipfile
 
@@ -46,7 +51,8 @@ def _extras():
         for needed in re.findall('"(.*?)"', value):
             package, _, marker = needed.partition("; ")
             condition = 'extra == "{}"'.format(name)
-            lines.append("Requires-Dist: {}; {}".format(package, "{} and {}".format(marker, condition) if marker else condition))
+            condition = "{} and {}".format(marker, condition) if marker else condition
+            lines.append("Requires-Dist: {}; {}".format(package, condition))
     return lines
 
 
@@ -73,7 +79,8 @@ def _listed(name):
 
 
 def _metadata():
-    """The metadata of the package (core metadata 2.1, which the tools of older systems read too), with its README.md."""
+    """The metadata of the package (core metadata 2.1, which the tools of older systems read too), with its
+    README.md."""
     author = '"(.*)", email = "(.*)"'
     name, email = re.search("^authors = .*name = " + author, _text(TABLE), re.M).groups()
     lines = [
@@ -89,7 +96,8 @@ def _metadata():
     lines += ["License-File: " + file for file in _licences()]
     lines += ["Requires-Python: " + _project('requires-python = "(.*)"')]
     lines += _extras()
-    lines += ["Description-Content-Type: text/markdown; charset=UTF-8; variant=CommonMark", "", _text(_project('readme = "(.*)"'))]
+    lines += ["Description-Content-Type: text/markdown; charset=UTF-8; variant=CommonMark", ""]
+    lines += [_text(_project('readme = "(.*)"'))]
     return "\n".join(lines) + "\n"
 
 
@@ -125,13 +133,15 @@ def _scripts():
 
 
 def _held(folder, within):
-    """The files of a folder, by their names within the wheel."""
+    """The files of a folder and of those in it, by their names within the wheel; what Python compiled is left out."""
     files = {}
     for name in sorted(os.listdir(folder)):
         path = os.path.join(folder, name)
         if os.path.isfile(path):
             with open(path, "rb") as file:
                 files[within + name] = file.read()
+        elif name != "__pycache__":
+            files.update(_held(path, within + name + "/"))
     return files
 
 
@@ -151,14 +161,26 @@ def _files(tag):
     return files
 
 
+def _sources():
+    """What the archive holds, by its names within its folder."""
+    names = [TABLE, "wheel_backend.py", _project('readme = "(.*)"'), "VERSION", "PLATFORM", *_licences()]
+    files = {"PKG-INFO": _metadata().encode()}
+    for name in names:
+        with open(name, "rb") as file:
+            files[name] = file.read()
+    files.update(_held(NAME, NAME + "/"))
+    if os.path.isdir(PROGRAMS):
+        files.update(_held(PROGRAMS, PROGRAMS + "/"))
+    return files
+
+
 def _digest(data):
     return base64.urlsafe_b64encode(hashlib.sha256(data).digest()).rstrip(b"=").decode()
 
 
-def _date():
-    """The date of each file in the wheel: that of SOURCE_DATE_EPOCH, else the first that a zip file can tell."""
-    seconds = int(os.environ.get("SOURCE_DATE_EPOCH", "315532800"))
-    return time.gmtime(max(seconds, 315532800))[:6]
+def _seconds():
+    """The time of each file that is written: that of SOURCE_DATE_EPOCH, else the first that a zip file can tell."""
+    return max(int(os.environ.get("SOURCE_DATE_EPOCH", "315532800")), 315532800)
 
 
 def build_wheel(wheel_directory, config_settings=None, metadata_directory=None):
@@ -171,9 +193,23 @@ def build_wheel(wheel_directory, config_settings=None, metadata_directory=None):
     wheel = "{}-{}-{}.whl".format(NAME, _text("VERSION"), tag)
     with zipfile.ZipFile(os.path.join(wheel_directory, wheel), "w", zipfile.ZIP_DEFLATED) as out:
         for name, data in files.items():
-            entry = zipfile.ZipInfo(name, _date())
+            entry = zipfile.ZipInfo(name, time.gmtime(_seconds())[:6])
             entry.compress_type = zipfile.ZIP_DEFLATED
             # (an installer makes a script executable where its mode says so, as that of a regular file)
             entry.external_attr = (stat.S_IFREG | (0o755 if name.startswith(_scripts()) else 0o644)) << 16
             out.writestr(entry, data)
     return wheel
+
+
+def build_sdist(sdist_directory, config_settings=None):
+    """Writes the archive into the folder, and gives its name."""
+    base = "{}-{}".format(NAME, _text("VERSION"))
+    path = os.path.join(sdist_directory, base + ".tar.gz")
+    with open(path, "wb") as file, gzip.GzipFile("", "wb", fileobj=file, mtime=_seconds()) as packed:
+        with tarfile.open(fileobj=packed, mode="w", format=tarfile.PAX_FORMAT) as out:
+            for name, data in sorted(_sources().items()):
+                entry = tarfile.TarInfo(base + "/" + name)
+                entry.size, entry.mtime = len(data), _seconds()
+                entry.mode = 0o755 if name.startswith(PROGRAMS + "/") else 0o644
+                out.addfile(entry, io.BytesIO(data))
+    return os.path.basename(path)

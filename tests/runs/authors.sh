@@ -147,6 +147,12 @@ if [ ${#documentations[@]} -gt 0 ] && python=$(python_with docutils); then
 else
     left_out 'faults planted into documentation' "docutils, docutils-doc or python3-doc isn't installed"
 fi
+# The action for GitHub, whose program of Python makes an environment.
+if command -v curl >/dev/null && python=$(python_with yaml venv ensurepip); then
+    "$python" tests/runs/authors/action.py "$library/python" || failed=1
+else
+    left_out 'the action for GitHub' "curl, or Python's yaml or venv, isn't installed"
+fi
 # The commands of the guides on documents, by a Python that has most of what they name.
 python=$(python_with sphinx mkdocs) || python=$(python_with sphinx) || python=python3
 "$python" tests/runs/authors/pages.py "$program" || failed=1

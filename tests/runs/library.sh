@@ -138,9 +138,13 @@ if command -v pkg-config >/dev/null && command -v cc >/dev/null; then
 else
     echo "library: the lines that build a program are left out, since pkg-config or cc isn't installed"
 fi
-for tests in documents sources projects standards words choices fixing limits errors; do
+for tests in documents sources comments projects standards words choices fixing limits errors; do
     python3 $tests.py >"$room/tests" 2>&1 || { cat "$room/tests"; exit 1; }
 done
+for python in python3 /usr/bin/python3; do
+    [ -z "$(command -v "$python")" ] || "$python" forms.py || exit 1
+done
+python3 schemas.py "$program" || exit 1
 # Where the system copies no process, as Windows, documents are read by a Python that begins anew.
 WITHOUT_FORK=1 python3 documents.py Documents.test_{html,xml,bases,messages} >"$room/tests" 2>&1 ||
     { cat "$room/tests"; exit 1; }
@@ -164,10 +168,10 @@ for python in python3 /usr/bin/python3; do
 done
 if [ -n "$with_markdown" ]; then
     pages=("$top"/*.md "$top"/{bindings,bindings/engines,tests}/*/README.md "$top/docs")
-    "$with_markdown" -m urlcheck.documents --check "${pages[@]}" >"$room/own" 2>&1 ||
+    "$with_markdown" -m urlcheck.documents "${pages[@]}" >"$room/own" 2>&1 ||
         { echo "FAILED: the links of the pages: $(cat "$room/own")"; exit 1; }
     sed 's/(docs\/COMMANDS.md)/(docs\/COM^MANDS.md)/' "$top/README.md" >"$room/spoiled.md"
-    if "$with_markdown" -m urlcheck.documents --check "$room/spoiled.md" >"$room/own" 2>&1; then
+    if "$with_markdown" -m urlcheck.documents "$room/spoiled.md" >"$room/own" 2>&1; then
         echo 'FAILED: a page with a wrong link passes'
         exit 1
     fi

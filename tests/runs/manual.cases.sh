@@ -129,16 +129,16 @@ completes '' lint -- --format sa
 completer=_urlcheck_documents
 completes '--exclude' --exc
 completes '-q' -q
-completes 'made' --check ma
+completes 'made' --list ma
 completes 'made' --ignore ma
 completes '--ignore=made' --ignore=ma
 completes '' --exclude ma
 completes 'wide' --profile w
 completes '--format' --fo
-completes 'sarif' --check --format s
+completes 'sarif' --git --format s
 completes 'gnu caret json github sarif checkstyle junit gitlab rdjson' --format =
 completes 'html xml markdown rst notebook epub css json-feed' --type =
-completes 'code-points bytes utf16 screen' --check --columns =
+completes 'code-points bytes utf16 screen' --list --columns =
 completes 'screen' --columns s
 completes '--type=xml' --type=x
 completes 'auto always never' --color =

@@ -70,6 +70,7 @@ for page in urlcheck.1 urlcheck-documents.1 urlcheck-language-server.1; do
     grep -qF "urlcheck $version" docs/share/man/$page || fail "docs/share/man/$page has another version than VERSION"
 done
 [ "$(grep -cF "rev: v$version " docs/guides/hook.md)" = 2 ] || fail "docs/guides/hook.md names another tag than VERSION"
+grep -qF "urlcheck@v$version " docs/guides/github.md || fail "docs/guides/github.md names another tag than VERSION"
 for page in github gitlab; do
     found=$(grep -oE '(/v|urlcheck-)[0-9]+[.][0-9]+[.][0-9]+' docs/guides/$page.md | sort -u | xargs)
     [ "$found" = "/v$version urlcheck-$version" ] || fail "docs/guides/$page.md fetches another release than that of VERSION"
@@ -112,7 +113,7 @@ else
 fi
 # (the package finds the library that was installed with it)
 printf '<a href="http://x_y/">\n' >"$room/page.html"
-{ (cd "$room" && PYTHONPATH=$at/lib/$python python3 "$at/bin/urlcheck-documents" --check page.html 2>"$room/said") ||
+{ (cd "$room" && PYTHONPATH=$at/lib/$python python3 "$at/bin/urlcheck-documents" page.html 2>"$room/said") ||
     [ $? = 1 ]; } | cmp - <(echo 'page.html:1:17: error: U+005F LOW LINE is not allowed in a domain; --profile wide allows it [host-domain]') ||
     { cat "$room/said"; fail "urlcheck-documents"; }
 told=$(PYTHONPATH=$at/lib/$python python3 -c 'import urlcheck; print(urlcheck.version())')
@@ -125,8 +126,9 @@ done
 # The metadata of the wheel are such that the tool of registries takes it.
 if command -v twine >/dev/null; then
     mkdir "$room/wheels"
-    (cd "$library/python" && quietly python3 -B -c 'import sys, wheel_backend; wheel_backend.build_wheel(sys.argv[1])' "$room/wheels")
-    quietly twine check --strict "$room"/wheels/*.whl
+    (cd "$library/python" && quietly python3 -B -c 'import sys, wheel_backend as it
+it.build_wheel(sys.argv[1]); it.build_sdist(sys.argv[1])' "$room/wheels")
+    quietly twine check --strict "$room"/wheels/*
 else
     echo "packages: the wheel's metadata are left out, since twine isn't installed"
 fi
@@ -184,6 +186,14 @@ if python3 -m pip --version >/dev/null 2>&1; then
     grep -qx 'urlcheck = urlcheck.mkdocs:Plugin' "$room"/site/*.dist-info/entry_points.txt ||
         fail "the wheel has no plugin for MkDocs"
     [ -x "$room/site/bin/urlcheck-language-server" ] || fail "the wheel has no urlcheck-language-server"
+    # The archive that it is built from gives the same wheel, and is the same each time.
+    for folder in "$room/wheel" "$room/again"; do
+        mkdir "$folder.out"
+        (cd "$folder" && quietly python3 -B -c 'import sys, wheel_backend as it
+it.build_wheel(sys.argv[1]); it.build_sdist(sys.argv[1])' "$folder.out")
+        [ -d "$room/again" ] || { mkdir "$room/again"; tar -C "$room/again" --strip-components 1 -xzf "$folder"/../wheel.out/*.tar.gz; }
+    done
+    diff -r "$room/wheel.out" "$room/again.out" || fail "the archive of the package gives another wheel"
     PYTHONPATH=$room/site "$room/site/bin/urlcheck-documents" --version >"$room/said" || fail "the wheel's urlcheck-documents"
     grep -qF "$version" "$room/said" || fail "the wheel's urlcheck-documents says: $(cat "$room/said")"
 else

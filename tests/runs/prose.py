@@ -113,7 +113,7 @@ def check_messages(top, pattern, wrong):
     """The words that the programs' texts shouldn't have."""
     # (the crates `test_*` print nothing)
     files = [it for it in sorted((top / "crates").glob("*/src/**/*.rt")) if "/test_" not in str(it)]
-    files += sorted((top / "bindings/python/urlcheck").glob("*.py"))
+    files += sorted((top / "bindings/python/urlcheck").rglob("*.py"))
     if len(files) < 2:
         wrong.append("no source of a program is there")
     for file in files:

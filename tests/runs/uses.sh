@@ -176,7 +176,7 @@ if [ -n "${PACKAGE:-}" ]; then
     recipe site sh 2 >../builds.sh
     while IFS= read -r line; do
         folder=$(sed -n 's/.* \([a-z]*\) && .*/\1/p' <<<"$line")
-        [ "${line##*&& }" = "urlcheck-documents --check $folder" ] || { echo "FAILED: docs/guides/site.md: $line"; failed=1; }
+        [ "${line##*&& }" = "urlcheck-documents $folder" ] || { echo "FAILED: docs/guides/site.md: $line"; failed=1; }
         count=$((count + 1))
     done <../builds.sh
     words=$(sed -n 's/.*checks begins with `\(urlcheck-documents [^`]*\)`\.$/\1/p' "$guides/known-faults.md")

@@ -10,7 +10,7 @@
 >>> urlcheck.resolve("../x", "http://h/a/b")
 'http://h/x'
 >>> urlcheck.mend("http://h/a b")
-Mended(text='http://h/a%20b', kind=<MendKind.SAME: 'same'>)
+Mended(text='http://h/a%20b', kind=<MendKind.SAME: 'same'>, is_offered=True)
 
 A text without a scheme is valid against a base alone: ``check("../x", "http://h/a/b")``. The functions keep no state
 and may be called from any thread.
@@ -18,7 +18,7 @@ and may be called from any thread.
 
 import enum
 from dataclasses import dataclass
-from typing import Any, Iterable, Iterator, Literal, Optional, Tuple, Union
+from typing import Any, Iterable, Iterator, List, Literal, Optional, Tuple, Union
 
 from ._library import native
 
@@ -103,8 +103,8 @@ class Refused:
         return False
 
 
-class MendKind(enum.Enum):
-    """How a mended text differs from the refused one.
+class MendKind(str, enum.Enum):
+    """How a mended text differs from the refused one. Each is a ``str`` too, so that JSON has it.
 
     ``SAME``: a second parser reads both as the same URL. ``ESCAPED``: not so, and some code points of the refused text
     are percent-encoded, and nothing else. ``CHANGED``: neither, so its author has to look.
@@ -124,6 +124,8 @@ class Mended:
 
     text: str
     kind: MendKind
+    is_offered: bool = True
+    """Whether a report says to write it: nothing shows that the text's author meant something else."""
 
 
 @dataclass(frozen=True)
@@ -212,6 +214,11 @@ def version() -> str:
     return "{}.{}.{}".format(number // 10000, number // 100 % 100, number % 100)
 
 
+def __dir__() -> List[str]:
+    """What the package has for its callers."""
+    return sorted(__all__)
+
+
 def _answers(texts: Iterator[str], base: AnyBase, profile: Profile) -> Iterator[Union[Valid, Refused]]:
     """The answers on the texts, against a base that is checked at the first of them."""
     for text in texts:
@@ -232,8 +239,8 @@ def _profile(number: object) -> Profile:
 
 
 _NO_UTF8 = "no-utf8"
-_NAMES = tuple(native.rule_name(rule) for rule in range(15)) + (_NO_UTF8,)
-_SENTENCES = {name: native.rule_sentence(rule) for rule, name in enumerate(_NAMES[:-1]) if rule}
+_NAMES = tuple(native.text(0, rule) for rule in range(15)) + (_NO_UTF8,)
+_SENTENCES = {name: native.text(1, rule) for rule, name in enumerate(_NAMES[:-1]) if rule}
 
 RULES: Tuple[str, ...] = _NAMES[1:-1]
 """The names of the rules, in the order of their numbers."""
@@ -249,4 +256,5 @@ native.use(
 __version__ = version()
 
 from ._many import Findings, Mendings, check_many, is_valid_many, mend_many, resolve_many  # noqa: E402
-from ._report import FORMATS, UNITS, Diagnostic, Explanation, Region, column, explain, message, report  # noqa: E402
+from ._reports.report import FORMATS, UNITS, Diagnostic, Explanation, Region  # noqa: E402
+from ._reports.report import column, explain, message, report  # noqa: E402

@@ -14,7 +14,8 @@ def is_arrow(texts: object) -> bool:
 
 
 class Column:
-    """An answer as an array of Arrow, which other libraries take by ``__arrow_c_array__``, as ``pyarrow.array(column)``."""
+    """An answer as an array of Arrow, which other libraries take by ``__arrow_c_array__``, as
+    ``pyarrow.array(column)``."""
 
     def __init__(self, layout: str, length: int, missing: int, buffers: Tuple[Any, ...], names: Any = None) -> None:
         self._column = (layout, length, missing, buffers, names)

@@ -8,11 +8,11 @@ PROGRAM = "urlcheck-documents"
 
 
 def _is_asked_for() -> bool:
-    """Whether Python loads the package to run the program: by its name, or by ``-m urlcheck.documents``, where it loads
-    the package before the module. (Before 3.10 Python doesn't tell that.)"""
+    """Whether Python loads the package to run the program: by its name, or by ``-m``, where it loads the package before
+    the module. (Before 3.10 Python doesn't tell that.)"""
     if sys.argv[:1] == ["-m"]:
         words = getattr(sys, "orig_argv", [])
-        return ("-m", "urlcheck.documents") in zip(words, words[1:])
+        return any(pair in zip(words, words[1:]) for pair in (("-m", "urlcheck"), ("-m", "urlcheck.documents")))
     # (on Windows it has an ending)
     return [os.path.basename(word).partition(".")[0] for word in sys.argv[:1]] == [PROGRAM]
 
@@ -21,7 +21,8 @@ def _unloaded(why: str) -> BaseException:
     """What is raised where no module fits: an ``ImportError``, and for the program an end with status 2, once its
     standard error says why."""
     said = (
-        "the module urlcheck._native {}; the wheel of a release has it, and 'tools/build-library DIR' makes it in a checkout"
+        "the module urlcheck._native {}; the wheel of a release has it, and 'tools/build-library DIR' makes it in a "
+        "checkout"
     ).format(why)
     if not _is_asked_for():
         return ImportError(said)

@@ -1,4 +1,5 @@
-"""Many texts in a call: lists, columns of numpy and pandas, and arrays of Arrow, each answered by columns of its own kind.
+"""Many texts in a call: lists, columns of numpy and pandas, and arrays of Arrow, each answered by columns of its own
+kind.
 
 numpy, pandas and pyarrow are imported only where what came in is theirs.
 """
@@ -13,7 +14,7 @@ from ._library import native
 
 _MISSING = 255
 _NO_UTF8 = "no-utf8"
-_RULES: Tuple[Optional[str], ...] = (None, *(native.rule_name(rule) for rule in range(1, 15)), _NO_UTF8)
+_RULES: Tuple[Optional[str], ...] = (None, *(native.text(0, rule) for rule in range(1, 15)), _NO_UTF8)
 """The names of the rules by their numbers, and after them of bytes that are no UTF-8, as an Arrow array may hold."""
 
 
@@ -41,9 +42,9 @@ def check_many(texts: Iterable[Optional[str]], base: AnyBase = None, profile: Pr
     """What ``check`` finds of each text: whether it is valid, and the rule and the place of its first fault.
 
     The texts are a list or another iterable, a numpy array of objects, a pandas Series, or an Arrow array of strings,
-    which isn't copied. Columns of the same kind are given: lists; arrays of numpy, where a place is -1 and a rule ``None``
-    for a valid text; Series with the same index; arrays of Arrow. ``None``, NaN and ``pandas.NA`` are missing texts.
-    Other threads run while texts are checked.
+    which isn't copied. Columns of the same kind are given: lists; arrays of numpy, where a place is -1 and a rule
+    ``None`` for a valid text; Series with the same index; arrays of Arrow. ``None``, NaN and ``pandas.NA`` are missing
+    texts. Other threads run while texts are checked.
 
     Raises what ``check`` raises, and ``ValueError`` for an Arrow array that is broken.
     """
@@ -57,7 +58,8 @@ def is_valid_many(texts: Iterable[Optional[str]], base: AnyBase = None, profile:
 
 
 def resolve_many(texts: Iterable[Optional[str]], base: AnyBase = None, profile: Profile = Profile.STANDARD) -> Any:
-    """The text of the URL of each text, as ``resolve`` gives it, missing where a text is refused: see ``check_many``."""
+    """The text of the URL of each text, as ``resolve`` gives it, missing where a text is refused: see
+    ``check_many``."""
     return _kind_of(texts).write(texts, base, profile, False)[0]
 
 

@@ -1,5 +1,5 @@
-"""A list of links, checked by spans of its bytes: each has the lines that begin in it, so that no span asks another where a
-line ends. Each is read where it is checked, and no more of the list than it."""
+"""A list of links, checked by spans of its bytes: each has the lines that begin in it, so that no span asks another
+where a line ends. Each is read where it is checked, and no more of the list than it."""
 
 import os
 from typing import BinaryIO, List, NamedTuple, Tuple
@@ -50,13 +50,15 @@ def check(span: Span, base: AnyBase, profile: Profile) -> Checked:
     with open(span.file, "rb") as file:
         data = _lines_of(file, span)
     lines, refused = native.check_lines(data, base, profile, MOST_OF_A_LINE)
-    found = [Refused(number, place, rule, data[start : start + length]) for number, place, rule, start, length in refused]
+    found = []
+    for number, place, rule, start, length in refused:
+        found.append(Refused(number, place, rule, data[start : start + length]))
     return Checked(lines, found, version())
 
 
 def _lines_of(file: BinaryIO, span: Span) -> bytes:
-    """The bytes from the first line that begins in the span to the end of the last one. Of a line that is too long only so
-    much is read as shows that."""
+    """The bytes from the first line that begins in the span to the end of the last one. Of a line that is too long only
+    so much is read as shows that."""
     # (a line begins here where the byte before is its predecessor's end)
     begin = max(span.start - 1, 0)
     file.seek(begin, os.SEEK_SET)

@@ -1,12 +1,13 @@
 """Checks lists of links on a cluster of Dask: ``python3 -m urlcheck.cluster LIST.. [--scheduler ADDRESS]``.
 
-The workers read the lists themselves, by spans, so each has to see them by the same names; nothing of a list is sent, or
-held here. Without a scheduler, workers are started on this machine. The refused lines come in their order, with their numbers
-in all the lists, one after the other: as ``urlcheck links`` says them, or as JSON. A span whose worker dies is checked again;
-one that fails again and again is halved until the part that makes it fail is small, and then named.
+The workers read the lists themselves, by spans, so each has to see them by the same names; nothing of a list is sent,
+or held here. Without a scheduler, workers are started on this machine. The refused lines come in their order, with
+their numbers in all the lists, one after the other: as ``urlcheck links`` says them, or as JSON. A span whose worker
+dies is checked again; one that fails again and again is halved until the part that makes it fail is small, and then
+named.
 
-The status is 0 where all lines are valid, 1 where some are refused, 2 where nothing could be checked, and 3 where a part
-wasn't checked.
+The status is 0 where all lines are valid, 1 where some are refused, 2 where nothing could be checked, and 3 where a
+part wasn't checked.
 """
 
 import argparse
@@ -92,7 +93,8 @@ class Bar:
         if self.is_shown:
             seconds = max(time.monotonic() - self.begun, 0.001)
             full = 30 * self.done // max(self.size, 1)
-            words = (full * "#" + (30 - full) * "-", self.done // 1_000_000, self.size // 1_000_000, lines, lines / seconds)
+            done, size = self.done // 1_000_000, self.size // 1_000_000
+            words = (full * "#" + (30 - full) * "-", done, size, lines, lines / seconds)
             sys.stderr.write("\r[{}] {} of {} MB, {} links, {:.0f}/s ".format(*words))
             sys.stderr.flush()
 
@@ -138,7 +140,8 @@ class Run:
             yield self.known.pop(self.order.popleft())
 
     def take(self, limit: float) -> None:
-        """Takes the next span that has ended. Where none ends for long, those that are out are given up and tried anew."""
+        """Takes the next span that has ended. Where none ends for long, those that are out are given up and tried
+        anew."""
         if not self.order or self.order[0] in self.known:
             return
         if self.suspects and not self.out:
@@ -182,7 +185,8 @@ class Run:
         self.known[span] = Part(span, found, "")
 
     def give_up(self, future: Any, why: str) -> None:
-        """Tries a span that failed once more, then its halves, and where it is small alone: what fails then is named."""
+        """Tries a span that failed once more, then its halves, and where it is small alone: what fails then is
+        named."""
         span = self.out.pop(future)
         future.cancel()
         self.failed[span] += 1
@@ -239,7 +243,7 @@ def _client(words: argparse.Namespace) -> Any:
             return client(words.scheduler, timeout=30)
         except (OSError, ValueError) as error:
             raise Stopped("{}: there is no scheduler: {}".format(words.scheduler, error)) from None
-    # (in a process each, so that one that dies takes no other with it, and of a span that kills its worker we know soon)
+    # (in a process each, so that one that dies takes no other with it, and a span that kills its worker is soon known)
     import dask
 
     dask.config.set({"distributed.scheduler.allowed-failures": 1})
@@ -291,7 +295,8 @@ def main(given: Optional[List[str]] = None) -> int:
     report.end()
     for part in report.unchecked:
         words_of = (part.span.file, part.span.start, part.span.end, part.why)
-        print("urlcheck.cluster: {}: not checked: the lines that begin from byte {} to {}: {}".format(*words_of), file=sys.stderr)
+        said = "urlcheck.cluster: {}: not checked: the lines that begin from byte {} to {}: {}"
+        print(said.format(*words_of), file=sys.stderr)
     return 3 if report.unchecked else 1 if report.bad else 0
 
 

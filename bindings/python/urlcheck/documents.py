@@ -1,8 +1,8 @@
 """The links of documents, where they are: the program ``urlcheck-documents``.
 
-``python3 -m urlcheck.documents FILE..`` (or ``urlcheck-documents FILE..``) prints a line ``FILE:LINE:COLUMN:LINK`` for
-each link, as ``rg --vimgrep -o`` does; with ``--check`` it checks them, and reports each that is refused. The lines are
-those that ``urlcheck lint --located -`` reads, which checks them too.
+``python3 -m urlcheck.documents FILE..`` (or ``urlcheck-documents FILE..``) checks how they are written, and reports
+each that is refused. With ``--list`` it prints a line ``FILE:LINE:COLUMN:LINK`` for each link, as ``rg --vimgrep -o``
+does, which ``urlcheck lint --located -`` reads.
 """
 
 import contextlib
@@ -11,17 +11,18 @@ import signal
 import sys
 from typing import BinaryIO, Callable, Iterator, List, Optional, Tuple
 
-from . import BaseRefused, Profile, _baseline, check, message
-from ._colours import COLOURED, are_wanted, coloured
-from ._config import NONE, Misconfigured, configuration_of
-from ._finding import Report
-from ._folders import Excluded, NoGit, Passed, configured_folder, documents_of
-from ._limits import limit_memory
-from ._progress import Progress
-from ._run import Counts, Run
-from ._screen import Paint, Screen
+from . import BaseRefused, Profile, check, message
+from ._documents.arguments import Asked, Settings, asked, with_format
+from ._documents.configuration import NONE, Misconfigured, configuration_of
+from ._documents.folders import Excluded, NoGit, Passed, configured_folder, documents_of
+from ._documents.limits import limit_memory
+from ._documents.progress import Progress
+from ._documents.run import Counts, Run
+from ._documents.screen import Paint, Screen
+from ._reports import baseline
+from ._reports.colours import COLOURED, are_wanted, coloured
+from ._reports.finding import Report
 from ._streams import as_utf8, flush, is_closed_pipe, named, reason_of, stop, tell, write_nowhere
-from ._words import Asked, Settings, asked, with_format
 
 
 def run(words: Optional[List[str]] = None) -> int:
@@ -100,8 +101,9 @@ def _excluded_by(settings: Settings) -> Callable[[str], Tuple[Excluded, ...]]:
 
 def _paint(given: Asked, format: str) -> Optional[Paint]:
     """What gives a report its colours, if it has some."""
-    is_painted = given.is_checked and given.output is None and format in COLOURED and are_wanted(given.colour, sys.stdout)
-    return (lambda lines: coloured(format, lines)) if is_painted and not given.has_statistics else None
+    is_report = given.is_checked and given.output is None and not given.has_statistics
+    is_painted = is_report and format in COLOURED and are_wanted(given.colour, sys.stdout)
+    return (lambda lines: coloured(format, lines)) if is_painted else None
 
 
 @contextlib.contextmanager
@@ -118,7 +120,7 @@ def _ended(given: Asked, seen: Run, passed: Passed) -> int:
     """Writes the baseline that is asked for, says what was seen, and gives the status."""
     if given.baseline is not None:
         with _written(given.baseline) as file:
-            file.write(_baseline.written(seen.faults))
+            file.write(baseline.written(seen.faults))
     gone = len(given.settings.known - seen.met)
     if gone and not given.is_quiet:
         tell("{} of the baseline {} gone".format(_number(gone, "fault"), "is" if gone == 1 else "are"))
@@ -136,7 +138,7 @@ def _base_refused(base: Optional[str], profile: Profile) -> Optional[str]:
         check("", base, profile)
     except BaseRefused as refused:
         # A base is checked alone, so that it needs a scheme.
-        why = "it has no scheme" if refused.rule == "no-scheme" else message(base, refused, profile)
+        why = "it has no scheme" if refused.rule == "no-scheme" else message(base, refused, profile, "options")
         return "the base is refused at place {}: {} [{}]".format(refused.place, why, refused.rule)
     return None
 

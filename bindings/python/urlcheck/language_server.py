@@ -1,4 +1,5 @@
-"""A language server for links: diagnostics as one types, the mended text as a code action, and on hover what the rule asks.
+"""A language server for links: diagnostics as one types, the mended text as a code action, and on hover what the rule
+asks.
 
 ``urlcheck-language-server`` speaks the Language Server Protocol 3.17 on standard input and output. It needs the package
 ``python-lsp-jsonrpc`` (Debian: python3-pylsp-jsonrpc).
@@ -23,14 +24,14 @@ except ImportError:
     sys.exit("{}: needs {}".format(PROGRAM, NEEDED))
 
 from . import MendKind, version
-from ._config import NONE, Configuration, Misconfigured, configuration_of
-from ._editing import Text, encoding_for
-from ._checking import Asked, Checking, Mistake, Range, Remark, Seen
-from ._kinds import kind_of
-from ._readers import LIST
-from ._rpc import Endpoint, NoMessage, message_of
-from ._rules import TITLES, rule_of
-from ._settings import Options, options_of
+from ._documents.configuration import NONE, Configuration, Misconfigured, configuration_of
+from ._editors.checking import NOT_READ, NOTE, Asked, Checking, Mistake, Range, Remark, Seen
+from ._editors.editing import Text, encoding_for
+from ._editors.rpc import Endpoint, NoMessage, message_of
+from ._editors.settings import Options, options_of
+from ._readers.kinds import kind_of
+from ._readers.reading import LIST
+from ._reports.rules import TITLES, address_of, rule_of
 
 KINDS_BY_LANGUAGE = {
     **{"html": "html", "markdown": "markdown", "mdx": "markdown", "quarto": "markdown", "rmd": "markdown"},
@@ -278,7 +279,7 @@ class Server(MethodDispatcher):  # type: ignore[misc]
         try:
             config = _configuration(document.uri)
         except Misconfigured as misconfigured:
-            remarks.append(Remark(((0, 0), (0, 0)), str(misconfigured), False))
+            remarks.append(Remark(((0, 0), (0, 0)), str(misconfigured), NOTE))
         kind = config.kind_of(urlsplit(document.uri).path) or document.kind
         if kind is None:
             return Seen([], [])
@@ -297,7 +298,7 @@ class Server(MethodDispatcher):  # type: ignore[misc]
         try:
             seen = self._checking.check(asked, is_superseded)
         except OSError as error:
-            seen = Seen([], [Remark(((0, 0), (0, 0)), "can't be checked: {}".format(error.strerror), True)])
+            seen = Seen([], [Remark(((0, 0), (0, 0)), "can't be checked: {}".format(error.strerror), NOT_READ)])
         return seen and seen._replace(remarks=seen.remarks + remarks)
 
     def _publish(self, uri: str, diagnostics: List[Json], number: Optional[int]) -> None:
@@ -307,8 +308,8 @@ class Server(MethodDispatcher):  # type: ignore[misc]
         self._endpoint.notify("textDocument/publishDiagnostics", said)
 
     def _seeing(self, uri: str) -> Callable[[], Seen]:
-        """What gives what is seen in a text as it is now, once that is known. It raises ``JsonRpcException`` where the text
-        changes before."""
+        """What gives what is seen in a text as it is now, once that is known. It raises ``JsonRpcException`` where the
+        text changes before."""
         with self._changed:
             document = self._documents.get(uri)
             changes = document.changes if document is not None else 0
@@ -355,11 +356,13 @@ class Server(MethodDispatcher):  # type: ignore[misc]
         def actions() -> List[Json]:
             seen = seeing()
             found = [it for it in _at(seen, within) if it.mended is not None]
-            said = [_action(textDocument["uri"], it, self._options.severity) for it in found] if _is_wanted("quickfix", wanted) else []
+            uri, severity = textDocument["uri"], self._options.severity
+            said = [_action(uri, it, severity) for it in found] if _is_wanted("quickfix", wanted) else []
             same = [it for it in seen.mistakes if it.mended is not None and it.kind is MendKind.SAME]
             if same and wanted is not None and _is_wanted(_FIX_ALL, wanted):
                 edits = {textDocument["uri"]: [_edit(it) for it in same]}
-                said.append({"title": "Write all links that stay the same URL", "kind": _FIX_ALL, "edit": {"changes": edits}})
+                title = "Write all links that stay the same URL"
+                said.append({"title": title, "kind": _FIX_ALL, "edit": {"changes": edits}})
             return said
 
         return actions
@@ -421,15 +424,13 @@ def _span(range: Range) -> Json:
 
 
 def _diagnostic(found: Mistake, severity: int) -> Json:
-    rule = rule_of(found.rule)
     said = _said(found.range, severity, found.rule, found.message)
-    said["codeDescription"] = {"href": rule.page or rule.url}
+    said["codeDescription"] = {"href": address_of(found.rule)}
     return said
 
 
 def _remark(remark: Remark) -> Json:
-    is_unread = remark.is_unread
-    return _said(remark.range, _WARNING if is_unread else _INFORMATION, "not-read" if is_unread else "note", remark.message)
+    return _said(remark.range, _INFORMATION if remark.code == NOTE else _WARNING, remark.code, remark.message)
 
 
 def _said(range: Range, severity: int, code: str, message: str) -> Json:

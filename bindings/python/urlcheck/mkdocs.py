@@ -8,15 +8,17 @@ import importlib
 import logging
 import os
 import re
-from typing import Any, Optional, Set, Tuple
+from typing import Any, Optional, Set
 
 from . import BaseRefused, Profile
-from . import _html_links, _markdown_links
-from ._config import Misconfigured, configuration_of
-from ._front_matter import front_matter_of
-from ._checker import Checker
-from ._literal import Literals
-from ._source import Link, Source
+from ._documents.configuration import Misconfigured, configuration_of
+from ._readers import html_links, markdown_links
+from ._readers.comments import covered
+from ._readers.front_matter import front_matter_of
+from ._readers.literals import Literals
+from ._readers.source import Link, Source
+from ._reports.checker import Checker
+from ._reports.ignoring import Ignoring
 
 _OPTIONS: Any = importlib.import_module("mkdocs.config.config_options")
 _PLUGINS: Any = importlib.import_module("mkdocs.plugins")
@@ -50,6 +52,7 @@ class Plugin(_PLUGINS.BasePlugin):  # type: ignore[misc]
             base = self.config["base"] or project.base or config["site_url"] or None
             is_empty_taken = self.config["no_empty"] or project.is_empty_taken
             self._checker = Checker(base, profile, False, is_empty_taken, selected=project.selected)
+            self._is_all_reported = project.selected.are_all()
             self._ignored = tuple(re.compile(it) for it in self.config["ignore"]) + project.ignored
             self._is_gfm = self.config["gfm"] or project.gfm
         except BaseRefused as refused:
@@ -66,43 +69,51 @@ class Plugin(_PLUGINS.BasePlugin):  # type: ignore[misc]
         self._seen: Set[str] = set()
         self._path = str(page.file.abs_src_path or "")
         source = self._literals.source(self._path) if self._path else None
-        is_written = source is not None and "\n".join(source.text.splitlines()).endswith("\n".join(markdown.splitlines()))
+        lines = "\n".join(markdown.splitlines())
+        is_written = source is not None and "\n".join(source.text.splitlines()).endswith(lines)
         text = source if source is not None and is_written else Source(markdown)
         front = front_matter_of(text.text)
         self._first = text.position(front[0])[0] if front and is_written else 1
-        links, ignored, *_more = _markdown_links.links_of(text, self._is_gfm)
-        for link in links:
-            line, _column = text.position(link.offset)
+        links, comments, *_more = markdown_links.links_of(text, self._is_gfm)
+        self._written = text if is_written else None
+        self._comments, self._ignoring = comments, Ignoring(comments)
+        for link in covered(text, links, comments):
             # (the page's HTML doesn't have what is before its text)
             if not front or link.offset >= front[0]:
                 self._seen.add(_ABOVE.sub("", link.text))
-            if line not in ignored:
-                self._tell(page.file.src_path, link, text if is_written else None)
+            self._tell(page.file.src_path, link, self._written)
         return None
 
     def on_page_content(self, html: str, page: Any, config: Any, files: Any, **_: Any) -> Optional[str]:
-        """Checks what Python-Markdown made of it, for links that CommonMark doesn't have."""
+        """Checks what Python-Markdown made of it, for links that CommonMark doesn't have; then nothing more is asked of
+        the comments."""
         if self.config["rendered"]:
-            for link in _html_links.links_of(Source(html))[0]:
+            for link in html_links.links_of(Source(html))[0]:
                 text = _ABOVE.sub("", link.text)
                 if text not in self._seen:
                     self._seen.add(text)
-                    self._tell(page.file.src_path, link, None)
+                    self._tell_made(page.file.src_path, link)
+        for remark in self._ignoring.remarks(self._is_all_reported):
+            where = ":{}:{}".format(*self._written.position(remark.offset)) if self._written is not None else ""
+            _LOG.warning("%s%s: %s [comment]", page.file.src_path, where, remark.message)
         return None
 
-    def _tell(self, name: str, link: Link, source: Optional[Source]) -> None:
-        """Warns of a link, where it is wrong: at its place in this source, or where its text is in the page's file."""
-        wrong = self._checker.wrong(link)
-        if wrong is None or any(it.search(link.text) for it in self._ignored):
-            return
-        place: Optional[Tuple[int, int]] = None
-        if source is not None:
-            place = source.position(link.place(wrong.place))
+    def _tell_made(self, name: str, link: Link) -> None:
+        """Warns of a link of the page's HTML, where it is wrong: at the place where its text is in the page's file."""
+        source = self._literals.source(self._path) if self._path else None
+        texts = (link.text, _ABOVE.sub("", link.text)) if self._checker.wrong(link) is not None else ()
+        found = next(filter(None, (self._literals.find(self._path, self._first, it) for it in texts)), None)
+        if source is None or found is None:
+            self._tell(name, link, None)
+        elif source is self._written:
+            self._tell(name, covered(source, [found[0]], self._comments)[0], source)
         else:
-            written = self._literals.source(self._path) if self._path else None
-            texts = (link.text, _ABOVE.sub("", link.text))
-            found = next(filter(None, (self._literals.find(self._path, self._first, it) for it in texts)), None)
-            if written is not None and found is not None:
-                place = written.position(found[0].place(wrong.place))
-        where = "" if place is None else ":{}:{}".format(*place)
+            self._tell(name, found[0], source)
+
+    def _tell(self, name: str, link: Link, source: Optional[Source]) -> None:
+        """Warns of a link, where it is wrong and isn't meant so: at its place in this source, if that is known."""
+        wrong, is_left_out = self._ignoring.wrong(self._checker, link)
+        if wrong is None or is_left_out or any(it.search(link.text) for it in self._ignored):
+            return
+        where = "" if source is None else ":{}:{}".format(*source.position(link.place(wrong.place)))
         _LOG.warning("%s%s: %s: %s [%s]", name, where, link.text, wrong.message, wrong.rule)

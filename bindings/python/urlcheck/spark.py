@@ -1,5 +1,5 @@
-"""Functions as Spark asks for them: from columns of pandas to columns (``pandas_udf``), and from batches of Arrow to batches
-(``mapInArrow``). Nothing of Spark is imported.
+"""Functions as Spark asks for them: from columns of pandas to columns (``pandas_udf``), and from batches of Arrow to
+batches (``mapInArrow``). Nothing of Spark is imported.
 
     from pyspark.sql.functions import pandas_udf
     is_valid = pandas_udf(urlcheck.spark.is_valid, "boolean")
@@ -44,7 +44,8 @@ def mend(urls: "pd.Series") -> "pd.Series":
 def findings(
     column: str, base: AnyBase = None, profile: Profile = Profile.STANDARD
 ) -> Callable[[Iterable[Any]], Iterator[Any]]:
-    """A function for ``mapInArrow``: it adds to each batch the columns ``valid``, ``rule`` and ``place`` on a column."""
+    """A function for ``mapInArrow``: it adds to each batch the columns ``valid``, ``rule`` and ``place`` on a
+    column."""
 
     def checked(batches: Iterable[Any]) -> Iterator[Any]:
         import pyarrow

@@ -7,15 +7,17 @@ that ``suppress_warnings = ["urlcheck.percent"]`` silences those of a rule.
 import importlib
 import os
 import re
-from typing import Any, Dict, Iterator, List, NamedTuple, Optional, Set, Tuple
+from typing import Any, Dict, Iterator, List, NamedTuple, Optional, Tuple
 
 from . import BaseRefused, Profile, version
-from . import _markdown_links, _rst_links
-from ._config import Misconfigured, configuration_of
-from ._checker import Checker
-from ._kinds import kind_of
-from ._literal import Literals
-from ._source import Link, Source
+from ._documents.configuration import Misconfigured, configuration_of
+from ._readers import markdown_links, rst_links
+from ._readers.comments import covered
+from ._readers.kinds import kind_of
+from ._readers.literals import Literals
+from ._readers.source import Comment, Link, Source
+from ._reports.checker import Checker
+from ._reports.ignoring import Ignoring
 
 _LOG: Any = importlib.import_module("sphinx.util.logging").getLogger(__name__)
 
@@ -33,6 +35,15 @@ class _Said(NamedTuple):
     """How it is written, where docutils says that; none for HTML."""
 
 
+class _Found(NamedTuple):
+    """A link of a document."""
+
+    said: _Said
+    source: Optional[Source]
+    """The text in which it is, if that is known."""
+    link: Link
+
+
 class _Settings(NamedTuple):
     """What links are checked by."""
 
@@ -40,6 +51,8 @@ class _Settings(NamedTuple):
     ignored: Tuple["re.Pattern[str]", ...]
     has_columns: bool
     is_gfm: bool
+    is_all_reported: bool
+    """Whether what violates any rule is reported."""
 
 
 def setup(app: Any) -> Dict[str, Any]:
@@ -55,7 +68,8 @@ def setup(app: Any) -> Dict[str, Any]:
 
 
 def _settings(app: Any) -> _Settings:
-    """What links are checked by: what conf.py says, else the project's configuration. Raises Sphinx's ``ConfigError``."""
+    """What links are checked by: what conf.py says, else the project's configuration. Raises Sphinx's
+    ``ConfigError``."""
     failed: Any = importlib.import_module("sphinx.errors").ConfigError
     config = app.config
     try:
@@ -65,7 +79,8 @@ def _settings(app: Any) -> _Settings:
             raise failed("urlcheck_profile is one of {}".format(", ".join(it.name.lower() for it in Profile)))
         profile = Profile[name.upper()] if name is not None else project.profile or Profile.STANDARD
         is_empty_taken = config.urlcheck_no_empty or project.is_empty_taken
-        checker = Checker(config.urlcheck_base or project.base, profile, False, is_empty_taken, selected=project.selected)
+        base = config.urlcheck_base or project.base
+        checker = Checker(base, profile, False, is_empty_taken, selected=project.selected)
         ignored = tuple(re.compile(it) for it in config.urlcheck_ignore) + project.ignored
     except BaseRefused as refused:
         raise failed("urlcheck_base: {}".format(refused)) from None
@@ -74,54 +89,65 @@ def _settings(app: Any) -> _Settings:
     except Misconfigured as misconfigured:
         raise failed(str(misconfigured)) from None
     is_gfm = project.gfm or "linkify" in (getattr(config, "myst_enable_extensions", None) or ())
-    return _Settings(checker, ignored, config.urlcheck_columns, is_gfm)
+    return _Settings(checker, ignored, config.urlcheck_columns, is_gfm, project.selected.are_all())
 
 
 def _check_document(app: Any, tree: Any) -> None:
     """Checks the links that the author of a document wrote; what Sphinx makes of its own isn't there yet."""
     settings, literals = _settings(app), Literals()
     path = os.path.abspath(app.env.doc2path(app.env.docname))
-    read: Set[Tuple[str, int]] = set()
-    if kind_of(path) == "markdown":
+    written = literals.source(path)
+    found: List[_Found] = []
+    comments: List[Comment] = []
+    if written is not None and kind_of(path) == "markdown":
         # (MyST percent-encodes what it reads, so that its nodes don't say what was written)
-        read = _check_markdown(settings, literals, path)
+        links, comments, _, _ = markdown_links.links_of(written, settings.is_gfm)
+        found = [_Found(_Said(path, written.position(it.offset)[0], it.text), written, it) for it in links]
+    elif written is not None:
+        nodes: Any = importlib.import_module("docutils.nodes")
+        own = [it for it in tree.findall(nodes.comment) if _place(it, path)[0] == path]
+        comments = rst_links.comments_in(written, own)
+    read = {(it.link.text, it.said.line) for it in found}
     for said in _said(tree, path):
         source = literals.source(said.path)
         for link, is_there in _links_of(settings, literals, said):
             told = said._replace(text=link.text)
             if source is None or not is_there:
-                _tell(settings, told, None, None)
+                found.append(_Found(told, None, link))
             elif said.path != path or (link.text, source.position(link.offset)[0]) not in read:
-                _tell(settings, told, source, link)
+                found.append(_Found(told, source, link))
+    _tell_all(settings, found, comments, _Found(_Said(path, 1, ""), written, Link("", 0, False)))
+
+
+def _tell_all(settings: _Settings, found: List[_Found], comments: List[Comment], document: _Found) -> None:
+    """Warns of the links of a document that are wrong, but for those that its comments leave out, and of comments."""
+    source = document.source
+    ignoring = Ignoring(comments)
+    own = [it for it in found if it.source is source]
+    if source is not None:
+        links = covered(source, [it.link for it in own], comments)
+        others = [it for it in found if it.source is not source]
+        found = others + [it._replace(link=link) for it, link in zip(own, links)]
+    for it in found:
+        _tell(settings, it, ignoring)
+    for remark in ignoring.remarks(settings.is_all_reported):
+        line = source.position(remark.offset)[0] if source is not None else 1
+        location = "{}:{}".format(document.said.path, line)
+        _LOG.warning("%s [comment]", remark.message, location=location, type="urlcheck", subtype="comment")
 
 
 def _links_of(settings: _Settings, literals: Literals, said: _Said) -> Iterator[Tuple[Link, bool]]:
     """The links that a node says and that may be refused, and whether it is known where each is."""
     if said.markup is None:
-        yield from _rst_links.links_of_raw(literals, said.path, said.line, said.text)
+        yield from rst_links.links_of_raw(literals, said.path, said.line, said.text)
     elif _is_sought(settings, said):
-        yield from _rst_links.found_once(literals, said.path, said.line, said.text, said.markup)
+        yield from rst_links.found_once(literals, said.path, said.line, said.text, said.markup)
 
 
 def _is_sought(settings: _Settings, said: _Said) -> bool:
     """Whether a link may be refused: as it was read, or as it is written, with spaces that docutils takes away."""
     is_written = not said.markup or said.text in said.markup
     return not is_written or settings.checker.wrong(Link(said.text, 0, False)) is not None
-
-
-def _check_markdown(settings: _Settings, literals: Literals, path: str) -> Set[Tuple[str, int]]:
-    """Checks the links of a document of MyST by its source, and gives them with their lines."""
-    source = literals.source(path)
-    if source is None:
-        return set()
-    links, ignored, _, _ = _markdown_links.links_of(source, settings.is_gfm)
-    read = set()
-    for link in links:
-        line, _ = source.position(link.offset)
-        read.add((link.text, line))
-        if line not in ignored:
-            _tell(settings, _Said(path, line, link.text), source, link)
-    return read
 
 
 def _said(tree: Any, path: str) -> Iterator[_Said]:
@@ -139,8 +165,8 @@ def _said(tree: Any, path: str) -> Iterator[_Said]:
         elif isinstance(node, addnodes.download_reference):
             if "://" in node.get("reftarget", ""):
                 yield _Said(*_place(node, path), node["reftarget"], node.rawsource)
-        elif _rst_links.is_link(node) and not node.get("internal"):
-            yield _Said(*_place(node, path), _rst_links.link_of(node), _rst_links.markup_of(node))
+        elif rst_links.is_link(node) and not node.get("internal"):
+            yield _Said(*_place(node, path), rst_links.link_of(node), rst_links.markup_of(node))
 
 
 def _place(node: Any, path: str) -> Tuple[str, int]:
@@ -158,17 +184,17 @@ def _place(node: Any, path: str) -> Tuple[str, int]:
     return (os.path.abspath(source) if source and os.path.exists(source) else path), line or 1
 
 
-def _tell(settings: _Settings, said: _Said, source: Optional[Source], link: Optional[Link]) -> None:
-    """Warns of a link, where it is wrong."""
-    given = link or Link(said.text, 0, False)
-    wrong = settings.checker.wrong(given)
-    if wrong is None or any(it.search(said.text) for it in settings.ignored):
+def _tell(settings: _Settings, found: _Found, ignoring: Ignoring) -> None:
+    """Warns of a link, where it is wrong and isn't meant so."""
+    said, source, link = found
+    wrong, is_left_out = ignoring.wrong(settings.checker, link)
+    if wrong is None or is_left_out or any(it.search(said.text) for it in settings.ignored):
         return
     where: List[Any] = [said.path, said.line]
     column = ""
-    if source is not None and link is not None:
+    if source is not None:
         where[1], at = source.position(link.place(wrong.place))
         column = "" if settings.has_columns else ", column {}".format(at)
         where += [at] if settings.has_columns else []
-    location = ":".join(map(str, where))
-    _LOG.warning("%s: %s%s [%s]", said.text, wrong.message, column, wrong.rule, location=location, type="urlcheck", subtype=wrong.rule)
+    kind = {"location": ":".join(map(str, where)), "type": "urlcheck", "subtype": wrong.rule}
+    _LOG.warning("%s: %s%s [%s]", said.text, wrong.message, column, wrong.rule, **kind)

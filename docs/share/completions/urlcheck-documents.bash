@@ -13,7 +13,7 @@ _urlcheck_documents() {
         --color) words='auto always never' ;;
         --ignore | --baseline | --write-baseline | --output) takes_files=yes ;;
         --base | --select | --exclude | --stdin-name | --jobs) ;;
-        *) words='--check --format --columns --base --profile --type --select --ignore --exclude --git --gfm --no-empty --no-config --stdin-name --fix --unsafe-fixes --diff --statistics --baseline --write-baseline --exit-zero --output --color --jobs --quiet -q --help -h --version -V'
+        *) words='--list --format --columns --base --profile --type --select --ignore --exclude --git --gfm --no-empty --no-config --stdin-name --fix --unsafe-fixes --diff --statistics --baseline --write-baseline --exit-zero --output --color --jobs --quiet -q --help -h --version -V'
            takes_files=yes ;;
     esac
     mapfile -t COMPREPLY < <(compgen -P "$option" -W "$words" -- "$word")

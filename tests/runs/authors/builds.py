@@ -287,6 +287,27 @@ class Sphinx(Built):
                 status, said = self.build("-E")
                 self.assertEqual((status, sorted(self.told(said))), (0, [("index.rst", *place) for place in places]), said)
 
+    def test_comments(self):
+        """A comment leaves out the links of the next line; one that isn't needed or understood is a warning."""
+        conf = "extensions = ['urlcheck.sphinx']\nexclude_patterns = ['mst.md', 'out']\nurlcheck_columns = True\n"
+        self.write({"conf.py": conf})
+        for comment, places, warnings in (
+            ("urlcheck: ignore", [(7, 14)], []),
+            ("urlcheck:ignore[code-point]", [(7, 14)], []),
+            ("urlcheck: ignore-file", [], []),
+            ("urlcheck: ignore[percent]", [(6, 14), (7, 14)], ["isn't needed: no link that it is about is refused by that"]),
+            ("urlcheck: ingore", [(6, 14), (7, 14)], ["'urlcheck: ingore' isn't understood; there are "]),
+        ):
+            with self.subTest(comment):
+                self.write({"index.rst": "T\n=\n\n.. {}\n\n`a <http://h/^>`_\n`b <http://h/^>`_\n".format(comment)})
+                said = self.build("-E")[1]
+                self.assertEqual(self.told(said), [("index.rst", *place) for place in places], said)
+                lines = [it for it in said.splitlines() if it.endswith("[comment]")]
+                self.assertEqual(len(lines), len(warnings), said)
+                for line, warning in zip(lines, warnings):
+                    self.assertTrue(line.startswith(self.room + "/index.rst:4: WARNING: ") and warning in line, line)
+        self.assertEqual(self.build("-E", "-W", "-D", "suppress_warnings=urlcheck")[0], 0)
+
     def test_settings(self):
         self.write({"index.rst": "T\n=\n\n`a <http://a_b/>`_ `b <x>`_\n"})
         for given, rules in (
@@ -325,6 +346,25 @@ class MkDocs(Built):
         for each in said:
             self.assertEqual(self.told(each), [("index.md", 3, 9)], each)
         self.assertEqual(*(re.findall("^.*code-point.*$", each, re.M) for each in said))
+
+    def test_comments(self):
+        """A comment leaves out links, also one that only the page's HTML has; one that isn't needed is a warning."""
+        every = [(4, 14), (4, 27), (6, 14)]
+        for comment, places, warning in (
+            ("urlcheck: ignore", [(6, 14)], ""),
+            ("urlcheck:ignore-file[code-point]", [], ""),
+            ("urlcheck: ignore[percent]", every, "isn't needed: no link that it is about is refused by that"),
+            ("urlcheck: ingore", every, "'urlcheck: ingore' isn't understood; there are "),
+        ):
+            with self.subTest(comment):
+                text = "# T\n\n<!-- {} -->\n[a](http://h/^x) and [b](b c)\n\n[c](http://h/^y)\n"
+                self.write({"docs/index.md": text.format(comment)})
+                said = self.build()[1]
+                lines = [it for it in said.splitlines() if it.endswith("[comment]")]
+                self.assertEqual(len(lines), int(warning != ""), said)
+                self.assertIn(warning, "".join(lines))
+                wanted = places + [(3, 5)] * len(lines)
+                self.assertEqual(sorted(self.told(said)), sorted(("index.md", *place) for place in wanted), said)
 
     def test_settings(self):
         self.write({"docs/index.md": "# T\n\n[a](http://a_b/) [b](mailto:^)\n"})

@@ -22,7 +22,7 @@ class Expectation(NamedTuple):
     name: str
     files: Dict[str, str]
     words: Tuple[str, ...]
-    """Its words after ``--check``."""
+    """Its words."""
     places: List[Tuple[str, str]]
     """The documents that have a wrong link, each with the text that is from its place on."""
     said: str = ""
@@ -103,7 +103,7 @@ def missed(it: Expectation) -> str:
             write(room, name, text)
         if "--git" in it.words:
             subprocess.run(["git", "init", "-q", room], check=True)
-        words = [sys.executable, "-m", "urlcheck.documents", "--check", *it.words]
+        words = [sys.executable, "-m", "urlcheck.documents", *it.words]
         ran = subprocess.run(words, cwd=room, stdout=subprocess.PIPE, stderr=subprocess.PIPE, check=False)
     texts = {name.replace("!", "/"): text for name, text in it.files.items()}
     wanted = ["{}:{}".format(name, place(texts[name.replace("./", "")], text)) for name, text in it.places]

@@ -13,7 +13,7 @@ SPACES = {
     "media": "http://search.yahoo.com/mrss/", "wfw": "http://wellformedweb.org/CommentAPI/",
     "feedburner": "http://rssnamespace.org/feedburner/ext/1.0", "thr": "http://purl.org/syndication/thread/1.0",
     "content": "http://purl.org/rss/1.0/modules/content/", "podcast": "https://podcastindex.org/namespace/1.0",
-    "creativeCommons": "http://backend.userland.com/creativeCommonsRssModule",
+    "creativeCommons": "http://backend.userland.com/creativeCommonsRssModule", "dc": "http://purl.org/dc/elements/1.1/",
 }
 
 CHANNEL = """<link>http://h/1</link><docs>http://h/2</docs><atom:link rel="self" href="http://h/3"/>
@@ -29,7 +29,10 @@ ITEM = """<link>http://h/20</link><guid>http://h/21</guid><comments>http://h/22<
 <media:license href="http://h/30">x</media:license><feedburner:origLink>http://h/31</feedburner:origLink>
 <thr:in-reply-to href="http://h/32" ref="http://h/33"/><podcast:transcript url="http://h/34" type="x/y"/>
 <podcast:chapters url="http://h/35" type="x/y"/><podcast:person href="http://h/36" img="http://h/37">x</podcast:person>
-<content:encoded><![CDATA[<p><img src="http://h/38">]]></content:encoded><itunes:image href="http://h/39"/>"""
+<content:encoded><![CDATA[<p><img src="http://h/38">]]></content:encoded><itunes:image href="http://h/39"/>
+<category domain="http://h/40">x</category><dc:source>http://h/41</dc:source><dc:identifier>http://h/42</dc:identifier>
+<media:rating scheme="http://h/43">x</media:rating><media:copyright url="http://h/44">x</media:copyright>
+<media:category scheme="http://h/45">x</media:category>"""
 
 ATOM = """<id>http://h/50</id><link href="http://h/51"/><icon>http://h/52</icon><logo>http://h/53</logo>
 <generator uri="http://h/54">x</generator><author><uri>http://h/55</uri></author><category term="x" scheme="http://h/56"/>
@@ -61,7 +64,7 @@ def main():
             path = os.path.join(room, name)
             with open(path, "w", encoding="utf-8") as file:
                 file.write(text)
-            ran = subprocess.run([sys.executable, "-m", "urlcheck.documents", path], stdout=subprocess.PIPE, stderr=subprocess.DEVNULL)
+            ran = subprocess.run([sys.executable, "-m", "urlcheck.documents", "--list", path], stdout=subprocess.PIPE, stderr=subprocess.DEVNULL)
         links = {line.split(":", 3)[3] for line in ran.stdout.decode().splitlines()}
         urls = {"http://h/{}".format(at) for at in range(70) if '"http://h/{}"'.format(at) in text or ">http://h/{}<".format(at) in text}
         known = " ".join(texts_in(feedparser.parse(text)))

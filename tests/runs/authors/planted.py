@@ -68,7 +68,7 @@ def texts_of(folder: str) -> Iterator[Tuple[str, str]]:
 
 def refused_in(folder: str) -> Dict[str, Set[Place]]:
     """The places at which the package refuses something, by their files."""
-    words = [sys.executable, "-m", "urlcheck.documents", "-q", "--check", "--no-config", folder]
+    words = [sys.executable, "-m", "urlcheck.documents", "-q", "--no-config", folder]
     ran = subprocess.run(words, stdout=subprocess.PIPE, check=False)
     found: Dict[str, Set[Place]] = {}
     for name, line, column in re.findall(r"^(.*?):(\d+):(\d+): error: ", ran.stdout.decode(), re.MULTILINE):

@@ -4,7 +4,6 @@ should send. The package is on PYTHONPATH."""
 import importlib.util
 import json
 import os
-import pathlib
 import random
 import re
 import subprocess
@@ -13,11 +12,9 @@ import tempfile
 import time
 import unittest
 
-from urlcheck._editing import LinePlaces, Text, lines_of
+import urlcheck
+from urlcheck._editors.editing import LinePlaces, Text, lines_of
 
-TOP = pathlib.Path(__file__).resolve().parents[3]
-ADDRESSED = TOP / "crates" / "uv_report" / "src" / "rules" / "page.rt"
-"""Where the address of the site is written, of which the server has no copy."""
 PROGRAM = [sys.executable, "-m", "urlcheck.language_server"]
 LINK = "[x](http://h/a^b)"
 
@@ -235,9 +232,8 @@ class Served(unittest.TestCase):
         self.assertEqual(client.diagnostics(uri), [])
         self.assertEqual(client.end(), 0)
 
-    def test_pages_of_the_rules(self):
-        """A diagnostic leads to the page of its rule, and by a rule of a format to where that is written."""
-        (site,) = re.findall(r'^pub\(crate\) const ADDRESS: &str = "(.*)";$', ADDRESSED.read_text(encoding="utf-8"), re.M)
+    def test_addresses_of_the_rules(self):
+        """A diagnostic leads to where its rule is in the URL Standard, and by a rule of a format to where that is."""
         client = self.start()
         lists = "x\nhttp:a\nhttps:///a\nhttp://a_b/\nhttp://256/\nhttp://[1]/\nfoo://a b/\nhttp://h:x/\nhttp://h:65536/\n"
         lists += "http://h//a\nfile://h/C:/\nurn:a b\nhttp://h/%z\n"
@@ -246,8 +242,9 @@ class Served(unittest.TestCase):
         found = client.open("file:///nowhere/a.links", lists)
         self.assertEqual([it["code"] for it in found], rules)
         for it in found:
-            self.assertEqual(it["codeDescription"], {"href": "{}/docs/rules/{}.html".format(site, it["code"])})
-            self.assertTrue((TOP / "docs" / "rules" / (it["code"] + ".md")).exists())
+            href = it["codeDescription"]["href"]
+            self.assertEqual(href, urlcheck.explain(it["code"]).url)
+            self.assertTrue(href.startswith("https://url.spec.whatwg.org/#"), href)
         (found,) = client.open("file:///nowhere/b.html", "<img src=''>")
         self.assertEqual(found["code"], "empty")
         self.assertTrue(found["codeDescription"]["href"].startswith("https://html.spec.whatwg.org/multipage/urls-and-fetching.html#"))
@@ -292,6 +289,20 @@ class Served(unittest.TestCase):
         client.send({"jsonrpc": "2.0", "id": client.asked[0]["id"], "result": [{"profile": "wide"}]})
         self.assertEqual(client.open(uri, "<http://a_b/>"), [])
         client.end()
+
+    def test_comments(self):
+        """A comment leaves out links; one that isn't needed or understood is a warning where it is."""
+        client = self.start()
+        uri = "file:///c/comments.html"
+        wrong = "<a href='http://h/ ^'>\n"
+        seen = client.open(uri, "<!-- urlcheck: ignore -->\n" + wrong + "<!-- urlcheck:ignore[code-point] -->\n" + wrong)
+        self.assertEqual(seen, [])
+        for comment, links in (("urlcheck: ingore", 1), ("urlcheck: ignore[percent]", 1), ("urlcheck: ignore-file", 0)):
+            client.change(uri, {"text": "<!-- " + comment + " -->\n" + (wrong if links else "<a href='x'>")})
+            seen = client.diagnostics(uri)
+            self.assertEqual([(it["code"], it["severity"]) for it in seen], [("code-point", 1)] * links + [("comment", 2)])
+            self.assertEqual(seen[-1]["range"], at(0, 4))
+            self.assertIn("'" + comment + "' isn't ", seen[-1]["message"])
 
     def test_gfm_that_changes(self):
         """What blocks of Markdown were read as is kept for one choice of ``gfm``: of the text of code none is a link by it."""

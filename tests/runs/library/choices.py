@@ -10,6 +10,9 @@ import unittest
 
 from room import PROGRAM, Texts
 
+NO_USE = "--list checks nothing, so that --{} has no use"
+"""What is said of an option beside --list."""
+
 PAGE = '<a href="http://h/a b">\n<a href="http://h/%zz^">\n<a href="http://a_b/">\n<a href="http://h/a b">\n'
 
 
@@ -31,68 +34,70 @@ class Choices(Texts):
         ):
             with self.subTest(words):
                 # (the first violation of each link whose rule is reported)
-                found = self.run_on("--check", *words, "page.html")[1]
+                found = self.run_on(*words, "page.html")[1]
                 found = re.findall(r"^.*?:(\d+:\d+): error: .* \[(.*)\]$", found, re.M)
                 self.assertEqual([rule for _, rule in found], [rule for _, rule in places])
                 self.assertEqual([at.split(":")[0] for at, _ in found], [at.split(":")[0] for at, _ in places])
-        status, _, said = self.run_on("--check", "--select", "code-pont", "page.html")
+        status, _, said = self.run_on("--select", "code-pont", "page.html")
         self.assertEqual((status, said), (2, "urlcheck-documents: no rule is named 'code-pont'; the nearest is code-point\n"))
 
     def test_rules_of_a_project(self):
         self.write(".urlcheck.toml", 'select = ["percent", "host-domain"]\nignore-rules = ["percent"]\n')
-        status, out, _ = self.run_on("--check", "page.html")
+        status, out, _ = self.run_on("page.html")
         self.assertEqual((status, re.findall(r"\[(.*)\]$", out, re.M)), (1, ["host-domain"]))
-        self.assertEqual(self.run_on("--check", "--no-config", "page.html")[1].count("\n"), 4)
+        self.assertEqual(self.run_on("--no-config", "page.html")[1].count("\n"), 4)
         self.write(".urlcheck.toml", 'select = ["host-domains"]\n')
-        status, _, said = self.run_on("--check", "page.html")
+        status, _, said = self.run_on("page.html")
         self.assertEqual(status, 2)
         self.assertTrue(said.endswith(".urlcheck.toml: no rule is named 'host-domains'; the nearest is host-domain\n"), said)
 
     def test_known_faults(self):
-        status, out, _ = self.run_on("--check", "--write-baseline", "known", "page.html")
+        status, out, _ = self.run_on("--write-baseline", "known", "page.html")
         self.assertEqual((status, out.count("\n")), (0, 4))
         # a line on top moves none, whatever the name is written like
         self.write("page.html", "<p>\n\n" + PAGE)
         for name in ("page.html", "./page.html"):
-            status, out, said = self.run_on("--check", "--baseline", "known", name)
+            status, out, said = self.run_on("--baseline", "known", name)
             self.assertEqual((status, out), (0, ""))
             self.assertEqual(said, "urlcheck-documents: 1 document, 4 links, 0 refused, 0 ignored, 4 known\n")
         # a third link that is equal to two that are known is new
         self.write("page.html", PAGE + '<a href="http://h/a b">\n<a href="c d">')
-        status, out, _ = self.run_on("--check", "--baseline", "known", "page.html")
+        status, out, _ = self.run_on("--baseline", "known", "page.html")
         self.assertEqual((status, re.findall(r"^page.html:(\d+)", out, re.M)), (1, ["5", "6"]))
         self.write("page.html", PAGE.partition("\n")[2])
-        status, out, said = self.run_on("--check", "--baseline", "known", "page.html")
+        status, out, said = self.run_on("--baseline", "known", "page.html")
         self.assertEqual((status, out), (0, ""))
         self.assertIn("urlcheck-documents: 1 fault of the baseline are gone\n".replace("are", "is"), said)
         for name, why in (("page.html", "is no baseline: --write-baseline writes one"),
                           ("none", "can't be read: there is no such file")):
-            status, _, said = self.run_on("--check", "--baseline", name, "page.html")
+            status, _, said = self.run_on("--baseline", name, "page.html")
             self.assertEqual((status, said), (2, "urlcheck-documents: {}: {}\n".format(name, why)))
 
     def test_statistics(self):
-        status, out, said = self.run_on("--check", "--statistics", "page.html")
+        status, out, said = self.run_on("--statistics", "page.html")
         counts = re.findall(r"^ *(\d+)  (\S+)", out, re.M)
         self.assertEqual((status, counts), (1, [("2", "code-point"), ("1", "host-domain"), ("1", "percent"), ("2", "http://h/a")]))
         self.assertIn("\n\n      2  http://h/a b\n", out)
         self.assertIn("4 refused", said)
 
     def test_status_and_file(self):
-        whole = self.run_on("--check", "page.html")[1]
-        self.assertEqual(self.run_on("--check", "--exit-zero", "page.html")[:2], (0, whole))
-        self.assertEqual(self.run_on("--check", "--exit-zero", "missing.html")[0], 2)
-        self.assertEqual(self.run_on("--check", "--output", "report", "page.html")[:2], (1, ""))
+        whole = self.run_on("page.html")[1]
+        self.assertEqual(self.run_on("--exit-zero", "page.html")[:2], (0, whole))
+        self.assertEqual(self.run_on("--exit-zero", "missing.html")[0], 2)
+        self.assertEqual(self.run_on("--output", "report", "page.html")[:2], (1, ""))
         with open(os.path.join(self.room, "report"), encoding="utf-8") as file:
             self.assertEqual(file.read(), whole)
         for name, why in (("/dev/full", "no space is left"), ("no/report", "there is no such file")):
-            status, _, said = self.run_on("--check", "--output", name, "page.html")
+            status, _, said = self.run_on("--output", name, "page.html")
             self.assertEqual((status, said.splitlines()[-1]), (3, "urlcheck-documents: {}: can't be written: {}".format(name, why)))
 
     def test_words(self):
         for words, said in (
-            (["--statistics", "page.html"], "--statistics is for --check"),
-            (["--select", "percent", "page.html"], "--select is for --check"),
-            (["--baseline", "x", "page.html"], "--baseline is for --check"),
+            (["--list", "--statistics", "page.html"], NO_USE.format("statistics")),
+            (["--list", "--select", "percent", "page.html"], NO_USE.format("select")),
+            (["--list", "--baseline", "x", "page.html"], NO_USE.format("baseline")),
+            (["--list", "--exit-zero", "page.html"], NO_USE.format("exit-zero")),
+            (["--list", "--check", "page.html"], NO_USE.format("check")),
         ):
             status, out, err = self.run_on(*words)
             self.assertEqual((status, out, err.splitlines()[-1]), (2, "", "urlcheck-documents: " + said))
@@ -116,7 +121,7 @@ class Choices(Texts):
         return run.wait(), seen.replace(b"\r\n", b"\n").decode()
 
     def test_colours(self):
-        plain = self.run_on("-q", "--check", "--format", "caret", "page.html")[1]
+        plain = self.run_on("-q", "--format", "caret", "page.html")[1]
         for environment, words, is_coloured in (
             ({}, [], True),
             ({"NO_COLOR": "1"}, [], False),
@@ -127,23 +132,23 @@ class Choices(Texts):
             ({}, ["--format", "json"], False),
         ):
             with self.subTest(environment=environment, words=words):
-                words = ["-q", "--check", "--format", "caret", *words, "page.html"]
+                words = ["-q", "--format", "caret", *words, "page.html"]
                 seen = self.at_terminal(*words, **environment)[1]
                 self.assertEqual("\x1b[" in seen, is_coloured)
                 if "json" not in words:
                     self.assertEqual(re.sub("\x1b\\[[0-9;]*m", "", seen), plain)
-        painted = subprocess.run([*PROGRAM, "-q", "--check", "page.html"], cwd=self.room, capture_output=True,
+        painted = subprocess.run([*PROGRAM, "-q", "page.html"], cwd=self.room, capture_output=True,
                                  env={**os.environ, "FORCE_COLOR": "1", "NO_COLOR": ""}, check=False).stdout
         self.assertIn(b"\x1b[1;31merror:\x1b[0m", painted)
         # a link that looks like a line of a report has no colours, and none of its own
         self.write("page.html", '<a href="x:1:1: error: y [z]"><a href="\x1b[31m">')
-        seen = self.at_terminal("-q", "--check", "--format", "caret", "page.html")[1]
+        seen = self.at_terminal("-q", "--format", "caret", "page.html")[1]
         self.assertIn("\nx:1:1: error: y [z]\n", seen)
         self.assertNotIn("\x1b[31m", seen)
 
     def test_progress(self):
         os.mkfifo(os.path.join(self.room, "slow.html"))
-        words = ["--check", "page.html", "slow.html"]
+        words = ["page.html", "slow.html"]
         writer = subprocess.Popen([sys.executable, "-c", "import time; f = open('slow.html', 'w'); time.sleep(4); f.write('<a href=x>')"],
                                   cwd=self.room)
         seen = self.at_terminal(*words)[1]
@@ -151,7 +156,7 @@ class Choices(Texts):
         self.assertRegex(seen, "\r\x1b\\[2K1 of 2 documents, 4 refused: slow.html")
         self.assertTrue(seen.endswith("\r\x1b[2Kurlcheck-documents: 2 documents, 5 links, 4 refused, 0 ignored\n"), seen[-300:])
         began = time.monotonic()
-        self.assertNotIn("of 1 documents", self.at_terminal("--check", "page.html")[1])
+        self.assertNotIn("of 1 documents", self.at_terminal("page.html")[1])
         self.assertLess(time.monotonic() - began, 30)
 
 

@@ -152,7 +152,7 @@ class Documents(Texts):
         ):
             with self.subTest(text):
                 self.write("a.html", text)
-                status, out, _ = self.run_on("-q", "a.html")
+                status, out, _ = self.run_on("--list", "-q", "a.html")
                 found = [it.rsplit(":", 1)[1].rstrip("/") for it in out.splitlines()]
                 self.assertEqual((status, found), (0, re.findall("[1-9](?=[ />'])", re.sub("<1|[0-9]{2}", "", text))))
 
@@ -162,6 +162,21 @@ class Documents(Texts):
         self.finds("sitemap.xml", SITEMAP, "2:3:http://h/ b\n")
         self.finds("videos.xml", VIDEOS, "3:27:http://h/t\n4:17:http://h/ c\n5:16:p\n")
         self.finds("podcast.rss", PODCAST, "2:21:http://h/ b\n4:28:http://h/c\n5:20:d.png\n")
+
+    def test_what_names_something_in_feeds(self):
+        """What may name something by a URL is a link where it begins as one, and else it is another word."""
+        spaces = 'xmlns:m="http://search.yahoo.com/mrss/" xmlns:d="http://purl.org/dc/elements/1.1/"'
+        text = """<rss {0}><item>
+<category domain="{1}">x</category><m:category scheme="{1}">x</m:category>
+<m:rating scheme="{1}">x</m:rating>
+<d:source>{1}</d:source>
+<d:identifier> {1}</d:identifier></item></rss>"""
+        for name in ("http://h/a b", "urn:a b", "HTTPS://h/^"):
+            places = (2, 19), (2, 53 + len(name)), (3, 19), (4, 11), (5, 16)
+            self.finds("a.rss", text.format(spaces, name), "".join("{}:{}:{}\n".format(*it, name) for it in places))
+        for name in ("no link", "DOI: 10.1000/182", "urn", "a b:c", ""):
+            self.finds("a.rss", text.format(spaces, name), "")
+        self.finds("a.rss", '<rss {}>\n<m:copyright url="a b">x</m:copyright></rss>'.format(spaces), "2:19:a b\n")
 
     @unittest.skipUnless(importlib.util.find_spec("markdown_it"), "markdown-it-py isn't installed")
     def test_markdown(self):
@@ -202,7 +217,7 @@ class Documents(Texts):
     @unittest.skipIf(importlib.util.find_spec("markdown_it"), "markdown-it-py is installed")
     def test_markdown_without_its_package(self):
         self.write("a.md", NOTES)
-        status, out, said = self.run_on("a.md")
+        status, out, said = self.run_on("--list", "a.md")
         self.assertEqual((status, out), (2, ""))
         self.assertIn("pip install markdown-it-py", said)
 
@@ -210,7 +225,7 @@ class Documents(Texts):
         self.write("a.html", """<a href="http://u:p@h/"><a href="http://u@h/"><a href="http://h:8x/">
 <a href="foo://a^b"><a href="a b"><a href="x%4"><a href="a\x7f"><a href="a\u009f"><a href="a\ufdd0">
 """)
-        self.assertEqual(self.run_on("--check", "a.html")[1].splitlines(), [
+        self.assertEqual(self.run_on("a.html")[1].splitlines(), [
             "a.html:1:19: error: a URL string has no credentials: no user name, password or @ before its host; leave them out [port-digit]",
             "a.html:1:41: error: a URL string has no credentials: no user name, password or @ before its host; leave them out [host-domain]",
             "a.html:1:66: error: U+0078 LATIN SMALL LETTER X is not allowed in a port [port-digit]",
@@ -249,7 +264,7 @@ class Documents(Texts):
             )),
         ):
             self.write("a.html", "".join('<a href="http://{}">\n'.format(host) for host, _ in rows))
-            lines = self.run_on("--check", "--profile", profile, "a.html")[1].splitlines()
+            lines = self.run_on("--profile", profile, "a.html")[1].splitlines()
             for (host, said), line in zip(rows, lines):
                 with self.subTest(profile=profile, host=host):
                     self.assertRegex(line, "^a.html:[0-9]+:17: error: {} \\[host-domain\\]$".format(re.escape(said)))
@@ -268,7 +283,7 @@ class Documents(Texts):
         self.checks("script.xhtml", [("2:44", "code-point")])
         self.write("given.html", '<a href="/C:/x"><a href="//">')
         self.checks("given.html", [("1:10", "drive-after-host"), ("1:28", "host-missing")], "--base", "file://h/a")
-        status, _, said = self.run_on("--check", "--base", "x", "none.html")
+        status, _, said = self.run_on("--base", "x", "none.html")
         self.assertEqual(status, 2)
         self.assertIn("the base is refused at place 0: it has no scheme [no-scheme]", said)
         for base, wanted in (
@@ -276,7 +291,7 @@ class Documents(Texts):
             ("http://h/a b", "10: U+0020 SPACE is not allowed in a URL [code-point]"),
             ("http://u@h/", "7: a URL string has no credentials: no user name, password or @ before its host; leave them out"),
         ):
-            status, _, said = self.run_on("--base", base, "none.html")
+            status, _, said = self.run_on("--list", "--base", base, "none.html")
             self.assertEqual(status, 2)
             self.assertIn("urlcheck-documents: the base is refused at place " + wanted, said)
 
@@ -335,10 +350,10 @@ class Documents(Texts):
         """Where a document can't be read from a place on, what is before it is written or checked."""
         self.write("b.xml", "<urlset><loc>http://h/ a</loc>\r<loc>http://h/ b</urlset>")
         place = "urlcheck-documents: b.xml:1:50: can't be read from here on: mismatched tag\n"
-        status, out, said = self.run_on("b.xml")
+        status, out, said = self.run_on("--list", "b.xml")
         self.assertEqual((status, out), (2, "b.xml:1:14:http://h/ a\n"))
         self.assertEqual(said, place + "urlcheck-documents: 1 document, 1 link, 0 ignored\n")
-        status, out, said = self.run_on("--check", "b.xml")
+        status, out, said = self.run_on("b.xml")
         self.assertEqual((status, out), (2, "b.xml:1:23: error: U+0020 SPACE is not allowed in a URL [code-point]\n"))
         self.assertEqual(said, place + "urlcheck-documents: 1 document, 1 link, 1 refused, 0 ignored\n")
         for text, wanted in (
@@ -349,10 +364,10 @@ class Documents(Texts):
             ("\ufeff<a>\r\n</b>", "2:3: can't be read from here on: mismatched tag"),
         ):
             with self.subTest(text):
-                status, _, said = self.run_on("--quiet", "--type", "xml", "-", stdin=text.encode("utf-8"))
+                status, _, said = self.run_on("--list", "--quiet", "--type", "xml", "-", stdin=text.encode("utf-8"))
                 self.assertEqual((status, said), (2, "urlcheck-documents: -:{}\n".format(wanted)))
         self.write("e.xml", '<!DOCTYPE a [\n<!ENTITY b "c">]><a/>')
-        said = self.run_on("e.xml")[2]
+        said = self.run_on("--list", "e.xml")[2]
         self.assertRegex(said, "^urlcheck-documents: e.xml:2:[0-9]+: can't .*: an entity is declared, ")
 
     def test_the_page(self):
@@ -373,7 +388,7 @@ class Documents(Texts):
         if importlib.util.find_spec("markdown_it"):
             self.finds("a.md", "\ufeff[a]: x\n", "1:6:x\n")
         self.write("b.html", b"\xef\xbb\xbfa\xff")
-        self.assertIn("b.html:1:2: this isn't UTF-8\n", self.run_on("b.html")[2])
+        self.assertIn("b.html:1:2: this isn't UTF-8\n", self.run_on("--list", "b.html")[2])
 
 
 if __name__ == "__main__":

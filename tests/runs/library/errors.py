@@ -1,7 +1,9 @@
 """Tests of the package's errors and types: what is raised, that it can be sent to another process, and several texts."""
 
 import copy
+import dataclasses
 import gc
+import json
 import multiprocessing
 import pickle
 import sys
@@ -22,6 +24,22 @@ class Errors(unittest.TestCase):
             self.assertEqual((other.rule, other.place, str(other)), (refused.rule, refused.place, str(refused)))
         with multiprocessing.Pool(2) as pool, self.assertRaises(urlcheck.BaseRefused):
             pool.map(against, ["http://h/", "no base"])
+
+    def test_names(self):
+        """The package shows what it has for its callers."""
+        self.assertEqual(dir(urlcheck), sorted(urlcheck.__all__))
+        for name in urlcheck.__all__:
+            self.assertTrue(hasattr(urlcheck, name), name)
+
+    def test_json(self):
+        """An answer is a dictionary by `dataclasses.asdict`, and JSON has that."""
+        answer = dataclasses.asdict(urlcheck.check("http://h:8/a?b"))
+        wanted = {"scheme": "http", "host": "h", "port": "8", "path": "/a", "query": "b", "fragment": None}
+        self.assertEqual(json.loads(json.dumps(answer)), wanted)
+        self.assertEqual(dataclasses.asdict(urlcheck.check("http://h/ ")), {"rule": "code-point", "place": 9})
+        self.assertEqual([dataclasses.asdict(it) for it in urlcheck.faults("http://h/^")], [{"rule": "code-point", "place": 9}])
+        mended = json.loads(json.dumps(dataclasses.asdict(urlcheck.mend("http://h/^"))))
+        self.assertEqual(mended, {"text": "http://h/%5E", "kind": "same", "is_offered": True})
 
     def test_what_is_wanted_is_said(self):
         for words, error, said in (
@@ -90,11 +108,22 @@ class Errors(unittest.TestCase):
         for other in (pickle.loads(pickle.dumps(mended)), copy.copy(mended), copy.deepcopy(mended)):
             self.assertEqual(other, mended)
         self.assertIsNone(urlcheck.mend("../x", urlcheck.Base("http://h/a")))
+        self.assertFalse(urlcheck.mend("http://h/{{ x }}").is_offered)
         self.assertEqual(urlcheck.mend("http://h:x/"), urlcheck.Refused("port-digit", 9))
 
     def test_what_is_said_of_a_text(self):
         refused = urlcheck.check("http://h_/\u65e5", None)
-        self.assertEqual(urlcheck.message("http://h_/", refused), "U+005F LOW LINE is not allowed in a domain; --profile wide allows it")
+        point = "U+005F LOW LINE is not allowed in a domain"
+        for wording, more in (("arguments", "; profile='wide' allows it"), ("options", "; --profile wide allows it"),
+                              ("sql", "; profile 'wide' allows it"), ("none", "")):
+            self.assertEqual(urlcheck.message("http://h_/", refused, wording=wording), point + more)
+            wrong = urlcheck.Diagnostic("f", 1, 8, "http://h_/", "host-domain", 7)
+            said = "".join(urlcheck.report([wrong], wording=wording))
+            self.assertEqual(said, "f:1:8: error: {}{} [host-domain]\n".format(point, more))
+        self.assertEqual(urlcheck.message("http://h_/", refused), point + "; profile='wide' allows it")
+        for call in (lambda: urlcheck.message("http://h_/", refused, wording="x"), lambda: urlcheck.report([], wording="x")):
+            with self.assertRaisesRegex(ValueError, "no wording is named 'x': there are options, arguments, sql, none"):
+                call()
         with self.assertRaises(urlcheck.BaseRefused) as base:
             urlcheck.Base("http://h/%")
         said = "U+0025 PERCENT SIGN has to be followed by two hex digits"
@@ -132,6 +161,11 @@ class Errors(unittest.TestCase):
         self.assertEqual(urlcheck.UNITS, ("code-points", "bytes", "utf16", "screen"))
         said = "a:1:2: error: U+0020 SPACE is not allowed in a URL [code-point]\n"
         self.assertEqual(list(urlcheck.report([wrong])), ["", said, ""])
+        # Equal ones of a file are told apart, and so are those of two files.
+        issues = json.loads("".join(urlcheck.report([wrong, wrong._replace(line=2), wrong._replace(file="b")], "gitlab")))
+        self.assertEqual(len({it["fingerprint"] for it in issues}), 3)
+        moved = json.loads("".join(urlcheck.report([wrong._replace(line=9)], "gitlab")))
+        self.assertEqual(moved[0]["fingerprint"], issues[0]["fingerprint"])
         for words, why in (
             (([], "xml"), "no format is named 'xml': there are gnu, "),
             (([], "gnu", "points"), "no column unit is named 'points': there are code-points, "),

@@ -62,9 +62,9 @@ class Fixing(Texts):
 
     def test_unsafe(self):
         self.write("page.html", "<a href=https:example.com/a>x</a> <a href=\"http://h/{{ a b }}\">y</a><a href=http://h:80x/>z</a>")
-        offered = self.run_on("--check", "--format", "json", "page.html")[1].count('"offered":true')
+        offered = self.run_on("--format", "json", "page.html")[1].count('"offered":true')
         self.run_on("--fix", "--unsafe-fixes", "page.html")
-        left = self.run_on("--check", "--format", "json", "page.html")[1]
+        left = self.run_on("--format", "json", "page.html")[1]
         self.assertGreater(offered, 0)
         self.assertEqual(left.count('"offered":true'), 0)
         self.assertIn(b"{{ a b }}", self.read("page.html"))
@@ -163,7 +163,8 @@ class Fixing(Texts):
     def test_words(self):
         for words, said in (
             (["--fix", "-"], "--fix and --diff are for files, and - is standard input"),
-            (["--unsafe-fixes", "--check", "a.html"], "--unsafe-fixes is for --fix and --diff"),
+            (["--unsafe-fixes", "a.html"], "--unsafe-fixes is for --fix and --diff"),
+            (["--list", "--fix", "a.html"], "--list checks nothing, so that --fix has no use"),
             (["--diff", "--format", "json", "a.html"], "--diff shows what --fix would write, in place of a report"),
         ):
             status, out, err = self.run_on(*words)

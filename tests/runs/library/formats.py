@@ -43,7 +43,7 @@ class Reported(Room):
 
     def reported(self, form, *words):
         """What is written in a format of the links of what is named."""
-        return self.run_on("--quiet", "--check", "--format", form, *words)[1].decode()
+        return self.run_on("--quiet", "--format", form, *words)[1].decode()
 
     def results(self, *words):
         """The results of a document of SARIF."""
@@ -61,15 +61,15 @@ class Compared(Reported):
         for form in forms:
             own = "bytes" if form == "rdjson" else unit
             columns = () if own == "code-points" else ("--columns", own)
-            status, links, said = self.run_on("--quiet", *columns, "--", name)
+            status, links, said = self.run_on("--list", "--quiet", *columns, "--", name)
             self.assertEqual((status, said), (0, b""))
             with self.subTest(name=name, base=base, profile=profile, form=form, unit=own):
                 words_of = (*words, *columns, "--format", form)
                 status, wanted, _ = self.run_on(*words_of, "-", program=LINT, stdin=links)
-                found = self.run_on("--quiet", "--check", *words_of, "--", name)
+                found = self.run_on("--quiet", *words_of, "--", name)
                 if found != (status, wanted, b""):
                     self.fail(difference(found[1], wanted) or "it ends with {}: {}".format(found[0], found[2]))
-        return len(self.run_on("--quiet", "--check", *words, "--", name)[1].splitlines())
+        return len(self.run_on("--quiet", *words, "--", name)[1].splitlines())
 
     def test_sample(self):
         """Links that violate each rule, and long ones: each format with a unit, by a profile."""
@@ -103,7 +103,7 @@ class Compared(Reported):
                 status, written, said = self.run_on("--base", base, *words, "-", program=LINT)
                 self.assertEqual((status, written), (2, b""))
                 wanted = said.replace(b"urlcheck: ", b"urlcheck-documents: ").replace(b"\nwords\n", b"\n")
-                self.assertEqual(self.run_on("--base", base, "--check", *words, "a.html"), (2, b"", wanted))
+                self.assertEqual(self.run_on("--base", base, *words, "a.html"), (2, b"", wanted))
 
     def test_documents_that_are_not_read(self):
         """Of a document that can't be read each format has what that of `lint` has of a file, and `github` a line more."""
@@ -112,7 +112,7 @@ class Compared(Reported):
             if form == "github":
                 wanted += b"::error file=unread.html,title=not-read::can't be read: there is no such file\n"
             with self.subTest(form):
-                found = self.run_on("--quiet", "--check", "--format", form, "unread.html")
+                found = self.run_on("--quiet", "--format", form, "unread.html")
                 self.assertEqual(found[:2], (status, wanted))
                 self.assertEqual((status, b"unread.html" in wanted), (2, form == "github"))
 
@@ -212,12 +212,12 @@ class Alone(Reported):
             ("a\nb.html", "a\ufffdb.html", "a\nb.html", "a%0Ab.html", "a&#10;b.html"),
             ("\t\x1b\x7f.html", "\t\ufffd\ufffd.html", "\t\x1b\x7f.html", "%09%1B%7F.html", "&#9;\ufffd\x7f.html"),
             ("a\u202eb.html", "a\ufffdb.html", "a\u202eb.html", "a%E2%80%AEb.html", "a\u202eb.html"),
-            (b"\xff\xe9.html", os.fsdecode(b"\xff\xe9.html"), "\ufffd\ufffd.html", "%FF%E9.html", "\ufffd\ufffd.html"),
+            (b"\xff\xe9.html", os.fsdecode(b"\xff\xe9.html"), "\ufffd\ufffd.html", "%EF%BF%BD%EF%BF%BD.html", "\ufffd\ufffd.html"),
         ):
             self.write(name, "<a href='a b'>")
             with self.subTest(name):
-                written = self.run_on("--quiet", "--check", "--format", "gnu", name)
-                self.assertEqual(written, self.run_on("--quiet", "--check", name))
+                written = self.run_on("--quiet", "--format", "gnu", name)
+                self.assertEqual(written, self.run_on("--quiet", name))
                 self.assertTrue(written[1].startswith(gnu.encode("utf-8", "surrogateescape") + b":1:11: error: "))
                 self.assertEqual(json.loads(self.reported("json", name))["file"], text)
                 command = "::error file={},line=1,".format(text.replace("\n", "%0A"))
@@ -235,7 +235,7 @@ class Alone(Reported):
         self.write("c.html", "<a href='x y'>")
         names = ("a.html", "b.xml", "c.html", "missing.html")
         for form in FORMATS:
-            status, written, _ = self.run_on("--check", "--format", form, *names)
+            status, written, _ = self.run_on("--format", form, *names)
             self.assertEqual((status, written.count(b"U+0020 SPACE")), (2, 2))
         run = json.loads(self.reported("sarif", *names))["runs"][0]
         self.assertEqual([it["ruleId"] for it in run["results"]], ["code-point"] * 2)
@@ -254,7 +254,7 @@ class Alone(Reported):
         self.write("a.html", "<!-- urlcheck: ignore -->\n<a href='x y'>\n<a href='{{ a }}'><a href='z^'>")
         self.write("patterns", "\\{\\{\n")
         for form in FORMATS:
-            status, written, said = self.run_on("--check", "--format", form, "--ignore", "patterns", "a.html")
+            status, written, said = self.run_on("--format", form, "--ignore", "patterns", "a.html")
             self.assertEqual((status, written.count(b"CIRCUMFLEX"), written.count(b"SPACE")), (1, 1, 0))
             self.assertEqual(said, b"urlcheck-documents: 1 document, 3 links, 1 refused, 2 ignored\n")
 
@@ -282,8 +282,8 @@ class Alone(Reported):
         ):
             with self.subTest(unit):
                 words = ("--quiet", "--columns", unit)
-                self.assertEqual(self.run_on(*words, "a.html")[1].split(b":")[2], str(link).encode())
-                self.assertEqual(self.run_on(*words, "--check", "a.html")[1].split(b":")[2], str(place).encode())
+                self.assertEqual(self.run_on("--list", *words, "a.html")[1].split(b":")[2], str(link).encode())
+                self.assertEqual(self.run_on(*words, "a.html")[1].split(b":")[2], str(place).encode())
                 found = [json.loads(self.reported("json", "--columns", unit, name)) for name in ("a.html", "b.html")]
                 # (a reference of five code points of ASCII is before the second)
                 self.assertEqual([it["column"] for it in found], [place, place + 5])
@@ -299,7 +299,7 @@ class Alone(Reported):
                     fix = self.fix("a.html", (1, link, 1, end), "x\u65e5%20\U0001f600", "same")
                     self.assertEqual(run["results"][0]["fixes"], [fix])
         for unit in ("bytes", "screen"):
-            words = ("--check", "--format", "sarif", "--columns", unit, "--base", "no base", "a.html")
+            words = ("--format", "sarif", "--columns", unit, "--base", "no base", "a.html")
             said = ("urlcheck-documents: sarif doesn't support the column unit {}\n"
                     "urlcheck-documents: the column units of sarif: code-points utf16\n").format(unit)
             self.assertEqual(self.run_on(*words), (2, b"", said.encode()))
@@ -312,28 +312,28 @@ class Alone(Reported):
         self.write("b.xml", "<a>\n\u65e5\U0001f600</b></a>")
         for unit, column in (("code-points", 5), ("bytes", 10), ("utf16", 6), ("screen", 7)):
             said = "urlcheck-documents: b.xml:2:{}: can't be read from here on: mismatched tag\n".format(column)
-            self.assertEqual(self.run_on("--quiet", "--columns", unit, "b.xml"), (2, b"", said.encode()))
+            self.assertEqual(self.run_on("--list", "--quiet", "--columns", unit, "b.xml"), (2, b"", said.encode()))
 
     def test_wrong_words(self):
         self.write("a.html", "<a href='x y'>")
         for words, wanted in (
-            (("--format", "json", "a.html"), "--format is for --check"),
-            (("--format=gnu", "a.html"), "--format is for --check"),
-            (("--check", "--format", "jsn", "a.html"), "no format is named 'jsn'; the nearest is json"),
-            (("--check", "a.html", "--format"), "--format needs a value"),
+            (("--list", "--format", "json", "a.html"), "--list checks nothing, so that --format has no use"),
+            (("--format=gnu", "--list", "a.html"), "--list checks nothing, so that --format has no use"),
+            (("--format", "jsn", "a.html"), "no format is named 'jsn'; the nearest is json"),
+            (("a.html", "--format"), "--format needs a value"),
             (("--columns", "utf-16", "a.html"), "no column unit is named 'utf-16'; the nearest is utf16"),
         ):
             status, written, said = self.run_on(*words)
             self.assertEqual((status, written), (2, b""))
             self.assertIn("urlcheck-documents: " + wanted + "\n", said.decode())
-        status, written, said = self.run_on("--check", "--format", "sarif", "--base", "x", "a.html")
+        status, written, said = self.run_on("--format", "sarif", "--base", "x", "a.html")
         self.assertEqual((status, written), (2, b""))
 
     def test_output_that_takes_nothing(self):
         self.write("a.html", "<a href='x'>")
         for form in ("sarif", "checkstyle", "junit", "gitlab", "rdjson"):
             for shut in (">&-", ">/dev/full"):
-                line = '"{}" -m urlcheck.documents --check --format {} a.html {}'.format(sys.executable, form, shut)
+                line = '"{}" -m urlcheck.documents --format {} a.html {}'.format(sys.executable, form, shut)
                 ran = subprocess.run(["bash", "-c", line], cwd=self.room, capture_output=True)
                 self.assertEqual(ran.returncode, 3, ran.stderr)
                 self.assertNotIn(b"Traceback", ran.stderr)

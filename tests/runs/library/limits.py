@@ -15,11 +15,12 @@ import time
 import unittest
 from unittest import mock
 
+import urlcheck
 from room import PROGRAM, TOP, Texts
-from urlcheck import _apart, _limits
+from urlcheck._documents import apart, limits
 from urlcheck._streams import REASONS, reason_of
 
-PART = _apart.Taken(1, 1, 0, 0, b"x" * 300_000)
+PART = apart.Taken(1, 1, 0, 0, b"x" * 300_000)
 
 MEMORY_OF_LINKS = 120_000
 """How much memory, in KiB, the program has for 100,000 links, a report on which has 54 MB as SARIF."""
@@ -31,7 +32,7 @@ class Limits(Texts):
         self.write("utf16.html", "<a href=x>".encode("utf-16"))
         self.write("broken.xml", "<urlset>\n<loc>http://h/</loc><b></urlset>")
         self.write("a.txt", "x")
-        status, out, said = self.run_on("missing.html", "missing", "", "utf16.html", "broken.xml", "a.txt", "a.html")
+        status, out, said = self.run_on("--list", "missing.html", "missing", "", "utf16.html", "broken.xml", "a.txt", "a.html")
         self.assertEqual(status, 2)
         self.assertEqual(out, "broken.xml:2:6:http://h/\na.html:1:9:x\n")
         for word in ("missing.html: can't be read: there is no such file",
@@ -57,15 +58,15 @@ class Limits(Texts):
             for unit, place in zip(("code-points", "bytes", "utf16", "screen"), places):
                 with self.subTest(data=data, unit=unit):
                     wanted = "urlcheck-documents: {}:" + place + ": this isn't UTF-8\n"
-                    for words in (["a.html"], ["--check", "a.html"], ["--check", "--type", "xml", "a.html"]):
+                    for words in (["--list", "a.html"], ["a.html"], ["--type", "xml", "a.html"]):
                         found = self.run_on("-q", "--columns", unit, *words)
                         self.assertEqual(found, (2, "", wanted.format("a.html")))
-                    found = self.run_on("-q", "--columns", unit, "--type", "html", "-", stdin=data)
+                    found = self.run_on("--list", "-q", "--columns", unit, "--type", "html", "-", stdin=data)
                     self.assertEqual(found, (2, "", wanted.format("-")))
         self.write("b.html", "<a href=x>")
         counts = "urlcheck-documents: 1 document, 1 link, 0 ignored\n"
         wanted = "urlcheck-documents: a.html:2:1: this isn't UTF-8\n" + counts
-        self.assertEqual(self.run_on("a.html", "b.html"), (2, "b.html:1:9:x\n", wanted))
+        self.assertEqual(self.run_on("--list", "a.html", "b.html"), (2, "b.html:1:9:x\n", wanted))
 
     def test_what_github_shows(self):
         """A document that isn't read to its end has an annotation after those of its links, and a line as by all formats."""
@@ -79,7 +80,7 @@ class Limits(Texts):
               "::error file=broken.xml,line=2,col=28,title=not-read::can't be read from here on: mismatched tag",
               "::error file=c.html,line=2,col=1,title=not-read::this isn't UTF-8",
               "::error file=100%25,title=not-read::has no document: no name in this folder ends in .html, "]
-        status, out, said = self.run_on("-q", "--check", "--format", "github", "a,b.html", "missing.html", "broken.xml",
+        status, out, said = self.run_on("-q", "--format", "github", "a,b.html", "missing.html", "broken.xml",
                                         "c.html", "100%")
         lines = out.splitlines()
         self.assertEqual((status, len(lines), lines[:-1]), (2, len(at), at[:-1]))
@@ -87,14 +88,14 @@ class Limits(Texts):
         self.assertEqual(said.count("\n"), 4)
         self.assertIn("urlcheck-documents: broken.xml:2:28: can't be read from here on: mismatched tag\n", said)
         # (a name with a line's end is one annotation)
-        found = self.run_on("-q", "--check", "--format", "github", "x\ny.html")
+        found = self.run_on("-q", "--format", "github", "x\ny.html")
         self.assertEqual(found[1], "::error file=x%0Ay.html,title=not-read::can't be read: there is no such file\n")
-        found = self.run_on("-q", "--check", "--format", "github", "-")
+        found = self.run_on("-q", "--format", "github", "-")
         self.assertEqual(found[1], "::error file=-,title=not-read::it has no name that says its kind: give --type html, "
                          "xml, markdown or another kind\n")
         # The other formats have no line for it.
         for form in ("gnu", "caret", "json"):
-            self.assertEqual(self.run_on("-q", "--check", "--format", form, "missing.html")[:2], (2, ""))
+            self.assertEqual(self.run_on("-q", "--format", form, "missing.html")[:2], (2, ""))
 
     def test_the_encoding_that_a_document_names(self):
         """It is said where the document isn't UTF-8, with what makes it so: the place is that of what iconv writes."""
@@ -111,28 +112,28 @@ class Limits(Texts):
             wanted = ":{}: this isn't UTF-8{}\n".format(place, remedy.format(encoding) if encoding else "")
             with self.subTest(text):
                 self.write("a.html", text.encode("latin-1"))
-                self.assertEqual(self.run_on("-q", "a.html"), (2, "", "urlcheck-documents: a.html" + wanted))
+                self.assertEqual(self.run_on("--list", "-q", "a.html"), (2, "", "urlcheck-documents: a.html" + wanted))
         self.write("a.html", "<a href='x y'>".encode("utf-16-be").join((b"\xfe\xff", b"")))
-        self.assertIn("a.html:1:1: this isn't UTF-8" + remedy.format("UTF-16"), self.run_on("-q", "a.html")[2])
+        self.assertIn("a.html:1:1: this isn't UTF-8" + remedy.format("UTF-16"), self.run_on("--list", "-q", "a.html")[2])
         # (of a FILE of --ignore there is no such word)
-        self.assertEqual(self.run_on("-q", "--ignore", "a.html", "b.html"),
+        self.assertEqual(self.run_on("--list", "-q", "--ignore", "a.html", "b.html"),
                          (2, "", "urlcheck-documents: a.html:1:1: this isn't UTF-8\n"))
         # What iconv writes is read, whatever it says of itself.
         latin = "<?xml version='1.0' encoding='ISO-8859-1'?>\n<urlset><loc>http://h/\xe9 x</loc></urlset>".encode()
-        self.assertEqual(self.run_on("-q", "--check", "--type", "xml", "-", stdin=latin)[1].split(": error")[0], "-:2:24")
+        self.assertEqual(self.run_on("-q", "--type", "xml", "-", stdin=latin)[1].split(": error")[0], "-:2:24")
 
     def test_what_is_no_document(self):
         """What is compressed is named as such, and so is a URL: both look like a document to a new user."""
         packed = gzip.compress(b"<urlset><loc>http://h/ a</loc></urlset>")
         self.write("a.xml", packed)
         wanted = "is compressed: gzip -dc unpacks it, and - reads what that writes\n"
-        self.assertEqual(self.run_on("--quiet", "a.xml"), (2, "", "urlcheck-documents: a.xml: " + wanted))
-        status, out, said = self.run_on("--quiet", "--type", "xml", "-", stdin=packed)
+        self.assertEqual(self.run_on("--list", "--quiet", "a.xml"), (2, "", "urlcheck-documents: a.xml: " + wanted))
+        status, out, said = self.run_on("--list", "--quiet", "--type", "xml", "-", stdin=packed)
         self.assertEqual((status, out, said), (2, "", "urlcheck-documents: standard input: " + wanted))
         wanted = "urlcheck-documents: {}: can't be read: there is no such file{}\n"
         for name, more in (("https://h/a", ", and no URL is fetched"), ("file://h/a.html", ", and no URL is fetched"),
                            ("http:a.html", ""), ("h/a.html", "")):
-            self.assertEqual(self.run_on("--quiet", name), (2, "", wanted.format(name, more)))
+            self.assertEqual(self.run_on("--list", "--quiet", name), (2, "", wanted.format(name, more)))
 
     def test_reasons(self):
         """Why a file can't be read or written, in the words of `urlcheck`."""
@@ -156,10 +157,10 @@ class Limits(Texts):
 
     def test_names(self):
         self.write("a\nb.html", "<a href='x y'>")
-        status, out, said = self.run_on("a\nb.html")
+        status, out, said = self.run_on("--list", "a\nb.html")
         self.assertEqual((status, out), (2, ""))
         self.assertIn("a\ufffdb.html: its name has a control", said)
-        self.assertIn("a\ufffdb.html:1:11: error: ", self.run_on("--check", "a\nb.html")[1])
+        self.assertIn("a\ufffdb.html:1:11: error: ", self.run_on("a\nb.html")[1])
 
     def test_names_with_a_place(self):
         """A name that a located line would cut elsewhere: it is checked, and not written."""
@@ -167,18 +168,18 @@ class Limits(Texts):
             with self.subTest(name):
                 self.write(name, "<a href='x y'>")
                 is_written = name in ("a:1:2.html", "C:\\b.html", "a:1b:2:.html")
-                status, out, said = self.run_on(name)
+                status, out, said = self.run_on("--list", name)
                 self.assertEqual((status, out), (0, name + ":1:10:x y\n") if is_written else (2, ""))
                 self.assertEqual("what a located line would read" in said, not is_written)
-                self.assertIn(name + ":1:11: error: ", self.run_on("--check", name)[1])
+                self.assertIn(name + ":1:11: error: ", self.run_on(name)[1])
         self.write("a.html:7", "<a href='x y'>")
-        self.assertEqual(self.run_on("--type", "html", "a.html:7")[:2], (2, ""))
+        self.assertEqual(self.run_on("--list", "--type", "html", "a.html:7")[:2], (2, ""))
 
     def copied(self, module):
         """A copy of the package, with these bytes as its extension module or with none."""
         folder = os.path.join(self.room, "copy")
         shutil.rmtree(folder, ignore_errors=True)
-        own = os.path.dirname(_apart.__file__)
+        own = os.path.dirname(urlcheck.__file__)
         shutil.copytree(own, os.path.join(folder, "urlcheck"), ignore=shutil.ignore_patterns("_native*", "__pycache__"))
         file = os.path.join(folder, "urlcheck", "_native.abi3.so")
         if module is not None:
@@ -197,7 +198,7 @@ class Limits(Texts):
             wanted = "the module urlcheck._native can't be loaded: " + why.format(file) + remedy
             runs = [(["urlcheck-documents"], 2), (["-c", "import urlcheck"], 1), (["-m", "other"], 1)]
             if hasattr(sys, "orig_argv"):
-                runs += [(["-m", "urlcheck.documents", "a.html"], 2), (["-m", "urlcheck.documents"], 2)]
+                runs += [(["-m", "urlcheck.documents", "a.html"], 2), (["-m", "urlcheck.documents"], 2), (["-m", "urlcheck"], 2)]
             for words, status in runs:
                 with self.subTest(module=module, words=words):
                     ran = subprocess.run([sys.executable, *words], cwd=self.room, env=given, capture_output=True)
@@ -213,7 +214,7 @@ class Limits(Texts):
 
     def test_full_output(self):
         self.write("a.html", "<a href=x>")
-        for words in (["a.html"], ["--help"], ["-V"]):
+        for words in (["--list", "a.html"], ["--help"], ["-V"]):
             with open("/dev/full", "wb") as full:
                 ran = subprocess.run([*PROGRAM, *words], cwd=self.room, stdout=full, stderr=subprocess.PIPE)
             self.assertEqual(ran.returncode, 3)
@@ -222,7 +223,7 @@ class Limits(Texts):
     def test_a_closed_pipe(self):
         """Where a reader of the report ends before it, that is the status, and nothing is said of it."""
         self.write("a.html", "<a href='x y'>\n" * 20_000)
-        for words in ("a.html", "--check a.html", "--check --format sarif a.html"):
+        for words in ("--list a.html", "a.html", "--format sarif a.html"):
             line = '"{}" -m urlcheck.documents {} | head -c 1 >/dev/null; echo "${{PIPESTATUS[0]}}"'
             ran = subprocess.run(["bash", "-c", line.format(sys.executable, words)], cwd=self.room, capture_output=True)
             self.assertEqual((ran.stdout, ran.stderr), (b"3\n", b""), words)
@@ -231,8 +232,8 @@ class Limits(Texts):
         """Where a file of the three was closed before the start: a status of the page, and no traceback."""
         self.write("a.html", "<a href='x y'>")
         for closed, words, wanted in (
-            ("0", "--type html -", 2), ("1", "a.html", 3), ("1", "--help", 3), ("1", "--check a.html", 3),
-            ("2", "--check a.html", 1), ("12", "a.html", 3), ("012", "--type html -", 2), ("02", "a.html", 0),
+            ("0", "--type html -", 2), ("1", "--list a.html", 3), ("1", "--help", 3), ("1", "a.html", 3),
+            ("2", "a.html", 1), ("12", "a.html", 3), ("012", "--type html -", 2), ("02", "--list a.html", 0),
         ):
             with self.subTest(closed=closed, words=words):
                 shut = "".join(" {}>&-".format(number) for number in closed)
@@ -241,24 +242,24 @@ class Limits(Texts):
                 self.assertEqual(ran.returncode, wanted, ran.stderr)
                 self.assertNotIn(b"Traceback", ran.stderr)
         with open("/dev/full", "wb") as full:
-            ran = subprocess.run([*PROGRAM, "--check", "a.html"], cwd=self.room, stderr=full, stdout=subprocess.PIPE)
+            ran = subprocess.run([*PROGRAM, "a.html"], cwd=self.room, stderr=full, stdout=subprocess.PIPE)
         self.assertEqual((ran.returncode, ran.stdout.count(b"\n")), (1, 1))
 
     def test_a_terminal(self):
         """What drives a terminal isn't written to one, and to all else it is."""
         self.write("a.html", "<a href='x\x1b[31m\u202ey\tz\u00e9'>")
         terminal, end = os.openpty()
-        subprocess.run([*PROGRAM, "a.html"], cwd=self.room, stdout=end, stderr=subprocess.DEVNULL)
+        subprocess.run([*PROGRAM, "--list", "a.html"], cwd=self.room, stdout=end, stderr=subprocess.DEVNULL)
         self.assertEqual(os.read(terminal, 1000).decode(), "a.html:1:10:x\ufffd[31m\ufffdy\tz\u00e9\r\n")
         os.close(end)
         os.close(terminal)
-        self.assertEqual(self.run_on("a.html")[1], "a.html:1:10:x\x1b[31m\u202ey\tz\u00e9\n")
+        self.assertEqual(self.run_on("--list", "a.html")[1], "a.html:1:10:x\x1b[31m\u202ey\tz\u00e9\n")
 
     def test_less_memory_than_is_taken(self):
         """A limit of the caller's that is lower than the program's own stays."""
         self.write("a.html", "<a href=x>")
         for limit in ("-v", "-Sv"):
-            line = 'ulimit {} 400000; "{}" -m urlcheck.documents a.html'.format(limit, sys.executable)
+            line = 'ulimit {} 400000; "{}" -m urlcheck.documents --list a.html'.format(limit, sys.executable)
             ran = subprocess.run(["bash", "-c", line], cwd=self.room, capture_output=True)
             self.assertEqual((ran.returncode, ran.stdout), (0, b"a.html:1:9:x\n"), ran.stderr)
 
@@ -267,7 +268,7 @@ class Limits(Texts):
         """A document that takes all memory is reported, and the next one is read."""
         self.write("a.md", "[a](<b c>)\n\n" * 600_000)
         self.write("b.html", "<a href='x y'>")
-        status, out, said = self.run_on("--check", "a.md", "b.html")
+        status, out, said = self.run_on("a.md", "b.html")
         self.assertEqual((status, out.count("\n")), (2, 1))
         wanted = "^urlcheck-documents: a.md: (needs more than 480 MiB of memory|takes more than 60 seconds)"
         self.assertRegex(said, wanted)
@@ -276,8 +277,8 @@ class Limits(Texts):
     def taken(self, parts, pause=0):
         """The lines and the faults of what is taken of parts, by limits of one second and a reader that pauses."""
         lines, faults = b"", []
-        with mock.patch.object(_limits, "MOST_SECONDS", 1):
-            for taken in _apart.apart(parts):
+        with mock.patch.object(limits, "MOST_SECONDS", 1):
+            for taken in apart.apart(parts):
                 lines += taken.lines
                 faults += [taken.fault] * (taken.fault is not None)
                 time.sleep(pause)
@@ -286,7 +287,7 @@ class Limits(Texts):
     def test_parts(self):
         """What a document has given before it takes too long or too much memory is taken, in whole parts."""
         def endless():
-            _limits.has_come()
+            limits.has_come()
             yield PART
             while True:
                 pass
@@ -319,7 +320,7 @@ class Limits(Texts):
             (lambda: iter([]), 0, None),
         ):
             with self.subTest(fault):
-                faults = [] if fault is None else [_apart.Fault(fault)]
+                faults = [] if fault is None else [apart.Fault(fault)]
                 self.assertEqual(self.taken(parts), (PART.lines * count, faults))
         _, (fault,) = self.taken(busy)
         self.assertRegex(fault.after(), "^: takes more than 1 seconds (of processor time )?to read$")
@@ -328,17 +329,17 @@ class Limits(Texts):
         """What ends a process is said of the document that did it, and the others are read: of each is said what is
         said of it alone."""
         def good():
-            _limits.has_come()
+            limits.has_come()
             yield PART
 
         def endless():
-            _limits.has_come()
+            limits.has_come()
             yield PART
             while True:
                 pass
 
         def silent():
-            _limits.has_come()
+            limits.has_come()
             while True:
                 pass
             yield PART
@@ -373,18 +374,18 @@ class Limits(Texts):
             killed: (0, "lost its process to SIGKILL"), left: (1, memory + rest),
         }
         bad = [it for it in said if it is not good]
-        with mock.patch.object(_limits, "MOST_SECONDS", 1):
+        with mock.patch.object(limits, "MOST_SECONDS", 1):
             between = [it for each in bad for it in (good, each)] + [good]
             for documents in (between, bad, bad[::-1], [killed] * 3, [good] * 100):
-                apart = _apart.Apart(documents)
+                taking = apart.Apart(documents)
                 for number, document in enumerate(documents):
-                    parts = list(apart.taken())
+                    parts = list(taking.taken())
                     faults = [it.fault.reason for it in parts if it.fault is not None]
                     count, fault = said[document]
                     with self.subTest(number=number, document=document.__name__):
                         self.assertEqual((b"".join(it.lines for it in parts), faults),
                                          (PART.lines * count, [] if fault is None else [fault]))
-                apart.end()
+                taking.end()
         with self.assertRaises(ChildProcessError):
             os.wait()
 
@@ -396,16 +397,16 @@ class Limits(Texts):
         def numbered(length, is_killed=False):
             def parts():
                 kept.append(b"x" * length)
-                yield _apart.Taken(1, 1, 0, 0, b"%d " % os.getpid())
+                yield apart.Taken(1, 1, 0, 0, b"%d " % os.getpid())
                 if is_killed and len(kept) > 1:
                     os.kill(os.getpid(), signal.SIGKILL)
-                yield _apart.Taken(0, 0, 0, 0, b"end")
+                yield apart.Taken(0, 0, 0, 0, b"end")
             return parts
 
-        large = 2 * _apart.MOST_GROWN
-        apart = _apart.Apart([numbered(9), numbered(9), numbered(large), numbered(9), numbered(9, True), numbered(9)])
-        given = [b"".join(it.lines for it in apart.taken()).split() for _ in range(6)]
-        apart.end()
+        large = 2 * apart.MOST_GROWN
+        taking = apart.Apart([numbered(9), numbered(9), numbered(large), numbered(9), numbered(9, True), numbered(9)])
+        given = [b"".join(it.lines for it in taking.taken()).split() for _ in range(6)]
+        taking.end()
         self.assertEqual({len(it) for it in given}, {2})
         processes = [int(it[0]) for it in given]
         self.assertEqual(len(set(processes[:3])), 1)
@@ -432,8 +433,9 @@ class Limits(Texts):
         )] + ["urlcheck-documents: 7 documents, 7 links, 7 refused, 0 ignored\n"]
         places = ["{}c.html:1:11".format(number) for number in range(6)]
         places[4:4] = ["4a.xml:2:15"]
-        run = "from urlcheck import _limits, documents; _limits.MOST_SECONDS = 2; _limits.MOST_MEMORY = 160 << 20; "
-        run += "import sys; sys.argv[1:] = ['--check', '--jobs', sys.argv[1], 'd']; documents.main()"
+        run = "from urlcheck import documents; from urlcheck._documents import limits; "
+        run += "limits.MOST_SECONDS = 2; limits.MOST_MEMORY = 160 << 20; "
+        run += "import sys; sys.argv[1:] = ['--jobs', sys.argv[1], 'd']; documents.main()"
         for jobs in ("1", "2", "4"):
             ran = subprocess.run([sys.executable, "-c", run, jobs], cwd=self.room, capture_output=True)
             found = [it.partition(": error")[0] for it in ran.stdout.decode().splitlines()]
@@ -446,11 +448,11 @@ class Limits(Texts):
             self.write("d/{:02}.html".format(number), "<a href='{} y'>\n".format(number) * (number % 7))
         self.write("d/05.html", b"<a href='x y'>\xff")
         self.write("d/06.xml", "<urlset><loc>http://h/ a</loc>")
-        wanted = self.run_on("--check", "d")
+        wanted = self.run_on("d")
         self.assertEqual((wanted[0], wanted[1].count("\n")), (2, sum(it % 7 for it in range(90)) - 5 + 1))
-        run = "from urlcheck import _apart, documents; begun = []; known = _apart.started; "
-        run += "_apart.started = lambda module: begun.append(1) or known(module); "
-        run += "sys.argv[1:] = ['--check', '--jobs', '{}', 'd']\ntry: documents.main()\nfinally: print(len(begun))"
+        run = "from urlcheck import documents; from urlcheck._documents import apart; begun = []; known = apart.started; "
+        run += "apart.started = lambda module: begun.append(1) or known(module); "
+        run += "sys.argv[1:] = ['--jobs', '{}', 'd']\ntry: documents.main()\nfinally: print(len(begun))"
         for jobs in (1, 3):
             ran = self.without_fork(run.format(jobs))
             self.assertEqual((ran.returncode, ran.stderr.decode()), (2, wanted[2]))
@@ -460,7 +462,7 @@ class Limits(Texts):
     def test_a_slow_reader(self):
         """A report that is read slowly takes no processor time."""
         def parts():
-            _limits.has_come()
+            limits.has_come()
             return iter([PART] * 6)
 
         self.assertEqual(self.taken(parts, pause=0.4), (PART.lines * 6, []))
@@ -472,16 +474,16 @@ class Limits(Texts):
 
     def test_waiting_without_signals(self):
         """A process for which a document's bytes don't come is ended, and not one for which they have come."""
-        begins = "from urlcheck import _limits as limits; limits.MOST_SECONDS = 0.5; limits.limit_waiting(); "
-        self.assertEqual(self.without_fork(begins + "time.sleep(60)").returncode, _limits.LATE)
+        begins = "from urlcheck._documents import limits; limits.MOST_SECONDS = 0.5; limits.limit_waiting(); "
+        self.assertEqual(self.without_fork(begins + "time.sleep(60)").returncode, limits.LATE)
         self.assertEqual(self.without_fork(begins + "limits.has_come(); time.sleep(1)").returncode, 0)
-        with mock.patch.object(_limits, "MOST_SECONDS", 7):
-            self.assertEqual(_limits.ended_by(_limits.LATE), "takes more than 7 seconds")
+        with mock.patch.object(limits, "MOST_SECONDS", 7):
+            self.assertEqual(limits.ended_by(limits.LATE), "takes more than 7 seconds")
 
     def test_input_without_fork(self):
         """Standard input is handed to a process that begins anew, also where it comes late, or not at all."""
-        run = "from urlcheck import _limits, documents; _limits.MOST_SECONDS = 2; "
-        run += "sys.argv[1:] = ['-q', '--type', 'html', '-']; documents.main()"
+        run = "from urlcheck import documents; from urlcheck._documents import limits; limits.MOST_SECONDS = 2; "
+        run += "sys.argv[1:] = ['--list', '-q', '--type', 'html', '-']; documents.main()"
         for text, links in (("<a href='x y'>" * 30_000, 30_000), ("", 0)):
             ran = self.without_fork(run, input=text.encode())
             self.assertEqual((ran.returncode, ran.stdout.count(b"\n"), ran.stderr), (0, links, b""))
@@ -493,14 +495,14 @@ class Limits(Texts):
 
     def test_modules_of_strangers(self):
         """No process of the package takes a module of the current folder, which may be a stranger's."""
-        for name in ("urlcheck/__init__.py", "urlcheck/_checking.py", "urlcheck/_apart.py", "pickle.py", "queue.py"):
+        for name in ("urlcheck/__init__.py", "urlcheck/_editors/checking.py", "urlcheck/_documents/apart.py", "pickle.py", "queue.py"):
             self.write(name, "import os\nos.open('taken', os.O_CREAT)\n")
         self.write("a.html", "<a href='x y'>")
-        folder = os.path.dirname(os.path.dirname(_apart.__file__))
+        folder = os.path.dirname(os.path.dirname(urlcheck.__file__))
         first = "sys.path.remove(''); sys.path.append({!r}); ".format(folder)
-        checks = first + "from urlcheck import _checking as it; "
+        checks = first + "from urlcheck._editors import checking as it; "
         checks += "print(len(it.Checking().check(it.Asked('[a](b c)', 'markdown', 'utf-16'), lambda: False).remarks))"
-        reads = first + "from urlcheck import documents; sys.argv[1:] = ['-q', 'a.html']; "
+        reads = first + "from urlcheck import documents; sys.argv[1:] = ['--list', '-q', 'a.html']; "
         reads += "documents.main()"
         for program in (checks, reads):
             ran = self.without_fork(program)
@@ -510,7 +512,7 @@ class Limits(Texts):
     def test_many_refused_links(self):
         """A report is written part by part, so that a long one takes no more memory than a short one."""
         self.write("a.html", "<a href='a b'>\n" * 100_000)
-        line = 'ulimit -v {}; "{}" -m urlcheck.documents --check --format sarif a.html'
+        line = 'ulimit -v {}; "{}" -m urlcheck.documents --format sarif a.html'
         line = line.format(MEMORY_OF_LINKS, sys.executable)
         ran = subprocess.run(["bash", "-c", line], cwd=self.room, capture_output=True)
         self.assertEqual(ran.stderr, b"urlcheck-documents: 1 document, 100000 links, 100000 refused, 0 ignored\n")
@@ -541,7 +543,7 @@ class Limits(Texts):
         for name, (text, wanted) in documents.items():
             with self.subTest(name):
                 self.write(name, text)
-                status, _, said = self.run_on("--check", name)
+                status, _, said = self.run_on(name)
                 self.assertEqual(status, wanted, said)
                 self.assertNotIn("Traceback", said)
         self.assertLess(resource.getrusage(resource.RUSAGE_CHILDREN).ru_maxrss, 500 * 1024)

@@ -52,7 +52,7 @@ def diagnostics_on(links, unit, base, profile):
 def reported(diagnostics, form, unit):
     """The package's report, or nothing where it refuses the pair of names."""
     try:
-        texts = urlcheck.report(diagnostics, form, unit)
+        texts = urlcheck.report(diagnostics, form, unit, wording="options")
     except ValueError:
         return None
     return "".join(texts).encode()

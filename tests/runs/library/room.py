@@ -46,13 +46,13 @@ class Texts(Room):
 
     def finds(self, name, text, links):
         self.write(name, text)
-        status, out, _ = self.run_on(name)
+        status, out, _ = self.run_on("--list", name)
         self.assertEqual(out, "".join(name + ":" + line + "\n" for line in links.splitlines()))
         self.assertEqual(status, 0)
 
     def checks(self, name, places, *words):
         """The program names these places, each with its rule."""
-        status, out, _ = self.run_on("--check", *words, name)
+        status, out, _ = self.run_on(*words, name)
         found = re.findall(r"^.*?:(\d+:\d+): error: .* \[(.*)\]$", out, re.M)
         self.assertEqual(found, places)
         self.assertEqual(len(found), out.count("\n"))

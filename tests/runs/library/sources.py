@@ -49,7 +49,7 @@ class Markdown(Texts):
         ):
             with self.subTest(text):
                 self.write("a.md", text + "\n")
-                out = self.run_on("-q", "--gfm", "a.md")[1]
+                out = self.run_on("--list", "-q", "--gfm", "a.md")[1]
                 self.assertEqual([it.split(":", 3)[3] for it in out.splitlines()], links)
         self.write("a.md", "x\n\n- y http://h/a^b\n\n> www.h.x/%4\n\n[z](b c)\n")
         self.checks("a.md", [("3:15", SPACE), ("5:11", "percent"), ("7:6", "no-link")], "--gfm")
@@ -82,10 +82,10 @@ class Markdown(Texts):
                 more = [("1:38", "percent")] if text.endswith("%") else []
                 self.checks("a.md", [(place, rule), *more], "--gfm")
                 count = 3 if more else 1
-                self.assertIn("{} link{},".format(count, "s" * (count > 1)), self.run_on("--gfm", "--check", "a.md")[2])
+                self.assertIn("{} link{},".format(count, "s" * (count > 1)), self.run_on("--gfm", "a.md")[2])
                 if rule != "no-link":
                     self.write("a.html", '<a href="{}">'.format(text[4:-1]))
-                    words = [self.run_on("-q", "--gfm", "--check", name)[1].split(" ", 1)[1] for name in ("a.md", "a.html")]
+                    words = [self.run_on("-q", "--gfm", name)[1].split(" ", 1)[1] for name in ("a.md", "a.html")]
                     self.assertEqual(words[0], words[1])
 
     @has("markdown_it")
@@ -179,7 +179,7 @@ class Rst(Texts):
                    ".. code-block:: c\n\n   http://no/^\n")
         self.write("b.rst", ":doc:`x`\n")
         self.checks("a.rst", [("4:21", SPACE), ("6:17", "percent")])
-        said = self.run_on("a.rst", "b.rst")[2]
+        said = self.run_on("--list", "a.rst", "b.rst")[2]
         self.assertEqual(said.count("are read for their text alone"), 1)
         self.assertTrue(said.startswith("urlcheck-documents: a.rst: roles and directives"), said)
 
@@ -190,14 +190,14 @@ class Rst(Texts):
         self.write("b.rst", "`a <^>`_\n")
         self.write("a.rst", ".. include:: b.rst\n\n.. raw:: html\n   :file: b.html\n\n.. raw:: html\n   :url: http://127.0.0.1:9/\n\n"
                    ".. csv-table::\n   :url: http://127.0.0.1:9/\n\n`c <d>`_\n")
-        self.assertEqual(self.run_on("-q", "a.rst")[:2], (0, "a.rst:12:5:d\n"))
+        self.assertEqual(self.run_on("--list", "-q", "a.rst")[:2], (0, "a.rst:12:5:d\n"))
 
     @has("docutils")
     def test_broken(self):
         for text in ("``a\n", "`a <b\n", ".. image::\n", "=\n", "a\n==\n-\n", "\0 `a <http://h/^>`_\n", ".. |a| replace:: |a|\n\n|a|\n"):
             with self.subTest(text):
                 self.write("a.rst", text)
-                self.assertIn(self.run_on("-q", "--check", "a.rst")[0], (0, 1))
+                self.assertIn(self.run_on("-q", "a.rst")[0], (0, 1))
 
 
 class Notebooks(Texts):
@@ -209,7 +209,7 @@ class Notebooks(Texts):
                  {"cell_type": "markdown", "source": "<a href='e f'>"}, {"cell_type": "markdown", "source": None}, 3]
         for text in (json.dumps({"cells": cells}, indent=1), json.dumps({"cells": cells}), json.dumps({"cells": cells}, ensure_ascii=False)):
             self.write("a.ipynb", text)
-            status, out, _ = self.run_on("-q", "--check", "a.ipynb")
+            status, out, _ = self.run_on("-q", "a.ipynb")
             lines = text.split("\n")
             found = [it.split(": error: ") for it in out.splitlines()]
             self.assertEqual([it[1].split(" [")[0] for it in found], [
@@ -229,7 +229,7 @@ class Notebooks(Texts):
             ("[" * 100_000, "a.ipynb: is nested too deeply"),
         ):
             self.write("a.ipynb", text)
-            status, out, err = self.run_on("-q", "--check", "a.ipynb")
+            status, out, err = self.run_on("-q", "a.ipynb")
             self.assertEqual((status, out, err), (2, "", "urlcheck-documents: " + said + "\n"))
 
 
@@ -241,14 +241,14 @@ class Feeds(Texts):
                            "attachments": [{"url": "http://h/^"}]}]}
         for text in (json.dumps(feed), json.dumps(feed, indent=2)):
             self.write("feed.json", text)
-            out = self.run_on("-q", "--check", "feed.json")[1]
+            out = self.run_on("-q", "feed.json")[1]
             rules = [it.split("[")[-1] for it in out.splitlines()]
             self.assertEqual(rules, ["code-point]", "no-scheme]", "empty]", "percent]", "code-point]", "code-point]"])
             for line, wanted in zip(out.splitlines(), (" b\"", "x\"", "\"", "%\"", " z\\\"", "^\"")):
                 row, column = map(int, line.split(":")[1:3])
                 self.assertTrue(text.split("\n")[row - 1][column - 1 :].startswith(wanted), line)
         self.write("feed.json", "{}")
-        self.assertIn("is no JSON Feed", self.run_on("feed.json")[2])
+        self.assertIn("is no JSON Feed", self.run_on("--list", "feed.json")[2])
 
     def test_what_is_absolute(self):
         """A `loc`, the `link` of RSS and a `guid` that is a permalink, and the `id` of Atom."""
@@ -300,7 +300,7 @@ class Vocabularies(Texts):
         ):
             with self.subTest(name):
                 self.finds(name, text, links)
-                self.assertNotIn("its names aren't known", self.run_on(name)[2])
+                self.assertNotIn("its names aren't known", self.run_on("--list", name)[2])
 
     def test_a_catalog(self):
         """Images of AppStream have a scheme, unless the catalog says what they are relative to."""
@@ -315,10 +315,10 @@ class Vocabularies(Texts):
         self.finds("a.xml", "<a href='http://h/a b' url='no no' x='http://no/'><url>urn:c d</url><link>no</link><src>http://no/</src>"
                    "<i src=' http://h/ '/></a>", "1:10:http://h/a b\n1:56:urn:c d\n1:114:http://h/\n")
         note = "urlcheck-documents: a.xml: its names aren't known: only each href, url and src, and each element"
-        self.assertIn(note, self.run_on("a.xml")[2])
-        self.assertNotIn("names", self.run_on("-q", "a.xml")[2])
+        self.assertIn(note, self.run_on("--list", "a.xml")[2])
+        self.assertNotIn("names", self.run_on("--list", "-q", "a.xml")[2])
         self.write("b.xml", "<a><b/></a>")
-        self.assertIn("b.xml: its names aren't known", self.run_on("b.xml")[2])
+        self.assertIn("b.xml: its names aren't known", self.run_on("--list", "b.xml")[2])
 
     def test_feed_extensions(self):
         names = {
@@ -368,11 +368,11 @@ class Css(Texts):
 
         path = self.room + os.pathsep + os.environ.get("PYTHONPATH", "")
         with mock.patch.dict(os.environ, PYTHONPATH=path):
-            status, out, said = self.run_on("--check", "d")
+            status, out, said = self.run_on("d")
             self.assertEqual((status, out), (0, ""))
             self.assertIn("d/a.html: styles aren't read, which needs the package tinycss2", said)
             self.assertTrue(said.endswith("1 document, 1 link, 0 refused, 0 ignored; not read: 1 .css\n"), said)
-            self.assertIn("d/a.css: is CSS, which needs the package tinycss2", self.run_on("d/a.css")[2])
+            self.assertIn("d/a.css: is CSS, which needs the package tinycss2", self.run_on("--list", "d/a.css")[2])
 
 
 class Books(Texts):
@@ -389,23 +389,23 @@ class Books(Texts):
             ("mimetype", "application/epub+zip"), ("OEBPS/a.xhtml", page.format("x y")), ("OEBPS/b.xhtml", page.format("z")),
             ("OEBPS/c.opf", "<package xmlns='http://www.idpf.org/2007/opf'><item href='d e'/></package>"), ("OEBPS/c.png", "x"),
         ), compression=zipfile.ZIP_DEFLATED))
-        status, out, said = self.run_on("--check", "a.epub")
+        status, out, said = self.run_on("a.epub")
         self.assertEqual((status, [it.split(": error")[0] for it in out.splitlines()]),
                          (1, ["a.epub/OEBPS/a.xhtml:2:11", "a.epub/OEBPS/c.opf:1:60"]))
         self.assertEqual(said, "urlcheck-documents: 1 document, 3 links, 2 refused, 0 ignored\n")
-        self.assertEqual(self.run_on("a.epub")[1].splitlines()[1], "a.epub/OEBPS/b.xhtml:2:10:z")
+        self.assertEqual(self.run_on("--list", "a.epub")[1].splitlines()[1], "a.epub/OEBPS/b.xhtml:2:10:z")
 
     def test_broken(self):
         book = self.book((("a.xhtml", "<a"), ("b.html", "<a href='x y'>")))
         self.write("a.epub", book)
-        status, out, said = self.run_on("-q", "--check", "a.epub")
+        status, out, said = self.run_on("-q", "a.epub")
         self.assertEqual((status, out.count("\n")), (2, 1))
         self.assertTrue(said.startswith("urlcheck-documents: a.epub/a.xhtml:1:1: can't be read from here on: "), said)
         large = self.book((("a.html", b" " * (129 << 20)),), compression=zipfile.ZIP_DEFLATED)
         for data, wanted in ((b"", "is no book"), (b"PK\x03\x04x", "is no book"), (book[:-9], "is no book"),
                              (large, "holds more than 128 MiB"), (book.replace(b"<a href", b"<b href"), "is no book")):
             self.write("b.epub", data)
-            status, out, said = self.run_on("-q", "--check", "b.epub")
+            status, out, said = self.run_on("-q", "b.epub")
             self.assertEqual((status, said.count("\n")), (2, said.count("\n")))
             self.assertIn("b.epub: " + wanted, said)
 
@@ -418,9 +418,9 @@ class Asked(Texts):
         for text in wrong:
             with self.subTest(text):
                 self.write("a.html", text)
-                out = self.run_on("-q", "--check", "a.html")[1]
+                out = self.run_on("-q", "a.html")[1]
                 self.assertIn("this link is empty, which its format forbids here [empty]", out)
-                self.assertEqual(self.run_on("-q", "--check", "--no-empty", "a.html"), (0, "", ""))
+                self.assertEqual(self.run_on("-q", "--no-empty", "a.html"), (0, "", ""))
         self.write("b.html", "<a href=''><area href=''><base href=''><q cite=''></q>")
         self.checks("b.html", [])
         self.write("c.xhtml", "<html xmlns='http://www.w3.org/1999/xhtml'><img src=''/><a href=''/></html>")
@@ -429,10 +429,10 @@ class Asked(Texts):
     def test_in_each_format(self):
         self.write("a.html", "<img src=''>")
         for name in "gnu caret json github sarif checkstyle junit gitlab rdjson".split():
-            status, out, said = self.run_on("-q", "--check", "--format", name, "a.html")
+            status, out, said = self.run_on("-q", "--format", name, "a.html")
             self.assertEqual((status, said), (1, ""))
             self.assertIn("empty", out)
-        (result,) = json.loads(self.run_on("-q", "--check", "--format", "sarif", "a.html")[1])["runs"][0]["results"]
+        (result,) = json.loads(self.run_on("-q", "--format", "sarif", "a.html")[1])["runs"][0]["results"]
         self.assertEqual((result["ruleId"], "ruleIndex" in result, "fixes" in result), ("empty", False, False))
 
 

@@ -54,19 +54,19 @@ class Standards(Texts):
                 at += len(link)
             with self.subTest(value):
                 self.write("a.html", '<img  srcset="{}">'.format(value))
-                self.assertEqual(self.run_on("--quiet", "a.html"), (0, found, ""))
+                self.assertEqual(self.run_on("--list", "--quiet", "a.html"), (0, found, ""))
         for text in ('<source srcset="a b 1x">', '<link imagesrcset="a b 1x">'):
             self.write("a.html", text)
-            self.assertIn(":a b\n", self.run_on("a.html")[1])
+            self.assertIn(":a b\n", self.run_on("--list", "a.html")[1])
         self.write("a.html", '<p srcset="a b 1x"><img imagesrcset="a b 1x">')
-        self.assertEqual(self.run_on("a.html")[1], "")
+        self.assertEqual(self.run_on("--list", "a.html")[1], "")
         self.write("a.xhtml", '<img xmlns="{}" srcset="a b.png 1x, c"/>'.format(XHTML))
         self.checks("a.xhtml", [("1:52", "code-point")])
 
     def test_spaces_in_candidates(self):
         """A space in a candidate is refused where it is, and the link is mended with its words."""
         self.write("a.html", '<img srcset="a.png 1x, my photo.png 2x">')
-        status, out, _ = self.run_on("-q", "--check", "--format", "caret", "a.html")
+        status, out, _ = self.run_on("-q", "--format", "caret", "a.html")
         self.assertEqual((status, out.splitlines()), (1, [
             "a.html:1:26: error: U+0020 SPACE is not allowed in a URL [code-point]",
             "my photo.png",
@@ -80,7 +80,7 @@ class Standards(Texts):
             with self.subTest(value):
                 self.write("a.html", '<meta http-equiv=refresh content="{}">'.format(value))
                 place = None if wanted is None else 35 + value.rindex(wanted)
-                self.assertEqual(self.run_on("--quiet", "a.html")[1],
+                self.assertEqual(self.run_on("--list", "--quiet", "a.html")[1],
                                  "" if place is None else "a.html:1:{}:{}\n".format(place, wanted))
 
     def test_refreshes_of_xhtml(self):
@@ -111,7 +111,7 @@ class Standards(Texts):
         ):
             with self.subTest(text):
                 self.write(name, text)
-                out = self.run_on("-q", "--check", name)[1]
+                out = self.run_on("-q", name)[1]
                 self.assertEqual(out.split(": error:")[0], name + ":" + place)
                 self.assertEqual(out.count("\n"), 1)
         # What is no space of XML isn't taken off.
@@ -164,7 +164,7 @@ class Standards(Texts):
         ):
             with self.subTest(feed):
                 self.write("a.xml", '<a xmlns="{}">{}</a>'.format(ATOM, feed.format(link)))
-                out = self.run_on("--check", "-q", "a.xml")[1]
+                out = self.run_on("-q", "a.xml")[1]
                 self.assertEqual([line.rpartition("[")[2].rstrip("]") for line in out.splitlines()], rules)
 
     def test_bases_within_opaque_bases(self):
@@ -197,7 +197,7 @@ class Standards(Texts):
         """Bases within bases get no longer from one to the next."""
         self.write("a.xml", '<e xml:base="{}/">'.format("a" * 2000) * 9000 + "</e>" * 9000)
         begun = time.monotonic()
-        self.assertEqual(self.run_on("--check", "-q", "a.xml"), (0, "", ""))
+        self.assertEqual(self.run_on("-q", "a.xml"), (0, "", ""))
         self.assertLess(time.monotonic() - begun, 30)
 
 

@@ -5,8 +5,8 @@ import random
 import subprocess
 import sys
 
-from urlcheck import _html_links
-from urlcheck._source import Source
+from urlcheck._readers import html_links
+from urlcheck._readers.source import Source
 
 # Tags that no tree leaves out, and what a tokenizer looks at, but for `&` and U+0000, with which gumbo has other
 # names and places.
@@ -15,7 +15,7 @@ PIECES = ["<", "</", ">", "/>", "<!--", "-->", "--!>", "<!-->", "<!--->", "<!", 
           " ", "\n", "\t", "\f", "/", "=", "= ", '"', "'", '=""', "='x>y'", '="<a href=z>"', "=q", "x", "\u00e9", "\u212a",
           '<a href="x">', "<p class='y' src = z>", "<b x=\"<\" data=''>", "<p class='<a href=z>'>", "<p class=\"<a href=z>\">", "<script>",
           "</script", "</script>", "</SCRIPT x", "<script/", "<style>", "</style>", "<plaintext>"]
-LOOKED_AT = {*_html_links._TAKEN, "content"}
+LOOKED_AT = {*html_links._TAKEN, "content"}
 NAMES = ["href", "HREF", "src", "data", "ping", "class", "content", "a", "x:y"]
 
 
@@ -35,7 +35,7 @@ def document(chance):
     return "".join(pieces)
 
 
-class Reader(_html_links._Reader):
+class Reader(html_links._Reader):
     """Keeps the attributes that are looked at, each with where its name and its value are, and takes no links of
     them."""
 

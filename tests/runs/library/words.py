@@ -17,16 +17,16 @@ class Words(Texts):
         self.write("d/b.html", "<a href=x>")
         self.write("d/a.html", "<a href=y>")
         self.write("d/c.txt", "<a href=z>")
-        self.assertEqual(self.run_on("d")[1], "d/a.html:1:9:y\nd/b.html:1:9:x\n")
-        self.assertEqual(self.run_on("--type", "html", "-", stdin=b"\n<a href=x>")[1], "-:2:9:x\n")
+        self.assertEqual(self.run_on("--list", "d")[1], "d/a.html:1:9:y\nd/b.html:1:9:x\n")
+        self.assertEqual(self.run_on("--list", "--type", "html", "-", stdin=b"\n<a href=x>")[1], "-:2:9:x\n")
         wanted = "standard input: it has no name that says its kind: give --type html, xml, markdown or another kind\n"
-        status, _, said = self.run_on("--quiet", "-")
+        status, _, said = self.run_on("--list", "--quiet", "-")
         self.assertEqual((status, said), (2, "urlcheck-documents: " + wanted))
 
     def test_folders_that_give_nothing(self):
         os.mkdir(os.path.join(self.room, "empty"))
         self.write("a.html", "<a href=x>")
-        status, out, said = self.run_on("--check", "empty", "a.html")
+        status, out, said = self.run_on("empty", "a.html")
         self.assertEqual((status, out), (2, ""))
         self.assertIn("empty: has no document: no name in this folder ends in .html, ", said)
         self.assertIn("1 document, 1 link", said)
@@ -60,7 +60,7 @@ class Words(Texts):
             left = [it for it in names if ("-" if ".min." in it else os.path.basename(it)[0]) not in out]
             words = [word for pattern in patterns for word in ("--exclude", pattern)]
             with self.subTest(patterns):
-                status, found, said = self.run_on("--quiet", *words, "d")
+                status, found, said = self.run_on("--list", "--quiet", *words, "d")
                 self.assertEqual((status, found, said), (0, "".join(it + ":1:9:x\n" for it in left), ""))
 
     def test_what_is_named_is_read(self):
@@ -79,7 +79,7 @@ class Words(Texts):
             ("e/*", folder, [folder + "/a.html"]),
         ):
             with self.subTest(pattern=pattern, name=name):
-                status, out, _ = self.run_on("--exclude", pattern, name)
+                status, out, _ = self.run_on("--list", "--exclude", pattern, name)
                 self.assertEqual((status, out), (0, "".join(it + ":1:9:x\n" for it in found)))
 
     def test_excluded_without_a_word(self):
@@ -87,23 +87,31 @@ class Words(Texts):
         os.mkdir(os.path.join(self.room, "d"))
         self.write("d/a.html", "<a href=x>")
         os.symlink("missing", os.path.join(self.room, "d", "b.html"))
-        status, _, said = self.run_on("d")
+        status, _, said = self.run_on("--list", "d")
         self.assertEqual(status, 2)
         self.assertIn("urlcheck-documents: d/b.html: can't be read: there is no such file\n", said)
-        said = self.run_on("--exclude", "b.*", "d")[2]
+        said = self.run_on("--list", "--exclude", "b.*", "d")[2]
         self.assertEqual(said, "urlcheck-documents: 1 document, 1 link, 0 ignored\n")
-        status, out, said = self.run_on("--exclude", "*.html", "d")
+        status, out, said = self.run_on("--list", "--exclude", "*.html", "d")
         self.assertEqual((status, out), (2, ""))
         self.assertIn("d: has no document: no name in this folder that isn't excluded ends in .html, ", said)
+
+    def test_the_package_as_a_program(self):
+        """`python3 -m urlcheck` is the same program."""
+        self.write("a.html", "<a href='x y'>")
+        for words in (["a.html"], ["--list", "a.html"], ["--version"], ["--no"]):
+            ran = [subprocess.run([sys.executable, "-m", name, *words], cwd=self.room, capture_output=True)
+                   for name in ("urlcheck", "urlcheck.documents")]
+            self.assertEqual(*((it.returncode, it.stdout, it.stderr) for it in ran))
 
     def test_quiet(self):
         """The counts alone are left out."""
         self.write("a.html", "<a href='x y'>")
         for quiet in ("-q", "--quiet"):
-            for words, wanted in ((["a.html"], 0), (["--check", "a.html"], 1)):
+            for words, wanted in ((["--list", "a.html"], 0), (["a.html"], 1), (["--check", "a.html"], 1)):
                 status, out, said = self.run_on(quiet, *words)
                 self.assertEqual((status, out.count("\n"), said), (wanted, 1, ""))
-            status, _, said = self.run_on(quiet, "b.html", "a.html")
+            status, _, said = self.run_on("--list", quiet, "b.html", "a.html")
             self.assertEqual((status, said), (2, "urlcheck-documents: b.html: can't be read: there is no such file\n"))
 
     def test_options_between_documents(self):
@@ -114,46 +122,51 @@ class Words(Texts):
         line = "{}.html:1:11: error: U+0020 SPACE is not allowed in a URL [code-point]\n"
         refused = line.format("a") + line.format("b")
         for words, wanted in (
-            ("-q a.html b.html", links),
-            ("a.html -q b.html", links),
-            ("a.html b.html --quiet", links),
+            ("-q --list a.html b.html", links),
+            ("a.html --list -q b.html", links),
+            ("a.html b.html --quiet --list", links),
+            ("-q a.html b.html", refused),
             ("a.html --check b.html -q", refused),
             ("-q a.html --check --format gnu b.html", refused),
             ("a.html --base http://h/ b.html --format=gnu --quiet --check", refused),
             ("a.html --check -q -- b.html", refused),
-            ("-q -- a.html b.html", links),
-            ("--quiet --type html -- --check", "--check:1:10:x y\n"),
-            ("--type=html a.html -q -- -q", "a.html:1:10:x y\n-q:1:10:x y\n"),
+            ("-q --list -- a.html b.html", links),
+            ("--list --quiet --type html -- --check", "--check:1:10:x y\n"),
+            ("--type=html a.html --list -q -- -q", "a.html:1:10:x y\n-q:1:10:x y\n"),
         ):
             with self.subTest(words):
                 status, out, said = self.run_on(*words.split())
-                self.assertEqual((status, out, said), (int("--check" in words.split(" -- ")[0]), wanted, ""))
-        self.assertEqual(self.run_on("--type", "html", "-q", "--", "--", "-q"), (2, "-q:1:10:x y\n",
+                self.assertEqual((status, out, said), (int("--list" not in words.split()), wanted, ""))
+        self.assertEqual(self.run_on("--list", "--type", "html", "-q", "--", "--", "-q"), (2, "-q:1:10:x y\n",
                          "urlcheck-documents: --: can't be read: there is no such file\n"))
 
     def test_wrong_words(self):
         self.write("a.html", "<a href='x y'>")
         for words, wanted in (
             ("", "there is no FILE; - is standard input"),
-            ("--check", "there is no FILE; - is standard input"),
-            ("--check --", "there is no FILE; - is standard input"),
+            ("--list", "there is no FILE; - is standard input"),
+            ("--list --", "there is no FILE; - is standard input"),
             ("--base", "--base needs a value"),
             ("a.html --base -- a.html", "--base needs a value"),
-            ("--ignore --check a.html", "--ignore needs a value"),
+            ("--ignore --list a.html", "--ignore needs a value"),
             ("--format -q a.html", "--format needs a value"),
-            ("--check=x a.html", "--check doesn't accept a value"),
+            ("--list=x a.html", "--list doesn't accept a value"),
             ("--quiet=yes a.html", "--quiet doesn't accept a value"),
             ("--check= a.html", "--check doesn't accept a value"),
             ("a.html --version=2", "--version doesn't accept a value"),
             ("--help=check a.html", "--help doesn't accept a value"),
-            ("--format json a.html", "--format is for --check"),
-            ("--format=gnu -q a.html", "--format is for --check"),
-            ("a.html --all a.html", "there is no option --all; pipe the links, without --check, into "
+            ("--list --format json a.html", "--list checks nothing, so that --format has no use"),
+            ("--format=gnu -q a.html --list", "--list checks nothing, so that --format has no use"),
+            ("--list --check a.html", "--list checks nothing, so that --check has no use"),
+            ("a.html --all a.html", "there is no option --all; pipe the links, which --list prints, into "
              "urlcheck lint --located --all -"),
             ("a.html --wide=yes --all", "there is no option --wide; write --profile wide"),
             ("a.html --located", "there is no option --located"),
+            ("a.html --output-format=json", "there is no option --output-format; write --format FORMAT"),
+            ("--json a.html", "there is no option --json; write --format json"),
+            ("-j 4 a.html", "there is no option -j; write --jobs N"),
             ("-x a.html", "there is no option -x"),
-            ("--chek a.html", "there is no option --chek; the nearest is --check"),
+            ("--lst a.html", "there is no option --lst; the nearest is --list"),
             ("a.html --Quite=1", "there is no option --Quite; the nearest is --quiet"),
             ("a.html -v", "there is no option -v; the nearest is --version"),
             ("--\x1b[31m a.html", "there is no option --\ufffd[31m"),
@@ -168,9 +181,9 @@ class Words(Texts):
         """An option is written whole: a beginning of its name is none."""
         self.write("a.html", "<a href='x y'>")
         for words, option, nearest in (
-            ("--check --form json a.html", "--form", "--format"),
-            ("--ch a.html", "--ch", "--check"),
-            ("--check --prof=wide a.html", "--prof", "--profile"),
+            ("--form json a.html", "--form", "--format"),
+            ("--lis a.html", "--lis", "--list"),
+            ("--prof=wide a.html", "--prof", "--profile"),
             ("--quie a.html", "--quie", "--quiet"),
             ("--c a.html", "--c", None),
         ):
@@ -186,18 +199,18 @@ class Words(Texts):
         units = "the column units: code-points bytes utf16 screen"
         profiles, kinds = "the profiles: standard wide parser", "the kinds: html xml markdown rst notebook epub css json-feed"
         for words, wanted, names in (
-            (["--check", "--format", "sarfi"], "no format is named 'sarfi'; the nearest is sarif", formats),
-            (["--check", "--format=JSON"], "no format is named 'JSON'; the nearest is json", formats),
-            (["--check", "--format", "html"], "no format is named 'html'", formats),
-            (["--check", "--format="], "no format is named ''", formats),
+            (["--format", "sarfi"], "no format is named 'sarfi'; the nearest is sarif", formats),
+            (["--format=JSON"], "no format is named 'JSON'; the nearest is json", formats),
+            (["--format", "html"], "no format is named 'html'", formats),
+            (["--format="], "no format is named ''", formats),
             (["--format", "xml"], "no format is named 'xml'", formats),
             (["--columns", "utf-16"], "no column unit is named 'utf-16'; the nearest is utf16", units),
             (["--columns", "points"], "no column unit is named 'points'; the nearest is code-points", units),
             (["--columns", "code"], "no column unit is named 'code'; the nearest is code-points", units),
             (["--columns", "\x1b[31m\n"], "no column unit is named '\ufffd[31m\ufffd'", units),
-            (["--check", "--format", "sarif", "--columns", "byte"],
+            (["--format", "sarif", "--columns", "byte"],
              "no column unit is named 'byte'; the nearest is bytes", units),
-            (["--check", "--format", "sarif", "--columns", "bytes"],
+            (["--format", "sarif", "--columns", "bytes"],
              "sarif doesn't support the column unit bytes", "the column units of sarif: code-points utf16"),
             (["--profile", "wider"], "no profile is named 'wider'; the nearest is wide", profiles),
             (["--profile", ""], "no profile is named ''", profiles),
@@ -212,10 +225,10 @@ class Words(Texts):
     def test_what_is_meant_by_a_name(self):
         """A command of `urlcheck` that is no file, and a list of links, are told of."""
         self.write("a.html", "<a href='x y'>")
-        missing, more = "{}: can't be read: there is no such file", "; --check checks the links"
+        missing, more = "{}: can't be read: there is no such file", "; links are checked without a command"
         for name, wanted in (("check", missing + more), ("lint", missing + more), ("mend", missing),
                              ("./check", missing), ("check.html", missing)):
-            status, out, said = self.run_on("-q", name, "a.html")
+            status, out, said = self.run_on("--list", "-q", name, "a.html")
             wanted = "urlcheck-documents: {}\n".format(wanted.format(name))
             self.assertEqual((status, out, said), (2, "a.html:1:10:x y\n", wanted))
         no_kind = "{}: its name's end says no kind: give --type html, xml, markdown or another kind"
@@ -225,7 +238,7 @@ class Words(Texts):
             ("a.b.json", no_kind + more), ("x.links", no_kind + more), ("txt.d", no_kind), ("check", no_kind),
         ):
             self.write(name, "a b\n")
-            for words in (["-q", name], ["-q", "--check", name]):
+            for words in (["--list", "-q", name], ["-q", name]):
                 said = "urlcheck-documents: {}\n".format(wanted.format(name))
                 self.assertEqual(self.run_on(*words), (2, "", said))
 
@@ -292,9 +305,9 @@ class Words(Texts):
         self.write("patterns", "# templates\n\\{\\{\n")
         self.write("a.html", '<a href="{{ a }}"><a href="b c">')
         self.checks("a.html", [("1:29", "code-point")], "--ignore", "patterns")
-        self.assertIn("1 ignored", self.run_on("--ignore", "patterns", "a.html")[2])
+        self.assertIn("1 ignored", self.run_on("--list", "--ignore", "patterns", "a.html")[2])
         self.write("wrong", "(\n")
-        self.assertEqual(self.run_on("--ignore", "wrong", "a.html")[0], 2)
+        self.assertEqual(self.run_on("--list", "--ignore", "wrong", "a.html")[0], 2)
 
     def test_the_file_of_ignored_links(self):
         """A byte order mark is no part of its first line; a line ends with LF, CR LF or CR; a place is told."""
@@ -304,13 +317,13 @@ class Words(Texts):
             with self.subTest(patterns):
                 self.write("patterns", patterns)
                 counts = "urlcheck-documents: 1 document, 3 links, {} ignored\n".format(count)
-                self.assertEqual(self.run_on("--ignore", "patterns", "a.html")[2], counts)
+                self.assertEqual(self.run_on("--list", "--ignore", "patterns", "a.html")[2], counts)
         for data, wanted in (
             (b"\xef\xbb\xbf(", "1: no regular expression: "), (b"a\r\n(\r\n", "2: no regular expression: "),
             (b"\xef\xbb\xbf\xc3\xa9\xff", "1:2: this isn't UTF-8"), (b"\n\xc3", "2:1: this isn't UTF-8"),
         ):
             self.write("p\x1b", data)
-            status, out, said = self.run_on("--ignore", "p\x1b", "a.html")
+            status, out, said = self.run_on("--list", "--ignore", "p\x1b", "a.html")
             wanted = "urlcheck-documents: p\ufffd:" + wanted
             self.assertEqual((status, out, said[: len(wanted)], said.count("\n")), (2, "", wanted, 1))
 
@@ -332,9 +345,9 @@ class Words(Texts):
             with self.subTest(names):
                 self.checks("a.html", [(place, "code-point") for place in places], *words)
                 counts = "urlcheck-documents: 1 document, 3 links, {} ignored\n".format(count)
-                self.assertEqual(self.run_on(*words, "a.html")[2], counts)
+                self.assertEqual(self.run_on("--list", *words, "a.html")[2], counts)
         for name, why in (("wrong", "wrong:2: no regular expression: "), ("missing", "missing: can't be read: ")):
-            status, out, said = self.run_on("--ignore", "braces", "--ignore", name, "--check", "a.html")
+            status, out, said = self.run_on("--ignore", "braces", "--ignore", name, "a.html")
             self.assertEqual((status, out), (2, ""))
             self.assertTrue(said.startswith("urlcheck-documents: " + why), said)
 

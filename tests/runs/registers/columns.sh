@@ -36,8 +36,8 @@ else
     done < <(column_pythons)
     sanitizer=$(gcc -print-file-name=libasan.so)
     if [ -f "$sanitizer" ] && headers=$(. "$top/tools/builds.sh" && python_headers); then
-        mkdir -p "$room/sanitized/urlcheck" "$room/native"
-        cp "$library"/python/urlcheck/*.py "$room/sanitized/urlcheck/"
+        mkdir -p "$room/sanitized" "$room/native"
+        cp -R "$library/python/urlcheck" "$room/sanitized/"
         cp "$top"/bindings/python/native/*.[ch] "$library/include/urlcheck.h" "$room/native/"
         (. "$top/tools/builds.sh" && CC=gcc CFLAGS='-g -fsanitize=address,undefined -fno-sanitize-recover=all' \
             build_native "$headers" "$room/native" "$library/lib/liburlcheck.a" "$room/sanitized/urlcheck/_native.abi3.so")

@@ -5,12 +5,12 @@ import os
 import sys
 
 TOP = os.path.join(os.path.dirname(os.path.abspath(__file__)), *[".."] * 4)
-FILE = os.path.join(TOP, "bindings", "python", "urlcheck", "_limits.py")
+FILE = os.path.join(TOP, "bindings", "python", "urlcheck", "_documents", "limits.py")
 
 
 def main() -> None:
     """Writes them. (The package itself needs its extension module.)"""
-    spec = importlib.util.spec_from_file_location("_limits", FILE)
+    spec = importlib.util.spec_from_file_location("limits", FILE)
     assert spec is not None and spec.loader is not None
     limits = importlib.util.module_from_spec(spec)
     spec.loader.exec_module(limits)

@@ -1,0 +1,339 @@
+"""What documents give, taken in processes of their own."""
+
+import os
+import pickle
+import subprocess
+import sys
+from typing import BinaryIO, Callable, Iterator, List, NamedTuple, Optional, Sequence, Tuple
+
+from .._fixes.fixing import Fixed
+from .._reports.baseline import Known
+from .._streams import reason_of, write_nowhere
+from . import limits
+from .started import hand_on, started
+
+
+class Fault(NamedTuple):
+    """Why a document wasn't read to its end, or what is said of a comment in it."""
+
+    reason: str
+    line: Optional[int] = None
+    """The line where its reader stopped or the comment is, from 1, if it had begun."""
+    column: Optional[int] = None
+    """The column there, from 1."""
+    inner: str = ""
+    """The document within it that it is about, if it holds others."""
+
+    def after(self) -> str:
+        """What is said after the document's name."""
+        return ": " + self.reason if self.line is None else ":{}:{}: {}".format(self.line, self.column, self.reason)
+
+
+class Counted(NamedTuple):
+    """A fault of a document, as it is counted, or kept as one that is known."""
+
+    rule: str
+    text: str
+    known: Known
+
+
+class Taken(NamedTuple):
+    """What a part of a document has given."""
+
+    documents: int
+    """1 in the first part of a document that is read."""
+    links: int
+    refused: int
+    ignored: int
+    lines: bytes
+    """What is said of its links, but for the first of those of which something is."""
+    fault: Optional[Fault] = None
+    """Why it wasn't read to its end, if it wasn't."""
+    notes: Tuple[str, ...] = ()
+    """What its reader passed over."""
+    counted: Tuple[Counted, ...] = ()
+    """Its faults, where they are counted."""
+    known: Tuple[str, ...] = ()
+    """The fingerprints of its faults that are known, and not reported."""
+    fixed: Optional[Fixed] = None
+    """The document with other texts in the place of links, which the others are of then; in the first part alone."""
+    warnings: Tuple[Fault, ...] = ()
+    """What is said of its comments."""
+    first: Tuple[bytes, bytes] = (b"", b"")
+    """What is said of the first, after others and where there are none; both empty where nothing is said of links."""
+
+
+class Part:
+    """A part of a document that is being taken."""
+
+    def __init__(self, documents: int, fixed: Optional[Fixed] = None) -> None:
+        self._documents = documents
+        self._links = 0
+        self._refused = 0
+        self._ignored = 0
+        self._lines = bytearray()
+        self._first = (b"", b"")
+        self._counted: List[Counted] = []
+        self._known: List[str] = []
+        self._fixed = fixed
+
+    def add(self, line: str = "") -> None:
+        """Adds a link that is listed in this line, or is valid."""
+        self._links += 1
+        self._lines += line.encode("utf-8", "surrogateescape")
+
+    def says_nothing(self) -> bool:
+        """Whether nothing is said yet of its links."""
+        return not self._first[0]
+
+    def add_refused(self, after: str, first: str) -> None:
+        """Adds a link that is refused, of which this is said after others, and where there are none. The latter counts
+        for the first one."""
+        self._links += 1
+        self._refused += 1
+        if not self.says_nothing():
+            self._lines += after.encode("utf-8", "surrogateescape")
+        else:
+            self._first = after.encode("utf-8", "surrogateescape"), first.encode("utf-8", "surrogateescape")
+
+    def add_ignored(self) -> None:
+        """Adds a link that is left out."""
+        self._links += 1
+        self._ignored += 1
+
+    def add_counted(self, counted: Counted) -> None:
+        """Adds a fault to those that are counted."""
+        self._counted.append(counted)
+
+    def add_known(self, fingerprint: str) -> None:
+        """Adds a link whose fault is known."""
+        self._links += 1
+        self._known.append(fingerprint)
+
+    def is_full(self) -> bool:
+        """Whether it has as much as a part is to have."""
+        return len(self._lines) >= _ENOUGH or len(self._counted) + len(self._known) >= _MOST_COUNTED
+
+    def taken(
+        self, fault: Optional[Fault] = None, notes: Tuple[str, ...] = (), warnings: Tuple[Fault, ...] = ()
+    ) -> Taken:
+        """What it has given."""
+        numbers = self._documents, self._links, self._refused, self._ignored
+        more = tuple(self._counted), tuple(self._known), self._fixed
+        return Taken(*numbers, bytes(self._lines), fault, notes, *more, warnings=warnings, first=self._first)
+
+
+_ENOUGH = 256 * 1024
+"""How many bytes the lines of a part have, before the next one begins."""
+
+MOST_GROWN = 64 * 1024 * 1024
+"""How many bytes of memory documents may have taken, before another process takes those after them."""
+
+_MOST_COUNTED = 4096
+"""How many faults a part has that are counted or known, before the next one begins."""
+
+Parts = Callable[[], Iterator[Taken]]
+"""What takes a document part by part."""
+
+
+def nothing(reason: str) -> Taken:
+    """What a document gives that isn't read."""
+    return Taken(0, 0, 0, 0, b"", Fault(reason))
+
+
+class Apart:
+    """Documents that are taken one after another in a process of their own, which begins at once. Where memory is short
+    Python may do anything, also go on without an end: so the process is ended from without, and only the parts that it
+    gave whole are taken. Another process goes on where one ends; with the same document, unless that was its first or
+    took too long: so what is said of a document is never owed to those before it."""
+
+    def __init__(self, documents: Sequence[Parts], is_input: bool = False) -> None:
+        self._documents = documents
+        self._is_input = is_input
+        self._next = 0
+        self._begin()
+
+    def _begin(self) -> None:
+        """Begins a process for the documents that are left."""
+        self._first = self._next
+        self._child: Optional[_Child] = None
+        left = self._documents[self._next :]
+        if not left:
+            return
+        try:
+            if sys.platform != "win32" and hasattr(os, "fork"):
+                self._child = _Forked(left)
+            else:
+                self._child = _Started(left, self._is_input)
+        except OSError as error:
+            self._failed = nothing("can't be read: no process: {}".format(reason_of(error)))
+
+    def taken(self) -> Iterator[Taken]:
+        """What the next document gives, part by part."""
+        given = 0
+        while self._child is not None:
+            for number, part in enumerate(_whole(self._child.pipe)):
+                if part is None:
+                    self._next += 1
+                    return
+                # (what was given before its process ended isn't given again)
+                if number >= given:
+                    given += 1
+                    yield part
+            status = self._child.end()
+            if self._first == self._next or limits.is_of_time(status):
+                yield _ended(status, given > 0)
+                self._next += 1
+                self._begin()
+                return
+            self._begin()
+        self._next += 1
+        yield self._failed
+        self._begin()
+
+    def end(self) -> None:
+        """Ends the process, whose documents were all taken."""
+        if self._child is not None:
+            self._child.end()
+
+
+def _ended(status: int, is_begun: bool) -> Taken:
+    """What is said of a document whose process ended before its end."""
+    reason = limits.ended_by(status)
+    if is_begun:
+        return nothing(reason + ", and isn't reported to its end")
+    return nothing(reason if limits.is_from_outside(status) else reason + " to read")
+
+
+def apart(parts: Parts) -> Iterator[Taken]:
+    """What a document gives, taken in a process of its own."""
+    taken = Apart([parts])
+    yield from taken.taken()
+    taken.end()
+
+
+class _Child:
+    """A process that takes documents."""
+
+    def __init__(self, pipe: BinaryIO) -> None:
+        self.pipe = pipe
+        """What it gives."""
+
+    def end(self) -> int:
+        """How it ended, of which nothing more is taken."""
+        self.pipe.close()
+        return self.status()
+
+    def status(self) -> int:
+        """How it ended, once it has: by a number below 0 where a signal ended it."""
+        raise NotImplementedError
+
+
+if sys.platform != "win32":
+
+    class _Forked(_Child):
+        """One that begins as a copy of this process."""
+
+        def __init__(self, documents: Sequence[Parts]) -> None:
+            reader, writer = os.pipe()
+            try:
+                self._number = os.fork()
+            except OSError:
+                os.close(reader)
+                os.close(writer)
+                raise
+            if self._number == 0:
+                os.close(reader)
+                _give(documents, writer)
+            os.close(writer)
+            super().__init__(os.fdopen(reader, "rb"))
+
+        def status(self) -> int:
+            status = os.waitpid(self._number, 0)[1]
+            return -os.WTERMSIG(status) if os.WIFSIGNALED(status) else os.WEXITSTATUS(status)
+
+
+class _Started(_Child):
+    """One that begins anew, where the system copies none. It is told what it takes, and handed standard input if that
+    is the document."""
+
+    def __init__(self, documents: Sequence[Parts], is_input: bool) -> None:
+        self._process: "subprocess.Popen[bytes]" = started(__name__)
+        asked, given = self._process.stdin, self._process.stdout
+        assert asked is not None and given is not None
+        super().__init__(given)  # type: ignore[arg-type]
+        try:
+            pickle.dump((documents, limits.MOST_SECONDS, sys.stdin is None), asked)
+            asked.flush()
+            if is_input and sys.stdin is not None:
+                hand_on(asked)
+            else:
+                asked.close()
+        except OSError:
+            # (it has ended, and its status says why)
+            pass
+
+    def status(self) -> int:
+        return self._process.wait()
+
+
+def serve() -> None:
+    """What such a process does."""
+    documents, limits.MOST_SECONDS, is_closed = pickle.load(sys.stdin.buffer)
+    if is_closed:
+        sys.stdin = None  # type: ignore[assignment]
+    writer = os.dup(1)
+    write_nowhere(1)
+    limits.limit_memory()
+    _give(documents, writer)
+
+
+def _whole(pipe: BinaryIO) -> Iterator[Optional[Taken]]:
+    """The parts that were written whole, and ``None`` where a document ends."""
+    while True:
+        try:
+            part: Optional[Taken] = pickle.load(pipe)
+        except (EOFError, pickle.UnpicklingError):
+            return
+        yield part
+
+
+def _give(documents: Sequence[Parts], writer: int) -> None:
+    """Writes the parts of documents to this file, and ends the process: with 0 where all of each were written whole.
+    Where they have taken much memory the others are left to another process."""
+    ended = 1
+    try:
+        write_nowhere(2)
+        most = limits.memory_taken() + MOST_GROWN
+        with os.fdopen(writer, "wb") as pipe:
+            for parts in documents:
+                limits.limit_waiting()
+                limits.limit_time(limits.MOST_SECONDS)
+                for part in _sure(parts):
+                    _put(part, pipe)
+                limits.has_come()
+                limits.limit_time(0)
+                _put(None, pipe)
+                if limits.memory_taken() > most:
+                    break
+        ended = 0
+    finally:
+        os._exit(ended)
+
+
+def _put(part: Optional[Taken], pipe: BinaryIO) -> None:
+    """Writes a part, or that a document ends. (What isn't written out is lost where the next document ends the
+    process.)"""
+    pickle.dump(part, pipe)
+    pipe.flush()
+
+
+def _sure(parts: Parts) -> Iterator[Taken]:
+    """The parts of a document, and what is said where its reader failed."""
+    try:
+        yield from parts()
+    except (MemoryError, SystemError):
+        # (Python raises a SystemError too where an allocation failed)
+        raise
+    except Exception as error:
+        yield nothing("its reader failed: {!r}".format(error))

@@ -1,0 +1,60 @@
+"""What is said of words that are wrong: of a name that there isn't, of an option, and of its value."""
+
+import argparse
+import difflib
+import sys
+from typing import Iterable, List, NoReturn
+
+from .._streams import named, say, stop, tell
+
+
+class Parser(argparse.ArgumentParser):
+    """A parser that says what is wrong in the words of ``urlcheck``."""
+
+    def error(self, message: str) -> NoReturn:
+        """Says how the program is used, and what is wrong."""
+        # (what argparse refuses has the option that it is about, and its words differ from Python to Python)
+        refused = sys.exc_info()[1]
+        if isinstance(refused, argparse.ArgumentError) and refused.argument_name:
+            message = self._said_of(refused.argument_name.rpartition("/")[2])
+        say("{}{}: {}\n".format(self.format_usage(), self.prog, message))
+        raise SystemExit(2)
+
+    def _said_of(self, option: str) -> str:
+        """What is wrong with the value of an option: it is missing, or there is one where none is taken."""
+        action = next((it for it in self._actions if option in it.option_strings), None)
+        takes_none = action is not None and action.nargs == 0
+        return option + (" doesn't accept a value" if takes_none else " needs a value")
+
+    def no_option(self, word: str) -> NoReturn:
+        """Says that there is no such option, and which one is near to it."""
+        name = named(word.partition("=")[0])
+        options = [it for action in self._actions for it in action.option_strings if it.startswith("--")]
+        self.error("there is no option {}{}".format(name, _OF_OTHERS.get(name) or _nearest(name, options)))
+
+
+_OF_OTHERS = {
+    "--wide": "; write --profile wide",
+    "--output-format": "; write --format FORMAT",
+    "--json": "; write --format json",
+    "-j": "; write --jobs N",
+    "--all": "; pipe the links, which --list prints, into urlcheck lint --located --all -",
+}
+"""What is said of options of ``urlcheck lint`` and of other checkers for which there is something else."""
+
+
+def chosen(name: str, names: List[str], noun: str) -> str:
+    """The name, where it is one of these. Raises ``SystemExit`` where it is none, and says which there are."""
+    if name not in names:
+        tell("no {} is named '{}'{}".format(noun, named(name), _nearest(name, names)))
+        raise SystemExit(stop("the {}s: {}".format(noun, " ".join(names))))
+    return name
+
+
+def _nearest(name: str, names: Iterable[str]) -> str:
+    """What is said of the name that is nearest to another one, or the only one that begins so, where there is one."""
+    # (the hyphens that each option begins with make none of them near)
+    by_letters = {it.lstrip("-"): it for it in names}
+    letters = name.lstrip("-").lower()
+    near = difflib.get_close_matches(letters, by_letters, 1) or [it for it in by_letters if it.startswith(letters)]
+    return "; the nearest is " + by_letters[near[0]] if len(near) == 1 else ""

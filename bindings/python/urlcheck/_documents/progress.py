@@ -1,0 +1,88 @@
+"""How far a run is, in the last line of a terminal."""
+
+import os
+import shutil
+import signal
+import sys
+import time
+from typing import Any
+
+from .._streams import named
+
+_EACH = 0.2
+"""After how many seconds the line is written anew."""
+
+_FIRST = 1.0
+"""After how many seconds it is written first, since a short run needs none."""
+
+_LONG = 2.0
+"""After how many seconds of one document its name is shown."""
+
+_ERASE = "\r\x1b[2K"
+
+
+class Progress:
+    """A line on standard error, where that is a terminal: how many documents were read of all, and how many of their
+    links are refused. Where the system has no signal for time it is written as documents end."""
+
+    def __init__(self, total: int, is_quiet: bool) -> None:
+        is_terminal = sys.stderr is not None and sys.stderr.isatty() and os.environ.get("TERM") != "dumb"
+        self._is_shown = is_terminal and not is_quiet
+        self._total = total
+        self._read = self._refused = 0
+        self._name = ""
+        self._next = time.monotonic() + _FIRST
+        self._since = time.monotonic()
+        self._is_written = False
+        if self._is_shown:
+            self._on_time_from(_FIRST)
+
+    def at(self, read: int, refused: int, name: str) -> None:
+        """Says how many documents were read, how many links refused, and which document is read now."""
+        self._read, self._refused, self._name = read, refused, name
+        self._since = time.monotonic()
+        if self._is_shown and sys.platform == "win32":
+            self._write()
+
+    def hide(self) -> None:
+        """Takes the line away, before anything else is written to the terminal."""
+        if self._is_written:
+            self._is_written = False
+            _show(_ERASE)
+
+    def end(self) -> None:
+        """Ends it."""
+        if self._is_shown:
+            self._on_time_from(0)
+        self._is_shown = False
+        self.hide()
+
+    def _on_time_from(self, first: float) -> None:
+        """Has the line written after so many seconds, and from then on again and again; never, if 0."""
+        if sys.platform != "win32" and hasattr(signal, "setitimer"):
+            signal.signal(signal.SIGALRM, self._on_time)
+            signal.siginterrupt(signal.SIGALRM, False)
+            signal.setitimer(signal.ITIMER_REAL, first, _EACH)
+
+    def _on_time(self, _number: int, _frame: Any) -> None:
+        self._write()
+
+    def _write(self) -> None:
+        now = time.monotonic()
+        if not self._is_shown or now < self._next:
+            return
+        self._next = now + _EACH / 2
+        line = "{} of {} documents, {} refused".format(self._read, self._total, self._refused)
+        if now - self._since >= _LONG:
+            line += ": " + named(self._name)
+        self._is_written = True
+        _show(_ERASE + line[: shutil.get_terminal_size().columns - 1])
+
+
+def _show(text: str) -> None:
+    """Writes to the terminal past Python's stream, in which a signal may find another line half written."""
+    try:
+        os.write(2, text.encode("utf-8", "replace"))
+    except OSError:
+        # (what can't be shown is left out)
+        pass

@@ -1,0 +1,75 @@
+"""What an editor's user asks of the server."""
+
+import re
+from typing import Any, Dict, NamedTuple, Optional, Tuple
+
+from .. import BaseRefused, Profile, check
+from .._documents.configuration import Configuration
+
+SEVERITIES = {"error": 1, "warning": 2, "information": 3, "hint": 4}
+"""The severities of the protocol."""
+
+
+class Options(NamedTuple):
+    """What a client's settings say; what they don't is the project's configuration's to say."""
+
+    base: Optional[str] = None
+    profile: Optional[Profile] = None
+    ignored: Tuple["re.Pattern[str]", ...] = ()
+    gfm: bool = False
+    is_empty_taken: bool = False
+    severity: int = SEVERITIES["error"]
+    wrong: Tuple[str, ...] = ()
+    """What is wrong with them, in sentences."""
+
+    def profile_by(self, config: Configuration) -> Profile:
+        """The profile by which a document is checked."""
+        return self.profile or config.profile or Profile.STANDARD
+
+
+def options_of(given: Any) -> Options:
+    """What these settings say. One that is wrong is as if it weren't there, and is told."""
+    given = given if isinstance(given, dict) else {}
+    wrong = []
+    known = {"base", "profile", "ignore", "gfm", "noEmpty", "severity", "columns"}
+    wrong += ["there is no setting {}".format(name) for name in given if name not in known]
+    profile = _chosen(given, "profile", {it.name.lower(): it for it in Profile}, wrong)
+    severity = _chosen(given, "severity", SEVERITIES, wrong)
+    base = given.get("base")
+    if base is not None and (not isinstance(base, str) or not _is_base(base, profile or Profile.STANDARD)):
+        wrong.append("the base is no valid URL string")
+        base = None
+    patterns = []
+    for text in given.get("ignore") or [] if isinstance(given.get("ignore") or [], list) else [None]:
+        try:
+            patterns.append(re.compile(text))
+        except (re.error, TypeError):
+            wrong.append("no regular expression: {}".format(text))
+    return Options(
+        base,
+        profile,
+        tuple(patterns),
+        bool(given.get("gfm")),
+        bool(given.get("noEmpty")),
+        severity or SEVERITIES["error"],
+        tuple(wrong),
+    )
+
+
+def _chosen(given: Dict[str, Any], name: str, values: Dict[str, Any], wrong: "list[str]") -> Any:
+    """The value of a setting that is one of several."""
+    value = given.get(name)
+    if value is None:
+        return None
+    if not isinstance(value, str) or value not in values:
+        wrong.append("the {} is one of {}".format(name, ", ".join(values)))
+        return None
+    return values[value]
+
+
+def _is_base(text: str, profile: Profile) -> bool:
+    try:
+        check("", text, profile)
+    except (BaseRefused, UnicodeEncodeError):
+        return False
+    return True

@@ -1,0 +1,1 @@
+"""Fixes: texts that are written in the place of links in documents."""

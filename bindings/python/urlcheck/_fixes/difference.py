@@ -1,0 +1,90 @@
+"""What edits write otherwise in a document, as a unified diff."""
+
+import re
+from typing import Iterator, List, NamedTuple, Sequence
+
+from .._readers.source import Source
+from .edits import Edit, edited
+
+_CONTEXT = 3
+"""How many lines are shown before those that differ, and after them."""
+
+_LINE = re.compile("[^\n]*\n|[^\n]+")
+
+_NO_END = "\n\\ No newline at end of file\n"
+"""What is shown after a last line that no line feed ends."""
+
+
+class _Change(NamedTuple):
+    """Lines that differ: those from ``first`` up to ``end``, from 0, and what stands for them afterwards."""
+
+    first: int
+    end: int
+    written: List[str]
+
+    def added(self) -> int:
+        """How many lines more there are after it."""
+        return len(self.written) - (self.end - self.first)
+
+
+def difference(name: str, source: Source, edits: Sequence[Edit]) -> str:
+    """What these edits, which are in order, write otherwise in the document of that name; empty where there is none."""
+    lines = _LINE.findall(source.text)
+    groups = _groups(list(_changes(source, lines, edits)))
+    added, hunks = 0, ""
+    for group in groups:
+        hunks += _hunk(lines, group, added)
+        added += sum(change.added() for change in group)
+    return "--- {0}\n+++ {0}\n{1}".format(name, hunks) if hunks else ""
+
+
+def _changes(source: Source, lines: List[str], edits: Sequence[Edit]) -> Iterator[_Change]:
+    """The lines that differ; those that touch are one change."""
+    held: List[Edit] = []
+    end = 0
+    for edit in edits:
+        first = source.position(edit.start)[0] - 1
+        if held and first > end:
+            yield _change(source, lines, held, end)
+            held = []
+        held.append(edit)
+        end = source.position(max(edit.start, edit.end - 1))[0]
+    if held:
+        yield _change(source, lines, held, end)
+
+
+def _change(source: Source, lines: List[str], edits: Sequence[Edit], end: int) -> _Change:
+    first = source.position(edits[0].start)[0] - 1
+    start = source.offset(first + 1, 0)
+    moved = [Edit(edit.start - start, edit.end - start, edit.text) for edit in edits]
+    return _Change(first, end, _LINE.findall(edited("".join(lines[first:end]), moved)))
+
+
+def _groups(changes: List[_Change]) -> List[List[_Change]]:
+    """The changes by hunks: those are together whose context would meet."""
+    groups: List[List[_Change]] = []
+    for change in changes:
+        if groups and change.first - groups[-1][-1].end <= 2 * _CONTEXT:
+            groups[-1].append(change)
+        else:
+            groups.append([change])
+    return groups
+
+
+def _hunk(lines: List[str], changes: List[_Change], added: int) -> str:
+    """A hunk, before which so many lines were added."""
+    first, last = max(changes[0].first - _CONTEXT, 0), min(changes[-1].end + _CONTEXT, len(lines))
+    shown, at = "", first
+    for change in changes:
+        shown += _shown(" ", lines[at : change.first])
+        shown += _shown("-", lines[change.first : change.end]) + _shown("+", change.written)
+        at = change.end
+    shown += _shown(" ", lines[at:last])
+    count = last - first
+    new = count + sum(change.added() for change in changes)
+    return "@@ -{},{} +{},{} @@\n{}".format(first + 1, count, first + 1 + added, new, shown)
+
+
+def _shown(mark: str, lines: List[str]) -> str:
+    """Lines as a hunk has them, after their mark."""
+    return "".join(mark + (line if line.endswith("\n") else line + _NO_END) for line in lines)

@@ -1,0 +1,1 @@
+"""Readers: the links of documents of each kind, with their places."""

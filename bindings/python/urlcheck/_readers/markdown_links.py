@@ -1,0 +1,293 @@
+"""The links of a Markdown document (CommonMark), by the package ``markdown-it-py``, and those of the HTML within it.
+
+That of GitHub has bare addresses too, which are found as its specification says it (GFM 0.29, section 6.9).
+"""
+
+import re
+from types import SimpleNamespace
+from typing import Any, Callable, Dict, List, Optional, Set, Tuple
+
+from . import bare_links, html_links
+from .front_matter import front_matter_of
+from .source import Broken, Comment, Link, Source
+
+
+class _Destination(str):
+    """A link's destination: the text that it was read in, where it began there, and whether it is verbatim."""
+
+    content: Optional[str] = None
+    at = 0
+    is_verbatim = False
+
+
+class Inlines:
+    """What blocks of Markdown were read as, kept from one reading of a text to the next: most of a text that is edited
+    stays as it is. A block is read by its content and by the references that there are."""
+
+    def __init__(self) -> None:
+        self._kept: Dict[str, List[Any]] = {}
+        self._used: Dict[str, List[Any]] = {}
+        self._references: Set[str] = set()
+        self.covered: Dict[str, List[Tuple[int, int]]] = {}
+        """What of a block's content is no text, by where it begins and ends."""
+
+    def begin(self, references: Set[str]) -> None:
+        """Begins a reading; what the last one didn't have is forgotten."""
+        is_same = references == self._references
+        self._kept, self._used = (self._used if is_same else {}), {}
+        self.covered = {it: self.covered[it] for it in self._kept if it in self.covered}
+        self._references = references
+
+    def read(self, content: str, read: Callable[[str], List[Any]]) -> List[Any]:
+        """What a block's content is read as."""
+        found = self._used.get(content) or self._kept.get(content)
+        if found is None:
+            self.covered.pop(content, None)
+            found = read(content)
+        self._used[content] = found
+        return found
+
+
+def links_of(
+    source: Source, is_gfm: bool = False, inlines: Optional[Inlines] = None
+) -> Tuple[List[Link], List[Comment], Optional[Broken], Tuple[str, ...]]:
+    """The links of a Markdown document, the comments about them, why its reader stopped, which it doesn't, and what was
+    passed over.
+
+    Its front matter is no text. What blocks were read as is kept in ``inlines``, for one choice of ``is_gfm``. Raises
+    ``ImportError`` where ``markdown-it-py`` isn't installed.
+    """
+    front = front_matter_of(source.text)
+    reader = _Reader(source, is_gfm, inlines or Inlines())
+    environment: Dict[str, Any] = {}
+    tokens = reader.markdown.parse(_without(source.text, front[0]) if front else source.text, environment)
+    reader.inlines.begin(set(environment.get("references", {})))
+    for token in tokens:
+        reader.take(token, environment)
+    reader.take_references(environment)
+    reader.links += front[1] if front else []
+    reader.links.sort(key=lambda link: link.offset)
+    return reader.links, reader.comments, None, tuple(reader.notes)
+
+
+def _without(text: str, end: int) -> str:
+    """A text whose beginning is empty lines, so that all after it is where it was."""
+    return re.sub("[^\r\n]", " ", text[:end]) + text[end:]
+
+
+class _Reader:
+    """Collects the links of the tokens."""
+
+    def __init__(self, source: Source, is_gfm: bool, inlines: Inlines) -> None:
+        from markdown_it import MarkdownIt, helpers, rules_block, rules_inline
+
+        self.markdown: Any = MarkdownIt("commonmark")
+        self.markdown.block.ruler.at("reference", _near(rules_block.reference))
+        # (the inside of a block is read here, once for all blocks that are the same)
+        self.markdown.core.ruler.disable(["inline"])
+        self.inlines = inlines
+        self._is_gfm = is_gfm
+        for name, rule in (
+            ("autolink", _placing(rules_inline.autolink)),
+            ("html_inline", _placing(rules_inline.html_inline)),
+            ("backticks", rules_inline.backtick),
+            ("link", rules_inline.link),
+            ("image", rules_inline.image),
+        ):
+            self.markdown.inline.ruler.at(name, _covering(rule, inlines) if is_gfm else rule)
+        self.markdown.helpers = SimpleNamespace(
+            parseLinkLabel=helpers.parseLinkLabel,
+            parseLinkTitle=helpers.parseLinkTitle,
+            parseLinkDestination=self._destination,
+        )
+        # The links are wanted as they are written.
+        self.markdown.normalizeLink = self._placed
+        self.markdown.validateLink = lambda _: True
+        self._parse = helpers.parseLinkDestination
+        self._last: Tuple[str, int, Any] = ("", 0, None)
+        self.links: List[Link] = []
+        self.comments: List[Comment] = []
+        self.notes: Set[str] = set()
+        self._source = source
+        # The same as the package reads it, place by place: there a carriage return ends a line too.
+        text = re.sub("\r(?!\n)", "\n", source.text).replace("\0", "\ufffd")
+        self._seen = source if text == source.text else Source(text)
+        # What was looked at last: a block's content, and one of its lines with how far it is shifted.
+        self._block: Tuple[str, Source] = ("", Source(""))
+        self._lines: Tuple[Tuple[int, int], str, Optional[int]] = ((0, 0), "", None)
+
+    def _destination(self, text: str, at: int, end: int) -> Any:
+        result = self._parse(text, at, end)
+        if not result.ok and text.startswith(")", at, end):
+            # `[a]()` has an empty destination.
+            result.ok, result.pos, result.str = True, at, ""
+        self._last = (text, at, result)
+        return result
+
+    def _placed(self, url: str) -> str:
+        placed = _Destination(url)
+        text, at, result = self._last
+        if result is not None and result.str == url:
+            raw = text[at : result.pos]
+            is_bracketed = raw.startswith("<") and raw.endswith(">")
+            placed.content = text
+            placed.at = at + is_bracketed
+            placed.is_verbatim = (raw[1:-1] if is_bracketed else raw) == url
+        self._last = ("", 0, None)
+        return placed
+
+    def take(self, token: Any, environment: Dict[str, Any]) -> None:
+        """Takes the links of a block."""
+
+        def read(content: str) -> List[Any]:
+            children: List[Any] = []
+            self.markdown.inline.parse(content, self.markdown, environment, children)
+            return children
+
+        if token.type == "html_block":
+            self._take_html(token.map[0], token.content, token.content, 0)
+        elif token.type == "inline":
+            self._take_inline(token, self.inlines.read(token.content, read))
+
+    def _take_inline(self, block: Any, children: List[Any]) -> None:
+        if self._is_gfm:
+            self._take_bare(block.map[0], block.content)
+        for token in children:
+            if token.type == "html_inline":
+                self._take_html(block.map[0], block.content, token.content, token.meta[_AT])
+            elif token.type in ("link_open", "image"):
+                url = token.attrGet("href" if token.type == "link_open" else "src")
+                if token.info == "auto":
+                    self._take_autolink(block, url, token.meta[_AT] + 1)
+                elif url.content == block.content:
+                    self._take_destination(block.map[0], url)
+
+    def _take_bare(self, line: int, content: str) -> None:
+        """Takes the addresses that are in a block's text without more, and what is no link for a space in it."""
+        covered = self.inlines.covered.get(content, [])
+        for link in bare_links.links_of(content, covered):
+            start = self._offset(line, content, link.offset)
+            if start is not None:
+                is_verbatim = link.is_verbatim and self._source.text.startswith(link.text, start)
+                pieces = link.pieces and tuple((begin, start + place - link.offset) for begin, place in link.pieces)
+                self.links.append(link._replace(offset=start, is_verbatim=is_verbatim, pieces=pieces))
+
+    def _take_autolink(self, block: Any, url: str, at: int) -> None:
+        """Takes ``<http://a/>``; an e-mail address is no URL as it is."""
+        start = self._offset(block.map[0], block.content, at)
+        if start is not None and block.content.startswith(url, at):
+            self.links.append(Link(str(url), start, True))
+
+    def take_references(self, environment: Dict[str, Any]) -> None:
+        """Takes the links of the definitions ``[name]: link``."""
+        definitions = list(environment.get("references", {}).values()) + environment.get("duplicate_refs", [])
+        for definition in definitions:
+            self._take_destination(definition["map"][0], definition["href"])
+
+    def _take_destination(self, line: int, url: _Destination) -> None:
+        if url.content is None:
+            return
+        start = self._offset(line, url.content, url.at)
+        if start is None:
+            self.links.append(Link(str(url), self._seen.offset(line + 1, 0), False))
+        else:
+            is_verbatim = url.is_verbatim and self._source.text.startswith(url, start)
+            self.links.append(Link(str(url), start, is_verbatim))
+
+    def _take_html(self, line: int, content: str, html: str, at: int) -> None:
+        """Takes the links of HTML that is at a place of a block's content. It is read without what nests the block,
+        which may be within a tag of several lines."""
+        links, comments, notes = html_links.links_of(Source(html))
+        self.notes |= set(notes)
+        self.links += [self._moved(link, line, content, at) for link in links]
+        for comment in comments:
+            start = self._offset(line, content, at + comment.offset)
+            if start is not None:
+                self.comments.append(comment._replace(offset=start))
+
+    def _moved(self, link: Link, line: int, content: str, at: int) -> Link:
+        """A link of HTML that begins at a place of a block's content, with its places in the source."""
+        begins = link.pieces or ((0, link.offset),)
+        found = [(begin, self._offset(line, content, at + place)) for begin, place in begins]
+        pieces = tuple((begin, place) for begin, place in found if place is not None)
+        if len(pieces) < len(found):
+            return link._replace(offset=self._seen.offset(line + 1, 0), is_verbatim=False, base=None, pieces=())
+        offset = pieces[0][1]
+        is_verbatim = link.is_verbatim and self._source.text.startswith(link.text, offset)
+        return link._replace(offset=offset, is_verbatim=is_verbatim, base=None, pieces=pieces)
+
+    def _offset(self, line: int, content: str, at: int) -> Optional[int]:
+        """The source's place of a place of a block's content, which lacks what nests the block; none where it isn't
+        found."""
+        if self._block[0] is not content:
+            self._block = content, Source(content)
+        number, column = self._block[1].position(at)
+        key = line, number
+        if self._lines[0] != key or self._lines[1] is not content:
+            self._lines = key, content, self._shift(line, number)
+        shift = self._lines[2]
+        return None if shift is None else self._seen.offset(line + number, column - 1 + shift)
+
+    def _shift(self, line: int, number: int) -> Optional[int]:
+        """How many columns further right a line of the content is in the source."""
+        content = self._block[1].line(number)
+        within, written = content.strip(), self._seen.line(line + number).rstrip()
+        start = len(written) - len(within) if written.endswith(within) else written.find(within)
+        return None if start < 0 else start - (len(content) - len(content.lstrip()))
+
+
+_AHEAD = 4
+"""How many lines a definition is looked for in at first."""
+
+
+def _near(rule: Callable[..., bool]) -> Callable[..., bool]:
+    """The rule of definitions, by the lines next to one where that is enough: it looks at all lines of a block for each
+    definition, and so takes time by the square of their number."""
+
+    def near(state: Any, start: int, end: int, silent: bool) -> bool:
+        last = state.lineMax
+        if start + _AHEAD < last and not _may_have_title(state, start):
+            state.lineMax = start + _AHEAD
+            is_found = rule(state, start, end, silent)
+            state.lineMax = last
+            if is_found:
+                return True
+        return rule(state, start, end, silent)
+
+    return near
+
+
+def _may_have_title(state: Any, start: int) -> bool:
+    """Whether after this line one begins as the title of a definition does, which may have any number of lines."""
+    begins = (state.bMarks[line] + state.tShift[line] for line in range(start + 1, start + _AHEAD + 1))
+    return any(state.src[at : at + 1] in ("'", '"', "(") for at in begins)
+
+
+_AT = "at"
+"""By what name a token has its place."""
+
+
+def _placing(rule: Callable[[Any, bool], bool]) -> Callable[[Any, bool], bool]:
+    """A rule whose tokens have the place where they begin in their block's content."""
+
+    def placing(state: Any, silent: bool) -> bool:
+        at, count = state.pos, len(state.tokens)
+        is_found = rule(state, silent)
+        for token in state.tokens[count:]:
+            token.meta[_AT] = at
+        return is_found
+
+    return placing
+
+
+def _covering(rule: Callable[[Any, bool], bool], inlines: Inlines) -> Callable[[Any, bool], bool]:
+    """A rule that notes where what it finds begins and ends, for each content of a block."""
+
+    def covering(state: Any, silent: bool) -> bool:
+        at = state.pos
+        is_found = rule(state, silent)
+        if is_found and not silent:
+            inlines.covered.setdefault(state.src, []).append((at, state.pos))
+        return is_found
+
+    return covering

@@ -1,0 +1,136 @@
+"""The links of a document of any kind, out of a file's bytes or out of the text that an editor holds."""
+
+import contextlib
+import gc
+import os
+import re
+from typing import Iterator, List, NamedTuple, Optional, Sequence, Tuple, Union
+
+from . import css_links, epub, html_links, json_links, markdown_links, rst_links, xml_links
+from .comments import covered
+from .kinds import PACKAGES
+from .source import Broken, Comment, Foreign, Link, Source, decoded, encoding_of, without_mark
+
+MOST_BYTES = 32 * 1024 * 1024
+"""How many bytes a document may have."""
+
+LIST = "list"
+"""The kind of a list of links, a line each, which editors show alone: for files there is ``urlcheck lint``."""
+
+_GZIP = b"\x1f\x8b"
+"""How a file begins that gzip wrote."""
+
+_LINE = re.compile("[^\r\n]+")
+
+
+class Unread(Exception):
+    """Why a document can't be read."""
+
+
+class Reading(NamedTuple):
+    """How documents are read, where there is a choice."""
+
+    gfm: bool = False
+    """Whether Markdown is that of GitHub, in which a bare address is a link."""
+    inlines: Optional[markdown_links.Inlines] = None
+    """What blocks of Markdown were read as before, where a text is read again and again."""
+
+
+class Found(NamedTuple):
+    """What was found in a document, or in one of those that it holds."""
+
+    source: Source
+    links: List[Link]
+    comments: Sequence[Comment]
+    """The comments about the links, each of which has its own."""
+    broken: Optional[Broken] = None
+    """Why the reader stopped before the document's end, if it did."""
+    notes: Tuple[str, ...] = ()
+    """What the reader passed over."""
+    inner: str = ""
+    """The name of the document within the one that holds it, after a ``/``."""
+
+
+def found_in(given: Union[bytes, str], kind: str, reading: Reading = Reading()) -> Iterator[Found]:
+    """What is found in a document of that kind, given by its bytes or by its text: once, or of one that holds others in
+    each of them. Raises ``Unread`` where it can't be read at all, and ``Foreign`` where its bytes aren't UTF-8. A byte
+    order mark at its start is no part of its first line; a surrogate of a text is read as ``?``."""
+    data = given if isinstance(given, bytes) else given.encode("utf-8", "replace")
+    if len(data) > MOST_BYTES:
+        raise Unread("has more than {} MiB".format(MOST_BYTES >> 20))
+    if data.startswith(_GZIP):
+        raise Unread("is compressed: gzip -dc unpacks it, and - reads what that writes")
+    try:
+        yield from _found_in_archive(data, reading) if kind == "epub" else [_found(data, kind, reading)]
+    except ImportError:
+        package = PACKAGES.get(kind)
+        why = "is {}, which needs {}".format(package.kind, package.said()) if package else "has no reader"
+        raise Unread(why) from None
+    except json_links.NoJson as no_json:
+        raise Unread(str(no_json)) from None
+    except epub.NoBook as no_book:
+        raise Unread(str(no_book)) from None
+    except (Unread, Foreign, MemoryError, RecursionError, SystemError):
+        raise
+    except Exception as error:
+        # (a reader that isn't ours: the other documents are still to be read)
+        raise Unread("its reader failed: {!r}".format(error)) from None
+
+
+_SMALL = {
+    "markdown": b"[a](b)\n",
+    "notebook": b'{"cells": []}',
+    "rst": b"`a <http://h/>`_\n",
+    "css": b"a { b: url(c) }",
+}
+"""A small document of each kind that a package reads."""
+
+
+def prepare(kind: Optional[str]) -> None:
+    """Has the package imported that reads a kind of document, if it is installed, so that no process that begins as a
+    copy of this one has to do it."""
+    if kind in _SMALL and hasattr(os, "fork"):
+        with contextlib.suppress(Unread):
+            # (what is wrong is said of each document)
+            list(found_in(_SMALL[kind], kind))
+        # (what the collector doesn't look at stays shared between the processes)
+        gc.freeze()
+
+
+def _found(data: bytes, kind: str, reading: Reading) -> Found:
+    """What is found in a document of that kind. Raises ``ImportError`` where its reader isn't installed."""
+    try:
+        source = decoded(data)
+    except Foreign as foreign:
+        raise Foreign(foreign.before, encoding_of(data)) from None
+    if kind == "notebook":
+        return Found(source, *json_links.links_of_notebook(source, reading.gfm))
+    found = _read(source, data, kind, reading)
+    return found._replace(links=covered(source, found.links, found.comments))
+
+
+def _read(source: Source, data: bytes, kind: str, reading: Reading) -> Found:
+    """What is found in a document that is one text. Raises ``ImportError`` where its reader isn't installed."""
+    if kind == "xml":
+        return Found(source, *xml_links.links_of(source, without_mark(data)))
+    if kind in ("html", "rst"):
+        links, comments, notes = (html_links if kind == "html" else rst_links).links_of(source)
+        return Found(source, links, comments, None, notes)
+    if kind == "css":
+        return Found(source, *css_links.links_of(source))
+    if kind == "json-feed":
+        return Found(source, *json_links.links_of_feed(source))
+    if kind == LIST:
+        return Found(source, [Link(it.group(), it.start(), True) for it in _LINE.finditer(source.text)], ())
+    return Found(source, *markdown_links.links_of(source, reading.gfm, reading.inlines))
+
+
+def _found_in_archive(data: bytes, reading: Reading) -> Iterator[Found]:
+    """What is found in each document of a book. One that isn't read stops nothing: the next is."""
+    for name, kind, held in epub.documents_of(data):
+        try:
+            found = _found(held, kind, reading)
+        except Foreign as foreign:
+            before = foreign.before
+            found = Found(before, [], (), Broken(len(before.text), str(foreign)))
+        yield found._replace(inner=name)

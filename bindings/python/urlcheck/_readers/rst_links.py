@@ -1,0 +1,231 @@
+"""The links of a reStructuredText document, by the package ``docutils`` alone: roles and directives that it doesn't
+know, those of Sphinx among them, are read through."""
+
+import contextlib
+import importlib
+import re
+from typing import Any, Dict, Iterable, Iterator, List, NamedTuple, Optional, Set, Tuple
+
+from .comments import comments_of
+from .html_links import links_of as links_of_html
+from .literals import Literals
+from .source import SPACES, Comment, Link, Source
+
+PASSED_OVER = (
+    "roles and directives that docutils doesn't know are read for their text alone; the extension urlcheck.sphinx "
+    "reads those of Sphinx"
+)
+"""What is said where there was one."""
+
+_SETTINGS = {
+    "report_level": 5,
+    "halt_level": 5,
+    "warning_stream": False,
+    "file_insertion_enabled": False,
+    "raw_enabled": True,
+    "_disable_config": True,
+    "input_encoding": "unicode",
+    "line_length_limit": 1 << 20,
+}
+"""Nothing but the document is read, and nothing is said."""
+
+_TARGET = re.compile("<([A-Za-z][A-Za-z0-9+.-]*:/[^<>]*)>$")
+"""What says where an unknown role leads, if that is a URL."""
+
+_CODE = frozenset(
+    "code-block sourcecode literalinclude highlight graphviz digraph graph productionlist doctest testcode testsetup "
+    "testoutput mermaid plantuml uml toctree ipython prompt command-output program-output".split()
+)
+"""The directives that docutils doesn't know whose content isn't reStructuredText."""
+
+
+def links_of(source: Source) -> Tuple[List[Link], List[Comment], Tuple[str, ...]]:
+    """The links of a document, the comments about them, and what was passed over. Raises ``ImportError`` where
+    ``docutils`` isn't installed."""
+    core: Any = importlib.import_module("docutils.core")
+    nodes: Any = importlib.import_module("docutils.nodes")
+    notes: Set[str] = set()
+    with _read_through(notes):
+        tree = core.publish_doctree(source.text, "<text>", settings_overrides=_SETTINGS)
+    literals = Literals()
+    literals.put("", source)
+    links: List[Link] = []
+    for said in _said(tree):
+        if said.markup is None:
+            found = links_of_raw(literals, "", said.line, said.text)
+        else:
+            found = found_once(literals, "", said.line, said.text, said.markup)
+        # (what isn't written, as what :rfc: makes, isn't the author's)
+        links += [link for link, is_there in found if is_there]
+    return sorted(links, key=lambda link: link.offset), comments_in(source, tree.findall(nodes.comment)), tuple(notes)
+
+
+def comments_in(source: Source, nodes: Iterable[Any]) -> List[Comment]:
+    """The comments of a source that are for this program, by their nodes. docutils says a line of each, its first or
+    its last."""
+    comments: List[Comment] = []
+    for node in nodes:
+        text = node.astext()
+        end = source.offset(min(_line(node), source.position(len(source.text))[0]), 0)
+        end += len(source.line(_line(node)))
+        start = source.text.rfind(text.partition("\n")[0], 0, end)
+        comments += comments_of(text, start) if start >= 0 else ()
+    return comments
+
+
+class _Said(NamedTuple):
+    """What a node says: a link, or HTML."""
+
+    text: str
+    line: int
+    """The line from which on it is."""
+    markup: Optional[str]
+    """How it is written, where that is known; none for HTML."""
+
+
+def _said(tree: Any) -> Iterator[_Said]:
+    """The links and the HTML of a document's nodes."""
+    nodes: Any = importlib.import_module("docutils.nodes")
+    for node in tree.findall():
+        line = _line(node)
+        if isinstance(node, nodes.raw) and "html" in node.get("format", "").split():
+            yield _Said(node.astext(), line, None)
+        elif is_link(node):
+            yield _Said(link_of(node), line, markup_of(node))
+
+
+def is_link(node: Any) -> bool:
+    """Whether a node has a link that is written where it is: one by a name is where that is defined."""
+    nodes: Any = importlib.import_module("docutils.nodes")
+    if isinstance(node, nodes.target):
+        # (that of an embedded URL is its reference's)
+        return bool(node.get("refuri")) and not isinstance(node.parent, nodes.TextElement)
+    if isinstance(node, nodes.reference):
+        return bool(node.get("refuri")) and not node.resolved and node["refuri"] != "mailto:" + node.astext()
+    return isinstance(node, nodes.image)
+
+
+def link_of(node: Any) -> str:
+    """The link of such a node. (docutils reads a line's end after a backslash as a space before it.)"""
+    link: str = node["uri" if "uri" in node else "refuri"]
+    return link.strip(SPACES)
+
+
+_OPTION = re.compile(r"\n\s*:(?!:)")
+"""What begins an option of a directive."""
+
+
+def markup_of(node: Any) -> str:
+    """How the link of such a node is written, where docutils says that."""
+    nodes: Any = importlib.import_module("docutils.nodes")
+    markup: str = node.rawsource
+    if isinstance(node, nodes.image):
+        return _OPTION.split(markup)[0]
+    if not markup and isinstance(node, nodes.reference) and node.children and isinstance(node[0], nodes.image):
+        option = ":target:" + node[0].rawsource.partition(":target:")[2]
+        return _OPTION.split(option)[0]
+    return markup
+
+
+def links_of_raw(literals: Literals, path: str, line: int, text: str) -> Iterator[Tuple[Link, bool]]:
+    """The links of HTML that a document has from a line on, and whether each is known to be there."""
+    place_of = literals.block(path, line, text)
+    for link in links_of_html(Source(text))[0]:
+        if place_of is not None:
+            yield literals.moved(path, link, place_of), True
+        else:
+            yield from found_once(literals, path, line, link.text)
+
+
+def found_once(literals: Literals, path: str, line: int, text: str, markup: str = "") -> Iterator[Tuple[Link, bool]]:
+    """A link where it is written, and whether that is known; nothing where it was found there before."""
+    found = literals.find(path, line, text, markup)
+    if found is None:
+        yield Link(text, 0, False), False
+    # (a substitution is used several times, and written once)
+    elif found[1]:
+        yield found
+
+
+def _line(node: Any) -> int:
+    """The line of a node or of what is around it; docutils says none of an inline one."""
+    while node is not None and node.line is None:
+        node = node.parent
+    line: int = node.line if node is not None else 1
+    return line
+
+
+@contextlib.contextmanager
+def _read_through(notes: Set[str]) -> Iterator[None]:
+    """While it holds, an unknown role is its text, and of an unknown directive argument and content are read. What a
+    document defines ends with it."""
+    directives: Any = importlib.import_module("docutils.parsers.rst.directives")
+    roles: Any = importlib.import_module("docutils.parsers.rst.roles")
+    known_directive, known_role = directives.directive, roles.role
+    defined: Dict[str, Any] = dict(roles._roles)
+    through = _through()
+
+    def directive(name: str, language: Any, document: Any) -> Any:
+        found, said = known_directive(name, language, document)
+        if found:
+            return found, said
+        notes.add(PASSED_OVER)
+        return through, []
+
+    def role(name: str, language: Any, line: int, reporter: Any) -> Any:
+        found, said = known_role(name, language, line, reporter)
+        if found:
+            return found, said
+        notes.add(PASSED_OVER)
+        return _role, []
+
+    directives.directive, roles.role = directive, role
+    try:
+        yield
+    finally:
+        directives.directive, roles.role = known_directive, known_role
+        roles._roles.clear()
+        roles._roles.update(defined)
+
+
+def _role(name: str, raw: str, text: str, *_: Any, **__: Any) -> Any:
+    """A role that isn't known: its text, or a link where that says where it leads."""
+    nodes: Any = importlib.import_module("docutils.nodes")
+    found = _TARGET.search(text)
+    return [nodes.reference(raw, text, refuri=found[1]) if found else nodes.inline(raw, text)], []
+
+
+def _through() -> Any:
+    """A directive that isn't known: each option is taken, and argument and content are read, unless that is code."""
+    nodes: Any = importlib.import_module("docutils.nodes")
+    rst: Any = importlib.import_module("docutils.parsers.rst")
+
+    class Options(Dict[str, Any]):
+        """Takes each option."""
+
+        def __bool__(self) -> bool:
+            return True
+
+        def __getitem__(self, _: str) -> Any:
+            return rst.directives.unchanged
+
+    class Through(rst.Directive):  # type: ignore[misc]
+        """Is read through."""
+
+        optional_arguments = 1
+        final_argument_whitespace = True
+        has_content = True
+        option_spec = Options()
+
+        def run(self) -> List[Any]:
+            """What it holds."""
+            held = nodes.container()
+            held.line = self.lineno
+            if self.name not in _CODE:
+                if self.arguments:
+                    read, _ = self.state.inline_text(self.arguments[0], self.lineno)
+                    held += nodes.paragraph("", "", *read)
+                self.state.nested_parse(self.content, self.content_offset, held)
+            return [held]
+
+    return Through

@@ -1,0 +1,68 @@
+"""What each rule asks, and where that is: those of the URL Standard, and those of the formats of documents, by which no
+text is checked that is alone."""
+
+from typing import Dict, NamedTuple
+
+from .. import RULES, MendKind, explain
+from .._readers.source import Asks
+from . import report
+
+
+class Rule(NamedTuple):
+    """A rule."""
+
+    name: str
+    sentence: str
+    """What is wrong at the place of a violation."""
+    asks: str
+    """What it asks, in a sentence."""
+    url: str
+    """Where that is."""
+
+
+EMPTY = "empty"
+NO_LINK = "no-link"
+
+OF_FORMATS: Dict[str, Rule] = {
+    EMPTY: Rule(
+        EMPTY,
+        "this link is empty, which its format forbids here",
+        "A link of an image, a script, a frame, a form's address or a link element isn't empty.",
+        "https://html.spec.whatwg.org/multipage/urls-and-fetching.html"
+        "#valid-non-empty-url-potentially-surrounded-by-spaces",
+    ),
+    NO_LINK: Rule(
+        NO_LINK,
+        "a space ends a link's destination, so that this is text and no link",
+        "A destination of Markdown has no space, unless < and > enclose it: it is percent-encoded as %20.",
+        "https://spec.commonmark.org/0.31.2/#link-destination",
+    ),
+}
+"""The rules of formats, by their names."""
+
+OF_ASKS = {Asks.SOME: EMPTY, Asks.ANOTHER: NO_LINK}
+"""The rule of what a format asks, where it is one of these."""
+
+
+def rule_of(name: str) -> Rule:
+    """The rule of that name. Raises ``KeyError`` where there is none."""
+    if name in OF_FORMATS:
+        return OF_FORMATS[name]
+    explained = explain(name)
+    return Rule(name, explained.sentence, explained.asks, explained.url)
+
+
+def address_of(name: str) -> str:
+    """Where a rule is told of. Raises ``KeyError`` where there is none of that name."""
+    return OF_FORMATS[name].url if name in OF_FORMATS else report.address_of(name)
+
+
+NAMES = (*RULES, *OF_FORMATS)
+"""The names of all rules."""
+
+TITLES = {
+    MendKind.SAME: "Write {} (the same URL)",
+    MendKind.ESCAPED: "Percent-encode: {}",
+    MendKind.CHANGED: "Write {} (perhaps another URL)",
+}
+"""What an editor calls the writing of a mended text, by its kind."""

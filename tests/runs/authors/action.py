@@ -1,0 +1,85 @@
+"""Runs the steps of action.yml, as a runner of GitHub does, over a release in a folder: action.py PACKAGE, which is the folder of
+the Python package that tools/build-library wrote. It ends with 1 where something is wrong."""
+
+import hashlib
+import os
+import re
+import subprocess
+import sys
+import tempfile
+from typing import Dict, List
+
+import yaml
+
+TOP = os.path.join(os.path.dirname(os.path.abspath(__file__)), "..", "..", "..")
+BUILD = "import sys; sys.path.insert(0, '.'); import wheel_backend; print(wheel_backend.build_wheel(sys.argv[1]))"
+_INPUT = re.compile(r"\$\{\{ inputs\.([a-z]+) \}\}")
+
+
+def released(package: str, folder: str) -> str:
+    """A release in a folder, with the wheel of the package. Gives its address."""
+    os.mkdir(folder)
+    words = [sys.executable, "-B", "-c", BUILD, folder]
+    wheel = subprocess.run(words, cwd=package, stdout=subprocess.PIPE, check=True).stdout.decode().strip()
+    with open(os.path.join(folder, wheel), "rb") as file:
+        digest = hashlib.sha256(file.read()).hexdigest()
+    with open(os.path.join(folder, "SHA256SUMS"), "w", encoding="utf-8") as file:
+        file.write("{}  {}\n{}  urlcheck-0-other.tar.gz\n".format(digest, wheel, "0" * 64))
+    return "file://" + folder
+
+
+def ran(action: Dict[str, object], inputs: Dict[str, str], folder: str, room: str) -> "List[subprocess.CompletedProcess[str]]":
+    """The steps of the action in a folder, up to the first one that fails."""
+    found: "List[subprocess.CompletedProcess[str]]" = []
+    for step in action["runs"]["steps"]:  # type: ignore[index]
+        assert step["shell"] == "bash" and "${{" not in step["run"], step
+        given = {name: _INPUT.sub(lambda it: inputs[it[1]], value) for name, value in step["env"].items()}
+        script = os.path.join(room, "step.sh")
+        with open(script, "w", encoding="utf-8") as file:
+            file.write(step["run"])
+        words = ["bash", "--noprofile", "--norc", "-eo", "pipefail", script]
+        environment = {**os.environ, **given, "RUNNER_TEMP": room}
+        environment.pop("PYTHONPATH", None)
+        found.append(subprocess.run(words, cwd=folder, env=environment, capture_output=True, text=True, check=False))
+        if found[-1].returncode:
+            break
+    return found
+
+
+def main() -> None:
+    """Runs the action on a page that is right, on one that isn't, and with a wheel that isn't the one of the release."""
+    with open(os.path.join(TOP, "action.yml"), encoding="utf-8") as file:
+        text = file.read()
+    action = yaml.safe_load(text)
+    declared = action["inputs"]
+    if set(_INPUT.findall(text)) != set(declared) or not all(it["description"] for it in declared.values()):
+        sys.exit("FAILED: action.yml declares other inputs than its steps have: {}".format(sorted(declared)))
+    defaults = {name: it.get("default", "") for name, it in declared.items()}
+    with tempfile.TemporaryDirectory() as room:
+        release = released(sys.argv[1], os.path.join(room, "release"))
+        page = os.path.join(room, "my", "site", "a.html")
+        os.makedirs(os.path.dirname(page))
+        # (what reads further kinds of documents would be fetched)
+        inputs = {**defaults, "release": release, "extras": ""}
+        error = "::error file=site/a.html,line=1,col=11,title=code-point::U+0020 SPACE is not allowed in a URL"
+        for link, files, options, wanted, said in (
+            ("x", ".", "--gfm", [0, 0], ""), ("x y", ".", "--gfm", [0, 1], error), ("x y", "site\nno", "", [0, 2], error),
+            ("x y", " site ", "--ignore\ncode-point --no-config", [0, 0], ""),
+        ):
+            with open(page, "w", encoding="utf-8") as file:
+                file.write("<a href='{}'>".format(link))
+            steps = ran(action, {**inputs, "files": files, "options": options}, os.path.join(room, "my"), room)
+            if [it.returncode for it in steps] != wanted or steps[-1].stdout.strip() != said:
+                sys.exit("FAILED: action.yml on {} with {}: {}".format(files.split(), options.split(), steps))
+        with open(os.path.join(room, "release", "SHA256SUMS"), "r+", encoding="utf-8") as file:
+            sums = file.read()
+            file.seek(0)
+            file.write(("1" if sums[0] == "0" else "0") + sums[1:])
+        steps = ran(action, inputs, os.path.join(room, "my"), room)
+        if [it.returncode for it in steps] != [1] or "FAILED" not in steps[0].stdout:
+            sys.exit("FAILED: action.yml takes a wheel that isn't that of the release: {}".format(steps))
+    print("authors: the steps of action.yml, on 4 folders and with a wheel of another release")
+
+
+if __name__ == "__main__":
+    main()
