@@ -11,6 +11,7 @@
 #include <sstream>
 #include <string>
 #include <string_view>
+#include <thread>
 #include <vector>
 
 namespace {
@@ -138,11 +139,26 @@ void refuse_mistakes() {
     require(kept.text() == "http://h/" && kept.host() == "h", "a URL that was moved");
 }
 
+// Threads share a base.
+void share_base() {
+    const auto base = urlcheck::base::of("http://h/a/b", urlcheck::profile::parser);
+    const auto resolve = [&base] {
+        for (int round = 0; round < 1000; round++) {
+            require(urlcheck::resolve("../c", *base)->text() == "http://h/c", "a base that threads share");
+            require(!urlcheck::is_valid("^", *base), "a base that threads share");
+        }
+    };
+    std::thread one(resolve), other(resolve);
+    one.join();
+    other.join();
+}
+
 } // namespace
 
 int main(int count, char **words) {
     require(count >= 2, "usage: answers CASES [mended]");
     refuse_mistakes();
+    share_base();
     const auto texts = texts_of(words[1]);
     for (std::size_t row = 0; row < texts.size(); row += 2) {
         for (const urlcheck::profile by : profiles) {

@@ -1,6 +1,6 @@
 # C++17: urlcheck.hpp with g++ and clang++, without a warning, under sanitizers, without exceptions, by CMake and by
 # pkg-config. Sourced by tests/runs/languages.sh.
-warned=(-std=c++17 -Wall -Wextra -Wpedantic -Wconversion -Wsign-conversion -Wshadow -Werror)
+warned=(-std=c++17 -pthread -Wall -Wextra -Wpedantic -Wconversion -Wsign-conversion -Wshadow -Werror)
 
 # build_cpp : the answers by the copy of the header
 build_cpp() {
