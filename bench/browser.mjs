@@ -1,8 +1,8 @@
-// What calls from JavaScript cost beside the engine's own URL.canParse, in one run: the least of so many rounds, each
-// of them some passes over the links of standard input, one a line, and over what is after their authorities,
-// which is checked against a base. It fails where a call takes more than so many times what another one takes, or where
-// a valid text doesn't parse. See bench/browser.sh. Usage: node bench/browser.mjs FOLDER ROUNDS <LINKS, FOLDER being
-// one that tools/build-page has made.
+// What calls from JavaScript cost beside the engine's own URL, in one run: the least of so many rounds, each of them some
+// passes over the links of standard input, one a line, and over what is after their authorities, which is checked
+// against a base. It fails where a call takes more than so many times what another one takes, or where a valid text
+// doesn't parse. See bench/browser.sh. Usage: node bench/browser.mjs FOLDER ROUNDS <LINKS, FOLDER being one that
+// tools/build-page has made.
 import { readFileSync } from 'node:fs'
 import { resolve } from 'node:path'
 import { pathToFileURL } from 'node:url'
@@ -20,6 +20,15 @@ const WARMING = 100
 
 const lines = new TextEncoder().encode(`${links.join('\n')}\n`)
 
+/** Whether the engine makes a URL of the text. */
+function hrefOf(text) {
+  try {
+    return new URL(text).href !== ''
+  } catch {
+    return false
+  }
+}
+
 /** The calls on links, and those on references; in each group all checks say the same of a text. */
 const groups = [
   [links, {
@@ -27,20 +36,25 @@ const groups = [
     check: text => urlcheck.check(text).valid,
     isValid: text => urlcheck.isValid(text)
   }],
+  [links, {
+    'new URL().href': hrefOf,
+    'resolve().text': text => (urlcheck.resolve(text).text ?? '') !== ''
+  }],
   [references, {
     'URL.canParse with a base': text => URL.canParse(text, base),
-    'check with a base that is checked once': text => urlcheck.check(text, { base: held }).valid,
+    'check with a base': text => urlcheck.check(text, { base: held }).valid,
     'check with its text': text => urlcheck.check(text, { base }).valid
   }]
 ]
 
 /** Which call takes at most so many times what another one takes. */
 const BOUNDS = [
-  ['check', 'URL.canParse', 4],
-  ['isValid', 'check', 0.95],
-  ['check with a base that is checked once', 'URL.canParse with a base', 3],
-  ['check with a base that is checked once', 'check with its text', 0.75],
-  ['checkMany, a line', 'check', 1.3]
+  ['isValid', 'URL.canParse', 1.2],
+  ['check', 'URL.canParse', 1.4],
+  ['checkMany, a line', 'URL.canParse', 0.7],
+  ['resolve().text', 'new URL().href', 2],
+  ['check with a base', 'URL.canParse with a base', 1.4],
+  ['check with its text', 'check with a base', 1.1]
 ]
 
 /** The nanoseconds that a check takes for a text. */

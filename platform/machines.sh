@@ -10,11 +10,11 @@ kept_if_newer() {
 }
 
 # lowered KIT CRATE WORD.. : the object for the target of the crate's module, which takes long, and so is kept. The words are
-# more of clang's.
+# more of clang's. `made_for` is the processor that the toolchain makes the module for, without it plain x86-64.
 lowered() {
-    local module=crates/$2/out/x86-64.bc kept=crates/$2/out/$target.o
-    tools/build-module "$2" "$module"
-    kept_if_newer "$kept" "$module" "$here/lower" "$here/calls.ll" "$here/machines.sh" ||
+    local module=crates/$2/out/${made_for:-x86-64}.bc kept=crates/$2/out/$target.o
+    tools/build-module "$2" "$module" "${made_for:-x86-64}"
+    kept_if_newer "$kept" "$module" "$here/lower" "$here/calls.ll" "$here/webassembly.ll" "$here/machines.sh" ||
         "$here/lower" "$1" "$module" "$triple" "$kept" "${@:3}"
     echo "$kept"
 }

@@ -1,7 +1,7 @@
 // The lines of bytes, checked in one call of the module for each mebibyte of them.
 import {
-  DONE, EMPTY_LINES, LINES, MEMORY, NEXT_LINE, REFUSED, REFUSED_LINES, ROW_BYTE_PLACE, ROW_LENGTH, ROW_LINE,
-  ROW_PLACE, ROW_RULE, ROW_START, ROW_VERDICT, ROW_WORDS, VERDICT
+  DONE, EMPTY_LINES, LENGTH, LINES, MEMORY, NEXT_LINE, REFUSED, ROW_BYTE_PLACE, ROW_LENGTH, ROW_LINE, ROW_PLACE,
+  ROW_RULE, ROW_START, ROW_VERDICT, ROW_WORDS, VERDICT
 } from './layout.js'
 
 /** @typedef {import('./urlcheck.js').Many} Many */
@@ -32,7 +32,8 @@ function pieceEnd(bytes, start) {
  * @param {number} start where the piece begins
  */
 function add(many, room, names, start) {
-  const words = new Uint32Array(room.exports.memory.buffer, room.exports.out_at(), room.word(REFUSED_LINES) * ROW_WORDS)
+  const { answer, exports } = room
+  const words = new Uint32Array(exports.memory.buffer, exports.out_at(), answer[LENGTH] * ROW_WORDS)
   for (let at = 0; at < words.length; at += ROW_WORDS) {
     const from = start + words[at + ROW_START]
     many.refused.push({
@@ -44,31 +45,30 @@ function add(many, room, names, start) {
       byte: words[at + ROW_BYTE_PLACE]
     })
   }
-  many.lines += room.word(LINES)
-  many.judged += room.word(LINES) - room.word(EMPTY_LINES)
+  many.lines += answer[LINES]
+  many.judged += answer[LINES] - answer[EMPTY_LINES]
 }
 
 /**
- * Checks the lines of bytes.
+ * Checks the lines of bytes, against the base that the module holds where `isHeld`.
  * @param {import('./memory.js').Room} room
  * @param {readonly (import('./urlcheck.js').RuleName)[]} names of the rules
  * @param {Uint8Array} bytes
- * @param {Uint32Array | undefined} held what is held of the base, where there is one
  * @param {number} profile
+ * @param {number} isHeld 1, or 0 where each line is checked alone
  * @returns {Many}
  * @throws {RangeError} where there is no memory for a line
  */
-export function checkedLines(room, names, bytes, held, profile) {
+export function checkedLines(room, names, bytes, profile, isHeld) {
   /** @type {Many} */
   const many = { lines: 0, judged: 0, refused: [] }
   for (let start = 0, end; start < bytes.length; start = end) {
     end = pieceEnd(bytes, start)
-    room.putBytes(bytes.subarray(start, end))
-    if (held !== undefined) room.hold(held)
-    for (let from = 0; from < end - start; from = room.word(NEXT_LINE)) {
-      room.exports.check_lines(end - start, from, held === undefined ? 0 : 1, profile)
+    const length = room.putBytes(bytes.subarray(start, end))
+    for (let from = 0; from < length; from = room.answer[NEXT_LINE]) {
+      room.exports.check_lines(length, from, profile, isHeld)
       room.look()
-      const verdict = room.word(VERDICT)
+      const verdict = room.answer[VERDICT]
       if (verdict === MEMORY) room.stopForMemory()
       if (verdict !== DONE) throw new Error(`urlcheck.wasm answers ${verdict}`)
       add(many, room, names, start)

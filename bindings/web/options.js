@@ -1,8 +1,32 @@
-// How a text is checked: the options of a call.
-import { HeldBase } from './base.js'
+// How a text is checked: the options of a call, and a base that was checked before.
 
-/** @typedef {import('./urlcheck.js').Base} Base */
 /** @typedef {import('./urlcheck.js').Options} Options */
+/** @typedef {import('./urlcheck.js').Profile} Profile */
+
+/** A base that was checked, and is valid: the calls of a checker take it in the place of its text. */
+export class CheckedBase {
+  #isChecked = true
+
+  /**
+   * @param {string} text
+   * @param {Profile} profile
+   */
+  constructor(text, profile) {
+    /** The base's text. */
+    this.text = text
+    /** By which the base was checked, and by which texts are checked against it. */
+    this.profile = profile
+    Object.freeze(this)
+  }
+
+  /**
+   * @param {unknown} it
+   * @returns {it is CheckedBase}
+   */
+  static is(it) {
+    return typeof it === 'object' && it !== null && #isChecked in it
+  }
+}
 
 /**
  * @param {unknown} profile
@@ -22,23 +46,41 @@ export function profileNumber(profile) {
 export function stopUnlessOptions(options) {
   if (options == null) return
   if (typeof options !== 'object') throw new TypeError('the options are no object, such as { base: text, profile: name }')
-  if (options instanceof HeldBase) throw new TypeError('a base is in the place of the options: write { base }')
+  if (CheckedBase.is(options)) throw new TypeError('a base is in the place of the options: write { base }')
 }
 
 /**
- * How a text is checked: the text of its base or none, what is held of a base that was checked before, and the number of
- * the profile.
+ * @param {unknown} base which is no string
+ * @returns {never}
+ */
+export function stopForBase(base) {
+  // (a copy of what `base` gave, as from another thread, has lost what was checked)
+  const isObject = typeof base === 'object' && base !== null
+  throw new TypeError(isObject ? 'the base is neither a string nor what `base` gave' : 'the base is no string')
+}
+
+/**
+ * How a text is checked.
+ * @typedef {object} Reading
+ * @property {string | undefined} base the text of the base, where there is one
+ * @property {number} profile its number
+ */
+
+/** @type {Readonly<Reading>} */
+const ALONE = Object.freeze({ base: undefined, profile: 0 })
+
+/**
  * @param {Options | undefined} options
- * @returns {{ base: string | undefined, held: Uint32Array | undefined, profile: number }}
+ * @returns {Readonly<Reading>}
  */
 export function readingOf(options) {
+  if (options === undefined) return ALONE
   stopUnlessOptions(options)
   const base = options?.base ?? undefined
   const profile = profileNumber(options?.profile)
-  const held = typeof base === 'object' ? HeldBase.wordsOf(base) : undefined
-  if (held === undefined) return { base: /** @type {string | undefined} */ (base), held, profile }
-  const { text, profile: name } = /** @type {Base} */ (base)
-  const number = profileNumber(name)
-  if (options?.profile === undefined || profile === number) return { base: text, held, profile: number }
-  throw new TypeError(`the base was checked by the ${name} profile, and another one is given for the text`)
+  if (base === undefined || typeof base === 'string') return { base, profile }
+  if (!CheckedBase.is(base)) stopForBase(base)
+  const number = profileNumber(base.profile)
+  if (options?.profile === undefined || profile === number) return { base: base.text, profile: number }
+  throw new TypeError(`the base was checked by the ${base.profile} profile, and another one is given for the text`)
 }

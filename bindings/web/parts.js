@@ -1,8 +1,9 @@
-// The parts of a valid text and of a record, and the indices of the caller's string.
+// The parts of a valid text and of a URL, and the indices of the caller's string.
 import {
-  PARTS, RECORD_HOST, RECORD_OPAQUE_PATH, RECORD_PARTS, SPAN_LENGTH, SPAN_PRESENT, SPAN_WORDS
+  FRAGMENT_END, HOST_END, HOST_KIND, OPAQUE_PATH, PATH_END, PATH_START, PORT_END, QUERY_END, SCHEME_END
 } from './layout.js'
 
+/** @typedef {import('./urlcheck.js').Parts} Parts */
 /** @typedef {import('./urlcheck.js').Range} Range */
 /** @typedef {import('./urlcheck.js').UrlRecord} UrlRecord */
 /** @typedef {NonNullable<UrlRecord['host']>['kind']} HostKind */
@@ -43,137 +44,146 @@ export class UnitWalker {
 }
 
 /**
- * Where a part begins in the text, in bytes, or -1 where there is none.
- * @param {Uint32Array} answer
- * @param {number} parts where the answer has its parts
- * @param {number} part
- * @returns {number}
+ * A valid text, whose parts are cut out of it when they are asked for: most callers ask for few of them. The ends are
+ * indices, and below 0 where the text lacks the part.
  */
-function startOf(answer, parts, part) {
-  const at = parts + part * SPAN_WORDS
-  return (answer[at + SPAN_PRESENT] & 0xff) === 0 ? -1 : answer[at]
-}
-
-/**
- * Where it ends.
- * @param {Uint32Array} answer
- * @param {number} parts
- * @param {number} part
- * @returns {number}
- */
-function endOf(answer, parts, part) {
-  const at = parts + part * SPAN_WORDS
-  return (answer[at + SPAN_PRESENT] & 0xff) === 0 ? -1 : answer[at] + answer[at + SPAN_LENGTH]
-}
-
-/**
- * The record of a URL, by the places of its parts in its text, which is ASCII.
- * @param {string} text
- * @param {Uint32Array} answer of the call that has written the text
- * @returns {UrlRecord}
- */
-export function recordOf(text, answer) {
-  const [scheme, host, port, path, query, fragment] = [0, 1, 2, 3, 4, 5].map(part => {
-    const start = startOf(answer, RECORD_PARTS, part)
-    return start < 0 ? null : text.slice(start, endOf(answer, RECORD_PARTS, part))
-  })
-  const whole = /** @type {string} */ (path)
-  const isOpaque = answer[RECORD_OPAQUE_PATH] === 1
-  return {
-    scheme: /** @type {string} */ (scheme),
-    host: host === null ? null : { kind: HOST_KINDS[answer[RECORD_HOST] - 1], text: host },
-    port,
-    query,
-    fragment,
-    segments: isOpaque ? null : whole.split('/').slice(1),
-    opaquePath: isOpaque ? whole : null
-  }
-}
-
-/** A valid text, whose parts are taken out of it when they are asked for: most callers ask for few of them. */
 export class ValidText {
   #text
-  #edges
+  #schemeEnd
+  #hostEnd
+  #portEnd
+  #pathStart
+  #pathEnd
+  #queryEnd
+  #fragmentEnd
 
   /**
    * @param {string} text
-   * @param {Uint32Array} answer
+   * @param {Uint32Array} answer of the call that has told where its parts end
    * @param {boolean} isAscii
    */
   constructor(text, answer, isAscii) {
     /** @type {true} */
     this.valid = true
     this.#text = text
-    this.#edges = [
-      startOf(answer, PARTS, 0), endOf(answer, PARTS, 0), startOf(answer, PARTS, 1), endOf(answer, PARTS, 1),
-      startOf(answer, PARTS, 2), endOf(answer, PARTS, 2), startOf(answer, PARTS, 3), endOf(answer, PARTS, 3),
-      startOf(answer, PARTS, 4), endOf(answer, PARTS, 4), startOf(answer, PARTS, 5), endOf(answer, PARTS, 5)
-    ]
+    this.#schemeEnd = answer[SCHEME_END] | 0
+    this.#hostEnd = answer[HOST_END] | 0
+    this.#portEnd = answer[PORT_END] | 0
+    this.#pathStart = answer[PATH_START]
+    this.#pathEnd = answer[PATH_END]
+    this.#queryEnd = answer[QUERY_END] | 0
+    this.#fragmentEnd = answer[FRAGMENT_END] | 0
     if (!isAscii) this.#countUnits()
   }
 
-  /** Makes the edges indices of units. */
+  /** Makes the ends, which are in bytes, indices of units. */
   #countUnits() {
     const walker = new UnitWalker(this.#text)
-    this.#edges = this.#edges.map(edge => (edge < 0 ? edge : walker.indexOf(edge)))
+    this.#schemeEnd = this.#schemeEnd < 0 ? -1 : walker.indexOf(this.#schemeEnd)
+    this.#hostEnd = this.#hostEnd < 0 ? -1 : walker.indexOf(this.#hostEnd)
+    this.#portEnd = this.#portEnd < 0 ? -1 : walker.indexOf(this.#portEnd)
+    this.#pathStart = walker.indexOf(this.#pathStart)
+    this.#pathEnd = walker.indexOf(this.#pathEnd)
+    this.#queryEnd = this.#queryEnd < 0 ? -1 : walker.indexOf(this.#queryEnd)
+    this.#fragmentEnd = this.#fragmentEnd < 0 ? -1 : walker.indexOf(this.#fragmentEnd)
   }
 
   /**
-   * @param {number} part
-   * @returns {Range | null}
-   */
-  #range(part) {
-    const start = this.#edges[2 * part]
-    return start < 0 ? null : [start, this.#edges[2 * part + 1]]
-  }
-
-  /**
-   * @param {number} part
+   * @param {number} start
+   * @param {number} end
    * @returns {string | null}
    */
-  #part(part) {
-    const start = this.#edges[2 * part]
-    return start < 0 ? null : this.#text.slice(start, this.#edges[2 * part + 1])
+  #cut(start, end) {
+    return end < 0 ? null : this.#text.slice(start, end)
   }
 
   get scheme() {
-    return this.#part(0)
+    return this.#cut(0, this.#schemeEnd)
   }
 
+  // (`//` is before a host, after the `:` of a scheme or at the text's start)
   get host() {
-    return this.#part(1)
+    return this.#cut(this.#schemeEnd + 3, this.#hostEnd)
   }
 
   get port() {
-    return this.#part(2)
+    return this.#cut(this.#hostEnd + 1, this.#portEnd)
   }
 
   get path() {
-    return /** @type {string} */ (this.#part(3))
+    return this.#text.slice(this.#pathStart, this.#pathEnd)
   }
 
   get query() {
-    return this.#part(4)
+    return this.#cut(this.#pathEnd + 1, this.#queryEnd)
   }
 
   get fragment() {
-    return this.#part(5)
+    return this.#cut(Math.max(this.#pathEnd, this.#queryEnd) + 1, this.#fragmentEnd)
   }
 
   get ranges() {
+    /** @type {(start: number, end: number) => Range | null} */
+    const range = (start, end) => (end < 0 ? null : [start, end])
     return {
-      scheme: this.#range(0),
-      host: this.#range(1),
-      port: this.#range(2),
-      path: /** @type {Range} */ (this.#range(3)),
-      query: this.#range(4),
-      fragment: this.#range(5)
+      scheme: range(0, this.#schemeEnd),
+      host: range(this.#schemeEnd + 3, this.#hostEnd),
+      port: range(this.#hostEnd + 1, this.#portEnd),
+      path: /** @type {Range} */ ([this.#pathStart, this.#pathEnd]),
+      query: range(this.#pathEnd + 1, this.#queryEnd),
+      fragment: range(Math.max(this.#pathEnd, this.#queryEnd) + 1, this.#fragmentEnd)
+    }
+  }
+
+  /** @returns {Parts} */
+  toJSON() {
+    const { valid, scheme, host, port, path, query, fragment, ranges } = this
+    return { valid, scheme, host, port, path, query, fragment, ranges }
+  }
+
+  /** What Node shows of it. */
+  [Symbol.for('nodejs.util.inspect.custom')]() {
+    return this.toJSON()
+  }
+}
+
+/** The URL that a valid text denotes, by its text, which is ASCII. */
+export class ResolvedText {
+  #parts
+  #hostKind
+  #isOpaque
+
+  /**
+   * @param {string} text
+   * @param {Uint32Array} answer of the call that has written the text
+   */
+  constructor(text, answer) {
+    /** @type {true} */
+    this.valid = true
+    /** The text of the record. */
+    this.text = text
+    this.#parts = new ValidText(text, answer, true)
+    this.#hostKind = answer[HOST_KIND]
+    this.#isOpaque = answer[OPAQUE_PATH] === 1
+  }
+
+  /** @returns {UrlRecord} */
+  get record() {
+    const { scheme, host, port, path, query, fragment } = this.#parts
+    return {
+      scheme: /** @type {string} */ (scheme),
+      host: host === null ? null : { kind: HOST_KINDS[this.#hostKind - 1], text: host },
+      port,
+      query,
+      fragment,
+      segments: this.#isOpaque ? null : path.split('/').slice(1),
+      opaquePath: this.#isOpaque ? path : null
     }
   }
 
   toJSON() {
-    const { valid, scheme, host, port, path, query, fragment, ranges } = this
-    return { valid, scheme, host, port, path, query, fragment, ranges }
+    const { valid, text, record } = this
+    return { valid, text, record }
   }
 
   /** What Node shows of it. */

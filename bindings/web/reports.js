@@ -1,8 +1,5 @@
 // Reports, as `urlcheck lint` writes them: the library writes each piece of one.
-import {
-  VIOLATION_COLUMN, VIOLATION_KIND, VIOLATION_LINE, VIOLATION_PLACE, VIOLATION_PROFILE, VIOLATION_RULE
-} from './layout.js'
-import { stopUnlessString, utf8Length } from './memory.js'
+import { encoded } from './memory.js'
 
 /** @typedef {import('./urlcheck.js').Completion} Completion */
 /** @typedef {import('./urlcheck.js').Diagnostic} Diagnostic */
@@ -74,10 +71,9 @@ export class Report {
    * @throws {TypeError} where the name has a lone surrogate
    */
   fileBegin(file) {
-    stopUnlessString(file, 'name of the file')
-    utf8Length(file, 'name of the file')
-    this.#room.put('', file)
-    this.#room.exports.report_file_begin(this.#format, this.#room.baseLength)
+    const name = encoded(file, 'name of the file')
+    this.#room.putInBase(name)
+    this.#room.exports.report_file_begin(this.#format, name.length)
     return this.#room.writtenText()
   }
 
@@ -91,22 +87,24 @@ export class Report {
    */
   diagnostic({ file, line, column = 1, text, rule, place, profile, mended }) {
     const room = this.#room
-    stopUnlessString(file, 'name of the file')
-    const instead = mended?.text ?? ''
-    stopUnlessString(instead, 'mended text')
-    utf8Length(instead, 'mended text')
-    const fileLength = utf8Length(file, 'name of the file')
-    room.put(text, file + instead)
-    const words = room.violation().fill(0)
-    words[VIOLATION_PROFILE] = this.#numbers.ofProfile(profile)
-    words[VIOLATION_RULE] = this.#numbers.ofRule(rule)
-    words[VIOLATION_PLACE] = wholeNumber(place, 'place', 0)
-    words[VIOLATION_LINE] = wholeNumber(line, 'line', 1)
-    words[VIOLATION_COLUMN] = wholeNumber(column, 'column', 1)
-    words[VIOLATION_KIND] = mended ? this.#numbers.ofKind(mended.kind) : 0
-    const isFirst = this.#isFirst ? 1 : 0
-    const mendedLength = room.baseLength - fileLength
-    room.exports.diagnostic(this.#format, this.#unit, isFirst, room.textLength, fileLength, mendedLength)
+    const name = encoded(file, 'name of the file')
+    const instead = encoded(mended?.text ?? '', 'mended text')
+    const length = room.put(text)
+    room.putInBase(name, instead)
+    room.exports.diagnostic(
+      this.#format,
+      this.#unit,
+      this.#isFirst ? 1 : 0,
+      this.#numbers.ofProfile(profile),
+      this.#numbers.ofRule(rule),
+      wholeNumber(place, 'place', 0),
+      wholeNumber(line, 'line', 1),
+      wholeNumber(column, 'column', 1),
+      length,
+      name.length,
+      mended ? this.#numbers.ofKind(mended.kind) : 0,
+      instead.length
+    )
     const written = room.writtenText()
     this.#isFirst = false
     return written

@@ -1,9 +1,20 @@
 // What the library knows of its rules, and the names that it gives.
-import { ASKS, EXAMPLE, EXAMPLE_BASE, EXAMPLE_MENDED, LINE_NO_UTF8, LINE_TOO_LONG, SECTION } from './layout.js'
+import { LINE_NO_UTF8, LINE_TOO_LONG } from './layout.js'
 
 /** @typedef {import('./urlcheck.js').Explanation} Explanation */
 /** @typedef {import('./urlcheck.js').LineRule} LineRule */
 /** @typedef {import('./urlcheck.js').RuleName} RuleName */
+
+// What a text of the library is: see `urlcheck_text` of include/urlcheck.h.
+export const RULE_NAME = 0
+export const FORMAT_NAME = 8
+export const UNIT_NAME = 9
+const RULE_SENTENCE = 1
+const RULE_REQUIRES = 3
+const RULE_SECTION = 4
+const EXAMPLE_BASE = 5
+const EXAMPLE = 6
+const EXAMPLE_MENDED = 7
 
 /**
  * The numbers of the rules of lines that aren't checked.
@@ -14,13 +25,13 @@ export const LINE_RULES = new Map([['not-utf8', LINE_NO_UTF8], ['line-too-long',
 /**
  * The names that the library gives by number, from a first number on.
  * @param {import('./memory.js').Room} room
- * @param {(number: number) => number} named a call that gives the length of a name, or 0 where none has the number
+ * @param {number} what they are names of
  * @param {number} first
  * @returns {string[]}
  */
-export function namesBy(room, named, first) {
+export function namesOf(room, what, first) {
   const names = []
-  for (let number = first, length; (length = named(number)) !== 0; number++) names.push(room.out(length))
+  for (let number = first, length; (length = room.exports.text(what, number)) !== 0; number++) names.push(room.out(length))
   return names
 }
 
@@ -32,19 +43,18 @@ export function namesBy(room, named, first) {
  * @returns {Explanation}
  */
 export function explanationOf(room, rule, number) {
-  const { explain, example_place, rule_sentence } = room.exports
-  /** @param {number} part */
-  const said = part => room.out(explain(number, part))
+  /** @param {number} what */
+  const said = what => room.out(room.exports.text(what, number))
   const base = said(EXAMPLE_BASE)
   return Object.freeze({
     rule,
-    sentence: room.out(rule_sentence(number)),
-    asks: said(ASKS),
-    section: said(SECTION),
+    sentence: said(RULE_SENTENCE),
+    asks: said(RULE_REQUIRES),
+    section: said(RULE_SECTION),
     example: Object.freeze({
       text: said(EXAMPLE),
       base: base === '' ? null : base,
-      place: example_place(number),
+      place: room.exports.example_place(number),
       meant: said(EXAMPLE_MENDED)
     })
   })

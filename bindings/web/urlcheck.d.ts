@@ -32,8 +32,7 @@ export interface Checker {
   isValid(text: string, options?: Options): boolean
 
   /**
-   * A base that is checked once, for many texts: the other calls take it in the place of its text, and check by its
-   * profile.
+   * A base that is checked, for many texts: the other calls take it in the place of its text, and check by its profile.
    * @throws what `check` throws of its base
    */
   base(text: string, options?: BaseOptions): Base
@@ -122,7 +121,8 @@ export interface BaseOptions {
 /**
  * A base that was checked, and is valid; `base` of a checker makes it. It is a value like a string: it keeps nothing in
  * the memory of the module, so there is nothing to free, it never changes, and any checker of its thread accepts it. A
- * copy of it, as a worker gets one, isn't one: send its text and its profile.
+ * copy of it, as a worker gets one, isn't one: send its text and its profile. A checker holds the base that it was given
+ * last, as its text too, and checks it again only after another one.
  */
 export interface Base {
   /** The base's text. */
@@ -303,12 +303,15 @@ export interface Mended {
  */
 export type MendKind = 'same' | 'escaped' | 'changed'
 
-/** The record that a valid text denotes. */
+/** The URL that a valid text denotes. */
 export interface Resolved {
-  valid: true
-  /** The record's text, as `href` of an engine's `URL` has it: ASCII alone. */
-  text: string
-  record: UrlRecord
+  readonly valid: true
+  /** The record's text, as `href` of an engine's `URL` has it: only ASCII. */
+  readonly text: string
+  /** The record, which is made each time that it is asked for. */
+  readonly record: UrlRecord
+  /** All of it as a plain object, which can be sent to a worker. */
+  toJSON(): { valid: true; text: string; record: UrlRecord }
 }
 
 /** The parts of a record, as its text has them. */

@@ -9,17 +9,16 @@
  *
  * @module
  */
-import { HeldBase } from './base.js'
 import {
-  BASE_REFUSED, BYTE_PLACE, FAULT_BYTE_PLACE, FAULT_COUNT, FAULT_PLACE, FAULT_WORDS, MEMORY, MENDED, MENDED_LENGTH,
-  MEND_KIND, PLACE, RECORD_LENGTH, REFUSED, RULE, VERDICT
+  BASE_REFUSED, BYTE_PLACE, FAULT_BYTE_PLACE, FAULT_PLACE, FAULT_WORDS, IS_SAME, LENGTH, MEMORY, MENDED, MEND_KIND,
+  PLACE, REFUSED, RULE, VERDICT
 } from './layout.js'
 import { checkedLines } from './lines.js'
 import { Room } from './memory.js'
-import { profileNumber, readingOf, stopUnlessOptions } from './options.js'
-import { UnitWalker, ValidText, recordOf } from './parts.js'
+import { CheckedBase, profileNumber, readingOf, stopForBase, stopUnlessOptions } from './options.js'
+import { ResolvedText, UnitWalker, ValidText } from './parts.js'
 import { Report, wholeNumber } from './reports.js'
-import { LINE_RULES, explanationOf, namesBy } from './rules.js'
+import { FORMAT_NAME, LINE_RULES, RULE_NAME, UNIT_NAME, explanationOf, namesOf } from './rules.js'
 import { moduleOf } from './source.js'
 
 /** @typedef {import('./urlcheck.js').Options} Options */
@@ -84,10 +83,10 @@ class Checker {
     const exports = /** @type {import('./memory.js').Exports} */ (/** @type {unknown} */ (instance.exports))
     this.#room = new Room(exports)
     /** The names of the rules, in the order of their numbers. */
-    this.rules = Object.freeze(/** @type {RuleName[]} */ (namesBy(this.#room, exports.rule_name, 1)))
+    this.rules = Object.freeze(/** @type {RuleName[]} */ (namesOf(this.#room, RULE_NAME, 1)))
     /** The names of the formats of reports, and of the units of their columns, in the order of their numbers. */
-    this.formats = Object.freeze(/** @type {ReportFormat[]} */ (namesBy(this.#room, exports.format_name, 0)))
-    this.units = Object.freeze(/** @type {ColumnUnit[]} */ (namesBy(this.#room, exports.unit_name, 0)))
+    this.formats = Object.freeze(/** @type {ReportFormat[]} */ (namesOf(this.#room, FORMAT_NAME, 0)))
+    this.units = Object.freeze(/** @type {ColumnUnit[]} */ (namesOf(this.#room, UNIT_NAME, 0)))
     const version = exports.version()
     /** The version of the library. */
     this.version = `${Math.floor(version / 10000)}.${Math.floor(version / 100) % 100}.${version % 100}`
@@ -104,13 +103,11 @@ class Checker {
    */
   check(text, options) {
     const room = this.#room
-    const { base, held, profile } = readingOf(options)
-    room.put(text, base, held)
-    if (held !== undefined) room.checkWith(room.textLength)
-    else if (base === undefined) room.check(room.textLength, profile)
-    else room.checkAgainst(room.textLength, room.baseLength, profile)
-    if (this.#isRefused(base)) return this.#refused(text)
-    return this.#valid(text)
+    const { base, profile } = readingOf(options)
+    const length = room.put(text)
+    room.check(length, profile, this.#hold(base, profile))
+    if (this.#isRefused(base)) return this.#refused(text, length)
+    return new ValidText(text, room.answer, length === text.length)
   }
 
   /**
@@ -121,13 +118,10 @@ class Checker {
    * @throws what `check` throws
    */
   isValid(text, options) {
-    const room = this.#room
-    const { base, held, profile } = readingOf(options)
-    if (base !== undefined && held === undefined) return this.check(text, options).valid
-    room.put(text, base, held)
-    const known = held === undefined ? room.isValid(room.textLength, profile) : room.isValidWith(room.textLength)
+    const { base, profile } = readingOf(options)
+    const length = this.#room.put(text)
     // The module says no also where there is no memory, which the check tells apart.
-    return known === 1 || this.check(text, options).valid
+    return this.#room.isValid(length, profile, this.#hold(base, profile)) === 1 || this.check(text, options).valid
   }
 
   /**
@@ -139,13 +133,11 @@ class Checker {
    */
   base(text, options) {
     stopUnlessOptions(options)
-    const room = this.#room
     const profile = options?.profile
     const number = profileNumber(profile)
-    room.putBase(text)
-    const words = room.prepared(number)
-    this.#isRefused(text)
-    return new HeldBase(text, profile ?? 'standard', words)
+    if (typeof text !== 'string') stopForBase(text)
+    this.#hold(text, number)
+    return new CheckedBase(text, profile ?? 'standard')
   }
 
   /**
@@ -157,12 +149,10 @@ class Checker {
    */
   faults(text, options) {
     const room = this.#room
-    const { base, held, profile } = readingOf(options)
-    room.put(text, base, held)
-    if (held !== undefined) room.exports.faults_with(room.textLength)
-    else if (base === undefined) room.exports.faults(room.textLength, profile)
-    else room.exports.faults_against(room.textLength, room.baseLength, profile)
-    return this.#isRefused(base) ? this.#faults(text) : []
+    const { base, profile } = readingOf(options)
+    const length = room.put(text)
+    room.exports.faults(length, profile, this.#hold(base, profile))
+    return this.#isRefused(base) ? this.#faults(text, length) : []
   }
 
   /**
@@ -175,12 +165,12 @@ class Checker {
   resolve(text, options) {
     const room = this.#room
     const { base, profile } = readingOf(options)
-    room.put(text, base)
-    if (base === undefined) room.exports.resolve(room.textLength, profile)
-    else room.exports.resolve_against(room.textLength, room.baseLength, profile)
-    if (this.#isRefused(base)) return this.#refused(text)
-    const written = room.read(room.exports.out_at(), room.word(RECORD_LENGTH))
-    return { valid: true, text: written, record: recordOf(written, room.answer) }
+    const length = room.put(text)
+    room.resolve(length, profile, room.putBase(base))
+    if (this.#isRefused(base)) return this.#refused(text, length)
+    const { answer } = room
+    // (most links are written as their URLs are, and one string does for both)
+    return new ResolvedText(answer[IS_SAME] === 1 ? text : room.out(answer[LENGTH]), answer)
   }
 
   /**
@@ -193,13 +183,12 @@ class Checker {
   mend(text, options) {
     const room = this.#room
     const { base, profile } = readingOf(options)
-    room.put(text, base)
-    if (base === undefined) room.exports.mend(room.textLength, profile)
-    else room.exports.mend_against(room.textLength, room.baseLength, profile)
+    const length = room.put(text)
+    room.exports.mend(length, profile, room.putBase(base))
     room.look()
-    if (room.word(VERDICT) !== MENDED) return this.#isRefused(base) ? this.#refused(text) : null
-    const mended = room.read(room.exports.out_at(), room.word(MENDED_LENGTH))
-    return { text: mended, kind: MEND_KINDS[room.word(MEND_KIND) - 1] }
+    const { answer } = room
+    if (answer[VERDICT] !== MENDED) return this.#isRefused(base) ? this.#refused(text, length) : null
+    return { text: room.out(answer[LENGTH]), kind: MEND_KINDS[answer[MEND_KIND] - 1] }
   }
 
   /**
@@ -228,8 +217,8 @@ class Checker {
   message(text, { rule, place }, options) {
     const room = this.#room
     const { profile } = readingOf(options)
-    room.put(text, undefined)
-    room.exports.message(room.textLength, profile, this.#numberOfAny(rule), wholeNumber(place, 'place', 0))
+    const length = room.put(text)
+    room.exports.message(length, profile, this.#numberOfAny(rule), wholeNumber(place, 'place', 0))
     return room.writtenText()
   }
 
@@ -261,11 +250,9 @@ class Checker {
    * @throws {RangeError} where there is no memory for a line; the next call works
    */
   checkMany(lines, options) {
-    const { base, held, profile } = readingOf(options)
+    const { base, profile } = readingOf(options)
     if (!(lines instanceof Uint8Array)) throw new TypeError('the lines are no Uint8Array')
-    const isText = base !== undefined && held === undefined
-    const judged = isText ? HeldBase.wordsOf(this.base(base, { profile: options?.profile })) : held
-    return checkedLines(this.#room, this.rules, lines, judged, profile)
+    return checkedLines(this.#room, this.rules, lines, profile, this.#hold(base, profile))
   }
 
   /**
@@ -287,6 +274,18 @@ class Checker {
   #numberOfAny = rule => LINE_RULES.get(/** @type {LineRule} */ (rule)) ?? this.#numberOf(rule)
 
   /**
+   * Has the module hold the base, where there is one, and gives whether one is held.
+   * @param {string | undefined} base
+   * @param {number} profile
+   * @returns {number} 1 or 0
+   */
+  #hold(base, profile) {
+    if (base === undefined) return 0
+    if (!this.#room.hold(base, profile)) this.#isRefused(base)
+    return 1
+  }
+
+  /**
    * Whether the text is refused and not valid. Throws where the call has said neither.
    * @param {string | undefined} base
    * @returns {boolean}
@@ -294,47 +293,47 @@ class Checker {
   #isRefused(base) {
     const room = this.#room
     room.look()
-    const verdict = room.word(VERDICT)
+    const verdict = room.answer[VERDICT]
     if (verdict <= REFUSED) return verdict === REFUSED
     if (verdict === MEMORY) room.stopForMemory()
     if (verdict !== BASE_REFUSED || base === undefined) throw new Error(`urlcheck.wasm answers ${verdict}`)
-    const index = new UnitWalker(base).indexOf(room.word(BYTE_PLACE))
-    const rule = this.rules[room.word(RULE) - 1]
-    const why = rule === 'no-scheme' ? 'it has no scheme' : this.explain(rule).sentence
-    throw new BaseRefused(rule, room.word(PLACE), index, why)
+    const { rule, place, index } = this.#fault(base, -1)
+    throw new BaseRefused(rule, place, index, rule === 'no-scheme' ? 'it has no scheme' : this.explain(rule).sentence)
+  }
+
+  /**
+   * The fault that a call has found of a text.
+   * @param {string} text
+   * @param {number} length of its UTF-8
+   * @returns {Fault}
+   */
+  #fault(text, length) {
+    const { answer } = this.#room
+    const byte = answer[BYTE_PLACE]
+    const index = length === text.length ? byte : new UnitWalker(text).indexOf(byte)
+    return { rule: this.rules[answer[RULE] - 1], place: answer[PLACE], index }
   }
 
   /**
    * @param {string} text
+   * @param {number} length
    * @returns {Refused}
    */
-  #refused(text) {
-    const room = this.#room
-    const byte = room.word(BYTE_PLACE)
-    const index = room.textLength === text.length ? byte : new UnitWalker(text).indexOf(byte)
-    return { valid: false, rule: this.rules[room.word(RULE) - 1], place: room.word(PLACE), index }
+  #refused(text, length) {
+    return { valid: false, ...this.#fault(text, length) }
   }
 
   /**
    * @param {string} text
-   * @returns {Valid}
-   */
-  #valid(text) {
-    const room = this.#room
-    return new ValidText(text, room.answer, room.textLength === text.length)
-  }
-
-  /**
-   * @param {string} text
+   * @param {number} length
    * @returns {Fault[]}
    */
-  #faults(text) {
-    const room = this.#room
+  #faults(text, length) {
+    const { answer, exports } = this.#room
     const walker = new UnitWalker(text)
-    const isAscii = room.textLength === text.length
-    const count = room.word(FAULT_COUNT)
+    const isAscii = length === text.length
     const found = []
-    const words = new Uint32Array(room.exports.memory.buffer, room.exports.out_at(), count * FAULT_WORDS)
+    const words = new Uint32Array(exports.memory.buffer, exports.out_at(), answer[LENGTH] * FAULT_WORDS)
     for (let at = 0; at < words.length; at += FAULT_WORDS) {
       const byte = words[at + FAULT_BYTE_PLACE]
       const index = isAscii ? byte : walker.indexOf(byte)
@@ -349,6 +348,6 @@ class Checker {
  * @param {Source} [source] the module, its bytes, or its address, which may be relative to this file
  * @returns {Promise<Checker>}
  */
-export async function load(source = './urlcheck.wasm') {
+export async function load(source = new URL('./urlcheck.wasm', import.meta.url)) {
   return new Checker(await WebAssembly.instantiate(await moduleOf(source), {}))
 }

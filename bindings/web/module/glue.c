@@ -1,27 +1,11 @@
 /*
  * What urlcheck.js calls: the functions of include/urlcheck.h on the texts that are in the rooms, with numbers of 32
- * bits alone, so that the caller needs no BigInt. An answer is at `answer_at` until the next call, as the header
- * lays it out, and what else was written at `out_at`. The base that is held is at `held_at`: `prepare` writes it,
- * and so may the caller, who keeps its bytes for as long as the base is wanted.
+ * bits alone, so that the caller needs no BigInt. An answer is at `answer_at` until the next call, in words of 32 bits,
+ * and what else was written at `out_at`. The base that `prepare` has checked is held until the next one.
  */
 #include "glue.h"
 
-/* Where urlcheck.js reads: it knows these numbers. */
-_Static_assert(offsetof(urlcheck_finding, verdict) == 0 && offsetof(urlcheck_finding, rule) == 4, "layout");
-_Static_assert(offsetof(urlcheck_finding, place) == 8 && offsetof(urlcheck_finding, byte_place) == 16, "layout");
-_Static_assert(offsetof(urlcheck_answer, parts) == 24 && sizeof(urlcheck_spans) == 6 * 24, "layout");
-_Static_assert(offsetof(urlcheck_span, length) == 8 && offsetof(urlcheck_span, present) == 16, "layout");
-_Static_assert(offsetof(urlcheck_record, length) == 24 && offsetof(urlcheck_record, parts) == 32, "layout");
-_Static_assert(offsetof(urlcheck_record, host) == 176 && offsetof(urlcheck_record, opaque_path) == 180, "layout");
-_Static_assert(offsetof(urlcheck_fault_count, count) == 24, "layout");
-_Static_assert(offsetof(urlcheck_fault, rule) == 0 && offsetof(urlcheck_fault, place) == 8, "layout");
-_Static_assert(offsetof(urlcheck_fault, byte_place) == 16 && sizeof(urlcheck_fault) == 24, "layout");
-_Static_assert(sizeof(urlcheck_base) == 40, "layout");
-_Static_assert(offsetof(urlcheck_mended, kind) == 24 && offsetof(urlcheck_mended, length) == 32, "layout");
-
 uint64_t proved_check(urlcheck_answer *answer, const uint8_t *text, size_t length, uint32_t profile) PROVED("check");
-uint64_t proved_check_against(urlcheck_answer *answer, const uint8_t *text, size_t length, const uint8_t *base,
-                              size_t base_length, uint32_t profile) PROVED("check_against");
 uint64_t proved_prepare(urlcheck_base *answer, const uint8_t *base, size_t length, uint32_t profile) PROVED("prepare");
 uint64_t proved_mend(urlcheck_mended *answer, const uint8_t *text, size_t length, uint32_t profile, uint8_t *out,
                      size_t room) PROVED("mend");
@@ -34,21 +18,19 @@ uint64_t proved_resolve_against(urlcheck_record *answer, const uint8_t *text, si
     PROVED("resolve_record_against");
 uint64_t proved_faults(urlcheck_fault_count *answer, const uint8_t *text, size_t length, uint32_t profile,
                        urlcheck_fault *out, size_t room) PROVED("faults");
-uint64_t proved_faults_against(urlcheck_fault_count *answer, const uint8_t *text, size_t length, const uint8_t *base,
-                               size_t base_length, uint32_t profile, urlcheck_fault *out, size_t room)
-    PROVED("faults_against");
 uint64_t proved_faults_with(urlcheck_fault_count *answer, const uint8_t *text, size_t length, const urlcheck_base *base,
                             urlcheck_fault *out, size_t room) PROVED("faults_with");
+
+/* Where urlcheck.js reads the faults: it knows these numbers. */
+_Static_assert(offsetof(urlcheck_fault, rule) == 0 && offsetof(urlcheck_fault, place) == 8, "layout");
+_Static_assert(offsetof(urlcheck_fault, byte_place) == 16 && sizeof(urlcheck_fault) == 24, "layout");
 
 /* The faults that a first call has room for, where more are rare, and where blocks begin. */
 enum { FAULTS = 64, ALIGNMENT = 16 };
 
-union answer answer;
+uint32_t answer[ANSWER_WORDS];
 void *out;
 urlcheck_base held;
-
-/* Against what a text is checked. */
-typedef enum { NOTHING, BASE_TEXT, BASE_HELD } against;
 
 static uint32_t address_of(const void *it) { return (uint32_t)(uintptr_t)it; }
 
@@ -61,129 +43,112 @@ uint32_t text_at(void) { return address_of(heap_text()); }
 
 uint32_t base_at(void) { return address_of(heap_base()); }
 
-uint32_t held_at(void) { return address_of(&held); }
-
-uint32_t answer_at(void) { return address_of(&answer); }
+uint32_t answer_at(void) { return address_of(answer); }
 
 uint32_t out_at(void) { return address_of(out); }
 
-void check(uint32_t length, uint32_t profile) {
-    heap_empty();
-    proved_check(&answer.checked, heap_text(), length, profile);
+void say(const urlcheck_finding *found, uint64_t length) {
+    answer[VERDICT] = found->verdict;
+    answer[RULE] = found->rule;
+    answer[PLACE] = (uint32_t)found->place;
+    answer[BYTE_PLACE] = (uint32_t)found->byte_place;
+    answer[LENGTH] = (uint32_t)length;
 }
 
-void check_against(uint32_t length, uint32_t base_length, uint32_t profile) {
-    heap_empty();
-    proved_check_against(&answer.checked, heap_text(), length, heap_base(), base_length, profile);
+/* Where a part ends that isn't there. */
+#define ABSENT 0xffffffff
+
+static uint32_t end_of(const urlcheck_span *part) {
+    return part->present ? (uint32_t)(part->start + part->length) : ABSENT;
 }
 
-/* Checks the base for the calls that are made with it. What was found is at `answer_at`. */
-void prepare(uint32_t base_length, uint32_t profile) {
-    heap_empty();
-    proved_prepare(&held, heap_base(), base_length, profile);
-    answer.found = held.found;
+static void say_parts(const urlcheck_spans *parts) {
+    answer[SCHEME_END] = end_of(&parts->scheme);
+    answer[HOST_END] = end_of(&parts->host);
+    answer[PORT_END] = end_of(&parts->port);
+    answer[PATH_START] = (uint32_t)parts->path.start;
+    answer[PATH_END] = (uint32_t)(parts->path.start + parts->path.length);
+    answer[QUERY_END] = end_of(&parts->query);
+    answer[FRAGMENT_END] = end_of(&parts->fragment);
 }
 
-void check_with(uint32_t length) {
-    heap_empty();
-    proved_check_with(&answer.checked, heap_text(), length, &held);
-}
-
-/* 1 where the text is known to be valid, else 0. */
-uint32_t is_valid(uint32_t length, uint32_t profile) {
-    heap_empty();
-    return urlcheck_is_valid(heap_text(), length, profile);
-}
-
-uint32_t is_valid_with(uint32_t length) {
-    heap_empty();
-    return urlcheck_is_valid_with(heap_text(), length, &held);
-}
-
-bool takes_out(uint64_t bytes) {
-    heap_empty();
+bool takes_out(uint64_t mark, uint64_t bytes) {
+    heap_return(mark);
     out = heap_take(bytes, ALIGNMENT);
-    if (out == NULL) answer.found = (urlcheck_finding){.verdict = URLCHECK_MEMORY};
+    if (out == NULL) say(&(urlcheck_finding){.verdict = URLCHECK_MEMORY}, 0);
     return out != NULL;
 }
 
-static void resolve_into(uint32_t length, uint32_t base_length, bool has_base, uint32_t profile, uint64_t room) {
-    if (!takes_out(room)) return;
-    if (has_base) {
-        proved_resolve_against(&answer.record, heap_text(), length, heap_base(), base_length, profile, out, room);
-    } else {
-        proved_resolve(&answer.record, heap_text(), length, profile, out, room);
-    }
+/* Checks a base, and holds it for the calls whose `is_held` is 1. What was found is the answer. */
+void prepare(uint32_t base_length, uint32_t profile) {
+    heap_empty();
+    proved_prepare(&held, heap_base(), base_length, profile);
+    say(&held.found, 0);
 }
 
-/* The record's text is at `out`. A first call has room for most texts; where it is too small, a second one has. */
-static void resolve_whole(uint32_t length, uint32_t base_length, bool has_base, uint32_t profile) {
-    uint64_t room = (uint64_t)length + base_length + 256;
-    resolve_into(length, base_length, has_base, profile, room);
-    if (answer.found.verdict == URLCHECK_VALID && answer.record.length > room) {
-        resolve_into(length, base_length, has_base, profile, answer.record.length);
-    }
+void check(uint32_t length, uint32_t profile, uint32_t is_held) {
+    urlcheck_answer checked;
+    heap_empty();
+    if (is_held) proved_check_with(&checked, heap_text(), length, &held);
+    else proved_check(&checked, heap_text(), length, profile);
+    say(&checked.found, 0);
+    say_parts(&checked.parts);
 }
 
-void resolve(uint32_t length, uint32_t profile) { resolve_whole(length, 0, false, profile); }
-
-void resolve_against(uint32_t length, uint32_t base_length, uint32_t profile) {
-    resolve_whole(length, base_length, true, profile);
-}
-
-static void mend_into(uint32_t length, uint32_t base_length, against base, uint32_t profile, uint64_t room) {
-    if (!takes_out(room)) return;
-    if (base == BASE_TEXT) {
-        proved_mend_against(&answer.mended, heap_text(), length, heap_base(), base_length, profile, out, room);
-    } else {
-        proved_mend(&answer.mended, heap_text(), length, profile, out, room);
-    }
-}
-
-/* The mended text is at `out`, as the record's text does. */
-static void mend_whole(uint32_t length, uint32_t base_length, against base, uint32_t profile) {
-    uint64_t room = (uint64_t)length + base_length + 256;
-    mend_into(length, base_length, base, profile, room);
-    if (answer.found.verdict == URLCHECK_MENDED && answer.mended.length > room) {
-        mend_into(length, base_length, base, profile, answer.mended.length);
-    }
-}
-
-void mend(uint32_t length, uint32_t profile) { mend_whole(length, 0, NOTHING, profile); }
-
-void mend_against(uint32_t length, uint32_t base_length, uint32_t profile) {
-    mend_whole(length, base_length, BASE_TEXT, profile);
-}
-
-static void faults_into(uint32_t length, uint32_t base_length, against base, uint32_t profile, uint64_t room) {
-    if (!takes_out(room * sizeof(urlcheck_fault))) return;
-    switch (base) {
-        case NOTHING:
-            proved_faults(&answer.counted, heap_text(), length, profile, out, room);
-            return;
-        case BASE_TEXT:
-            proved_faults_against(&answer.counted, heap_text(), length, heap_base(), base_length, profile, out, room);
-            return;
-        case BASE_HELD:
-            proved_faults_with(&answer.counted, heap_text(), length, &held, out, room);
-            return;
-    }
+/* 1 where the text is known to be valid, else 0. */
+uint32_t is_valid(uint32_t length, uint32_t profile, uint32_t is_held) {
+    heap_empty();
+    return is_held ? urlcheck_is_valid_with(heap_text(), length, &held)
+                   : urlcheck_is_valid(heap_text(), length, profile);
 }
 
 /* All faults are at `out`. */
-static void all_faults(uint32_t length, uint32_t base_length, against base, uint32_t profile) {
-    faults_into(length, base_length, base, profile, FAULTS);
-    if (answer.found.verdict == URLCHECK_REFUSED && answer.counted.count > FAULTS) {
-        faults_into(length, base_length, base, profile, answer.counted.count);
-    }
+void faults(uint32_t length, uint32_t profile, uint32_t is_held) {
+    urlcheck_fault_count counted;
+    const uint8_t *text = heap_text();
+    heap_empty();
+    WRITE(FAULTS, sizeof(urlcheck_fault), counted.count,
+          is_held ? proved_faults_with(&counted, text, length, &held, out, room)
+                  : proved_faults(&counted, text, length, profile, out, room));
+    say(&counted.found, counted.count);
 }
 
-void faults(uint32_t length, uint32_t profile) { all_faults(length, 0, NOTHING, profile); }
-
-void faults_against(uint32_t length, uint32_t base_length, uint32_t profile) {
-    all_faults(length, base_length, BASE_TEXT, profile);
+/* The room that a first call has for a URL's text, or a mended one: most texts fit. */
+static uint64_t room_for(uint32_t length, int32_t base_length) {
+    return (uint64_t)length + (base_length < 0 ? 0 : (uint32_t)base_length) + 256;
 }
 
-void faults_with(uint32_t length) { all_faults(length, 0, BASE_HELD, 0); }
+static bool are_same(const uint8_t *one, const uint8_t *other, uint32_t length) {
+    return __builtin_memcmp(one, other, length) == 0;
+}
+
+/* The URL's text is at `out`. A base has its bytes in its room; where its length is below 0 there is none. */
+void resolve(uint32_t length, uint32_t profile, int32_t base_length) {
+    urlcheck_record record;
+    const uint8_t *text = heap_text(), *base = heap_base();
+    heap_empty();
+    WRITE(room_for(length, base_length), 1, record.length,
+          base_length < 0 ? proved_resolve(&record, text, length, profile, out, room)
+                          : proved_resolve_against(&record, text, length, base, (uint32_t)base_length, profile, out,
+                                                   room));
+    say(&record.found, record.length);
+    say_parts(&record.parts);
+    answer[HOST_KIND] = record.host;
+    answer[OPAQUE_PATH] = record.opaque_path;
+    answer[IS_SAME] = record.length == length && are_same(out, text, length);
+}
+
+/* The mended text is at `out`. */
+void mend(uint32_t length, uint32_t profile, int32_t base_length) {
+    urlcheck_mended mended;
+    const uint8_t *text = heap_text(), *base = heap_base();
+    heap_empty();
+    WRITE(room_for(length, base_length), 1, mended.length,
+          base_length < 0 ? proved_mend(&mended, text, length, profile, out, room)
+                          : proved_mend_against(&mended, text, length, base, (uint32_t)base_length, profile, out,
+                                                room));
+    say(&mended.found, mended.length);
+    answer[MEND_KIND] = mended.kind;
+}
 
 uint32_t version(void) { return urlcheck_version(); }

@@ -16,32 +16,42 @@
 uint64_t proved_check_with(urlcheck_answer *answer, const uint8_t *text, size_t length, const urlcheck_base *base)
     PROVED("check_with");
 
-/* What was found of the lines of bytes: see lines.c. */
-typedef struct {
-    urlcheck_finding found; /* URLCHECK_DONE, or why the lines from `next` on aren't checked */
-    uint32_t lines;         /* how many lines were checked or passed over */
-    uint32_t empty;         /* how many of them are empty, and were passed over */
-    uint32_t refused;       /* how many of them aren't valid; their rows are at `out` */
-    uint32_t next;          /* where the line after them begins */
-} lines_checked;
+/* Where an answer has its words of 32 bits: layout.js has the same numbers. A call that writes says how much at LENGTH. */
+enum {
+    VERDICT, RULE, PLACE, BYTE_PLACE, LENGTH,
+    SCHEME_END = 5, HOST_END, PORT_END, PATH_START, PATH_END, QUERY_END, FRAGMENT_END, HOST_KIND, OPAQUE_PATH, IS_SAME,
+    MEND_KIND = 5,
+    LINES = 5, EMPTY_LINES, NEXT_LINE,
+    ANSWER_WORDS = 15
+};
 
 /* The answer of a call. */
-extern union answer {
-    urlcheck_finding found;
-    urlcheck_answer checked;
-    urlcheck_record record;
-    urlcheck_mended mended;
-    urlcheck_fault_count counted;
-    urlcheck_written written;
-    lines_checked lines;
-} answer;
+extern uint32_t answer[ANSWER_WORDS];
 
 /* What else a call has written. */
 extern void *out;
 
 extern urlcheck_base held;
 
-/* Empties the heap and takes so many bytes of it for `out`; where there are none, the answer is out of memory. */
-bool takes_out(uint64_t bytes);
+/* Answers what was found, and a length. */
+void say(const urlcheck_finding *found, uint64_t length);
+
+/* Gives up the blocks after the mark, and takes so many bytes for `out`; where there are none it says so. */
+bool takes_out(uint64_t mark, uint64_t bytes);
+
+/*
+ * Runs a call that writes `room` elements of a size to `out`, at first as many as are given, and then as many as it
+ * needs; where there is no memory for them the function ends.
+ */
+#define WRITE(first, size, needed, call)                                   \
+    do {                                                                   \
+        uint64_t mark = heap_mark(), room = (first);                       \
+        if (!takes_out(mark, room * (size))) return;                       \
+        (void)(call);                                                      \
+        if ((needed) <= room) break;                                       \
+        room = (needed);                                                   \
+        if (!takes_out(mark, room * (size))) return;                       \
+        (void)(call);                                                      \
+    } while (0)
 
 #endif

@@ -12,10 +12,17 @@ typedef struct {
     uint32_t line, start, length, verdict, rule, place, byte_place;
 } refused_line;
 
-/* Where urlcheck.js reads: it knows these numbers. */
-_Static_assert(offsetof(lines_checked, lines) == 24 && offsetof(lines_checked, empty) == 28, "layout");
-_Static_assert(offsetof(lines_checked, refused) == 32 && offsetof(lines_checked, next) == 36, "layout");
+/* Where urlcheck.js reads the rows: it knows these numbers. */
 _Static_assert(sizeof(refused_line) == 7 * 4 && offsetof(refused_line, byte_place) == 6 * 4, "layout");
+
+/* What was found of lines: URLCHECK_DONE, or why those from `next` on aren't checked; and how many there are. */
+typedef struct {
+    urlcheck_finding found;
+    uint32_t lines;   /* how many lines were checked or passed over */
+    uint32_t empty;   /* how many of them are empty, and were passed over */
+    uint32_t refused; /* how many of them aren't valid; their rows are at `out` */
+    uint32_t next;    /* where the line after them begins */
+} lines_checked;
 
 /* The rows that a call has room for. After them the next one goes on. */
 enum { ROWS = 4096 };
@@ -80,8 +87,9 @@ static void take_before(lines_checked *checked, const urlcheck_line *line) {
  * Checks the lines from the byte `from` on, as many as the rows have room for. What the lines before took of the heap
  * is given up where a line finds no memory, and before each row: so only a line that has none alone ends the call.
  */
-void check_lines(uint32_t length, uint32_t from, uint32_t is_held, uint32_t profile) {
-    if (!takes_out(ROWS * sizeof(refused_line))) return;
+void check_lines(uint32_t length, uint32_t from, uint32_t profile, uint32_t is_held) {
+    heap_empty();
+    if (!takes_out(heap_mark(), ROWS * sizeof(refused_line))) return;
     uint64_t mark = heap_mark();
     lines_checked checked = {.found = {.verdict = URLCHECK_DONE}, .next = from};
     while (checked.next < length && checked.refused < ROWS) {
@@ -97,5 +105,8 @@ void check_lines(uint32_t length, uint32_t from, uint32_t is_held, uint32_t prof
         checked.found = line.found;
         break;
     }
-    answer.lines = checked;
+    say(&checked.found, checked.refused);
+    answer[LINES] = checked.lines;
+    answer[EMPTY_LINES] = checked.empty;
+    answer[NEXT_LINE] = checked.next;
 }

@@ -2,7 +2,8 @@
 // grow with the number of calls, instances beside each other, a thread of its own, and each way to give the module.
 // Usage: node calls.mjs FOLDER
 import assert from 'node:assert/strict'
-import { readFileSync } from 'node:fs'
+import { cpSync, mkdtempSync, readFileSync, readdirSync, rmSync } from 'node:fs'
+import { tmpdir } from 'node:os'
 import { join, resolve } from 'node:path'
 import { pathToFileURL } from 'node:url'
 import { Worker } from 'node:worker_threads'
@@ -193,6 +194,63 @@ const tests = {
         assert.throws(() => urlcheck[call]('x', { base: held, profile }), { name: 'TypeError', message })
       }
     }
+  },
+
+  async 'a base of another module, or of one that is gone'() {
+    const [urlcheck, other] = await Promise.all([load(), load()])
+    const base = other.base('http://h/a')
+    assert.equal(urlcheck.resolve('x', { base }).text, 'http://h/x')
+    const held = await load().then(it => it.base('http://gone/a'))
+    globalThis.gc?.()
+    assert.equal(urlcheck.resolve('x', { base: held }).text, 'http://gone/x')
+    // One that another copy of the scripts made was checked by what isn't known here.
+    const copy = mkdtempSync(join(tmpdir(), 'urlcheck'))
+    try {
+      cpSync(folder, copy, { recursive: true })
+      const { load: loadCopy } = await import(pathToFileURL(join(copy, 'urlcheck.js')).href)
+      const foreign = (await loadCopy()).base('http://h/a')
+      for (const call of CALLS) {
+        assert.throws(() => urlcheck[call]('x', { base: foreign }), { name: 'TypeError', message: /neither a string nor/ })
+      }
+    } finally {
+      rmSync(copy, { recursive: true })
+    }
+  },
+
+  async 'a NUL within'() {
+    const urlcheck = await load()
+    const refused = { valid: false, rule: 'code-point', place: 10, index: 11 }
+    for (const text of ['http://h/\u{1f600}\0', 'http://h/\u{1f600}\0b']) {
+      assert.deepEqual(urlcheck.check(text), refused)
+      assert.deepEqual(urlcheck.resolve(text), refused)
+      assert.deepEqual(urlcheck.faults(text), [{ rule: 'code-point', place: 10, index: 11 }])
+      assert.equal(urlcheck.isValid(text), false)
+    }
+    assert.throws(() => urlcheck.check('x', { base: 'http://h/\0' }), { name: 'BaseRefused', place: 9 })
+    const lines = new TextEncoder().encode('urn:a\0b\nurn:a\n')
+    assert.deepEqual(urlcheck.checkMany(lines).refused.map(it => [it.line, it.place]), [[1, 5]])
+    const report = urlcheck.report('json')
+    const told = { file: 'a\0b', line: 1, text: 'urn:a\0b', rule: 'code-point', place: 5 }
+    assert.equal(JSON.parse(report.diagnostic(told)).file, 'a\0b')
+  },
+
+  async 'what is told of a URL'() {
+    const urlcheck = await load()
+    const resolved = urlcheck.resolve('HTTP://\u00e9.example:8080/a/../b?q#f')
+    const record = { scheme: 'http', host: { kind: 'domain', text: 'xn--9ca.example' }, port: '8080', query: 'q', fragment: 'f',
+      segments: ['b'], opaquePath: null }
+    const text = 'http://xn--9ca.example:8080/b?q#f'
+    assert.deepEqual(JSON.parse(JSON.stringify(resolved)), { valid: true, text, record })
+    // A call after it changes nothing of it, and what is written as its URL is stays the caller's text.
+    urlcheck.resolve('urn:other')
+    assert.deepEqual(resolved.record, record)
+    for (const own of ['http://h/a?b#c', 'urn:a', 'file:///x', 'http://[::1]:8080/', 'web+x:/.//a']) {
+      assert.equal(urlcheck.resolve(own).text, own)
+      assert.equal(new URL(own).href, own)
+    }
+    assert.deepEqual(urlcheck.resolve('web+x:/.//a').record.segments, ['', 'a'])
+    assert.equal(urlcheck.resolve('http://h').text, 'http://h/')
+    assert.equal(urlcheck.resolve('http://h/\u00e9').text, 'http://h/%C3%A9')
   },
 
   async 'what to write instead'() {
@@ -436,8 +494,9 @@ const tests = {
   },
 
   async 'no code from texts'() {
-    for (const name of ['urlcheck.js', 'base.js', 'lines.js', 'memory.js', 'options.js', 'parts.js', 'layout.js', 'reports.js',
-      'rules.js', 'source.js']) {
+    const scripts = readdirSync(folder).filter(name => name.endsWith('.js'))
+    assert.ok(scripts.length > 5)
+    for (const name of scripts) {
       const script = readFileSync(join(folder, name), 'utf8')
       assert.doesNotMatch(script, /\beval\b|new Function|innerHTML|document\.write/)
     }

@@ -53,66 +53,56 @@ script() {
 node "$here/vectors.mjs" "$folder" "$cases" >"$room/said" && node "$here/calls.mjs" "$folder" >>"$room/said" ||
     { cat "$room/said"; echo 'FAILED: the runs fail on what is not spoiled'; exit 1; }
 
-script 'a wrong offset of the byte place' vectors layout.js \
-    's/^export const BYTE_PLACE = 4$/export const BYTE_PLACE = 2/'
-script 'a wrong offset of the place' vectors layout.js 's/^export const PLACE = 2$/export const PLACE = 4/'
-script 'a wrong offset of the parts' vectors layout.js 's/^export const PARTS = 6$/export const PARTS = 12/'
-script 'a wrong offset of a length' vectors layout.js 's/^export const SPAN_LENGTH = 2$/export const SPAN_LENGTH = 0/'
-script 'a wrong offset of a presence' vectors layout.js \
-    's/^export const SPAN_PRESENT = 4$/export const SPAN_PRESENT = 2/'
+script 'a wrong place of the byte place' vectors layout.js 's/^export const BYTE_PLACE = 3$/export const BYTE_PLACE = 2/'
+script 'a wrong place of the place' vectors layout.js 's/^export const PLACE = 2$/export const PLACE = 3/'
+script 'a wrong place of an end' vectors layout.js 's/^export const HOST_END = 6$/export const HOST_END = 5/'
+script 'a wrong place of the start of a path' vectors layout.js 's/^export const PATH_START = 8$/export const PATH_START = 7/'
+script 'a wrong place of the kind of a host' vectors layout.js 's/^export const HOST_KIND = 12$/export const HOST_KIND = 13/'
 script 'a wrong offset of a fault' vectors layout.js \
     's/^export const FAULT_BYTE_PLACE = 4$/export const FAULT_BYTE_PLACE = 2/'
 script 'a wrong size of a fault' vectors layout.js 's/^export const FAULT_WORDS = 6$/export const FAULT_WORDS = 4/'
-swap='s/textLength, room.baseLength/baseLength, room.textLength/'
-script 'a swapped parameter of check' vectors urlcheck.js "/room.checkAgainst(/$swap"
-script 'a swapped parameter of resolve' vectors urlcheck.js "/resolve_against(/$swap"
-script 'a swapped parameter of faults' vectors urlcheck.js "/faults_against(/$swap"
-script 'a base that is held and ignored by check' vectors urlcheck.js \
-    's/room.checkWith(room.textLength)/room.check(room.textLength, profile)/'
-script 'a base that is held and ignored by faults' vectors urlcheck.js \
-    's/room.exports.faults_with(room.textLength)/room.exports.faults(room.textLength, profile)/'
-script 'a base that is held and ignored by resolve' vectors options.js \
-    's/base: text, held, profile: number/base: undefined, held, profile: number/'
+script 'a base that is held and ignored by check' vectors urlcheck.js '/room.check(/s/this.#hold(base, profile)/0/'
+script 'a base that is held and ignored by isValid' vectors urlcheck.js '/isValid(length/s/this.#hold(base, profile)/0/'
+script 'a base that is held and ignored by faults' vectors urlcheck.js '/exports.faults(/s/this.#hold(base, profile)/0/'
+script 'a base that is ignored by resolve' vectors urlcheck.js '/room.resolve(/s/room.putBase(base)/-1/'
+script 'a base that is ignored by mend' vectors urlcheck.js '/exports.mend(/s/room.putBase(base)/-1/'
 script 'a base that stays held where another is given' vectors memory.js \
-    's/if (words === this.heldWords) return/if (this.heldWords) return/'
-script 'a base that is held by half' vectors layout.js 's/^export const HELD_WORDS = 10$/export const HELD_WORDS = 9/'
-script 'a base that is held where the memory was' calls memory.js \
-    '/this.held = new Uint32Array(buffer/s/= new/= this.heldWords ? this.held : new/'
+    's/if (base === this.heldText \&\& /if (this.heldText \&\& /'
+script 'a base that stays held by another profile' vectors memory.js 's/ \&\& profile === this.heldProfile) return true/) return true/'
+script 'a base that stays in its room where another is given' vectors memory.js 's/^    if (base !== this.baseText) {$/    if (!this.baseText) {/'
+script 'a name of a file taken for the base' calls memory.js "/this.base.set(part, at)/,/^  }/s/this.baseText = ''/this.baseText += ''/"
 script 'a base that is checked by another profile' calls options.js 's/=== undefined || profile === number/!== null/'
-script 'a refused base that is held' calls urlcheck.js '/^    const words = room.prepared/{n;d}'
+script 'a refused base that is held' calls urlcheck.js 's/if (!this.#room.hold(base, profile)) this.#isRefused(base)/this.#room.hold(base, profile)/'
 script 'no memory taken for a refusal' calls urlcheck.js 's/known === 1 || this.check(text, options).valid/known === 1/'
-script 'a swapped parameter of mend' vectors urlcheck.js "/mend_against(/$swap"
-script 'a wrong offset of the length of a mended text' vectors layout.js \
-    's/^export const MENDED_LENGTH = 8$/export const MENDED_LENGTH = 10/'
-script 'a mended text of the next kind' vectors urlcheck.js \
-    's/MEND_KINDS\[room.word(MEND_KIND) - 1\]/MEND_KINDS[room.word(MEND_KIND)]/'
+script 'a wrong place of the length of a text' vectors layout.js 's/^export const LENGTH = 4$/export const LENGTH = 3/'
+script 'a mended text of the next kind' vectors urlcheck.js 's/MEND_KINDS\[answer\[MEND_KIND\] - 1\]/MEND_KINDS[answer[MEND_KIND]]/'
+script 'a URL taken for the text' vectors urlcheck.js 's/answer\[IS_SAME\] === 1 ? text/answer[IS_SAME] < 2 ? text/'
 script 'a mended text without its first code point' vectors memory.js 's/, { ignoreBOM: true }//'
-script 'a rule with the next number' vectors urlcheck.js \
-    's/this.rules\[room.word(RULE) - 1\]/this.rules[room.word(RULE)]/'
+script 'a rule with the next number' vectors urlcheck.js 's/this.rules\[answer\[RULE\] - 1\]/this.rules[answer[RULE]]/'
 script 'the wide profile read as the standard one' vectors options.js "/=== 'wide'/s/return 1/return 0/"
 script "the parser's profile read as the wide one" vectors options.js "/=== 'parser'/s/return 2/return 1/"
-script 'units counted as bytes' vectors urlcheck.js 's/room.textLength === text.length/true/'
-script 'a lone surrogate let through' calls memory.js 's/ && text.length <= SHORT) utf8Length/ \&\& false) utf8Length/'
+script 'units counted as bytes' vectors urlcheck.js 's/length === text.length/true/'
+script 'a lone surrogate let through' calls memory.js 's/^    if (written !== text.length) stopAt/    if (written < 0) stopAt/'
 script 'a room that is too small' calls memory.js 's/^const SMALL_ROOM = 3 \* SHORT$/const SMALL_ROOM = SHORT/'
 script 'a memory that is seen as it was' calls memory.js \
-    's/if (this.answer.length !== 0) return$/if (this.textRoom > 1) return/'
+    's/if (this.answer.length !== 0) return$/if (this.answer.length !== 0 || this.heldText) return/'
 script 'large rooms kept after out of memory' calls memory.js 's/^    if (this.textRoom > SMALL_ROOM || .*$//'
 script 'a profile of any name' calls options.js 's/^  throw new TypeError("the profile.*$/  return 0/'
-script 'lines against a base that is ignored' calls lines.js 's/held === undefined ? 0 : 1/0/'
+script 'lines against a base that is ignored' calls lines.js 's/from, profile, isHeld)/from, profile, 0)/'
 script 'lines numbered from each piece on' calls lines.js 's/line: many.lines + words/line: words/'
 script 'lines that stand where they do in their piece' calls lines.js 's/const from = start + words/const from = words/'
-script 'the lines after the rows of a call left out' calls lines.js '/^    for (let from = 0/s/from = room.word(NEXT_LINE)/from = end/'
+script 'the lines after the rows of a call left out' calls lines.js '/^    for (let from = 0/s/from = room.answer\[NEXT_LINE\]/from = end/'
 script 'a piece that ends within a line' calls lines.js 's/return last + 1$/return last + 2/'
-script 'empty lines counted as checked' calls lines.js 's/ - room.word(EMPTY_LINES)//'
+script 'empty lines counted as checked' calls lines.js 's/ - answer\[EMPTY_LINES\]//'
 script 'a wrong offset of a place of a line' calls layout.js 's/^export const ROW_PLACE = 5$/export const ROW_PLACE = 6/'
 script 'a place after the end let through' calls memory.js '/=== NO_PLACE/d'
-script 'a line of a report that is any number' calls reports.js "s/wholeNumber(line, 'line', 1)/line/"
+script 'a line of a report that is any number' calls reports.js "s/wholeNumber(line, 'line', 1)/line || 1/"
 script 'each diagnostic taken for the first' calls reports.js 's/^    this.#isFirst = false$//'
 script 'a mended text that is left out' reports reports.js "s/mended?.text ?? ''/''/"
 script 'two ends of a report that are swapped' calls reports.js "s/'whole', 'unread', 'stopped'\]/'whole', 'stopped', 'unread']/"
-script 'a sentence by another profile' reports urlcheck.js 's/exports.message(room.textLength, profile,/exports.message(room.textLength, 0,/'
+script 'a sentence by another profile' reports urlcheck.js 's/exports.message(length, profile,/exports.message(length, 0,/'
 script 'a report by another profile' reports reports.js 's/this.#numbers.ofProfile(profile)/0/'
-script 'a report in another unit' reports reports.js 's/diagnostic(this.#format, this.#unit/diagnostic(this.#format, 0/'
+script 'a report in another unit' reports reports.js '/exports.diagnostic(/,/)/s/this.#unit,/0,/'
 script 'a mended text of another kind' reports reports.js 's/this.#numbers.ofKind(mended.kind)/3/'
 
 # The heap alone: with this edit of it its test fails.
@@ -150,15 +140,13 @@ glue() {
 if [ -n "$module" ]; then
     glue 'a heap of the module that is not emptied' calls heap.c \
         '/^void heap_empty(/s/top = last = bottom/if (!top) top = last = bottom/'
-    glue 'a swapped parameter of the glue' vectors glue.c \
-        '/ proved_check_against(&/s/heap_text(), length, heap_base()/heap_base(), length, heap_text()/'
-    glue 'a base that the glue holds and ignores' vectors glue.c \
-        '/^    proved_check_with(/s/_with\(.*\)&held/\1held.profile/'
-    glue 'a long mended text that is not written' calls glue.c '/answer.mended.length > room/s/> room/> 9 * room/'
+    glue 'a base that the glue holds and ignores' vectors glue.c 's/^    if (is_held) proved_check_with/    if (0) proved_check_with/'
+    glue 'an end without its start' vectors glue.c 's/(part->start + part->length)/(part->length)/'
+    glue 'a URL that is said to be the text' vectors glue.c 's/record.length == length \&\& are_same/1 || are_same/'
+    glue 'a long text that is not written' calls glue.h 's/^        if ((needed) <= room) break; /        if ((needed) <= 9 * room) break; /'
     glue 'rows of lines that a line writes over' calls lines.c 's/uint64_t mark = heap_mark();/uint64_t mark = 0;/'
     glue 'a line of its own for a CR' calls lines.c "s/lines\[end - 1\] == '.r'/0/"
-    glue 'a long text of a report that is not written' calls reports.c 's/length <= room/length > 0/'
-    glue 'a column of the text for that of its place' reports reports.c 's/first_column, told.place)/first_column, 0)/'
+    glue 'a column of the text for that of its place' reports reports.c 's/column_of(length, unit, column, place)/column/'
     glue 'a growth that is refused and not seen' calls heap.c 's/return end <= memory_end();/return true;/'
 else
     echo 'browser: the edits of the glue are left out, since no module was given'

@@ -49,6 +49,13 @@ class Page:
         self.browser.switch_to.frame(self.find("iframe"))
         self.wait(lambda: bool(self.run("return location.href !== 'about:blank'") and self.run(HAS_ANSWERED)))
 
+    def resize_frame(self, width: int) -> None:
+        """Makes the frame that it was opened in as wide as this."""
+        self.browser.switch_to.default_content()
+        self.run("document.querySelector('iframe').style.width = `${arguments[0]}px`", width)
+        self.browser.switch_to.frame(self.find("iframe"))
+        self.wait(lambda: bool(self.run("return innerWidth") == width))
+
     def _address_of(self, state: dict[str, str]) -> str:
         return self.address + "index.html" + ("#" + urllib.parse.urlencode(state) if state else "")
 

@@ -102,6 +102,10 @@ ALL = (
         "page/answers.css", "white-space: pre-wrap;\n  overflow-wrap: anywhere;", "white-space: pre-wrap;",
     ),
     Spoiled(
+        "examples that are wider than a window that got narrow", "resizing", "wider",
+        "page/style.css", "  width: 12rem;\n", "  width: 40rem;\n",
+    ),
+    Spoiled(
         "a field without a name", "names", "without a name",
         "index.html", '<label for="text">', "<label>",
     ),

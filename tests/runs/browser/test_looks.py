@@ -13,6 +13,7 @@ from session import HERE, PageCase
 
 WIDTHS = (320, 800, 1280)
 WIDTHS_OF_SAMPLE = (320,)
+RESIZED = (500, 1280, 320, 1000)
 FEW = "http://x_y/\nhttp://h/a b\n" * 5 + "http://h/" + "a" * 400 + " "
 TEXTS = ("http://a_b:x/ %4?^\u202e", "https://user.example:8080/" + "a" * 200 + "?q#f")
 # What has to have a name.
@@ -80,6 +81,19 @@ class Looks(PageCase):
         with open(os.path.join(HERE, "contrast.js"), encoding="utf-8") as script:
             poor = page.run(script.read())
         self.assertEqual(poor[:5], [], "little contrast at {}, {}".format(width, "dark" if dark else "light"))
+
+    def test_resizing(self) -> None:
+        """The page fits each width that a window gets after it was shown in another one."""
+        page = self.session.page(False)
+        self.open(page, RESIZED[-1], False, view="text", text=TEXTS[0])
+        for width in RESIZED:
+            page.resize_frame(width)
+            self.assertLessEqual(page.run("return document.documentElement.scrollWidth"), width, "the page is wider")
+            right, card = page.run(
+                "return ['#example', '#input'].map(it => document.querySelector(it).getBoundingClientRect().right)"
+            )
+            self.assertLess(right, card, "the examples are wider than their card")
+        self.told = "{} pixels, one after the other".format(", ".join(map(str, RESIZED)))
 
     def test_names(self) -> None:
         """Each control has a role and a name for a screen reader, and what changes is told."""
