@@ -35,8 +35,9 @@ def on_page_context(context: Any, page: Any, config: Any, nav: Any) -> Any:
 
 
 def on_post_page(output: str, page: Any, config: Any) -> str:
-    """Names that link for what it is."""
-    return output.replace(TITLE, OWN_TITLE)
+    """Names that link for what it is, and the first page once in its title."""
+    name = config["site_name"]
+    return output.replace(TITLE, OWN_TITLE).replace(f"<title>{name} - {name}</title>", f"<title>{name}</title>")
 
 
 def on_post_build(config: Any) -> None:

@@ -21,7 +21,7 @@ import pages
 MOST_WORDS = 30
 # So many sentences of so few words, one after the other and with no word that joins them, read like a list of notes.
 SHORT_WORDS, SHORT_ROW = 9, 3
-JOINED = re.compile(r"\b(because|so|but|since|if|when|then|that|which|who|until|before|after|as)\b|[:?]", re.I)
+JOINED = re.compile(r"\b(because|so|but|since|if|when|then|that|which|who|until|before|after|as|to)\b|[:?]", re.I)
 # Forms that make a sentence odd, each with what a writer does instead.
 ODD = (
     (r"^Where [^,]*,", "'Where ..' at the start: write if, or when"),
@@ -29,7 +29,7 @@ ODD = (
     (r"^Of [^,]*, ", "'Of ..' at the start: begin with the subject"),
     (r"(?<!there )\b(is|are|was|were) no(ne)?\b(?! longer\b)", "'is no ..': write isn't a .."),
     (r"\b(that|those|the ones?|the same) of\b|\bthe (former|latter)\b", "a pronoun in place of a noun: repeat the noun"),
-    (r"(?<!checked )(?<!string )(?<!host )(?<!, )\balone\b(?! (or|and) against\b)", "'alone' for only"),
+    (r"(?<!checked )(?<!string )(?<!host )(?<!text )(?<!is read )(?<!, )\balone\b(?! (or|and) against\b)", "'alone' for only"),
     (r"\b(Standard|rules?|scheme|format|contract|header) asks?\b", "'asks' of a thing: write requires, or needs"),
 )
 GUIDE_LINES = 120
