@@ -39,6 +39,7 @@ spoiled 'an anchor to nowhere' 'no such anchor' docs/GLOSSARY.html 's/id="words"
 spoiled 'a font from elsewhere' 'it loads https:' docs/ERRORS.html \
     's/<\/head>/<link rel="stylesheet" href="https:\/\/fonts.example\/a.css"><\/head>/'
 spoiled 'a backslash in a table' 'a table shows' index.html "s/'LINK' | urlcheck/'LINK' \\\\| urlcheck/"
+spoiled 'a name twice in its title' "says 'urlcheck' twice" index.html 's/<title>urlcheck</<title>urlcheck - urlcheck</'
 if [ -n "$browser" ]; then
     spoiled 'pale links' 'dark: little contrast' site.css 's/--md-typeset-a-color: #4db6ac/--md-typeset-a-color: #00796b/' index
     spoiled 'a wide page' 'at 320 pixels, light: it is ' index.html 's/<body/<body style="min-width: 400px"/' index

@@ -1,7 +1,7 @@
 """The site that tools/build-site has made.
 
     site.py links SITE                  each link leads to a file, and to an anchor of it; nothing is loaded from elsewhere;
-                                        no table shows a backslash before a `|`
+                                        no table shows a backslash before a `|`, and no title says one name twice
     site.py looks SITE NAME..           these pages in a headless Chromium, in two widths, in light and dark: they fit the
                                         width, each text has a contrast of 4.5, and there is no error
     site.py browser SITE [PICTURES]     the same of some pages of each kind, and the search
@@ -28,22 +28,27 @@ PAGES = ("index", "docs/START", "docs/COMMANDS", "docs/guides/sphinx", "docs/rul
 
 
 class Links(html.parser.HTMLParser):
-    """The links of a page, what it loads, its anchors, and what the cells of its tables show."""
+    """The title of a page, its links, what it loads, its anchors, and what the cells of its tables show."""
 
     def __init__(self):
         super().__init__()
         self.links, self.loaded, self.anchors, self.cells = [], [], set(), []
-        self.is_in_cell = False
+        self.is_in_cell = self.is_in_title = False
+        self.title = ""
 
     def handle_data(self, data):
         if self.is_in_cell:
             self.cells.append(data)
+        if self.is_in_title:
+            self.title += data
 
     def handle_endtag(self, tag):
         self.is_in_cell = self.is_in_cell and tag != "td"
+        self.is_in_title = False
 
     def handle_starttag(self, tag, attributes):
         self.is_in_cell = self.is_in_cell or tag == "td"
+        self.is_in_title = tag == "title" and not self.title
         said = dict(attributes)
         self.anchors.update(said[name] for name in ("id", "name") if said.get(name))
         for name in ("href", "src"):
@@ -70,6 +75,9 @@ def check_links(site):
             pages[file] = read(file)
     for file, page in pages.items():
         wrong += ["{}: a table shows '{}'".format(file.relative_to(site), it) for it in page.cells if "\\|" in it]
+        name, _, rest = page.title.partition(" - ")
+        if name == rest:
+            wrong.append("{}: its title says '{}' twice".format(file.relative_to(site), name))
         for target in page.links + page.loaded:
             parts = urllib.parse.urlsplit(target)
             if parts.scheme or parts.netloc:
