@@ -30,4 +30,4 @@ pub use checker::{Verdict, check, check_alone, check_of_kind};
 pub use form::Form;
 pub use parts::{Parts, Segments};
 pub use parts_host::{AsciiText, HostRef};
-pub use validity::{is_valid, is_valid_of_kind};
+pub use validity::{is_valid, is_valid_of_kind, wider_profile};
