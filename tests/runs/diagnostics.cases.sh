@@ -29,7 +29,7 @@ of_list 1 'list:2:11: error: U+000D CARRIAGE RETURN is not allowed in a URL [cod
 
 # A byte order mark at the start is no part of the first line, alone too; before another line it is one of its code
 # points.
-of_list 1 "list:1:10: $space\nlist:2:1: error: U+FEFF is before the scheme [no-scheme]\n" "$(counted 2 2)" \
+of_list 1 "list:1:10: $space\nlist:2:1: error: U+FEFF is before the scheme; leave it out [no-scheme]\n" "$(counted 2 2)" \
     '\xef\xbb\xbfhttp://h/ \n\xef\xbb\xbfurn:a\n'
 of_list 0 '' "$(counted 0 0)" '\xef\xbb\xbf'
 of_list 1 "list:1:1: $scheme\nb\n^\n" "$(counted 1 1)" '\xef\xbb\xbfb' --format caret
@@ -39,51 +39,14 @@ of_list 1 "list:1:8: $domain\nlist:2:1: $scheme\n" "$(counted 2 2)" 'http://x_y/
 of_list 1 "list:2:1: $scheme\n" "$(counted 2 1)" 'http://x_y/\nb\n' --wide
 of_list 1 "list:1:8: $domain\n" "$(counted 2 1)" 'http://x_y/\nb\n' --base http://h/
 of_list 0 '' "$(counted 2 0)" 'http://x_y/\nb\n' --wide --base http://h/
-of_list 1 'list:3:8: error: the host that begins here ends in a number, and is no IPv4 address [host-number]\n' \
+of_list 1 'list:3:8: error: 256 is above 255, the largest number of an IPv4 address [host-number]\n' \
     "$(counted 3 1)" 'http://a%2Db/\nurn:a b\nhttp://256/\n' --profile parser
-
-# Why a host is no valid domain: the first ASCII code point that the profile doesn't permit, else a label that is empty,
-# has more than 63 code points, or has hyphens where the standard profile permits none. Of one that begins with `xn--`,
-# and of what ToASCII makes of code points beyond ASCII, nothing is said. Where another profile takes it, that is said.
-# in_domain CODE_POINT : that it is not allowed in a domain
-in_domain() {
-    local taken=''
-    case $1 in
-        '005F LOW LINE') taken='; --profile wide allows it' ;;
-        '0021 EXCLAMATION MARK' | '0025 PERCENT SIGN') taken='; --profile parser allows it' ;;
-    esac
-    echo "error: U+$1 is not allowed in a domain$taken [host-domain]"
-}
-empty='error: a label of this domain is empty; --profile parser allows it [host-domain]'
-long='error: a label of this domain has more than 63 code points; --profile parser allows it [host-domain]'
-outer='error: a label of this domain begins or ends with -; --profile wide allows it [host-domain]'
-inner='error: a label of this domain has -- in its third and fourth place; --profile wide allows it [host-domain]'
-none='error: the host that begins here is no valid domain [host-domain]'
-label=$(printf 'a%.0s' {1..64})
-of_list 1 "list:1:9: $(in_domain '0020 SPACE')\nlist:2:8: $(in_domain '005C REVERSE SOLIDUS')
-list:3:8: $(in_domain '0025 PERCENT SIGN')\nlist:4:8: $(in_domain '005F LOW LINE')
-list:5:8: $(in_domain '005E CIRCUMFLEX ACCENT')\nlist:6:8: $(in_domain '005F LOW LINE')\n" "$(counted 6 6)" \
-    'https://exa mple.com/\nhttp://a\\b/\nhttp://a%41/\nhttp://x.._!/\nfile://a^b/x\nhttp://\xc3\xa9_/\n'
-of_list 1 "list:1:8: $empty\nlist:2:8: $empty\nlist:3:8: $empty\nlist:4:8: $empty\n" "$(counted 5 4)" \
-    'http://a..b/_\nhttp://.\nhttp://.a?_\nhttp://\xc3\xa9..b:80\nhttp://a./\n'
-of_list 1 "list:1:8: $long\nlist:3:8: $none\n" "$(counted 3 2)" \
-    "http://b.$label./\nhttp://b.${label#a}/\nhttp://xn--$label/\n"
-of_list 1 "list:1:8: $outer\nlist:2:8: $outer\nlist:3:8: $outer\nlist:4:8: $inner\nlist:5:8: $inner\n" \
-    "$(counted 6 5)" \
-    'http://a-:80/\nhttp://a.-b.c/\nhttp://ab--c.-\nhttp://a.bc--d/\nhttp://XM--a#\nhttp://a-b/-\n'
-of_list 1 "list:1:8: $none\nlist:2:8: $none\nlist:3:8: $none\n" "$(counted 3 3)" \
-    'http://Xn--a-/\nhttp://\xc2\xad/\nhttp://-\xe3\x80\x82a/\n'
-of_list 1 "list:1:8: $(in_domain '0021 EXCLAMATION MARK')\nlist:2:8: $empty\nlist:3:8: $long\nlist:5:8: $none\n" \
-    "$(counted 5 4)" "http://x_y!/\nhttp://a..b/\nhttp://$label/\nhttp://-a--b-/\nhttp://xn--a-/\n" --wide
-of_list 1 "list:1:8: $(in_domain '0020 SPACE')\nlist:2:8: $none\nlist:3:8: $(in_domain '003C LESS-THAN SIGN')
-list:5:8: $(in_domain '0009 CHARACTER TABULATION')\n" "$(counted 5 4)" \
-    'http://x_y! z/\nhttp://a..%20/\nhttp://%<>/\nhttp://a..b/\nhttp://a\tb/\n' --profile parser
 
 # What is before a scheme: a control, a space, or another code point of which nothing is seen, as a no-break space, a
 # zero width space, a line separator, a soft hyphen, an ideographic space, a word joiner or a tag. Of another code point
 # nothing is said.
 # before CODE_POINT : that it is before the scheme
-before() { echo "error: U+$1 is before the scheme [no-scheme]"; }
+before() { echo "error: U+$1 is before the scheme; leave it out [no-scheme]"; }
 of_list 1 "list:1:1: $(before '0020 SPACE')\nlist:2:1: $(before '0009 CHARACTER TABULATION')
 list:3:1: $(before '001F INFORMATION SEPARATOR ONE')\nlist:4:1: $(before '007F DELETE')\nlist:5:1: $(before 0085)
 list:6:1: $(before 00A0)\nlist:7:1: $(before 200B)\nlist:8:1: $(before 2028)\nlist:9:1: $(before 00AD)
@@ -99,45 +62,13 @@ list:7:1: $(before '00AB \xc2\xab')\nlist:8:1: $(before '2018 \xe2\x80\x98')\nli
 list:10:1: $scheme\nlist:11:1: $scheme\nlist:12:1: $scheme\nlist:13:1: $scheme\n" "$(counted 13 13)" \
     '"https://a/"\n'"'"'urn:a\n(urn:a)\n<a+b-c.1:>\n[urn:a]\n\x60urn:a\n\xc2\xaburn:a\n\xe2\x80\x98urn:a\n\xe2\x80\x9curn:a
 "a"\n(1:2)\n"a b:c"\n"\n'
-# What is likely missing: a `:`, a scheme before `//`, and one before what looks like a domain.
-missing() { echo "error: there is no scheme and no base; write $1 [no-scheme]"; }
-colon=$(missing ': after the scheme') two=$(missing 'https: before it, or name its base (--base)')
-host=$(missing 'https:// before a host, or name its base (--base)')
-of_list 1 "list:1:1: $colon\nlist:2:1: $colon\nlist:3:1: $two\nlist:4:1: $host\nlist:5:1: $host\nlist:6:1: $host
-list:7:1: $scheme\nlist:8:1: $scheme\nlist:9:1: $scheme\nlist:10:1: $scheme\nlist:11:1: $scheme\n" "$(counted 11 11)" \
-    'http//a/\nFILE///a\n//h:80a/\nwww.example.com\nexample.com/a b\n127.0.0.1?q\n../a.b\na/b.c\nfoo//a\nhttp/a\na_b.c/\n'
-
 # A noncharacter is told as one, by its number alone, and nothing is after the number of what isn't seen.
 of_list 1 'list:1:10: error: U+FFFE <noncharacter> is not allowed in a URL [code-point]
 list:2:6: error: U+FDD0 <noncharacter> is not allowed in a URL [code-point]
-list:3:11: error: U+10FFFF <noncharacter> is no digit of a port [port-digit]
-list:4:11: error: U+200B is no digit of a port [port-digit]
-list:5:10: error: U+0663 \xd9\xa3 is no digit of a port [port-digit]\n' "$(counted 5 5)" \
+list:3:11: error: U+10FFFF <noncharacter> is not allowed in a port [port-digit]
+list:4:11: error: U+200B is not allowed in a port [port-digit]
+list:5:10: error: U+0663 \xd9\xa3 is not allowed in a port [port-digit]\n' "$(counted 5 5)" \
     'http://h/\xef\xbf\xbe\nurn:a\xef\xb7\x90\nhttp://h:8\xf4\x8f\xbf\xbf/\nhttp://h:8\xe2\x80\x8b/\nhttp://h:\xd9\xa3/\n'
-
-# A file link has no port, and its drive letter is after `file:///` and is written with `:`. An IPv6 address is in
-# brackets, whatever rule its text violates without them; a text that is no address isn't told as one.
-port='U+003A COLON is not allowed in a domain: a file URL has no port [host-domain]'
-drive='error: a drive letter is written after file:///, and not in place of a host [host-domain]'
-bar='error: U+007C VERTICAL LINE is not allowed in a URL'
-of_list 1 "list:1:8: error: $port\nlist:2:8: error: $port\nlist:3:8: $drive\nlist:4:8: ${drive% \[*}; a drive letter is written with : [host-domain]\nlist:5:8: error: $port
-list:6:10: $bar; a drive letter is written with : [code-point]\nlist:7:10: $bar; a drive letter is written with : [code-point]
-list:8:10: $bar [code-point]\nlist:9:12: $bar [code-point]\nlist:10:10: $bar [code-point]\n" "$(counted 10 10)" \
-    'file://h:80/\nFile://host:\nfile://C:/x\nfile://c|\nfile://CC:/x\nfile:///C|/x\nFILE:///z|
-file:///C|x\nfile:///x/C|/\nhttp://h/|/\n'
-# A zone, before which an address is; elsewhere a `%` is none.
-zone='error: an IPv6 address in a URL has no zone: leave out the % and what follows it [host-ipv6]'
-ipv6='error: the host that begins here is no IPv6 address in brackets [host-ipv6]'
-of_list 1 "list:1:8: $zone\nlist:2:7: $zone\nlist:3:8: $ipv6\nlist:4:8: $ipv6\nlist:5:8: $ipv6\n" "$(counted 5 5)" \
-    'http://[fe80::1%25eth0]/\nfoo://[::1%%1]:80\nhttp://[::1/%%\nhttp://[x%%1]/\nhttp://[%%]/\n'
-brackets='error: a host that is an IPv6 address is written in brackets'
-of_list 1 "list:1:8: $brackets [host-number]\nlist:2:8: $brackets [host-missing]\nlist:3:14: $brackets [port-digit]
-list:4:7: $brackets [host-missing]\nlist:5:8: $brackets [host-domain]\nlist:6:8: $brackets [host-missing]
-list:7:10: error: U+003A COLON is no digit of a port [port-digit]
-list:8:8: error: a host is missing here [host-missing]
-list:9:8: error: the host that begins here is no IPv6 address in brackets [host-ipv6]\n" "$(counted 9 9)" \
-    'http://2001:db8::1/\nhttp://::1/\nhttps://fe80::1?x:80\nfoo://::1\nfile://::1/x\nhttp://::ffff:1.2.3.4#\nhttp://h::1/
-http://::01.2.3.4/\nhttp://[::1/\n'
 
 # The least violation, or all.
 of_list 1 "list:1:11: $space\nlist:2:8: $credentials\n" "$(counted 2 2)" 'http://h/a b%zz\nhttp://u@h/a b\n'
@@ -146,22 +77,22 @@ of_list 1 "list:1:11: $space\nlist:1:13: $percent\nlist:2:8: $credentials\nlist:
 
 # A code point of two columns and one of two bytes before the fault of a line, and one that isn't UTF-8, in each format.
 both='/\xe6\x97\xa5\xc3\xa9 \na\xffb\n'
-of_list 1 "list:1:1: $scheme\nlist:2:2: $utf8\n" "$(counted 2 2)" "$both" --format gnu
-of_list 1 "list:1:1: $scheme\n/\xe6\x97\xa5\xc3\xa9 \n^\nlist:2:2: $utf8\na\xef\xbf\xbdb\n ^\n" "$(counted 2 2)" "$both" \
+of_list 1 "list:1:1: ${scheme% *}; name its base (--base) [no-scheme]\nlist:2:2: $utf8\n" "$(counted 2 2)" "$both" --format gnu
+of_list 1 "list:1:1: ${scheme% *}; name its base (--base) [no-scheme]\n/\xe6\x97\xa5\xc3\xa9 \n^\nlist:2:2: $utf8\na\xef\xbf\xbdb\n ^\n" "$(counted 2 2)" "$both" \
     --format caret
-of_list 1 '{"column":1,"cut":false,"file":"list","line":1,"message":"there is no scheme and no base","rule":"no-scheme",'\
+of_list 1 '{"column":1,"cut":false,"file":"list","line":1,"message":"there is no scheme and no base; name its base (--base)","rule":"no-scheme",'\
 '"text":"/\xe6\x97\xa5\xc3\xa9 "}\n{"column":2,"cut":false,"file":"list","line":2,"message":"this line isn'"'"'t UTF-8",'\
 '"rule":"not-utf8","text":"a\xef\xbf\xbdb"}\n' "$(counted 2 2)" "$both" --format json
-of_list 1 "::error file=list,line=1,col=1,title=no-scheme::there is no scheme and no base
+of_list 1 "::error file=list,line=1,col=1,title=no-scheme::there is no scheme and no base; name its base (--base)
 ::error file=list,line=2,col=2,title=not-utf8::this line isn't UTF-8\n" "$(counted 2 2)" "$both" --format github
 of_list 1 "$document<file name=\"list\">
-<error line=\"1\" column=\"1\" severity=\"error\" message=\"there is no scheme and no base\" source=\"urlcheck.no-scheme\"/>
+<error line=\"1\" column=\"1\" severity=\"error\" message=\"there is no scheme and no base; name its base (--base)\" source=\"urlcheck.no-scheme\"/>
 <error line=\"2\" column=\"2\" severity=\"error\" message=\"this line isn't UTF-8\" source=\"urlcheck.not-utf8\"/>
 </file>\n</checkstyle>\n" "$(counted 2 2)" "$both" --format checkstyle
 suites='<?xml version="1.0" encoding="UTF-8"?>\n<testsuites name="urlcheck">\n'
 run_passed='<testsuite name="urlcheck">\n<testcase classname="urlcheck" name="run"/>\n</testsuite>\n</testsuites>\n'
 of_list 1 "$suites<testsuite name=\"list\">\n<testcase classname=\"list\" name=\"file\"/>
-<testcase classname=\"list\" name=\"1:1 no-scheme\"><failure type=\"no-scheme\" message=\"there is no scheme and no base\">\
+<testcase classname=\"list\" name=\"1:1 no-scheme\"><failure type=\"no-scheme\" message=\"there is no scheme and no base; name its base (--base)\">\
 /\xe6\x97\xa5\xc3\xa9 </failure></testcase>
 <testcase classname=\"list\" name=\"2:2 not-utf8\"><failure type=\"not-utf8\" message=\"this line isn't UTF-8\">\
 a\xef\xbf\xbdb</failure></testcase>\n</testsuite>\n$run_passed" "$(counted 2 2)" "$both" --format junit
@@ -172,7 +103,7 @@ issue() {
     echo "{\"check_name\":\"$3\",\"description\":\"$4\",\"fingerprint\":\"$2\",\
 \"location\":{\"lines\":{\"begin\":$1},\"path\":\"list\"},\"severity\":\"major\"}"
 }
-no_scheme=$(issue 1 "$(digest '"list"\n0\nno-scheme\n0\n/\xe6\x97\xa5\xc3\xa9 ')" no-scheme 'there is no scheme and no base')
+no_scheme=$(issue 1 "$(digest '"list"\n0\nno-scheme\n0\n/\xe6\x97\xa5\xc3\xa9 ')" no-scheme 'there is no scheme and no base; name its base (--base)')
 no_utf8=$(issue 2 "$(digest '"list"\n0\nnot-utf8\n1\na\xef\xbf\xbdb')" not-utf8 "this line isn't UTF-8")
 of_list 1 "[\n$no_scheme\n,$no_utf8\n]\n" "$(counted 2 2)" "$both" --format gitlab
 of_list 0 '[\n]\n' "$(counted 1 0)" 'urn:a\n' --format gitlab
@@ -182,7 +113,7 @@ told() {
 \"end\":{\"column\":$3,\"line\":$1},\"start\":{\"column\":$2,\"line\":$1}}},\"message\":\"$6\",\"severity\":\"ERROR\""
 }
 told_begin="{\"source\":{\"name\":\"urlcheck\"},\"severity\":\"ERROR\",\"diagnostics\":[\n"
-of_list 1 "$told_begin$(told 1 1 2 relative-url-string no-scheme 'there is no scheme and no base')}
+of_list 1 "$told_begin$(told 1 1 2 relative-url-string no-scheme 'there is no scheme and no base; name its base (--base)')}
 ,$(told 2 2 2 '' not-utf8 "this line isn't UTF-8")}\n]}\n" "$(counted 2 2)" "$both" --format rdjson
 of_list 0 "$told_begin]}\n" "$(counted 1 0)" 'urn:a\n' --format rdjson
 # Its columns are bytes of UTF-8: after 13 of them is one of three, and with the suggestion all 16 are replaced.
@@ -313,15 +244,6 @@ on_third checkstyle $'a&b<">\t\n\r\x01\xef\xbf\xbe' http://h:65536/ \
     "$document<file name=\"a&amp;b&lt;&quot;&gt;&#9;&#10;&#13;\xef\xbf\xbd\xef\xbf\xbd\">
 <error line=\"3\" column=\"10\" severity=\"error\" message=\"the port that begins here is above 65535\" \
 source=\"urlcheck.port-range\"/>\n</file>\n</checkstyle>\n"
-
-# Why a host is no domain, where more than one thing is wrong with it: a code point comes first, then an empty label.
-of_list 1 "list:1:8: $(in_domain '0021 EXCLAMATION MARK')\nlist:2:8: $(in_domain '005F LOW LINE')\nlist:3:8: $empty
-list:4:8: $outer\nlist:5:8: $outer\nlist:6:8: $inner\nlist:7:8: $none\n" "$(counted 7 7)" \
-    'http://a!..b\nhttp://x_y/!\nhttp://a-..b\nhttp://a.b-:80\nhttp://xm--\nhttp://xm--n?\nhttp://xn--a-\n'
-of_list 1 "list:1:8: $(in_domain '0021 EXCLAMATION MARK')\nlist:2:8: $empty\n" "$(counted 2 2)" \
-    'http://x_y!\nhttp://-a..\n' --wide
-of_list 1 "list:1:8: $(in_domain '0020 SPACE')\nlist:2:8: $none\n" "$(counted 2 2)" 'http://%_ /\nhttp://a..%20\n' \
-    --profile parser
 
 # A link that doesn't begin its line: the column is that of the line, and the caret is below the link.
 # at_40 FORMAT FILE STDOUT : a lint in this format of a link in the 40th column of a file, with a space after ten of

@@ -50,7 +50,7 @@ for name in names:
 
 # JSON: an object a line, with these members and no others; a link of more than 2,000 code points is cut. The sentence
 # of some rules names the code point at the column.
-POINT = re.compile("^U\\+([0-9A-F]{4,6}) ?(.*) (is not allowed in a URL|is not allowed in a host|is no digit of a port"
+POINT = re.compile("^U\\+([0-9A-F]{4,6}) ?(.*) (is not allowed in a URL|is not allowed in a host|is not allowed in a port"
                    "|has to be followed by two hex digits)$")
 
 
@@ -76,20 +76,42 @@ def names_point(sentence, c):
 TEMPLATE = "; this looks like a template: check what it makes"
 WINDOWS = "; this looks like a path of Windows, whose URL begins with file:///"
 TWICE = "; this has two schemes: write one of them"
-JOINED = "; --profile wide allows it; write one slash where two weren't meant"
+LINKS = "; these are two links: write each by itself"
+ESCAPE = "; %u isn't an escape of URLs: write those of UTF-8"
+JOINED = ("; write one slash", "; write one slash, or use --profile wide")
 SCHEME = "(?:https?|ftp|wss?|file)"
 
 
+# What is in a template; variables of Windows only where there are two percent signs.
+MARK = re.compile(r"%(?:[s(]|d(?![A-Za-z0-9]))|\$[A-Z]|<(?:%|[A-Za-z][A-Za-z0-9_-]*>)|\[[A-Z][A-Z0-9_]*\]"
+                  r"|\A[^/]*/[^/]*/[^/?#:]*:[Pp][Oo][Rr][Tt](?=[/?#]|\Z)")
+VARIABLE = re.compile(r"%(?![0-9A-Fa-f]{2})[A-Z][A-Z0-9_]*(?=%|\Z)")
+# The schemes whose paths have rules of their own.
+RULED = "(?:mailto|tel|sms|sips?|xmpp|geo|about|view-source):"
+
+
+def is_template(text):
+    if re.match(r"(?:data|javascript)(?::|\Z)", text, re.I):
+        return False
+    return ("{" in text and '{"' not in text) or MARK.search(text) or (text.count("%") > 1 and VARIABLE.search(text))
+
+
 def meant(text):
-    if re.search(r"\{\{|\{%|\$\{|<%|%s", text):
+    if is_template(text):
         return TEMPLATE
-    if re.match(r"[A-Za-z]:\\|\\\\(?s:.)", text):
+    if re.match(r"[A-Za-z]:[\\/]|\\\\(?s:.)", text):
         return WINDOWS
-    return TWICE if re.match(f"{SCHEME}:/{{0,2}}{SCHEME}:?//", text, re.A | re.I) else ""
+    if re.match(f"{SCHEME}:/{{0,2}}{SCHEME}:?//", text, re.A | re.I):
+        return TWICE
+    if re.search(" https?://", text.partition(":")[2]):
+        return LINKS
+    return ESCAPE if re.search("%u[0-9A-Fa-f]", text) else ""
 
 
 def is_offered(text, instead):
-    return not meant(text) and not ("/.//" in instead and "/.//" not in text)
+    host = re.match("[^/]*/[^/]*/([0-9][0-9.]*)(?=[/?#:]|\\Z)", instead)
+    path = re.split("[?#]", instead)[0] if re.match(RULED, instead, re.I) else ""
+    return not (meant(text) or ("/.//" in instead and "/.//" not in text) or (host and host[1] not in text) or path not in text)
 
 
 def text_of(one):
@@ -123,8 +145,8 @@ for entry in read("hostile.json").split("\n")[:-1]:
     want(one["text"] == (window(text, place)[0] if one["cut"] else text), f"json: the text of line {one['line']}")
     want(0 <= place <= len(text), f"json: column {one['column']} of line {one['line']}")
     if one["rule"] in ("code-point", "host-code-point", "port-digit", "percent"):
-        said = one["message"].removesuffix(meant(text))
-        want(names_point(said, text[place]), f"json: {one['message']} of line {one['line']}")
+        want(names_point(one["message"].split("; ")[0], text[place]), f"json: {one['message']} of line {one['line']}")
+        want(one["message"].endswith(meant(text)), f"json: {one['message']} of line {one['line']}")
     elif one["rule"] not in ("not-utf8", "line-too-long"):
         note = meant(text) or (JOINED if one["rule"] == "first-segment-empty" else "")
         want(one["message"].endswith(note), f"json: {one['message']} of line {one['line']}")

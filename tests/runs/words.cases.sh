@@ -99,7 +99,7 @@ expect 0 'valid\nscheme http\nhost domain a-b\nsegment \n' '' check --profile pa
 expect 0 'valid\nscheme http\nhost ipv4 1.0.0.2\nsegment x\n' '' check x --base http://1.2/ --profile=parser
 expect 0 'links 0 ok 0 bad 0 differs 0\n' '' links --base http://h_/ --profile wide
 expect 2 '' "$(no_base 7 host-domain 'U+005F LOW LINE is not allowed in a domain; --profile wide allows it')" links --profile=standard --base http://h_/
-expect 2 '' "$(no_base 7 host-domain 'U+0021 EXCLAMATION MARK is not allowed in a domain; --profile parser allows it')" links --wide --base http://h_!/
+expect 2 '' "$(no_base 7 host-domain 'U+0021 EXCLAMATION MARK is not allowed in a domain')" links --wide --base http://h_!/
 expect 2 '' "$(no_base 7 host-domain 'U+0020 SPACE is not allowed in a domain')" mend --profile parser --base 'http://h_! /' x
 expect 0 'mended same\na%20b\n' '' mend --base http://h_/ --wide 'a b'
 refused "'--parser'" check --parser urn:a
@@ -418,5 +418,5 @@ expect 1 'refused 7 host-domain\nrefused 14 port-digit\nrefused 16 code-point\n'
 expect 0 'valid\nscheme file\nhost domain h\nsegment C:\nsegment x\n' '' check --profile parser --base file://h/a /C:/x
 expect 0 'valid\nscheme urn\nopaque a b\nfragment f\n' '' check --profile parser --base 'urn:a b' '#f'
 expect 2 '' "$(no_base 5 code-point 'U+0020 SPACE is not allowed in a URL')" check --wide --base 'urn:a b' '#f'
-expect 2 '' "$(no_base 7 host-number 'the host that begins here ends in a number, and is no IPv4 address')" check --profile parser --base http://256/ x
+expect 2 '' "$(no_base 7 host-number '256 is above 255, the largest number of an IPv4 address')" check --profile parser --base http://256/ x
 all_cases 322

@@ -3,7 +3,7 @@ use Rattle.std.specs.Prelude.{◌≡◌, ℕ, ◌⊎◌, ◌≤◌, ◌<◌, Lis
 use Rattle.std.specs.Str.{chars}
 use Rattle.uv_model.specs.declared.profile.Profile.{Profile}
 use Rattle.uv_report.specs.declared.line_violation.LineViolation.{LineViolation}
-use Rattle.uv_report.specs.Sentences.Message.{message}
+use Rattle.uv_report.specs.Diagnostic.{IsMessage}
 use Rattle.urlcheck_c.specs.declared.finding.Finding.{Finding}
 use Rattle.urlcheck_c.specs.declared.finding.CallOutcome.TheVariants.{NoProfile, NoUtf8, NoRule, NoPlace}
 use Rattle.urlcheck_c.specs.declared.reports.messages.FoundViolation.{FoundViolation}
@@ -40,4 +40,4 @@ abbrev pub IsMessageAnswer : ℕ → ℕ → ℕ → List ℕ → List ℕ → L
 IsMessageAnswer number rule place bytes old new answer =
     ((finding : Finding) × IsNoViolation number rule place bytes finding × IsUnwritten finding old new answer)
     ⊎ ((profile : Profile) × (violation : LineViolation) × IsViolation number rule place bytes profile violation
-    × IsGiven (message profile bytes violation) old new answer)
+    × ((said : List ℕ) × IsMessage said × IsGiven said old new answer))

@@ -7,6 +7,7 @@ use crate::linted::Linted;
 use std::alloc::{AllocError, Global};
 use std::io::ErrorKind;
 use uv_filter::FilterFault;
+use uv_grammar::wider_profile;
 use uv_links::LinkFault;
 use uv_lint::{LintCounts, LintFault};
 use uv_messages::contents::{Content, content_line};
@@ -17,7 +18,7 @@ use uv_messages::unknown::{
 };
 use uv_messages::unread::{unread, unwritten, unwritten_line};
 use uv_model::{Profile, Refusal, Rule};
-use uv_report::{Format, LineViolation, push_message};
+use uv_report::{Checked, Format, LineViolation, SeenText, Wording, message};
 use uv_words::Job;
 
 // How standard input is named.
@@ -114,13 +115,16 @@ fn said_of_base(alloc: Global, job: &Job, refusal: Refusal) -> Result<Message, A
     let mut line = format!(in alloc; "the base is refused at place {place}: ")?;
     match refusal.rule {
         Rule::NoScheme => line.push_str("it has no scheme")?,
-        _ => push_message(
-            alloc,
-            &mut line,
-            profile,
-            base,
-            LineViolation::Refused(refusal),
-        )?,
+        _ => {
+            let checked = Checked {
+                profile,
+                accepted_by: wider_profile(alloc, base, None, profile)?,
+                wording: Wording::Options,
+            };
+            let violation = LineViolation::Refused(refusal);
+            let said = message(alloc, checked, &SeenText::new(base), violation)?;
+            line.push_str(said.as_str())?;
+        }
     }
     Message::of(alloc, line.as_str())
 }

@@ -18,11 +18,13 @@ use crate::setting::{LineForm, LintSetting};
 use std::alloc::{AllocError, Global};
 use std::borrow::CowStr;
 use std::str::{from_utf8, from_utf8_unchecked};
+use uv_grammar::wider_profile;
 use uv_io::{DeviceFault, Sink};
 use uv_lines::{ReportFault, end_part};
+use uv_model::Profile;
 use uv_report::{
-    ColumnCounter, Diagnostic, Fix, LineViolation, Region, SeenText, message, push,
-    push_file_begin, push_file_end, push_shown,
+    Checked, ColumnCounter, Diagnostic, Fix, LineViolation, Region, SeenText, Wording, message,
+    push, push_file_begin, push_file_end,
 };
 
 /// A line, or the link of one, with the place where it is.
@@ -189,10 +191,26 @@ fn message_of(
 ) -> Result<String, AllocError>
     ensures { IfOk result (λ text. IsMessage (string_bytes text)) }
 {
-    let sentence = message(alloc, setting.profile, seen, violation)?;
-    let mut text = String::with_capacity(alloc, sentence.len())?;
-    push_shown(&mut text, sentence.as_str())?;
-    Ok(text)
+    let checked = Checked {
+        profile: setting.profile,
+        accepted_by: accepted_by(alloc, setting, seen.as_str(), violation)?,
+        wording: Wording::Options,
+    };
+    message(alloc, checked, seen, violation)
+}
+
+// The next wider profile that accepts a text, where the message on a violation of it may name one.
+fn accepted_by(
+    alloc: Global,
+    setting: LintSetting<'_>,
+    text: &str,
+    violation: LineViolation,
+) -> Result<Option<Profile>, AllocError> {
+    if violation.is_by_choice() {
+        wider_profile(alloc, text, setting.base, setting.profile)
+    } else {
+        Ok(None)
+    }
 }
 
 // A text of which this was found, as it is seen.

@@ -114,17 +114,17 @@ impl Rule {
             }
             Rule::TwoSlashes => "// has to follow this scheme",
             Rule::HostMissing => "a host is missing here",
-            Rule::HostDomain => "the host that begins here is no valid domain",
+            Rule::HostDomain => "the host that begins here is not a valid domain",
             Rule::HostNumber => {
-                "the host that begins here ends in a number, and is no IPv4 address"
+                "the host that begins here ends in a number, and is not an IPv4 address"
             }
-            Rule::HostIpv6 => "the host that begins here is no IPv6 address in brackets",
+            Rule::HostIpv6 => "the host that begins here is not an IPv6 address in brackets",
             Rule::HostCodePoint => "this code point is not allowed in a host",
-            Rule::PortDigit => "this code point of the port is no digit",
+            Rule::PortDigit => "this code point is not allowed in a port",
             Rule::PortRange => "the port that begins here is above 65535",
-            Rule::FirstSegmentEmpty => "the path's first segment is empty, and others follow it",
+            Rule::FirstSegmentEmpty => "the path begins with //",
             Rule::DriveAfterHost => {
-                "the path that begins here begins with /, a drive letter and /, and follows a host"
+                "the path after this host begins with a drive letter"
             }
             Rule::CodePoint => "this code point is not allowed in a URL",
             Rule::Percent => "two hex digits have to follow this %",

@@ -10,7 +10,7 @@ use Rattle.std.proofs.lemmas.Bool.{cases_Bool, cases_eq, false≢true, or_cases,
 use Rattle.std.proofs.lemmas.Bool.Decides.{Decides-eqb, same_from_decides}
 use Rattle.std.proofs.lemmas.Slice.Eq.{starts_is}
 use Rattle.uv_report.specs.Sentences.Drive.{without_slash}
-use Rattle.uv_report.specs.Sentences.Intention.{has_brace_mark, has_percent_mark, has_piece}
+use Rattle.uv_report.specs.Sentences.Template.{has_piece}
 
 -- a text begins with a piece
 begins_with : (text piece : List ℕ) → starts_with nat_eq text piece ≡ true → text ≡ piece ++ drop (length piece) text
@@ -49,44 +49,6 @@ pub found_is : (piece text : List ℕ) (found : Bool) → ((found ≡ true) ↔ 
     → found ≡ has_piece piece text
 found_is piece text found is =
     same_from_decides found (has_piece piece text) (is.0, is.1) (piece_stands piece text, piece_found piece text)
-
-any_after : (p : ℕ → Bool) (before after : List ℕ) → list_any p after ≡ true → list_any p (before ++ after) ≡ true
-any_after p [] after is = is
-any_after p (b ∷ before) after is = or_right (p b) (list_any p (before ++ after)) (any_after p before after is)
-
-any_before : (p : ℕ → Bool) (before after : List ℕ) → list_any p before ≡ true → list_any p (before ++ after) ≡ true
-any_before p [] after is = absurd (false≢true is)
-any_before p (b ∷ before) after is = elim (or_cases (p b) (list_any p before) is) [
-  | inl here ↦ or_left (p b) (list_any p (before ++ after)) here
-  | inr later ↦ or_right (p b) (list_any p (before ++ after)) (any_before p before after later)
-]
-
--- a text that lacks a byte of a piece has no such piece
-pub piece_lacks : (byte : ℕ) (piece text : List ℕ) → list_any (λ b. b == byte) piece ≡ true
-    → list_any (λ b. b == byte) text ≡ false → has_piece piece text ≡ false
-piece_lacks byte piece text held lacks = elim (cases_Bool (has_piece piece text)) [
-  | inl there ↦
-      let (before, after, split) = piece_stands piece text there in
-      let is_byte : ℕ → Bool = λ b. b == byte in
-      let found : list_any is_byte text ≡ true = ap (list_any is_byte) split
-      ∙ any_after is_byte before (piece ++ after) (any_before is_byte piece after held) in
-      absurd (false≢true (sym lacks ∙ found))
-  | inr other ↦ other
-]
-
--- a text without `{` has no mark with it
-pub lacks_brace_marks : (text : List ℕ) → list_any (λ b. b == 0x7B) text ≡ false → has_brace_mark text ≡ false
-lacks_brace_marks text lacks =
-    rw (
-      piece_lacks 0x7B (codes "{{") text refl lacks,
-      piece_lacks 0x7B (codes "{%") text refl lacks,
-      piece_lacks 0x7B (codes "${") text refl lacks,
-    ) refl
-
--- a text without `%` has no other mark
-pub lacks_percent_marks : (text : List ℕ) → list_any (λ b. b == 0x25) text ≡ false → has_percent_mark text ≡ false
-lacks_percent_marks text lacks =
-    rw (piece_lacks 0x25 (codes "<%") text refl lacks, piece_lacks 0x25 (codes "%s") text refl lacks) refl
 
 -- what follows a `/`, or all where there is none
 pub without_slash-is : (text : List ℕ) (rest : Bor (List ℕ)) → text ≡ 0x2F ∷ rest.now → rest.now ≡ without_slash text

@@ -1,8 +1,5 @@
--- What is said of a line: a sentence, and the notes that it ends with.
-pub mod CodePoint
-pub mod Ipv6
+-- What a text shows of its author's intention, which decides what is offered.
+pub mod Authority
 pub mod Drive
-pub mod Domain
+pub mod Template
 pub mod Intention
-pub mod Start
-pub mod Message

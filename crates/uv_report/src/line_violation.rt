@@ -23,6 +23,20 @@ pub enum LineViolation {
 }
 
 impl LineViolation {
+    /// Whether another profile may accept a text that is refused so: for its host, for an empty first segment, or for a
+    /// drive letter after a host.
+    pub fn is_by_choice(self) -> bool {
+        match self {
+            LineViolation::Refused(refusal) => matches!(
+                refusal.rule,
+                Rule::HostDomain | Rule::FirstSegmentEmpty | Rule::DriveAfterHost
+            ),
+            LineViolation::NotUtf8(_) | LineViolation::TooLong | LineViolation::NotLocated(_) => {
+                false
+            }
+        }
+    }
+
     /// The name of the violated rule, else `not-utf8`, `line-too-long` or `not-located`.
     pub fn name(self) -> &'static str
         ensures { result.now ≡ violation_name self }

@@ -1,8 +1,14 @@
-//! What is said of a line: the sentence in `message`, and in the others the notes that it ends with.
+//! What is said of a line: the sentence in `message`, of which the other files make a part. In `intention` is whether a
+//! text is offered in place of a line.
+pub(crate) mod authority;
 pub(crate) mod code_point;
 pub(crate) mod domain;
 pub(crate) mod drive;
 pub(crate) mod intention;
+pub(crate) mod ipv4;
 pub(crate) mod ipv6;
 pub(crate) mod message;
+pub(crate) mod pieces;
 pub(crate) mod start;
+pub(crate) mod template;
+pub(crate) mod wording;

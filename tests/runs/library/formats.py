@@ -161,7 +161,7 @@ class Alone(Reported):
         """It is named, as `lint` names it."""
         self.write("a.xml", "<urlset><loc>\u200bhttp://h/</loc></urlset>")
         found = json.loads(self.reported("json", "a.xml"))
-        self.assertEqual((found["message"], found["rule"]), ("U+200B is before the scheme", "no-scheme"))
+        self.assertEqual((found["message"], found["rule"]), ("U+200B is before the scheme; leave it out", "no-scheme"))
 
     def test_character_references(self):
         """The place is that in the source, the texts are those that were read, and no fix writes them."""

@@ -1,7 +1,7 @@
 //! The sentence on what is wrong with a text.
 ghost use Rattle.std.specs.Prelude.{◌≡◌, ◌↔◌, ◌≤◌, IfOk, IsTrue, length, string_bytes};
 ghost use Rattle.std.specs.Str.{chars};
-ghost use Rattle.uv_report.specs.Sentences.Message as reported;
+ghost use Rattle.uv_report.specs.Diagnostic.{IsMessage};
 ghost use Rattle.urlcheck_c.specs.Violation.{IsMessageAnswer, IsViolationRead};
 
 use crate::finding::{CallOutcome, Finding};
@@ -9,8 +9,9 @@ use crate::reports::report_numbers::violation_of;
 use crate::request::{profile_of, text_of};
 use crate::written::{Written, given};
 use std::alloc::{AllocError, Global};
+use uv_grammar::wider_profile;
 use uv_model::Profile;
-use uv_report::{LineViolation, push_message};
+use uv_report::{Checked, LineViolation, SeenText, Wording, message};
 use uv_text::count_code_points;
 
 /// What is wrong with a text that is checked by a profile.
@@ -38,7 +39,7 @@ pub extern "C" fn urlcheck_message(
     ensures { IsMessageAnswer profile rule place text.now out.old out.new result }
 {
     match violation_read(text, profile, rule, place) {
-        Ok(found) => given(&message(alloc, &found), out),
+        Ok(found) => given(&sentence(alloc, &found), out),
         Err(found) => Written::none(found),
     }
 }
@@ -71,11 +72,18 @@ pub(crate) fn violation_read<'t>(
 }
 
 // The sentence.
-fn message(alloc: Global, found: &FoundViolation<'_>) -> Result<String, AllocError>
-    ensures { IfOk result (λ text. string_bytes text
-        ≡ reported.message found.now.profile found.now.text.now found.now.violation) }
+fn sentence(alloc: Global, found: &FoundViolation<'_>) -> Result<String, AllocError>
+    ensures { IfOk result (λ text. IsMessage (string_bytes text)) }
 {
-    let mut text = String::new(alloc);
-    push_message(alloc, &mut text, found.profile, found.text, found.violation)?;
-    Ok(text)
+    let accepted_by = if found.violation.is_by_choice() {
+        wider_profile(alloc, found.text, None, found.profile)?
+    } else {
+        None
+    };
+    let checked = Checked {
+        profile: found.profile,
+        accepted_by,
+        wording: Wording::Options,
+    };
+    message(alloc, checked, &SeenText::new(found.text), found.violation)
 }

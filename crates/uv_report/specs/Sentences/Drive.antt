@@ -6,7 +6,7 @@ use Rattle.std.specs.List.{after_first, before_first}
 use Rattle.std.specs.Str.{bytes_eq, chars}
 use Rattle.uv_model.specs.Ascii.{colon, slash, vertical_bar}
 use Rattle.uv_model.specs.Scheme.{lowercase}
-use Rattle.uv_report.specs.Sentences.Ipv6.{before_end}
+use Rattle.uv_report.specs.Sentences.Authority.{before_end}
 
 -- what is before the first `:` is `file` in any case
 abbrev pub is_file_link : List ℕ → Bool
@@ -27,7 +27,3 @@ abbrev pub has_barred_drive : List ℕ → Bool
 has_barred_drive text =
     is_file_link text
     && is_barred_drive (before_end (without_slash (without_slash (without_slash (after_first (λ b. b == colon) text)))))
-
--- what is said of a host that is a drive letter
-abbrev pub drive_sentence : List ℕ
-drive_sentence = codes "a drive letter is written after file:///, and not in place of a host"

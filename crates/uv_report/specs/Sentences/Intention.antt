@@ -1,49 +1,30 @@
 -- What the author of a refused text likely meant, where that is something else than what the text is mended to. A
 -- mended text is valid, whatever was meant: whether it is offered is found here, by what both texts show.
-use Rattle.std.specs.Prelude.{ℕ, Bool, true, false, not, ◌&&◌, ◌||◌, ◌==◌, nat_eq, List, [], ◌∷◌, ◌++◌, codes}
+use Rattle.std.specs.Prelude.{ℕ, Bool, true, false, not, ◌&&◌, ◌||◌, ◌==◌, List, [], ◌∷◌, codes}
 use Rattle.std.specs.Prelude.{if◌then◌else◌, is_none, Option, Some, None}
-use Rattle.std.specs.Char.{is_ascii_alphabetic}
-use Rattle.std.specs.List.{after_first, before_first, starts_with}
-use Rattle.std.specs.Str.{chars}
-use Rattle.uv_model.specs.declared.rule.Rule.{Rule}
-use Rattle.uv_model.specs.declared.rule.Rule.TheVariants.{DriveAfterHost, FirstSegmentEmpty}
+use Rattle.std.specs.Char.{is_ascii_alphabetic, is_ascii_digit, is_ascii_hexdigit}
+use Rattle.std.specs.List.{after_first, before_first, list_all, list_any}
+use Rattle.std.specs.Str.{bytes_eq, chars}
 use Rattle.uv_model.specs.declared.scheme.Class.{Class}
 use Rattle.uv_model.specs.declared.scheme.Class.TheVariants.{SpecialNotFile, File, Other}
-use Rattle.uv_model.specs.Ascii.{backslash, colon, slash}
+use Rattle.uv_model.specs.Ascii.{backslash, colon, full_stop, percent_sign, slash}
 use Rattle.uv_model.specs.Path.{starts_with_slash}
-use Rattle.uv_model.specs.Scheme.{scheme_class}
+use Rattle.uv_model.specs.Scheme.{lowercase, scheme_class}
 use Rattle.uv_report.specs.declared.sentences.intention.Intention.{Intention}
 use Rattle.uv_report.specs.declared.sentences.intention.Intention.TheVariants.{Template, WindowsPath, DriveLetter}
-use Rattle.uv_report.specs.declared.sentences.intention.Intention.TheVariants.{TwoSchemes, JoinedSlashes}
+use Rattle.uv_report.specs.declared.sentences.intention.Intention.TheVariants.{TwoSchemes, TwoLinks, OldEscape}
+use Rattle.uv_report.specs.declared.sentences.intention.Intention.TheVariants.{JoinedSlashes, OtherAddress, RuledPath}
 use Rattle.uv_report.specs.Sentences.Drive.{has_barred_drive, without_slash}
-
--- ---- a template
-
--- a piece is in a text
-abbrev pub has_piece : List ℕ → List ℕ → Bool
-has_piece piece [] = starts_with nat_eq [] piece
-has_piece piece (b ∷ rest) = starts_with nat_eq (b ∷ rest) piece || has_piece piece rest
-
--- It has a mark with a brace of what a program writes another text for: in Jinja, Liquid, Go and Mustache, in shells
--- and JavaScript.
-abbrev pub has_brace_mark : List ℕ → Bool
-has_brace_mark text = has_piece (codes "{{") text || (has_piece (codes "{%") text || has_piece (codes "${") text)
-
--- it has another such mark: in ERB and JSP, and in printf
-abbrev pub has_percent_mark : List ℕ → Bool
-has_percent_mark text = has_piece (codes "<%") text || has_piece (codes "%s") text
-
--- it has either
-abbrev pub is_template : List ℕ → Bool
-is_template text = has_brace_mark text || has_percent_mark text
+use Rattle.uv_report.specs.Sentences.Authority.{authority_text, before_query}
+use Rattle.uv_report.specs.Sentences.Template.{after_marks, begins_with, has_piece, is_template}
 
 -- ---- a path of Windows
 
--- it begins with a drive letter, `:` and `\`, or with the `\\` before the name of a server
+-- it begins with a drive letter, `:` and `\` or `/`, or with the `\\` before the name of a server
 abbrev pub is_windows_path : List ℕ → Bool
 is_windows_path (first ∷ second ∷ third ∷ rest) =
     ((first == backslash) && (second == backslash))
-    || (is_ascii_alphabetic first && ((second == colon) && (third == backslash)))
+    || (is_ascii_alphabetic first && ((second == colon) && ((third == backslash) || (third == slash))))
 is_windows_path _ = false
 
 -- ---- two schemes
@@ -75,6 +56,53 @@ has_two_schemes text =
     is_link_scheme (before_first (λ b. b == colon) text)
     && begins_link (without_slash (without_slash (after_first (λ b. b == colon) text)))
 
+-- ---- two links
+
+-- after the first `:` a space is before the beginning of another link
+abbrev pub has_two_links : List ℕ → Bool
+has_two_links text =
+    has_piece (codes " http://") (after_first (λ b. b == colon) text)
+    || has_piece (codes " https://") (after_first (λ b. b == colon) text)
+
+-- ---- an escape of another kind
+
+-- after a `%`: `u` and a hex digit, as JavaScript's `escape` writes a code point
+abbrev pub is_old_escape : List ℕ → Bool
+is_old_escape (first ∷ second ∷ rest) = (first == 0x75) && is_ascii_hexdigit second
+is_old_escape _ = false
+
+-- ---- an address
+
+-- the host of a text with an authority, which isn't in brackets
+abbrev pub host_of : List ℕ → List ℕ
+host_of text = before_first (λ b. b == colon) (authority_text text)
+
+-- a digit or a full stop
+abbrev pub is_of_address : ℕ → Bool
+is_of_address b = is_ascii_digit b || (b == full_stop)
+
+-- digits and full stops, with a digit first
+abbrev pub is_dotted : List ℕ → Bool
+is_dotted host = begins_with is_ascii_digit host && list_all is_of_address host
+
+-- The mended text's host is an IPv4 address that isn't in the text: a number was read as octal or as hex, or one number
+-- as several.
+abbrev pub has_other_address : List ℕ → List ℕ → Bool
+has_other_address text mended = is_dotted (host_of mended) && not (has_piece (host_of mended) text)
+
+-- ---- a path with rules of its own
+
+-- a scheme whose paths have rules of their own
+abbrev pub is_ruled : List ℕ → Bool
+is_ruled scheme = list_any (λ name. bytes_eq (lowercase (chars scheme)) name) (
+    codes "mailto" ∷ codes "tel" ∷ codes "sms" ∷ codes "sip" ∷ codes "sips" ∷ codes "xmpp" ∷ codes "geo" ∷ codes "about"
+    ∷ codes "view-source" ∷ [])
+
+-- the mended text's path is such a one, and isn't in the text
+abbrev pub has_other_path : List ℕ → List ℕ → Bool
+has_other_path text mended =
+    is_ruled (before_first (λ b. b == colon) mended) && not (has_piece (before_query mended) text)
+
 -- ---- what was meant
 
 -- what a text shows alone
@@ -84,6 +112,8 @@ shown_intention text =
     else if is_windows_path text then Some WindowsPath
     else if has_barred_drive text then Some DriveLetter
     else if has_two_schemes text then Some TwoSchemes
+    else if has_two_links text then Some TwoLinks
+    else if list_any is_old_escape (after_marks percent_sign text) then Some OldEscape
     else None
 
 -- `/.` is before `//` in the mended text alone: a path that began with `//` is kept so, which two joined texts may
@@ -91,10 +121,18 @@ shown_intention text =
 abbrev pub joins_slashes : List ℕ → List ℕ → Bool
 joins_slashes text mended = has_piece (codes "/.//") mended && not (has_piece (codes "/.//") text)
 
+-- what both texts show
+abbrev pub shown_by_both : List ℕ → List ℕ → Option Intention
+shown_by_both text mended =
+    if joins_slashes text mended then Some JoinedSlashes
+    else if has_other_address text mended then Some OtherAddress
+    else if has_other_path text mended then Some RuledPath
+    else None
+
 -- what a text shows alone, or beside its mended text
 abbrev pub intention_beside : Option Intention → List ℕ → List ℕ → Option Intention
 intention_beside (Some shown) text mended = Some shown
-intention_beside None text mended = if joins_slashes text mended then Some JoinedSlashes else None
+intention_beside None text mended = shown_by_both text mended
 
 -- what a text shows that its author meant, where that is something else than the mended text
 unfoldable pub intention : List ℕ → List ℕ → Option Intention
@@ -103,25 +141,3 @@ intention text mended = intention_beside (shown_intention text) text mended
 -- the mended text is offered: nothing shows that something else was meant
 abbrev pub is_offered : List ℕ → List ℕ → Bool
 is_offered text mended = is_none (intention text mended)
-
--- ---- what is said of it, after what is wrong
-
--- of an intention
-abbrev pub intention_note : Intention → List ℕ
-intention_note Template = codes "; this looks like a template: check what it makes"
-intention_note WindowsPath = codes "; this looks like a path of Windows, whose URL begins with file:///"
-intention_note DriveLetter = codes "; a drive letter is written with :"
-intention_note TwoSchemes = codes "; this has two schemes: write one of them"
-intention_note JoinedSlashes = codes "; write one slash where two weren't meant"
-
--- of a text that shows this alone, and violates a rule: where another profile takes that, which one does, and two
--- slashes are before a first segment that is empty
-abbrev pub note_by : Option Intention → Rule → List ℕ
-note_by (Some shown) rule = intention_note shown
-note_by None FirstSegmentEmpty = codes "; --profile wide allows it" ++ intention_note JoinedSlashes
-note_by None DriveAfterHost = codes "; --profile parser allows it"
-note_by None rule = []
-
--- of a text
-unfoldable pub meant_note : List ℕ → Rule → List ℕ
-meant_note text rule = note_by (shown_intention text) rule

@@ -2,9 +2,7 @@
 ghost use Rattle.std.specs.Prelude.{◌≡◌, ◌≤◌, ℕ, List, drop, slice_get};
 ghost use Rattle.std.specs.Str.{chars};
 ghost use Rattle.uv_report.specs.Sentences.Intention as intentions;
-ghost use Rattle.uv_report.specs.Sentences.Ipv6 as addresses;
-ghost use Rattle.uv_report.specs.Sentences.Message as reported;
-ghost use Rattle.uv_report.specs.Places.SeenText.{IsKnown, IsPart, IsSpot};
+ghost use Rattle.uv_report.specs.Places.SeenText.{IsKnown, IsSpot};
 ghost use Rattle.uv_report.specs.Places.Window as shown;
 
 use crate::places::window::{is_longer, rest_in};
@@ -59,7 +57,7 @@ impl<'t> Model for SeenText<'t> {
 
     ghost view = { λ s. s.text.now };
 
-    ghost invariant = { λ s. Sees s.text.now s.last s.window s.part s.intention s.known };
+    ghost invariant = { λ s. Sees s.text.now s.last s.window s.intention s.known };
 }
 
 impl<'t> SeenText<'t> {
@@ -118,9 +116,7 @@ impl<'t> SeenText<'t> {
     }
 
     // The part of the text with a place: the last one, where it is within that.
-    fn part_at(&self, place: usize) -> Part
-        ensures { IsPart self.now result }
-    {
+    fn part_at(&self, place: usize) -> Part {
         match self.part {
             Some(part) if part.from <= place && place <= part.to => part,
             _ => part_from(place, self.rest_at(place)),
@@ -128,7 +124,7 @@ impl<'t> SeenText<'t> {
     }
 
     /// The text.
-    pub(crate) fn as_str(&self) -> &'t str
+    pub fn as_str(&self) -> &'t str
         ensures { result.now ≡ self.now }
     {
         self.text
@@ -168,9 +164,7 @@ impl<'t> SeenText<'t> {
     }
 
     /// Whether an `@` follows from a place of a host or a port on, before the authority's end.
-    pub(crate) fn has_credentials(&self, place: usize) -> bool
-        ensures { result ≡ reported.has_credentials self.now place }
-    {
+    pub(crate) fn has_credentials(&self, place: usize) -> bool {
         match self.part {
             Some(part) if part.from <= place && place <= part.to => part.has_credentials,
             _ => has_credentials_in(self.rest_at(place)),
@@ -178,9 +172,7 @@ impl<'t> SeenText<'t> {
     }
 
     /// Whether the authority of a text that has one is an IPv6 text.
-    pub(crate) fn has_bare_ipv6(&self) -> bool
-        ensures { result ≡ addresses.has_bare_ipv6 self.now }
-    {
+    pub(crate) fn has_bare_ipv6(&self) -> bool {
         match self.known {
             Some(known) => known.has_bare_ipv6,
             None => ipv6::has_bare_ipv6(self.text),
@@ -234,9 +226,7 @@ fn spot_at<'t>(place: usize, rest: &'t str) -> Spot<'t>
 }
 
 // The part that begins at a place, before what is from there on.
-fn part_from(place: usize, rest: &str) -> Part
-    ensures { (text : List ℕ) → chars rest.now ≡ drop place (chars text) → IsPart text result }
-{
+fn part_from(place: usize, rest: &str) -> Part {
     Part {
         from: place,
         to: place.saturating_add(part_length(rest)),

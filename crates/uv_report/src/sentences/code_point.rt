@@ -1,8 +1,4 @@
 //! How a code point is named: by `U+` and its number, and by its name, where it is an ASCII code point.
-ghost use Rattle.uv_model.specs.Units.{is_noncharacter};
-ghost use Rattle.std.specs.Prelude.{◌≡◌, ◌++◌, IfOk, MatchOption, None, OnOk, codes, map, option_map, slice_get};
-ghost use Rattle.std.specs.Prelude.{string_bytes};
-ghost use Rattle.uv_report.specs.Sentences.CodePoint as spec;
 
 use crate::escaping::escapes::is_hidden;
 use std::alloc::{AllocError, Global};
@@ -139,69 +135,19 @@ const ASCII_POINTS: [&str; 128] = [
     "U+007F DELETE",
 ];
 
-/// Pushes a code point by `U+`, its number, and its name, or beyond ASCII the code point as it is, where it is shown.
-pub(crate) fn push_point(alloc: Global, text: &mut String, c: char) -> Result<(), AllocError>
-    ensures { OnOk result (string_bytes text.new ≡ string_bytes text.old ++ spec.point_text c) }
-{
-    match ascii_point(c) {
-        Some(point) => text.push_str(point),
-        None => push_other_point(alloc, text, c),
-    }
-}
-
-// An ASCII code point, by its number and its name.
-fn ascii_point(c: char) -> Option<&'static str>
-    ensures { MatchOption result (slice_get spec.ascii_names c ≡ None) (λ point. point.now ≡ spec.point_text c) }
-{
-    name_at(&ASCII_POINTS, c as usize)
-}
-
-// Pushes a code point by its number, and as it is, where it is shown.
-fn push_other_point(alloc: Global, text: &mut String, c: char) -> Result<(), AllocError>
-    ensures { OnOk result (string_bytes text.new
-        ≡ string_bytes text.old ++ (codes "U+" ++ (spec.hex_number c ++ spec.glyph c))) }
-{
-    let number = point_number(alloc, c)?;
-    text.push_str(number.as_str())?;
-    push_glyph(text, c)?;
-    Ok(())
-}
-
-// `U+`, and the number of a code point.
-fn point_number(alloc: Global, c: char) -> Result<String, AllocError>
-    ensures { IfOk result (λ text. string_bytes text ≡ codes "U+" ++ spec.hex_number c) }
-{
+/// A code point by `U+`, its number, and its name, or beyond ASCII the code point as it is, where it is seen.
+pub(crate) fn point_name(alloc: Global, c: char) -> Result<String, AllocError> {
     let number = u32::from(c);
-    format!(in alloc; "U+{number:04X}")
-}
-
-// Pushes a space and what is shown of a code point: the label of a noncharacter, else itself, where it is seen.
-fn push_glyph(text: &mut String, c: char) -> Result<(), AllocError>
-    ensures { OnOk result (string_bytes text.new ≡ string_bytes text.old ++ spec.glyph c) }
-{
-    if is_noncharacter(c) {
-        return text.push_str(" <noncharacter>");
+    match ASCII_POINTS.get(c as usize) {
+        Some(name) => String::from_str(alloc, name),
+        None if is_noncharacter(c) => format!(in alloc; "U+{number:04X} <noncharacter>"),
+        None if is_unseen(c) => format!(in alloc; "U+{number:04X}"),
+        None => format!(in alloc; "U+{number:04X} {c}"),
     }
-    if is_unseen(c) {
-        return Ok(());
-    }
-    text.push_str(" ")?;
-    text.push(c)?;
-    Ok(())
-}
-
-// The name at an index of a table.
-fn name_at<'t>(names: &[&'t str], index: usize) -> Option<&'t str>
-    ensures { option_map (λ name. name.now) result ≡ slice_get (map (λ name. name.now) names.now) index }
-{
-    names.get(index).copied()
 }
 
 // Whether a code point is a noncharacter (Infra Standard, section 4.6).
-#[tactic(auto, using(std::proofs::lemmas::Bool::Decides::nat_tests))]
-fn is_noncharacter(c: char) -> bool
-    ensures { result ≡ is_noncharacter c }
-{
+fn is_noncharacter(c: char) -> bool {
     match c {
         '\u{FDD0}'..='\u{FDEF}' => true,
         _ => u32::from(c) % 0x10000 >= 0xFFFE,
@@ -210,17 +156,12 @@ fn is_noncharacter(c: char) -> bool
 
 /// Whether nothing is seen of a code point that is alone: it isn't shown as it is, or is a tab, a space or
 /// invisible.
-pub(crate) fn is_unseen(c: char) -> bool
-    ensures { result ≡ spec.is_unseen c }
-{
+pub(crate) fn is_unseen(c: char) -> bool {
     is_hidden(c) || c == '\t' || is_space(c) || is_invisible(c)
 }
 
 // Whether a code point is a space.
-#[tactic(auto, using(std::proofs::lemmas::Bool::Decides::nat_tests))]
-fn is_space(c: char) -> bool
-    ensures { result ≡ spec.is_space c }
-{
+fn is_space(c: char) -> bool {
     match c {
         ' ' | '\u{A0}' | '\u{1680}' | '\u{202F}' | '\u{205F}' | '\u{3000}' => true,
         '\u{2000}'..='\u{200A}' => true,
@@ -229,10 +170,7 @@ fn is_space(c: char) -> bool
 }
 
 // Whether a code point is one of those of the format that draw nothing.
-#[tactic(auto, using(std::proofs::lemmas::Bool::Decides::nat_tests))]
-fn is_invisible(c: char) -> bool
-    ensures { result ≡ spec.is_invisible c }
-{
+fn is_invisible(c: char) -> bool {
     match c {
         '\u{AD}' | '\u{180E}' | '\u{FEFF}' => true,
         '\u{200B}'..='\u{200D}' | '\u{2060}'..='\u{206F}' => true,

@@ -1,21 +1,18 @@
 //! Drive letters of `file` links that are in the place of a host, or are written with `|`.
-ghost use Rattle.std.specs.List.{after_first, before_first};
+ghost use Rattle.std.specs.List.{after_first};
 ghost use Rattle.std.specs.Prelude.{◌≡◌, ◌==◌};
 ghost use Rattle.uv_model.specs.Ascii.{colon};
 ghost use Rattle.uv_report.specs.Sentences.Drive as spec;
 
-use crate::sentences::ipv6::before_end;
+use crate::sentences::authority::before_end;
+use crate::sentences::pieces::{after, before};
 use uv_model::is_name;
-
-/// What is said of a host that is a drive letter.
-pub(crate) const IN_PLACE_OF_A_HOST: &str =
-    "a drive letter is written after file:///, and not in place of a host";
 
 /// Whether a text is a `file` link whose first segment, after at most three slashes, is a letter and `|`.
 pub(crate) fn has_barred_drive(text: &str) -> bool
     ensures { result ≡ spec.has_barred_drive text.now }
 {
-    is_file_link(text) && is_barred_drive(before_end(first_segment(text).as_bytes()))
+    is_file_link(text) && is_barred_drive(before_end(first_segment(text)).as_bytes())
 }
 
 // What is after the first `:` and at most three slashes.
@@ -23,7 +20,7 @@ fn first_segment(text: &str) -> &str
     ensures { result.now ≡ spec.without_slash (spec.without_slash (spec.without_slash
         (after_first (λ b. b == colon) text.now))) }
 {
-    without_slash(without_slash(without_slash(after_scheme(text))))
+    without_slash(without_slash(without_slash(after(text, ':'))))
 }
 
 // Whether a segment is a letter and `|`, which the URL parser reads as a drive letter.
@@ -50,25 +47,5 @@ pub(crate) fn without_slash(text: &str) -> &str
 pub(crate) fn is_file_link(line: &str) -> bool
     ensures { result ≡ spec.is_file_link line.now }
 {
-    is_name(before_colon(line), "file")
-}
-
-/// What is before the first `:`.
-pub(crate) fn before_colon(line: &str) -> &str
-    ensures { result.now ≡ before_first (λ b. b == colon) line.now }
-{
-    match line.split_once(':') {
-        Some((scheme, _)) => scheme,
-        None => line,
-    }
-}
-
-/// What is after the first `:`.
-pub(crate) fn after_scheme(line: &str) -> &str
-    ensures { result.now ≡ after_first (λ b. b == colon) line.now }
-{
-    match line.split_once(':') {
-        Some((_, after)) => after,
-        None => "",
-    }
+    is_name(before(line, ':'), "file")
 }

@@ -1,36 +1,45 @@
 //! What the author of a refused text likely meant, where that is something else than what the text is mended to.
-ghost use Rattle.std.specs.List.{before_first, list_any};
-ghost use Rattle.std.specs.Prelude.{◌≡◌, ◌==◌, ◌++◌, OnOk, string_bytes};
-ghost use Rattle.uv_model.specs.Ascii.{slash};
+ghost use Rattle.std.specs.Char.{is_ascii_digit};
+ghost use Rattle.std.specs.List.{list_all, list_any, slice_split};
+ghost use Rattle.std.specs.Prelude.{◌≡◌, ◌==◌, ◌||◌, codes};
+ghost use Rattle.uv_model.specs.Ascii.{percent_sign};
 ghost use Rattle.uv_model.specs.Path.{starts_with_slash};
+ghost use Rattle.uv_report.specs.Sentences.Template.{begins_with, has_piece};
 ghost use Rattle.uv_report.specs.Sentences.Intention as spec;
 
 use crate::places::seen_text::SeenText;
-use crate::sentences::drive::{after_scheme, before_colon, has_barred_drive, without_slash};
-use crate::sentences::ipv6::after_slash;
-use std::alloc::AllocError;
-use uv_model::{Class, Rule, class_of};
+use crate::sentences::authority::{authority_of, before_query};
+use crate::sentences::drive::{has_barred_drive, without_slash};
+use crate::sentences::pieces::{after, before, has_piece};
+use crate::sentences::template::is_template;
+use uv_model::{Class, class_of, is_name};
 
 /// What the author of a refused text likely meant, which the mended text isn't.
 #[derive(Clone, Copy, PartialEq, Eq)]
 pub enum Intention {
-    /// A template, which a program writes another text for: `{{`, `{%`, `${`, `<%` or `%s` is in the text.
+    /// A template, from which a program writes another text, as in `http://h/{id}`.
     Template,
-    /// A path of Windows: the text begins with a letter, `:` and `\`, or with `\\`.
+    /// A path of Windows: the text begins with a letter, `:` and `\` or `/`, or with `\\`.
     WindowsPath,
     /// A drive letter: a letter and `|` are the first segment of a `file` link, as in `file:///C|/x`.
     DriveLetter,
     /// One URL alone: a scheme is after another one, as in `http://http://h/`.
     TwoSchemes,
+    /// Two links, with a space before the second one.
+    TwoLinks,
+    /// A code point as JavaScript's `escape` writes it: `%u` and a hex digit are in the text.
+    OldEscape,
     /// One slash: the mended text keeps two of them as `/.//`.
     JoinedSlashes,
+    /// Another address: the IPv4 address of the mended text isn't in the text, as in `http://192.168.010.1/`.
+    OtherAddress,
+    /// What the rules of a scheme take, as those of `tel`, where the mended text escapes a code point of the path.
+    RuledPath,
 }
 
 impl Intention {
-    // What is said of it, after what is wrong.
-    fn note(self) -> &'static str
-        ensures { result.now ≡ spec.intention_note self }
-    {
+    /// What is said of it, after what is wrong.
+    pub(crate) fn note(self) -> &'static str {
         match self {
             Intention::Template => "; this looks like a template: check what it makes",
             Intention::WindowsPath => {
@@ -38,7 +47,9 @@ impl Intention {
             }
             Intention::DriveLetter => "; a drive letter is written with :",
             Intention::TwoSchemes => "; this has two schemes: write one of them",
-            Intention::JoinedSlashes => "; write one slash where two weren't meant",
+            Intention::TwoLinks => "; these are two links: write each by itself",
+            Intention::OldEscape => "; %u isn't an escape of URLs: write those of UTF-8",
+            Intention::JoinedSlashes | Intention::OtherAddress | Intention::RuledPath => "",
         }
     }
 }
@@ -58,7 +69,7 @@ fn seen_intention(text: &SeenText<'_>, mended: &str) -> Option<Intention>
 {
     match text.shown_intention() {
         Some(shown) => Some(shown),
-        None => joined_slashes(text.as_str(), mended),
+        None => shown_by_both(text.as_str(), mended),
     }
 }
 
@@ -67,32 +78,6 @@ pub fn is_offered(text: &SeenText<'_>, mended: &str) -> bool
     ensures { result ≡ spec.is_offered text.now mended.now }
 {
     seen_intention(text, mended).is_none()
-}
-
-/// Pushes what a text that violates a rule shows of its author's intention, if it shows something.
-#[tactic(auto, unfolding(crate::specs::Sentences::Intention::meant_note))]
-pub(crate) fn push_meant_note(
-    text: &mut String,
-    line: &SeenText<'_>,
-    rule: Rule,
-) -> Result<(), AllocError>
-    ensures { OnOk result (string_bytes text.new ≡ string_bytes text.old ++ spec.meant_note line.now rule) }
-{
-    text.push_str(note_by(line.shown_intention(), rule))
-}
-
-// What is said of a text that shows this alone, and violates a rule.
-fn note_by(shown: Option<Intention>, rule: Rule) -> &'static str
-    ensures { result.now ≡ spec.note_by shown rule }
-{
-    match (shown, rule) {
-        (Some(intention), _) => intention.note(),
-        (None, Rule::FirstSegmentEmpty) => {
-            "; --profile wide allows it; write one slash where two weren't meant"
-        }
-        (None, Rule::DriveAfterHost) => "; --profile parser allows it",
-        (None, _) => "",
-    }
 }
 
 /// What a text shows alone.
@@ -112,69 +97,41 @@ pub(crate) fn shown_intention(text: &str) -> Option<Intention>
     if has_two_schemes(text) {
         return Some(Intention::TwoSchemes);
     }
+    if has_two_links(after(text, ':')) {
+        return Some(Intention::TwoLinks);
+    }
+    if has_old_escape(after(text, '%').as_bytes()) {
+        return Some(Intention::OldEscape);
+    }
     None
 }
 
-// What it shows beside its mended text.
-fn joined_slashes(text: &str, mended: &str) -> Option<Intention>
-    ensures { result ≡ spec.intention_beside None text.now mended.now }
+// What both texts show.
+fn shown_by_both(text: &str, mended: &str) -> Option<Intention>
+    ensures { result ≡ spec.shown_by_both text.now mended.now }
 {
     if has_piece(mended, "/.//") && !has_piece(text, "/.//") {
-        Some(Intention::JoinedSlashes)
-    } else {
-        None
+        return Some(Intention::JoinedSlashes);
     }
-}
-
-// Whether a text has a mark of what a program writes another text for.
-fn is_template(text: &str) -> bool
-    ensures { result ≡ spec.is_template text.now }
-{
-    has_brace_mark(text) || has_percent_mark(text)
-}
-
-// Whether it has one with `{`, which most texts lack.
-fn has_brace_mark(text: &str) -> bool
-    ensures { result ≡ spec.has_brace_mark text.now }
-{
-    if !has_byte(text, b'{') {
-        return false;
+    if has_other_address(text, mended) {
+        return Some(Intention::OtherAddress);
     }
-    has_piece(text, "{{") || has_piece(text, "{%") || has_piece(text, "${")
-}
-
-// Whether it has another one, with `%`.
-fn has_percent_mark(text: &str) -> bool
-    ensures { result ≡ spec.has_percent_mark text.now }
-{
-    if !has_byte(text, b'%') {
-        return false;
+    if has_other_path(text, mended) {
+        return Some(Intention::RuledPath);
     }
-    has_piece(text, "<%") || has_piece(text, "%s")
+    None
 }
 
-// Whether a text has a byte.
-fn has_byte(text: &str, byte: u8) -> bool
-    ensures { result ≡ list_any (λ b. b == byte) text.now }
-{
-    text.as_bytes().contains(&byte)
-}
-
-// Whether a text has a piece.
-fn has_piece(text: &str, piece: &str) -> bool
-    ensures { result ≡ spec.has_piece piece.now text.now }
-{
-    text.contains(piece)
-}
-
-// Whether a text begins with a drive letter, `:` and `\`, or with the `\\` before the name of a server.
+// Whether a text begins with a drive letter, `:` and `\` or `/`, or with the `\\` before the name of a server.
 fn is_windows_path(text: &[u8]) -> bool
     ensures { result ≡ spec.is_windows_path text.now }
 {
     match text {
         [first, second, third, ..] => {
             (*first == b'\\' && *second == b'\\')
-                || (first.is_ascii_alphabetic() && *second == b':' && *third == b'\\')
+                || (first.is_ascii_alphabetic()
+                    && *second == b':'
+                    && (*third == b'\\' || *third == b'/'))
         }
         _ => false,
     }
@@ -184,16 +141,97 @@ fn is_windows_path(text: &[u8]) -> bool
 fn has_two_schemes(text: &str) -> bool
     ensures { result ≡ spec.has_two_schemes text.now }
 {
-    is_link_scheme(before_colon(text))
-        && begins_link(without_slash(without_slash(after_scheme(text))))
+    is_link_scheme(before(text, ':')) && begins_link(without_slash(without_slash(after(text, ':'))))
 }
 
 // Whether a text begins with a scheme that `//` follows and `://`, or with the `//` alone after it.
 fn begins_link(text: &str) -> bool
     ensures { result ≡ spec.begins_link text.now }
 {
-    (is_link_scheme(before_colon(text)) && starts_with_slashes(after_scheme(text).as_bytes()))
-        || (is_link_scheme(before_slash(text)) && starts_with_slash(after_slash(text).as_bytes()))
+    (is_link_scheme(before(text, ':')) && starts_with_slashes(after(text, ':').as_bytes()))
+        || (is_link_scheme(before(text, '/')) && starts_with_slash(after(text, '/').as_bytes()))
+}
+
+// Whether a space is before the beginning of a link.
+fn has_two_links(after: &str) -> bool
+    ensures { result ≡ (has_piece (codes " http://") after.now || has_piece (codes " https://") after.now) }
+{
+    has_piece(after, " http://") || has_piece(after, " https://")
+}
+
+// Whether an escape of JavaScript is among what `%` separates.
+fn has_old_escape(text: &[u8]) -> bool
+    ensures { result ≡ list_any spec.is_old_escape (slice_split (λ b. b == percent_sign) text.now) }
+{
+    text.split(|b| *b == b'%').any(|after| is_old_escape(after))
+}
+
+// Whether `u` and a hex digit begin a text.
+fn is_old_escape(after: &[u8]) -> bool
+    ensures { result ≡ spec.is_old_escape after.now }
+{
+    match after {
+        [first, second, ..] => *first == b'u' && second.is_ascii_hexdigit(),
+        _ => false,
+    }
+}
+
+// Whether the mended text's host is an IPv4 address that isn't in the text.
+fn has_other_address(text: &str, mended: &str) -> bool
+    ensures { result ≡ spec.has_other_address text.now mended.now }
+{
+    let host = before(authority_of(mended), ':');
+    is_dotted(host.as_bytes()) && !has_piece(text, host)
+}
+
+// Whether a host is of digits and full stops, with a digit first.
+fn is_dotted(host: &[u8]) -> bool
+    ensures { result ≡ spec.is_dotted host.now }
+{
+    begins_with_digit(host) && are_of_address(host)
+}
+
+fn are_of_address(host: &[u8]) -> bool
+    ensures { result ≡ list_all spec.is_of_address host.now }
+{
+    host.iter().all(|b| is_of_address(*b))
+}
+
+fn is_of_address(b: u8) -> bool
+    ensures { result ≡ spec.is_of_address b }
+{
+    b.is_ascii_digit() || b == b'.'
+}
+
+fn begins_with_digit(text: &[u8]) -> bool
+    ensures { result ≡ begins_with is_ascii_digit text.now }
+{
+    match text {
+        [first, ..] => first.is_ascii_digit(),
+        [] => false,
+    }
+}
+
+// Whether the mended text's path is one that its scheme has rules for, and isn't in the text.
+fn has_other_path(text: &str, mended: &str) -> bool
+    ensures { result ≡ spec.has_other_path text.now mended.now }
+{
+    is_ruled(before(mended, ':')) && !has_piece(text, before_query(mended))
+}
+
+// Whether a scheme's paths have rules of their own.
+fn is_ruled(scheme: &str) -> bool
+    ensures { result ≡ spec.is_ruled scheme.now }
+{
+    is_name(scheme, "mailto")
+        || is_name(scheme, "tel")
+        || is_name(scheme, "sms")
+        || is_name(scheme, "sip")
+        || is_name(scheme, "sips")
+        || is_name(scheme, "xmpp")
+        || is_name(scheme, "geo")
+        || is_name(scheme, "about")
+        || is_name(scheme, "view-source")
 }
 
 /// Whether a text is a scheme that `//` follows.
@@ -225,14 +263,4 @@ pub(crate) fn starts_with_slash(text: &[u8]) -> bool
     ensures { result ≡ starts_with_slash text.now }
 {
     matches!(text, [b'/', ..])
-}
-
-/// What is before the first `/`.
-pub(crate) fn before_slash(text: &str) -> &str
-    ensures { result.now ≡ before_first (λ b. b == slash) text.now }
-{
-    match text.split_once('/') {
-        Some((front, _)) => front,
-        None => text,
-    }
 }

@@ -1,188 +1,148 @@
 //! What is said of a text that has no scheme and no base: what is before the scheme, or what is likely missing.
-ghost use Rattle.std.specs.List.{list_all};
-ghost use Rattle.std.specs.Prelude.{◌≡◌, ◌++◌, OnOk, codes, string_bytes};
-ghost use Rattle.uv_model.specs.Scheme.{is_scheme_code_point};
-ghost use Rattle.uv_model.specs.Violations.Rule.{rule_sentence};
-ghost use Rattle.uv_model.specs.declared.rule.Rule.TheVariants.{NoScheme};
-ghost use Rattle.uv_report.specs.Sentences.CodePoint.{point_text};
-ghost use Rattle.uv_report.specs.Sentences.Start as spec;
 
 use crate::places::seen_text::SeenText;
-use crate::sentences::code_point::{is_unseen, push_point};
-use crate::sentences::intention::{
-    before_slash, is_link_scheme, starts_with_slash, starts_with_slashes,
-};
-use crate::sentences::ipv6::{after_slash, before_end};
+use crate::sentences::authority::{before_end, before_query};
+use crate::sentences::code_point::{is_unseen, point_name};
+use crate::sentences::intention::{is_link_scheme, starts_with_slashes};
+use crate::sentences::pieces::{after, before, has_piece};
+use crate::sentences::wording::Wording;
 use std::alloc::{AllocError, Global};
 use uv_model::Rule;
 
-/// Pushes what is said of a text without a scheme that begins with this code point: that it is before the scheme,
-/// or that there is none, and what is likely missing.
-pub(crate) fn push_start_sentence(
-    alloc: Global,
-    text: &mut String,
-    line: &SeenText<'_>,
-    first: Option<char>,
-) -> Result<(), AllocError>
-    ensures { OnOk result (string_bytes text.new ≡ string_bytes text.old ++ spec.start_sentence line.now first) }
-{
-    match first {
-        Some(c) => push_first(alloc, text, line, c),
-        None => push_missing(text, line.as_str()),
+// What the names of files end with, but domains hardly.
+const FILE_ENDINGS: [&str; 24] = [
+    "md", "html", "htm", "xhtml", "css", "js", "mjs", "ts", "json", "xml", "yml", "yaml", "toml",
+    "csv", "txt", "rst", "pdf", "svg", "png", "jpg", "jpeg", "gif", "webp", "php",
+];
+
+/// What is said of a text without a scheme: that a code point is before it, or that there is none.
+pub(crate) fn start_sentence(alloc: Global, line: &SeenText<'_>) -> Result<String, AllocError> {
+    match stray_in(line) {
+        Some(c) => {
+            let name = point_name(alloc, c)?;
+            let name = name.as_str();
+            format!(in alloc; "{name} is before the scheme")
+        }
+        None => String::from_str(alloc, Rule::NoScheme.sentence()),
     }
 }
 
-// The same of a text that begins with a code point.
-fn push_first(
+/// What follows it: what is likely missing.
+pub(crate) fn start_note(
     alloc: Global,
-    text: &mut String,
+    wording: Wording,
     line: &SeenText<'_>,
-    c: char,
-) -> Result<(), AllocError>
-    ensures { OnOk result (string_bytes text.new ≡ string_bytes text.old ++ spec.first_sentence line.now c) }
-{
-    if is_stray(line, c) {
-        push_stray(alloc, text, c)
+) -> Result<String, AllocError> {
+    if stray_in(line).is_some() {
+        return String::from_str(alloc, "; leave it out");
+    }
+    let base = wording.base();
+    match missing_in(line.as_str()) {
+        Some(Missing::Colon) => String::from_str(alloc, "; write : after the scheme"),
+        Some(Missing::Https) => {
+            format!(in alloc; "; write https: before it, or name its base{base}")
+        }
+        Some(Missing::HttpsOfHost) => {
+            format!(in alloc; "; write https:// before a host, or name its base{base}")
+        }
+        Some(Missing::Base) => format!(in alloc; "; name its base{base}"),
+        Some(Missing::Mailto) => String::from_str(alloc, "; write mailto: before an address"),
+        Some(Missing::PathOfSsh) => String::from_str(alloc, "; this looks like a path of ssh"),
+        None => Ok(String::new(alloc)),
+    }
+}
+
+// The first code point, where it is before the scheme: nothing is seen of it, or it opens a quotation of a link.
+fn stray_in(line: &SeenText<'_>) -> Option<char> {
+    let c = line.point_at(0)?;
+    if is_unseen(c) || (opens_quotation(c) && has_scheme(line.rest_at(1))) {
+        Some(c)
     } else {
-        push_missing(text, line.as_str())
+        None
     }
 }
 
-// Pushes that a code point is before the scheme.
-fn push_stray(alloc: Global, text: &mut String, c: char) -> Result<(), AllocError>
-    ensures { OnOk result (string_bytes text.new
-        ≡ string_bytes text.old ++ (point_text c ++ codes " is before the scheme")) }
-{
-    push_point(alloc, text, c)?;
-    text.push_str(" is before the scheme")?;
-    Ok(())
-}
-
-// Pushes that there is no scheme and no base, and what is likely missing.
-fn push_missing(text: &mut String, line: &str) -> Result<(), AllocError>
-    ensures { OnOk result (string_bytes text.new
-        ≡ string_bytes text.old ++ (rule_sentence NoScheme ++ spec.missing_note line.now)) }
-{
-    text.push_str(Rule::NoScheme.sentence())?;
-    text.push_str(missing_note(line))?;
-    Ok(())
-}
-
-// What is likely missing before a text without a scheme, or in it.
-#[tactic(auto, unfolding(crate::specs::Sentences::Start::missing_note))]
-fn missing_note(line: &str) -> &'static str
-    ensures { result.now ≡ spec.missing_note line.now }
-{
-    if lacks_colon(line) {
-        return "; write : after the scheme";
-    }
-    if starts_with_slashes(line.as_bytes()) {
-        return "; write https: before it, or name its base (--base)";
-    }
-    if is_like_host(before_end(line.as_bytes())) {
-        return "; write https:// before a host, or name its base (--base)";
-    }
-    ""
-}
-
-// Whether a code point is before the scheme, if it is the first one.
-fn is_stray(line: &SeenText<'_>, c: char) -> bool
-    ensures { result ≡ spec.is_stray line.now c }
-{
-    is_unseen(c) || (opens_quotation(c) && has_scheme_at(line, 1))
-}
-
-// Whether a code point is one in which links are put: a quotation mark, an apostrophe, a backtick or a bracket.
-fn opens_quotation(c: char) -> bool
-    ensures { result ≡ spec.opens_quotation c }
-{
-    c == '"'
-        || c == '\''
-        || c == '('
-        || c == '<'
-        || c == '['
-        || c == '`'
-        || c == '\u{AB}'
-        || c == '\u{2018}'
-        || c == '\u{201C}'
-}
-
-// Whether a scheme and its `:` are at a place.
-fn has_scheme_at(line: &SeenText<'_>, place: usize) -> bool
-    ensures { result ≡ spec.has_scheme_at line.now place }
-{
-    is_letter(line.point_at(place)) && is_colon(scheme_end(line, place))
-}
-
-// Whether an ASCII letter is there.
-fn is_letter(point: Option<char>) -> bool
-    ensures { result ≡ spec.is_letter point }
-{
-    match point {
-        Some(c) => c.is_ascii_alphabetic(),
-        None => false,
+// Whether links are put after a code point: a quotation mark, an apostrophe, a backtick or a bracket.
+fn opens_quotation(c: char) -> bool {
+    match c {
+        '"' | '\'' | '(' | '<' | '[' | '`' | '\u{AB}' | '\u{2018}' | '\u{201C}' => true,
+        _ => false,
     }
 }
 
-// Whether a `:` is there.
-fn is_colon(point: Option<char>) -> bool
-    ensures { result ≡ spec.is_colon point }
-{
-    match point {
-        Some(c) => c == ':',
-        None => false,
+// Whether a text begins with a scheme and its `:`.
+fn has_scheme(text: &str) -> bool {
+    let scheme = before(text, ':');
+    scheme.len() < text.len()
+        && scheme.starts_with(|c: char| c.is_ascii_alphabetic())
+        && scheme.bytes().all(|b| is_scheme_byte(b))
+}
+
+fn is_scheme_byte(b: u8) -> bool {
+    b.is_ascii_alphanumeric() || b == b'+' || b == b'-' || b == b'.'
+}
+
+// What is likely missing in a text.
+#[derive(Clone, Copy)]
+enum Missing {
+    Colon,
+    Https,
+    HttpsOfHost,
+    Base,
+    Mailto,
+    PathOfSsh,
+}
+
+// What is likely missing in a text without a scheme, or before it.
+fn missing_in(text: &str) -> Option<Missing> {
+    let head = before_end(text);
+    if is_link_scheme(before(text, '/')) && after(text, '/').starts_with('/') {
+        return Some(Missing::Colon);
     }
+    if starts_with_slashes(text.as_bytes()) {
+        return Some(Missing::Https);
+    }
+    if is_user(before(head, '@')) && is_like_host(before(after(head, '@'), ':')) {
+        return if has_piece(head, ":") {
+            Some(Missing::PathOfSsh)
+        } else {
+            Some(Missing::Mailto)
+        };
+    }
+    if is_like_host(head) && !is_like_file(before_query(text)) {
+        return Some(Missing::HttpsOfHost);
+    }
+    if is_like_host(head) || text.starts_with(|c: char| begins_reference(c)) {
+        return Some(Missing::Base);
+    }
+    None
 }
 
-// The first code point from a place on that is not allowed in a scheme.
-fn scheme_end(line: &SeenText<'_>, place: usize) -> Option<char>
-    ensures { result ≡ spec.scheme_end line.now place }
-{
-    line.rest_at(place)
-        .chars()
-        .find(|c| !is_scheme_code_point(*c))
+// Whether a code point begins texts that are read against a base.
+fn begins_reference(c: char) -> bool {
+    c == '.' || c == '/' || c == '#' || c == '?'
 }
 
-// Whether a code point may be in a scheme after its first.
-fn is_scheme_code_point(c: char) -> bool
-    ensures { result ≡ is_scheme_code_point c }
-{
-    c.is_ascii_alphanumeric() || c == '+' || c == '-' || c == '.'
-}
-
-// Whether the `:` alone is missing between a scheme and `//`.
-fn lacks_colon(line: &str) -> bool
-    ensures { result ≡ spec.lacks_colon line.now }
-{
-    is_link_scheme(before_slash(line)) && starts_with_slash(after_slash(line).as_bytes())
+// Whether a text looks like the name of a user: letters, digits and marks of names.
+fn is_user(name: &str) -> bool {
+    !name.is_empty() && name.bytes().all(|b| is_scheme_byte(b) || b == b'_')
 }
 
 // Whether a text looks like a domain: letters, digits, `-` and `.`, with a letter or a digit first.
-fn is_like_host(text: &[u8]) -> bool
-    ensures { result ≡ spec.is_like_host text.now }
-{
-    begins_as_host(text) && are_of_host(text) && text.contains(&b'.')
+fn is_like_host(host: &str) -> bool {
+    host.starts_with(|c: char| c.is_ascii_alphanumeric())
+        && has_piece(host, ".")
+        && host
+            .bytes()
+            .all(|b| b.is_ascii_alphanumeric() || b == b'-' || b == b'.')
 }
 
-// Whether a text begins with a letter or a digit.
-fn begins_as_host(text: &[u8]) -> bool
-    ensures { result ≡ spec.begins_as_host text.now }
-{
-    match text {
-        [first, ..] => first.is_ascii_alphanumeric(),
-        [] => false,
+// Whether a text that looks like a domain is rather the name of a file, or of a version: by what is after its last `.`.
+fn is_like_file(name: &str) -> bool {
+    let ending = name.rsplit('.').next().unwrap_or("");
+    if name.starts_with("www.") || has_piece(name, "/") {
+        return false;
     }
-}
-
-// Whether each byte of a text is a letter, a digit, `-` or `.`.
-fn are_of_host(text: &[u8]) -> bool
-    ensures { result ≡ list_all spec.is_host_byte text.now }
-{
-    text.iter().all(|b| is_host_byte(*b))
-}
-
-fn is_host_byte(byte: u8) -> bool
-    ensures { result ≡ spec.is_host_byte byte }
-{
-    byte.is_ascii_alphanumeric() || byte == b'-' || byte == b'.'
+    FILE_ENDINGS.iter().any(|known| *known == ending)
+        || (ending.starts_with(|c: char| c.is_ascii_digit()) && name.split('.').count() != 4)
 }

@@ -1,8 +1,0 @@
--- A text without `%` has no mark with it.
-use Rattle.std.proofs.Common.{◌∙◌, sym}
-use Rattle.uv_report.proofs.IntentionLemmas.{lacks_percent_marks}
-use Rattle.uv_report.proofs.sentences.intention.has_percent_mark.Goals as goal
-
-pub returns-then-not-has_byte : goal.returns-then-not-has_byte
-returns-then-not-has_byte c =
-    sym (lacks_percent_marks c.args.text.now (sym c.has_byte.ensures ∙ c.if-not-has_byte.true))
