@@ -341,4 +341,4 @@ ends_at 10 '\t\t' 25
 ends_at 40 'a\t' 49
 ends_at 1 '\x1b\xe2\x80\xae' 3
 
-all_cases 125
+all_cases 111
