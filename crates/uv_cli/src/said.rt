@@ -7,17 +7,20 @@ use crate::linted::Linted;
 use std::alloc::{AllocError, Global};
 use std::io::ErrorKind;
 use uv_filter::FilterFault;
+use uv_grammar::faults;
 use uv_links::LinkFault;
 use uv_lint::{LintCounts, LintFault};
+use uv_mend::{Mending, mend};
 use uv_messages::contents::{Content, content_line};
-use uv_messages::hints::{Hint, file_hint, text_hint};
+use uv_messages::hints::{Hint, file_hint, push_text_hint};
 use uv_messages::messages::Message;
 use uv_messages::unknown::{
     refused_unit, unknown_format, unknown_kind, unknown_profile, unknown_rules, unknown_unit,
 };
 use uv_messages::unread::{unread, unwritten, unwritten_line};
-use uv_model::{Profile, Refusal, Rule};
-use uv_report::{Format, LineViolation, push_message};
+use uv_model::{Extent, Profile, Record, Refusal, Rule};
+use uv_report::{Format, LineViolation, intention_of, push_message};
+use uv_resolve::{ResolveFault, resolve_base};
 use uv_words::Job;
 
 // How standard input is named.
@@ -30,7 +33,12 @@ const OF_INPUT: &str = "--stdin-name is the name of standard input: one of the F
 const OF_NO_NAME: &str = "--stdin-name is the name of standard input, and may not be empty";
 
 // What is said where one text is to be mended as lines are.
-const OF_LINES: &str = "--only and --quiet are for the lines of standard input, not for a TEXT";
+const OF_LINES: &str =
+    "--only, --all-mended and --quiet are for the lines of standard input, not for a TEXT";
+
+// What is said where files are to be mended in their place, and none is named.
+const OF_NO_FILES: &str =
+    "--in-place mends the lines of files: name one, or leave it out for standard input";
 
 /// What was seen of a job's streams, or of a file.
 #[derive(Clone, Copy)]
@@ -70,9 +78,13 @@ fn said_of_names(alloc: Global, job: &Job, end: End) -> Result<Message, AllocErr
         (Job::LintWithoutInput, _) => Message::of(alloc, OF_INPUT),
         (Job::LintUnnamed, _) => Message::of(alloc, OF_NO_NAME),
         (Job::FilterOfText, _) => Message::of(alloc, OF_LINES),
+        (Job::SeveralTexts, _) => Message::of(alloc, Hint::OneTextOfMend.text()),
+        (Job::InPlace { .. }, End::Words) => Message::of(alloc, OF_NO_FILES),
         (Job::UnknownProfile { name }, _) => unknown_profile(alloc, name.as_str()),
         (Job::Explain { rules, .. }, End::UnknownRule) => unknown_rules(alloc, rules.as_slice()),
-        (Job::Filter(asked), End::UnknownKind) => unknown_kind(alloc, or_empty(&asked.only)),
+        (Job::Filter(asked) | Job::InPlace { asked, .. }, End::UnknownKind) => {
+            unknown_kind(alloc, or_empty(&asked.only))
+        }
         (Job::Lint(asked), End::UnknownFormat) => unknown_format(alloc, or_empty(&asked.format)),
         (Job::Lint(asked), End::UnknownColumns) => unknown_unit(alloc, or_empty(&asked.columns)),
         (Job::Lint(asked), End::ColumnsRefused) => refused_unit(
@@ -89,22 +101,91 @@ fn or_empty(name: &Option<String>) -> &str {
     name.as_deref().unwrap_or("")
 }
 
-// What is said where a text is refused, or a line of a list of links; nothing where it is as it was likely meant.
+// What is said where a text is refused, or a line of a list of links: what is wrong with a text that is checked, and
+// what was likely meant instead.
 fn said_of_refused(
     alloc: Global,
     job: &Job,
     content: Option<Content>,
 ) -> Result<Message, AllocError> {
-    let (text, base, of_input, of_list) = match job {
-        Job::Check { text, base, .. } => (text, base, Hint::InputOfCheck, Hint::ListOfCheck),
-        Job::Mend { text, base, .. } => (text, base, Hint::InputOfMend, Hint::ListOfMend),
-        _ => {
-            let mut said = Message::nothing(alloc);
-            push_content(alloc, &mut said, INPUT, content, "links")?;
-            return Ok(said);
+    let mut said = Message::nothing(alloc);
+    match job {
+        Job::Check {
+            text,
+            base,
+            extent,
+            profile,
+        } => {
+            let (text, base) = (text.as_str(), base.as_deref());
+            push_violations(alloc, &mut said, text, base, *extent, *profile)?;
+            let (of_input, of_list) = (Hint::InputOfCheck, Hint::ListOfCheck);
+            push_text_hint(alloc, &mut said, text, base.is_some(), of_input, of_list)?;
         }
+        Job::Mend { text, base, .. } => {
+            let (of_input, of_list) = (Hint::InputOfMend, Hint::ListOfMend);
+            push_text_hint(
+                alloc,
+                &mut said,
+                text.as_str(),
+                base.is_some(),
+                of_input,
+                of_list,
+            )?;
+        }
+        _ => push_content(alloc, &mut said, INPUT, content, "links")?,
+    }
+    Ok(said)
+}
+
+// Pushes what is wrong with a text that is refused, in a sentence for each violation that was printed, and what to
+// write in place of the text, where that is offered.
+fn push_violations(
+    alloc: Global,
+    said: &mut Message,
+    text: &str,
+    base: Option<&str>,
+    extent: Extent,
+    profile: Profile,
+) -> Result<(), AllocError> {
+    let base = match resolve_base(alloc, base, profile) {
+        Ok(base) => base,
+        Err(ResolveFault::Refused(_)) => return Ok(()),
+        Err(ResolveFault::Memory(error)) => return Err(error),
     };
-    text_hint(alloc, text.as_str(), base.is_some(), of_input, of_list)
+    for refusal in &faults(alloc, text, base.as_ref(), profile)? {
+        let place = refusal.place;
+        let mut line = format!(in alloc; "at place {place}: ")?;
+        push_message(
+            alloc,
+            &mut line,
+            profile,
+            text,
+            LineViolation::Refused(*refusal),
+        )?;
+        said.push(alloc, line.as_str())?;
+        if extent == Extent::First {
+            break;
+        }
+    }
+    push_offered(alloc, said, text, base.as_ref(), profile)
+}
+
+// Pushes what to write in place of a text, where that is offered.
+fn push_offered(
+    alloc: Global,
+    said: &mut Message,
+    text: &str,
+    base: Option<&Record>,
+    profile: Profile,
+) -> Result<(), AllocError> {
+    let Mending::Mended { text: mended, .. } = mend(alloc, text, base, profile)? else {
+        return Ok(());
+    };
+    let mended = mended.as_str();
+    if intention_of(text, mended).is_some() {
+        return Ok(());
+    }
+    said.push(alloc, format!(in alloc; "write {mended}")?.as_str())
 }
 
 // Why the job's base is refused: it is checked alone, so that it needs a scheme.
@@ -132,7 +213,7 @@ fn base_of(job: &Job) -> (&str, Profile) {
         | Job::Links { base, profile }
         | Job::Mend { base, profile, .. } => (base, *profile),
         Job::Lint(asked) => (&asked.base, asked.profile),
-        Job::Filter(asked) => (&asked.base, asked.profile),
+        Job::Filter(asked) | Job::InPlace { asked, .. } => (&asked.base, asked.profile),
         _ => return ("", Profile::Standard),
     };
     (base.as_deref().unwrap_or(""), profile)

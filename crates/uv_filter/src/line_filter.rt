@@ -6,6 +6,7 @@ ghost use Rattle.uv_filter.specs.Fates as spec;
 ghost use Rattle.uv_filter.specs.Filtered.{starting, with_fate};
 ghost use Rattle.uv_filter.specs.Lines.{line_view};
 ghost use Rattle.uv_filter.specs.Progress.{Adds, passing};
+ghost use Rattle.uv_report.specs.Sentences.Intention.{is_offered};
 
 use crate::counts::FilterCounts;
 use crate::fate::Fate;
@@ -16,6 +17,7 @@ use std::marker::Model;
 use std::str::from_utf8;
 use uv_lines::line_text;
 use uv_mend::{MendKind, Mending, mend};
+use uv_report::intention_of;
 
 // How many bytes a line may have, its end not counted.
 const LINE_BYTES: usize = 65_536;
@@ -134,9 +136,9 @@ impl<'b> LineFilter<'b> {
         let setting = self.setting;
         match mend(alloc, text, setting.base, setting.profile)? {
             Mending::Valid => Ok(Fate::Valid),
-            Mending::Mended { text, kind } => {
-                if takes(setting.only, kind) {
-                    Ok(Fate::Mended { text, kind })
+            Mending::Mended { text: mended, kind } => {
+                if writes(setting, text, mended.as_str(), kind) {
+                    Ok(Fate::Mended { text: mended, kind })
                 } else {
                     Ok(Fate::Refused)
                 }
@@ -144,6 +146,21 @@ impl<'b> LineFilter<'b> {
             Mending::Refused(_) => Ok(Fate::Refused),
         }
     }
+}
+
+// Whether a mended text of this kind is written in place of a text: it is of the kind that is asked for, and offered,
+// where not all are written.
+fn writes(setting: FilterSetting<'_>, text: &str, mended: &str, kind: MendKind) -> bool
+    ensures { result ≡ spec.writes (mender_of setting.entry) text.now mended.now kind }
+{
+    takes(setting.only, kind) && (setting.all || is_offered(text, mended))
+}
+
+// Whether reports offer a mended text in place of a text: nothing shows that something else was meant.
+fn is_offered(text: &str, mended: &str) -> bool
+    ensures { result ≡ is_offered text.now mended.now }
+{
+    intention_of(text, mended).is_none()
 }
 
 // Whether mended texts of this kind are written.
