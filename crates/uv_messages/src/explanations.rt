@@ -15,22 +15,22 @@ use uv_words::Told;
 enum Topic {
     // A rule by its example, or what else may be wrong with a line.
     Line(LineViolation),
-    // A rule that only documents are checked by: its name, what is wrong, and what it asks.
-    Documents([&'static str; 3]),
+    // The rule of documents that a link isn't empty.
+    Empty,
+    // The rule of documents that a link isn't text.
+    NoLink,
 }
 
 // What a link of a document may be wrong by beside the rules of URL strings.
-const EMPTY: [&str; 3] = [
-    "empty",
-    "this link is empty, which its format forbids here",
-    "A link of an image, a script, a frame, a form's address or a link element isn't empty.",
-];
+const EMPTY: &str = "rule empty
+means this link is empty, which its format forbids here
+asks A link of an image, a script, a frame, a form's address or a link element isn't empty.
+";
 
-const NO_LINK: [&str; 3] = [
-    "no-link",
-    "a space ends a link's destination, so that this is text and no link",
-    "A destination of Markdown has no space, unless < and > enclose it: it is percent-encoded as %20.",
-];
+const NO_LINK: &str = "rule no-link
+means a space ends a link's destination, so that this is text and no link
+asks A destination of Markdown has no space, unless < and > enclose it: it is percent-encoded as %20.
+";
 
 // Where the page about the rules of documents is.
 const DOCUMENTS_PAGE: &str =
@@ -86,10 +86,10 @@ fn topic_of(name: &str) -> Option<Topic>
         return Some(Topic::Line(violation));
     }
     if name == "empty" {
-        return Some(Topic::Documents(EMPTY));
+        return Some(Topic::Empty);
     }
     if name == "no-link" {
-        return Some(Topic::Documents(NO_LINK));
+        return Some(Topic::NoLink);
     }
     match numbered(Rule::in_order().as_slice(), name) {
         Some(rule) => Some(example_of(rule)),
@@ -101,7 +101,12 @@ fn topic_of(name: &str) -> Option<Topic>
 fn numbered(rules: &[Rule], text: &str) -> Option<Rule>
     ensures { result ≡ find (λ rule. has_number rule text.now) rules.now }
 {
-    rules.iter().find(|rule| has_number(**rule, text)).copied()
+    for rule in rules {
+        if has_number(*rule, text) {
+            return Some(*rule);
+        }
+    }
+    None
 }
 
 // Whether a rule has this number.
@@ -133,17 +138,30 @@ fn example_of(rule: Rule) -> Topic {
 
 // What is told of a topic.
 fn text_of(alloc: Global, topic: Topic, told: Told) -> Result<String, AllocError> {
-    match (topic, told) {
-        (Topic::Line(violation), Told::Explanation) => explanation(alloc, violation),
-        (Topic::Line(violation), Told::Page) => {
+    match topic {
+        Topic::Line(violation) => line_text(alloc, violation, told),
+        Topic::Empty => document_text(alloc, EMPTY, told),
+        Topic::NoLink => document_text(alloc, NO_LINK, told),
+    }
+}
+
+// What is told of a violation with a line.
+fn line_text(alloc: Global, violation: LineViolation, told: Told) -> Result<String, AllocError> {
+    match told {
+        Told::Explanation => explanation(alloc, violation),
+        Told::Page => {
             let mut line = rule_page(alloc, violation)?;
             line.push_str("\n")?;
             Ok(line)
         }
-        (Topic::Documents([name, sentence, asks]), Told::Explanation) => {
-            format!(in alloc; "rule {name}\nmeans {sentence}\nasks {asks}\n")
-        }
-        (Topic::Documents(_), Told::Page) => String::from_str(alloc, DOCUMENTS_PAGE),
+    }
+}
+
+// What is told of a rule of documents with this explanation.
+fn document_text(alloc: Global, explanation: &str, told: Told) -> Result<String, AllocError> {
+    match told {
+        Told::Explanation => String::from_str(alloc, explanation),
+        Told::Page => String::from_str(alloc, DOCUMENTS_PAGE),
     }
 }
 
