@@ -198,4 +198,4 @@ for words in 'explain' 'explain percent' 'explain percent no-scheme' 'explain --
     "$program" $words >/dev/full 2>"$room/err"
     ends_with 3 $? "${no_space}write\\n" "$words to a full device"
 done
-all_cases 85
+all_cases 138

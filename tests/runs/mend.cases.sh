@@ -349,4 +349,4 @@ if has closed_streams 1; then
     ends_with 3 $? "${no_input}read\\n" 'mend with standard input closed'
 fi
 
-all_cases 136
+all_cases 184

@@ -525,4 +525,4 @@ if it.get("offered"): print("urlcheck: write " + it["mended"])' "$room/json" | c
         fail "check $text: on standard error: $(cat "$room/err")"
 done < <("$program" explain |
     awk '/^rule / { base = "" } /^base / { base = substr($0, 6) } /^text / { print base "\037" substr($0, 6) }')
-all_cases 322
+all_cases 404
