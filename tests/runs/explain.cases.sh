@@ -116,20 +116,43 @@ located="A located line is FILE:LINE:COLUMN:LINK. FILE isn't empty; LINE and COL
 expect 0 "rule not-located\nmeans this line isn't FILE:LINE:COLUMN:LINK\nasks $located\n" '' explain not-located
 rules='urlcheck: the rules:'
 for name in $("$program" explain | awk '$1 == "rule" { print $2 }'); do rules+=" $name"; done
-rules+=' not-utf8 line-too-long not-located'
-for pair in 'PERCENT percent' 'percent_ percent' 'host-mising host-missing' 'codepoint code-point' 'not-utf-8 not-utf8' \
-    'not-locatd not-located' 'Percent percent'; do
+rules+=' not-utf8 line-too-long not-located empty no-link'
+for pair in 'PERCNT percent' 'percent_ percent' 'host-mising host-missing' 'codepoint code-point' 'not-utf-8 not-utf8' \
+    'not-locatd not-located' 'emty empty' 'nolink no-link'; do
     word=${pair% *}
     expect 2 '' "urlcheck: no rule is named '${word/_/ }'; the nearest is ${pair#* }\\n$rules\\nwords\\n" explain "${word/_/ }"
 done
 expect 2 '' "urlcheck: no rule is named 'no-scheme\\0357\\0277\\0275'; the nearest is no-scheme\\n$rules\\nwords\\n" explain $'no-scheme\n'
-for word in '' nothing os xhost; do
+for word in '' nothing os xhost 0 15 011 +1 1.0; do
     expect 2 '' "urlcheck: no rule is named '$word'\\n$rules\\nwords\\n" explain "$word"
 done
 # Where no name is near, those that begin so.
 for pair in 'host host-missing host-domain host-number host-ipv6 host-code-point' 'NOT- not-utf8 not-located' 'p port-digit port-range percent'; do
     word=${pair%% *}
     expect 2 '' "urlcheck: no rule is named '$word'\\nurlcheck: the rules that begin so: ${pair#* }\\n$rules\\nwords\\n" explain "$word"
+done
+
+# A name in any case, and a rule's number, explain what the name does.
+number=0
+for name in $("$program" explain | awk '$1 == "rule" { print $2 }'); do
+    number=$((number + 1))
+    for word in $number ${name^^} ${name^}; do
+        expect 0 "$("$program" explain $name | sed 's/\\/\\\\/g')\n" '' explain $word
+    done
+done
+expect 0 "rule not-utf8\nmeans this line isn't UTF-8\nasks A line is a text in UTF-8.\n" '' explain Not-UTF8
+# The rules of documents, as the Python package has their words.
+for name in empty no-link; do
+    sentence=$(python3 - "$top" $name <<'END'
+import ast, sys
+tree = ast.parse(open(sys.argv[1] + "/bindings/python/urlcheck/_rules.py", encoding="utf-8").read())
+name = sys.argv[2].upper().replace("-", "_")
+calls = [it for it in ast.walk(tree) if isinstance(it, ast.Call) and it.args and getattr(it.args[0], "id", "") == name]
+print("means %s\nasks %s" % tuple(it.value for it in calls[0].args[1:3]))
+END
+)
+    expect 0 "rule $name\n$sentence\n" '' explain $name
+    expect 0 "$(printf 'https://yuccaeave.example/urlcheck/docs/DOCUMENTS.html#what-a-format-asks')\n" '' explain --url $name
 done
 
 # Several names: one explanation after the other with an empty line between, in the order of the names, also twice; and
@@ -175,4 +198,4 @@ for words in 'explain' 'explain percent' 'explain percent no-scheme' 'explain --
     "$program" $words >/dev/full 2>"$room/err"
     ends_with 3 $? "${no_space}write\\n" "$words to a full device"
 done
-all_cases 85
+all_cases 138

@@ -40,7 +40,7 @@ fn explains_a_rule(rt: HostRuntime) -> Result<(), Fail> {
 fn knows_no_other_names(rt: HostRuntime) -> Result<(), Fail> {
     let mut out = ToWriter::new(Vec::new(rt.alloc()));
     let mut names = only(rt.alloc(), "host-missing")?;
-    names.push("Percent".to_string(rt.alloc())?)?;
+    names.push("15".to_string(rt.alloc())?)?;
     let end = run_explain(rt.alloc(), names.as_slice(), Told::Page, &mut out)?;
     assert!(rt; end == ExplainEnd::Unknown);
     assert!(rt; out.into_writer().is_empty());
