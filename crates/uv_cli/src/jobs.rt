@@ -25,7 +25,7 @@ use uv_words::{FilterJob, Job, LintJob, Told};
 /// Does what a job asks for: it checks the job's text, against the job's base and by the profile that the job names, or
 /// says what to write in its place, or says what is wrong with the lines of the job's files, or reports on the lines of
 /// the input, or mends them, or runs the cases of a vector file, or explains the job's rules, or each rule, or says
-/// where the pages about them are.
+/// where they are in the URL Standard.
 ///
 /// The file has the bytes of the job's file, and only a run of vectors looks at it. A lint opens its files itself. The
 /// input is read only by a list, by a filter, and by a lint for a file that is named `-`, and the output isn't flushed.

@@ -1,5 +1,5 @@
 //! Explanations: what rules ask, their sections of the URL Standard, and an example, of some rules or of each; or the
-//! addresses of the pages about them.
+//! addresses of these sections.
 ghost use Rattle.std.specs.Prelude.{◌≡◌, IfOk, find, is_some};
 ghost use Rattle.uv_messages.specs.Explanations.{are_explained, has_number, is_explained};
 
@@ -7,7 +7,7 @@ use crate::report::{push_line, push_present, refused_line};
 use itoa::Buffer;
 use std::alloc::{AllocError, Global};
 use uv_model::{Refusal, Rule};
-use uv_report::{LineViolation, explain, rule_page};
+use uv_report::{LineViolation, explain};
 use uv_words::Told;
 
 // What is explained by a name.
@@ -32,13 +32,9 @@ means a space ends a link's destination, so that this is text and no link
 asks A destination of Markdown has no space, unless < and > enclose it: it is percent-encoded as %20.
 ";
 
-// Where the page about the rules of documents is.
-const DOCUMENTS_PAGE: &str =
-    "https://yuccaeave.example/urlcheck/docs/DOCUMENTS.html#what-a-format-asks\n";
-
 /// What is written where the rules with these names, or each rule, are to be told of: what they ask, where they are
-/// and an example of each, or the addresses of their pages. It is `None` where one of the names is that of nothing that
-/// is explained.
+/// and an example of each, or the addresses of their sections of the URL Standard, where they have one. It is `None`
+/// where one of the names is that of nothing that is explained.
 pub fn explained(alloc: Global, names: &[String], told: Told) -> Result<Option<String>, AllocError>
     ensures { IfOk result (λ text. is_some text ≡ are_explained names.now) }
 {
@@ -56,7 +52,7 @@ pub fn explained(alloc: Global, names: &[String], told: Told) -> Result<Option<S
     }
     let between = match told {
         Told::Explanation => "\n",
-        Told::Page => "",
+        Told::Address => "",
     };
     Ok(Some(texts.as_slice().join(alloc, between)?))
 }
@@ -138,31 +134,23 @@ fn example_of(rule: Rule) -> Topic {
 
 // What is told of a topic.
 fn text_of(alloc: Global, topic: Topic, told: Told) -> Result<String, AllocError> {
-    match topic {
-        Topic::Line(violation) => line_text(alloc, violation, told),
-        Topic::Empty => document_text(alloc, EMPTY, told),
-        Topic::NoLink => document_text(alloc, NO_LINK, told),
+    match (topic, told) {
+        (Topic::Line(violation), Told::Explanation) => explanation(alloc, violation),
+        (Topic::Line(violation), Told::Address) => address_line(alloc, violation),
+        (Topic::Empty, Told::Explanation) => String::from_str(alloc, EMPTY),
+        (Topic::NoLink, Told::Explanation) => String::from_str(alloc, NO_LINK),
+        (Topic::Empty | Topic::NoLink, Told::Address) => Ok(String::new(alloc)),
     }
 }
 
-// What is told of a violation with a line.
-fn line_text(alloc: Global, violation: LineViolation, told: Told) -> Result<String, AllocError> {
-    match told {
-        Told::Explanation => explanation(alloc, violation),
-        Told::Page => {
-            let mut line = rule_page(alloc, violation)?;
-            line.push_str("\n")?;
-            Ok(line)
-        }
+// The address of a violation's section of the URL Standard in a line, or nothing where it has none.
+fn address_line(alloc: Global, violation: LineViolation) -> Result<String, AllocError> {
+    let address = violation.address();
+    let mut line = String::new(alloc);
+    if !address.is_empty() {
+        push_line(&mut line, "", address)?;
     }
-}
-
-// What is told of a rule of documents with this explanation.
-fn document_text(alloc: Global, explanation: &str, told: Told) -> Result<String, AllocError> {
-    match told {
-        Told::Explanation => String::from_str(alloc, explanation),
-        Told::Page => String::from_str(alloc, DOCUMENTS_PAGE),
-    }
+    Ok(line)
 }
 
 // What a violation is called, what is wrong, and what is asked; of a rule where that is, and its example.

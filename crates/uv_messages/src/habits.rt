@@ -21,9 +21,7 @@ pub(crate) fn habit(name: &str) -> Option<&'static str> {
             )
         }
         "--recursive" | "-r" | "-R" => {
-            Some(
-                "lint reads lists; urlcheck-documents --check FOLDER checks the documents of a folder",
-            )
+            Some("lint reads lists; urlcheck-documents FOLDER checks the documents of a folder")
         }
         _ => habit_of_output(name),
     }

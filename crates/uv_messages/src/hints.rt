@@ -53,21 +53,19 @@ impl Hint {
             Hint::FileOfLinks => "links reads standard input, not a file: urlcheck links <FILE",
             Hint::InputOfLint => "lint reads standard input as the FILE -",
             Hint::Folder => {
-                "lint reads files, not folders; urlcheck-documents --check FOLDER checks the documents in it"
+                "lint reads files, not folders; urlcheck-documents FOLDER checks the documents in it"
             }
             Hint::Link => {
                 "lint reads files; check TEXT checks one text, and lint - the lines of standard input"
             }
             Hint::Document => {
-                "lint reads one link a line; urlcheck-documents --check FILE checks the links of a document"
+                "lint reads one link a line; urlcheck-documents FILE checks the links of a document"
             }
             Hint::InputOfCheck => "lint - and links read standard input",
             Hint::InputOfMend => "mend without a TEXT reads standard input",
             Hint::ListOfCheck => "lint FILE checks the lines of a file",
             Hint::ListOfMend => "mend <FILE mends the lines of a file",
-            Hint::DocumentOfText => {
-                "urlcheck-documents --check FILE checks the links of a document"
-            }
+            Hint::DocumentOfText => { "urlcheck-documents FILE checks the links of a document" }
         }
     }
 }

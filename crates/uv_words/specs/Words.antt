@@ -23,7 +23,7 @@ use Rattle.uv_words.specs.declared.words.Job.{Job}
 use Rattle.uv_words.specs.declared.words.Job.TheVariants as job
 use Rattle.uv_words.specs.declared.words.LintJob.{LintJob}
 use Rattle.uv_words.specs.declared.words.Told.{Told}
-use Rattle.uv_words.specs.declared.words.Told.TheVariants.{Explanation, Page}
+use Rattle.uv_words.specs.declared.words.Told.TheVariants.{Address, Explanation}
 use Rattle.uv_words.specs.declared.words.WordsFault.{WordsFault}
 use Rattle.uv_words.specs.declared.words.WordsFault.TheVariants as fault
 
@@ -194,9 +194,9 @@ profiled_in name rows (Some (unknown other)) = Some (unknown_profile other)
 abbrev pub rules_in : List Row → List Text
 rules_in rows = unwrap_or (all_of (codes "RULE") rows) []
 
--- the page about each rule with `--url`, else its explanation
+-- the address of each rule's section with `--url`, else its explanation
 abbrev pub told_in : List Row → Told
-told_in rows = if has_flag (codes "url") rows then Page else Explanation
+told_in rows = if has_flag (codes "url") rows then Address else Explanation
 
 -- the request that a command's name and its entries make
 unfoldable pub request_in : Text → List Row → Option Request

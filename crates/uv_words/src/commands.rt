@@ -338,7 +338,7 @@ fn url<'a>(alloc: Global) -> Arg<'a>
     ensures rule { rule_of result ≡ flag_rule (codes "url") }
     ensures local { result.global ≡ false }
 {
-    let help = "Print only the address of the page about each rule";
+    let help = "Print only the address of each rule's section of the standard";
     flag(alloc, "url", OUTPUT, help)
 }
 

@@ -71,7 +71,7 @@ pub enum Job {
         /// The file's name.
         file: String,
     },
-    /// To say what rules ask, or where the pages about them are.
+    /// To say what rules ask, or where they are in the URL Standard.
     Explain {
         /// The rules' names, in order, or none where each rule is meant.
         rules: Vec<String>,
@@ -90,8 +90,8 @@ pub enum Job {
 pub enum Told {
     /// Its explanation.
     Explanation,
-    /// The address of the page about it.
-    Page,
+    /// The address of its section of the URL Standard.
+    Address,
 }
 
 /// The files whose lines are checked, by what, and how what is wrong with them is reported.
@@ -254,7 +254,7 @@ fn told_by(entries: &ArgMatches<'_>) -> Told
     ensures { result ≡ told_in (rows_of (found_of entries.now)) }
 {
     if has(entries, "url") {
-        Told::Page
+        Told::Address
     } else {
         Told::Explanation
     }
