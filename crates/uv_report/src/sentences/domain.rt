@@ -74,13 +74,6 @@ fn foreign_in(profile: Profile, host: &str) -> Option<char> {
     host.chars().find(|c| is_foreign(profile, *c))
 }
 
-/// How many code points are before the one that the sentence on a host names, if it names one.
-pub(crate) fn foreign_place(profile: Profile, line: &SeenText<'_>, place: usize) -> Option<usize> {
-    host_at(line, place)
-        .chars()
-        .position(|c| is_foreign(profile, c))
-}
-
 // Whether a host with this code point is refused, whatever else it has. By the parser's profile a host may be
 // percent-encoded.
 fn is_foreign(profile: Profile, c: char) -> bool {
