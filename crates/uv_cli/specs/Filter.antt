@@ -2,6 +2,7 @@
 use Rattle.std.specs.Prelude.{◌≡◌, ℕ, ◌+◌, Bool, false, List, Option, Some, None, option_map}
 use Rattle.std.specs.Borrow.{Bor}
 use Rattle.std.specs.Io.KnownBytes.{Consumes, IsAtEnd}
+use Rattle.uv_filter.specs.declared.counts.FilterCounts.{FilterCounts}
 use Rattle.uv_filter.specs.declared.fault.FilterFault.{FilterFault}
 use Rattle.uv_filter.specs.Fates.{Mender}
 use Rattle.uv_filter.specs.Filtered.{Filtering, starting}
@@ -61,6 +62,12 @@ HasFiltered asked base name (end.Filtered filtered) input rest old new =
     (url : Option Url) × (only : Option MendKind) × IsBase asked.profile base url × (only_of name ≡ Some only)
     × IsFiltered (mender_of asked url only) asked.quiet filtered input rest old new
 HasFiltered asked base name _ input rest old new = ⊥
+
+-- all these bytes were read, what a filter writes of their lines was written, and these are its counts
+abbrev pub HasWrittenMended : Mender → Option (List ℕ) → Option (List ℕ) → Option (List ℕ) → FilterCounts → Type 0
+HasWrittenMended mender bytes old new counts =
+    (read : List ℕ) × (rest : Option (List ℕ)) × (now : Filtering) × Consumes bytes rest read × IsAtEnd rest
+    × Wrote (starting mender) (all_lines read) old new now × (counts ≡ now.counts)
 
 -- How the mending of files in their place ends, by the texts that the job has. The kind is found first, and then the
 -- base is checked alone, before a file is opened. What a file gives and takes no clause can say.

@@ -1,16 +1,17 @@
 //! The command `mend --in-place`: the lines of files, each mended in its place.
-ghost use Rattle.std.specs.Prelude.{◌≡◌};
-ghost use Rattle.uv_cli.specs.Filter.{HasMendedFiles};
+ghost use Rattle.std.specs.Prelude.{◌≡◌, IfOk};
+ghost use Rattle.uv_cli.specs.Filter.{HasMendedFiles, HasWrittenMended};
+ghost use Rattle.uv_filter.specs.Fates.{mender_of};
 
 use crate::ends::End;
 use crate::fault::CliFault;
 use crate::filter::only_of;
 use crate::filtered::Filtered;
 use crate::watched::{WatchedReader, WatchedWriter};
-use std::alloc::AllocError;
+use std::alloc::{AllocError, Global};
 use std::fs;
 use std::fs::{Files, OpenFile, OpenOptions};
-use std::io::{self, ErrorKind, Write};
+use std::io::{self, ErrorKind, Read, Write};
 use uv_filter::{FilterCounts, FilterFault, FilterSetting, run_filter};
 use uv_io::{FromReader, ToWriter};
 use uv_messages::messages::{Message, say};
@@ -185,22 +186,48 @@ fn replaced<R: Files + AllocGlobal>(
     made: R::File,
     setting: FilterSetting<'_>,
 ) -> Result<FilterCounts, Left> {
-    let mut input = FromReader::new(WatchedReader::new(old));
-    let mut out = ToWriter::new(WatchedWriter::new(made));
-    let (counts, answer) = run_filter(rt.alloc(), &mut input, &mut out, setting);
-    let out = out.into_writer();
-    match answer {
-        Ok(()) if counts.is_mended() => {}
-        Ok(()) => return Err(Left::Unchanged(counts)),
-        Err(FilterFault::Memory) => return Err(Left::Memory),
-        Err(FilterFault::Write) => return Err(Left::Unwritten(out.fault())),
-        Err(FilterFault::Read | FilterFault::Endless) => {
-            return Err(Left::Unread(input.into_reader().fault()));
-        }
+    let (written, answer) = written_mended(rt.alloc(), old, made, setting);
+    let counts = answer?;
+    if !counts.is_mended() {
+        return Err(Left::Unchanged(counts));
     }
-    match renamed(rt, path, new, out.into_writer()) {
+    match renamed(rt, path, new, written) {
         Ok(()) => Ok(counts),
         Err(error) => Err(Left::Unwritten(Some(error.kind()))),
+    }
+}
+
+// Writes each line of a reader to a writer, mended where it can be, and gives the writer back with the counts.
+fn written_mended<I: Read + Drop, W: Write + Drop>(
+    alloc: Global,
+    old: I,
+    made: W,
+    setting: FilterSetting<'_>,
+) -> (W, Result<FilterCounts, Left>)
+    ensures { IfOk result.1 (HasWrittenMended (mender_of setting.entry) (I.remaining old) (W.contents made)
+        (W.contents result.0)) }
+{
+    let mut input = FromReader::new(WatchedReader::new(old));
+    let mut out = ToWriter::new(WatchedWriter::new(made));
+    let (counts, answer) = run_filter(alloc, &mut input, &mut out, setting);
+    let out = out.into_writer();
+    let why = out.fault();
+    let written = out.into_writer();
+    match answer {
+        Ok(()) => (written, Ok(counts)),
+        Err(fault) => (
+            written,
+            Err(left_by(fault, input.into_reader().fault(), why)),
+        ),
+    }
+}
+
+// Why a file stays as it was where its lines weren't read or written, by the kinds of the last errors of both.
+fn left_by(fault: FilterFault, read: Option<ErrorKind>, written: Option<ErrorKind>) -> Left {
+    match fault {
+        FilterFault::Memory => Left::Memory,
+        FilterFault::Write => Left::Unwritten(written),
+        FilterFault::Read | FilterFault::Endless => Left::Unread(read),
     }
 }
 
