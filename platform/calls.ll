@@ -95,3 +95,35 @@ define internal i64 @lseek(i32 %file, i64 %offset, i32 %from) alwaysinline nounw
   %place = call i64 @platform_lseek(i64 %file.wide, i64 %offset, i64 %from.wide)
   ret i64 %place
 }
+
+; Only on Linux a file is replaced by a new one. Elsewhere each of these calls fails, by the number of a call that isn't
+; there (ENOSYS, 38).
+define internal ptr @realpath(ptr %path, ptr %resolved) alwaysinline nounwind {
+  call void @platform_set_errno(i64 38)
+  ret ptr null
+}
+
+define internal i32 @statx(i32 %folder, ptr %path, i32 %flags, i32 %mask, ptr %found) alwaysinline nounwind {
+  call void @platform_set_errno(i64 38)
+  ret i32 -1
+}
+
+define internal i32 @rename(ptr %old, ptr %new) alwaysinline nounwind {
+  call void @platform_set_errno(i64 38)
+  ret i32 -1
+}
+
+define internal i32 @unlink(ptr %path) alwaysinline nounwind {
+  call void @platform_set_errno(i64 38)
+  ret i32 -1
+}
+
+define internal i32 @fchmod(i32 %file, i32 %mode) alwaysinline nounwind {
+  call void @platform_set_errno(i64 38)
+  ret i32 -1
+}
+
+define internal i32 @fsync(i32 %file) alwaysinline nounwind {
+  call void @platform_set_errno(i64 38)
+  ret i32 -1
+}

@@ -52,6 +52,14 @@ answers_at_once() {
     rm -f "$room/ask" "$room/answer"
 }
 
+# without_sentences : takes what `check` says of a text that it refuses out of $room/err: a sentence for each place that it
+# printed, in their order, and what to write. tests/runs/words.cases.sh compares the words.
+without_sentences() {
+    sed -n 's/^urlcheck: at place \([0-9]*\): ..*/refused \1/p' "$room/err" | cmp -s - <(sed 's/ [a-z0-9-]*$//' "$room/out") ||
+        fail "check: it wrote $(cat "$room/out") and said $(cat "$room/err")"
+    sed -i -e '/^urlcheck: at place [0-9]*: /d' -e '/^urlcheck: write /d' "$room/err"
+}
+
 # expect STATUS STDOUT STDERR WORD.. : a run with these words ends so. STDOUT and STDERR are read with escapes.
 expect() {
     local status=$1 stdout=$2 stderr=$3 ended
@@ -61,6 +69,7 @@ expect() {
     count=$((count + 1))
     if [ "$ended" != "$status" ]; then fail "$*: status $ended, and not $status"; fi
     if ! printf '%b' "$stdout" | cmp -s - "$room/out"; then fail "$*: it wrote: $(cat "$room/out")"; fi
+    [ "$status $1" != '1 check' ] || without_sentences
     if ! printf '%b' "$stderr" | cmp -s - "$room/err"; then fail "$*: on standard error: $(cat "$room/err")"; fi
 }
 

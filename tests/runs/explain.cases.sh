@@ -116,20 +116,43 @@ located="A located line is FILE:LINE:COLUMN:LINK. FILE isn't empty; LINE and COL
 expect 0 "rule not-located\nmeans this line isn't FILE:LINE:COLUMN:LINK\nasks $located\n" '' explain not-located
 rules='urlcheck: the rules:'
 for name in $("$program" explain | awk '$1 == "rule" { print $2 }'); do rules+=" $name"; done
-rules+=' not-utf8 line-too-long not-located'
-for pair in 'PERCENT percent' 'percent_ percent' 'host-mising host-missing' 'codepoint code-point' 'not-utf-8 not-utf8' \
-    'not-locatd not-located' 'Percent percent'; do
+rules+=' not-utf8 line-too-long not-located empty no-link'
+for pair in 'PERCNT percent' 'percent_ percent' 'host-mising host-missing' 'codepoint code-point' 'not-utf-8 not-utf8' \
+    'not-locatd not-located' 'emty empty' 'nolink no-link'; do
     word=${pair% *}
     expect 2 '' "urlcheck: no rule is named '${word/_/ }'; the nearest is ${pair#* }\\n$rules\\nwords\\n" explain "${word/_/ }"
 done
 expect 2 '' "urlcheck: no rule is named 'no-scheme\\0357\\0277\\0275'; the nearest is no-scheme\\n$rules\\nwords\\n" explain $'no-scheme\n'
-for word in '' nothing os xhost; do
+for word in '' nothing os xhost 0 15 011 +1 1.0; do
     expect 2 '' "urlcheck: no rule is named '$word'\\n$rules\\nwords\\n" explain "$word"
 done
 # Where no name is near, those that begin so.
 for pair in 'host host-missing host-domain host-number host-ipv6 host-code-point' 'NOT- not-utf8 not-located' 'p port-digit port-range percent'; do
     word=${pair%% *}
     expect 2 '' "urlcheck: no rule is named '$word'\\nurlcheck: the rules that begin so: ${pair#* }\\n$rules\\nwords\\n" explain "$word"
+done
+
+# A name in any case, and a rule's number, explain what the name does.
+number=0
+for name in $("$program" explain | awk '$1 == "rule" { print $2 }'); do
+    number=$((number + 1))
+    for word in $number ${name^^} ${name^}; do
+        expect 0 "$("$program" explain $name | sed 's/\\/\\\\/g')\n" '' explain $word
+    done
+done
+expect 0 "rule not-utf8\nmeans this line isn't UTF-8\nasks A line is a text in UTF-8.\n" '' explain Not-UTF8
+# The rules of documents, as the Python package has their words.
+for name in empty no-link; do
+    sentence=$(python3 - "$top" $name <<'END'
+import ast, sys
+tree = ast.parse(open(sys.argv[1] + "/bindings/python/urlcheck/_rules.py", encoding="utf-8").read())
+name = sys.argv[2].upper().replace("-", "_")
+calls = [it for it in ast.walk(tree) if isinstance(it, ast.Call) and it.args and getattr(it.args[0], "id", "") == name]
+print("means %s\nasks %s" % tuple(it.value for it in calls[0].args[1:3]))
+END
+)
+    expect 0 "rule $name\n$sentence\n" '' explain $name
+    expect 0 '' '' explain --url $name
 done
 
 # Several names: one explanation after the other with an empty line between, in the order of the names, also twice; and
@@ -149,30 +172,32 @@ urlcheck: the rules that begin so: not-utf8 not-located\\nurlcheck: no rule is n
     explain nothing not nothing percent $'\e' not
 expect 2 '' "urlcheck: no rule is named 'nothing'\\n$rules\\nwords\\n" explain nothing percent
 
-# The addresses of the pages: as SARIF names them, in the order of the names, a line each; without a name those of the
-# rules by number; and nothing where one of the names is that of no rule.
-"$program" explain --url >"$room/pages" 2>"$room/err"
+# The addresses of the sections of the URL Standard: as SARIF names them, in the order of the names, a line each, and none
+# for what isn't a rule of the standard; without a name those of the rules by number; and nothing where one of the names is
+# that of no rule.
+"$program" explain --url >"$room/addresses" 2>"$room/err"
 ends_with 0 $? '' 'explain --url'
 echo a >"$room/any.txt"
 "$program" lint --format sarif "$room/any.txt" >"$room/report" 2>/dev/null
 python3 - "$room/report" >"$room/help" <<'END'
 import json, sys
 rules = json.load(open(sys.argv[1], encoding="utf-8"))["runs"][0]["tool"]["driver"]["rules"]
-print("\n".join(rule["helpUri"] for rule in rules))
+print("\n".join(rule["helpUri"] for rule in rules if "helpUri" in rule))
 END
 count=$((count + 1))
-tail -n +4 "$room/help" | cmp -s - "$room/pages" || fail "explain --url: it wrote $(cat "$room/pages")"
-site=https://yuccaeave.example/urlcheck/docs
-expect 0 "$site/rules/host-missing.html\n" '' explain --url host-missing
-expect 0 "$site/rules/percent.html\n$site/COMMANDS.html\n$site/rules/no-scheme.html\n$site/rules/percent.html\n" '' \
+cmp -s "$room/help" "$room/addresses" || fail "explain --url: it wrote $(cat "$room/addresses")"
+[ "$(wc -l <"$room/addresses")" = 14 ] || fail "explain --url: a rule has no address"
+standard=https://url.spec.whatwg.org/
+expect 0 "$standard#valid-host-string\n" '' explain --url host-missing
+expect 0 "$standard#url-units\n$standard#relative-url-string\n$standard#url-units\n" '' \
     explain percent --url not-utf8 no-scheme percent
-expect 0 "$site/COMMANDS.html\n$site/COMMANDS.html\n" '' explain --url line-too-long not-located
+expect 0 '' '' explain --url line-too-long not-located
 expect 2 '' "urlcheck: no rule is named 'percemt'; the nearest is percent\n$rules\nwords\n" explain --url percent percemt
-expect 0 "$site/rules/percent.html\n" '' explain --url -- percent
+expect 0 "$standard#url-units\n" '' explain --url -- percent
 
 # The output can't be written.
 for words in 'explain' 'explain percent' 'explain percent no-scheme' 'explain --url'; do
     "$program" $words >/dev/full 2>"$room/err"
     ends_with 3 $? "${no_space}write\\n" "$words to a full device"
 done
-all_cases 85
+all_cases 138

@@ -81,8 +81,7 @@ for shell in bash fish zsh; do
     count=$((count + 1))
     for command in '' $("$program" --help | sed -n '/^Commands:$/,/^$/s/^  \([a-z]*\) .*/\1/p'); do
         [ "$command" != help ] || continue
-        options=$("$program" $command --help | sed -n '/^Options:$/,/^$/p' |
-            grep -o -e '^ *\(-[a-zA-Z], \)\?--[a-z-]*' | tr -d ,)
+        options=$("$program" $command --help | grep -o -e '^ *\(-[a-zA-Z], \)\?--[a-z-]*' | tr -d ,)
         [ -n "$options" ] || fail "the help of '$command' names no option"
         for option in $options; do
             offers $shell "$command" "$option" || fail "completions of $shell: '$command' lacks $option"
@@ -106,7 +105,7 @@ completes() {
 completes 'check' c
 completes '--base' check --ba
 completes '' check --base h
-completes 'no-scheme not-utf8 not-located' explain no
+completes 'no-scheme not-utf8 not-located no-link' explain no
 completes 'made' vectors ma
 completes 'explain' help ex
 completes 'sarif' lint --format sa
@@ -120,6 +119,8 @@ completes 'parser' check --profile p
 completes 'standard wide parser' links --profile =
 completes '--quiet' lint --q
 completes '-q' lint -q
+completes '--in-place' mend --i
+completes 'made' mend -i ma
 completes '-V' -V
 completes '' help check l
 completes '' check -- --ba
@@ -143,4 +144,4 @@ completes 'screen' --columns s
 completes '--type=xml' --type=x
 completes 'auto always never' --color =
 completes 'made' --baseline ma
-all_cases 65
+all_cases 67

@@ -149,9 +149,157 @@ done
 filters 2 '' "urlcheck: no kind is named 'sam'; the nearest is same\nurlcheck: the kinds: same escaped changed\nwords\n" \
     --only sam
 filters 2 '' "urlcheck: no kind is named ''\nurlcheck: the kinds: same escaped changed\nwords\n" --only ''
-of_lines='urlcheck: --only and --quiet are for the lines of standard input, not for a TEXT\nwords\n'
+of_lines='urlcheck: --only, --all-mended and --quiet are for the lines of standard input, not for a TEXT\nwords\n'
 filters 2 '' "$of_lines" --only same urn:a
 filters 2 '' "$of_lines" --quiet urn:a
+filters 2 '' "$of_lines" --all-mended urn:a
+several='urlcheck: mend accepts one TEXT: put it in single quotes if it has spaces; --in-place mends files\nwords\n'
+filters 2 '' "$several" urn:a b
+filters 2 '' "$several" --quiet urn:a b c
+
+# Only what lint offers is written, and all mended texts by --all-mended.
+printf 'http://h/{{ x }}\nhttp://http://x\nC:\\x\r\nhttp://h//a\nhttp://h/a b\nhttp://h/100%%' >"$room/list"
+filters 1 'http://h/{{ x }}\nhttp://http://x\nC:\\x\r\nhttp://h//a\nhttp://h/a%20b\nhttp://h/100%25' \
+    'urlcheck: 6 lines, 2 mended (1 same, 1 escaped, 0 changed), 4 refused\n'
+filters 0 'http://h/%7B%7B%20x%20%7D%7D\nhttp://http:/.//x\nC:%5Cx\r\nhttp://h/.//a\nhttp://h/a%20b\nhttp://h/100%25' \
+    'urlcheck: 6 lines, 6 mended (4 same, 2 escaped, 0 changed), 0 refused\n' --all-mended
+filters 1 'http://h/{{ x }}\nhttp://http://x\nC:%5Cx\r\nhttp://h//a\nhttp://h/a b\nhttp://h/100%25' '' -q --only escaped --all-mended
+# offered_lines : the lines of $room/list with each text in place that lint offers, by its JSON
+offered_lines() {
+    "$program" lint -q --format json "$@" - <"$room/list" >"$room/json"
+    python3 - "$room/list" "$room/json" <<'END'
+import json, sys
+lines = open(sys.argv[1], encoding="utf-8", newline="").read().split("\n")
+for it in map(json.loads, open(sys.argv[2], encoding="utf-8")):
+    if it.get("offered"):
+        lines[it["line"] - 1] = it["mended"]
+sys.stdout.write("\n".join(lines))
+END
+}
+printf '%s\n' 'http://h/a b' 'http://h/<%= id %>' 'http://h/${a}' 'http://h/%s' 'http://h/%4' '\\server\x' 'file:///C|/x' 'file:C:\x' \
+    'https://https//x' 'http:\\h\a' 'http:h' 'http://h//a b' 'foo://h//a' 'mailto:a b' 'tel:+1 555' http://127.0.01/ http://0x1/ \
+    'x y' '/a|b' '?q"' '#a#b' 'http://h:x/' 'http://[::1/' 'http://exa mple.com/' 'http://a%2Db/' ' http://h/' 'HTTP://H/{a}' \
+    'http://h/.//' 'http:/.//a' 'ftp:///h/ ' >"$room/list"
+for words in '' '--base http://h/a/b' '--profile wide' '--profile parser --base file://h/'; do
+    count=$((count + 1))
+    offered_lines $words >"$room/wanted"
+    "$program" mend -q $words <"$room/list" 2>"$room/err" | cmp -s - "$room/wanted" || fail "mend $words: it doesn't write what lint offers"
+    [ "$words" != '' ] || ! cmp -s "$room/wanted" "$room/list" || fail 'lint offers nothing'
+done
+
+# ---- --in-place: the lines of files
+
+# in_place STATUS STDERR WORD.. : a run of `mend --in-place` with these words in $room/files ends so, without output
+in_place() {
+    local status=$1 stderr=$2 ended
+    shift 2
+    (cd "$room/files" && "$program" mend --in-place "$@") >"$room/out" 2>"$room/err" </dev/null
+    ended=$?
+    ends_with "$status" $ended "$stderr" "mend --in-place $*"
+    [ ! -s "$room/out" ] || fail "mend --in-place $*: it wrote: $(cat "$room/out")"
+    [ -z "$(find "$room/files" -name '*.urlcheck-new')" ] || fail "mend --in-place $*: a new file is left"
+}
+# has_bytes FILE BYTES : a file of $room/files has these bytes
+has_bytes() {
+    count=$((count + 1))
+    printf '%b' "$2" | cmp -s - "$room/files/$1" || fail "$1 in place: $(cat "$room/files/$1")"
+}
+mkdir "$room/files"
+chmod 777 "$room/files"
+bad='http://h/a b\r\nhttp://h/{{ x }}\nhttp://ok/'
+good='http://h/a%20b\r\nhttp://h/{{ x }}\nhttp://ok/'
+one='1 mended (1 same, 0 escaped, 0 changed)'
+printf '%b' "$bad" >"$room/files/a.txt"
+chmod 640 "$room/files/a.txt"
+in_place 1 "urlcheck: 3 lines, $one, 1 refused\n" a.txt
+has_bytes a.txt "$good"
+if has posix_modes 1; then
+    count=$((count + 1))
+    [ "$(stat -c %a "$room/files/a.txt")" = 640 ] || fail 'mend --in-place: the mode is another one'
+fi
+# (a second run changes nothing: not even the time of the file, nor which file it is)
+touch -d 2020-01-01 "$room/files/a.txt"
+stat -c '%i %Y' "$room/files/a.txt" >"$room/before"
+in_place 1 'urlcheck: 3 lines, 0 mended (0 same, 0 escaped, 0 changed), 1 refused\n' a.txt
+count=$((count + 1))
+stat -c '%i %Y' "$room/files/a.txt" | cmp -s - "$room/before" || fail 'mend --in-place wrote a file of which no line is mended'
+# (several files, the options of a filter, and the name of an option)
+printf 'http://h/a|b\nhttp:c\n' >"$room/files/b.txt"
+printf 'a b\n' >"$room/files/-i"
+in_place 0 'urlcheck: 3 lines, 3 mended (1 same, 1 escaped, 1 changed), 0 refused\n' --base http://h/ b.txt -- -i
+has_bytes b.txt 'http://h/a%7Cb\nhttp://c\n'
+has_bytes -i 'a%20b\n'
+printf 'http://h/a|b\nhttp://h/ c\n' >"$room/files/b.txt"
+in_place 1 '' -q --only same b.txt
+has_bytes b.txt 'http://h/a|b\nhttp://h/%20c\n'
+in_place 0 '' -q --all-mended a.txt
+has_bytes a.txt 'http://h/a%20b\r\nhttp://h/%7B%7B%20x%20%7D%7D\nhttp://ok/'
+# (a link is followed, and stays one)
+mkdir "$room/files/of"
+printf 'http://h/a b\n' >"$room/files/of/real.txt"
+ln -s of/real.txt "$room/files/link.txt"
+in_place 0 "urlcheck: 1 line, $one, 0 refused\n" link.txt
+has_bytes of/real.txt 'http://h/a%20b\n'
+count=$((count + 1))
+[ -L "$room/files/link.txt" ] || fail 'mend --in-place: the link is a file'
+# (what can't be read stays, and the next file goes on; an empty name, a folder, what isn't a file)
+printf 'http://h/a b\n' >"$room/files/c.txt"
+in_place 2 "urlcheck: none.txt: can't be read: there is no such file\nurlcheck: 1 line, $one, 0 refused\n" none.txt c.txt
+has_bytes c.txt 'http://h/a%20b\n'
+in_place 2 "urlcheck: of: can't be read: it is a folder\n" -q of
+in_place 2 "urlcheck: '': can't be read: there is no such file\n" -q ''
+mkfifo "$room/files/pipe"
+in_place 2 "urlcheck: pipe: can't be written; it stays as it was\n" -q pipe
+rm "$room/files/pipe"
+# (a new file of that name is nobody's to overwrite; one may not be written, or not grow as large)
+printf 'http://h/a b\n' >"$room/files/c.txt"
+echo other >"$room/files/c.txt.urlcheck-new"
+(cd "$room/files" && "$program" mend -qi c.txt) >"$room/out" 2>"$room/err"
+ends_with 2 $? "urlcheck: c.txt: can't be written: a file of this name with .urlcheck-new at its end exists; it stays as it was\n" \
+    'mend --in-place beside a new file'
+has_bytes c.txt 'http://h/a b\n'
+has_bytes c.txt.urlcheck-new 'other\n'
+rm "$room/files/c.txt.urlcheck-new"
+if has posix_modes 4; then
+    chmod 444 "$room/files/c.txt"
+    (cd "$room/files" && as_nobody "$program" mend -qi c.txt) >"$room/out" 2>"$room/err"
+    ends_with 2 $? "urlcheck: c.txt: can't be written: permission denied; it stays as it was\n" 'mend --in-place of a file to read'
+    chmod 666 "$room/files/c.txt"
+    chmod 555 "$room/files"
+    (cd "$room/files" && as_nobody "$program" mend -qi c.txt) >"$room/out" 2>"$room/err"
+    ends_with 2 $? "urlcheck: c.txt: can't be written: permission denied; it stays as it was\n" 'mend --in-place in a folder to read'
+    chmod 777 "$room/files"
+    chmod 600 "$room/files/c.txt"
+    (cd "$room/files" && as_nobody "$program" mend -qi c.txt) >"$room/out" 2>"$room/err"
+    ends_with 2 $? "urlcheck: c.txt: can't be read: permission denied\n" 'mend --in-place of a file that may not be read'
+    has_bytes c.txt 'http://h/a b\n'
+fi
+# in_turn TEXT.. : 100,000 lines, each of these texts in turn with the line's number at its end
+in_turn() { awk 'BEGIN { for (n = 1; n <= 100000; n++) print ARGV[n % (ARGC - 1) + 1] n }' "$@"; }
+in_turn 'http://h/a b?' http://ok/ >"$room/files/long.txt"
+in_turn 'http://h/a%20b?' http://ok/ >"$room/long.new"
+cp "$room/files/long.txt" "$room/long.old"
+if has prlimit 2; then
+    (cd "$room/files" && trap '' XFSZ && prlimit --fsize=100000 "$program" mend -qi long.txt) >"$room/out" 2>"$room/err"
+    ends_with 2 $? "urlcheck: long.txt: can't be written: the file may not get larger; it stays as it was\n" 'mend --in-place of a file too large'
+    count=$((count + 1))
+    cmp -s "$room/files/long.txt" "$room/long.old" || fail 'mend --in-place of a file too large: the file is another one'
+    [ ! -e "$room/files/long.txt.urlcheck-new" ] || fail 'mend --in-place of a file too large: a new file is left'
+fi
+# (ended at any moment, the file is the old one or the new one, whole)
+for wait in 0.001 0.005 0.01 0.02 0.05; do
+    cp "$room/long.old" "$room/files/long.txt"
+    (cd "$room/files" && timeout -s KILL $wait "$program" mend -qi long.txt) 2>/dev/null
+    count=$((count + 1))
+    cmp -s "$room/files/long.txt" "$room/long.old" || cmp -s "$room/files/long.txt" "$room/long.new" ||
+        fail "mend --in-place that was killed after $wait s: the file isn't whole"
+    rm -f "$room/files/long.txt.urlcheck-new"
+done
+# (words)
+in_place 2 'urlcheck: --in-place mends the lines of files: name one, or leave it out for standard input\nwords\n'
+in_place 2 "urlcheck: no kind is named 'x'\nurlcheck: the kinds: same escaped changed\nwords\n" --only x c.txt
+in_place 2 "$(no_base 0 no-scheme 'it has no scheme')" --base x c.txt
+has_bytes c.txt 'http://h/a b\n'
 
 # Lines of the most bytes and of one more, which stays as it was; and 16 MiB without LF in little memory.
 awk 'BEGIN { printf "http://h/ "; for (n = 10; n < 65536; n++) printf "a" }' >"$room/long"
@@ -170,8 +318,6 @@ fi
 
 # A list of 100,000 lines in little memory, made a second time here as it is mended, and that list, which stays.
 
-# in_turn TEXT.. : 100,000 lines, each of these texts in turn with the line's number at its end
-in_turn() { awk 'BEGIN { for (n = 1; n <= 100000; n++) print ARGV[n % (ARGC - 1) + 1] n }' "$@"; }
 kept=https://EXAMPLE.com:443/a/../
 in_turn $kept 'http://h/a b?' 'http://h/a|' 'http:\\h\' >"$room/list"
 in_turn $kept 'http://h/a%20b?' http://h/a%7C http://h/ >"$room/wanted"
@@ -203,4 +349,4 @@ if has closed_streams 1; then
     ends_with 3 $? "${no_input}read\\n" 'mend with standard input closed'
 fi
 
-all_cases 136
+all_cases 184

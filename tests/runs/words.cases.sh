@@ -32,13 +32,18 @@ shows() {
     if ! grep -qxF -- "$line" "$room/out"; then fail "$*: it wrote: $(cat "$room/out")"; fi
 }
 
+# Without words, standard error has the short help and then `words`.
+"$program" -h >"$room/short"
+ran 2
+[ ! -s "$room/out" ] || fail "no words: it wrote: $(cat "$room/out")"
+{ cat "$room/short"; echo words; } | cmp -s - "$room/err" || fail "no words: on standard error: $(cat "$room/err")"
+
 # Words that are refused, and words that ask for help.
-refused 'requires a subcommand'
 refused "'-x'" -x
 refused '<TEXT>' check
 refused "'-a'" check -a
 refused "'-a'" lint -a b
-expect 2 '' "urlcheck: a value is required for '--base <TEXT>' but none was supplied\nurlcheck: For more information, try '--help'.\nwords\n" \
+expect 2 '' "urlcheck: a value is required for '--base <URL>' but none was supplied\nurlcheck: For more information, try '--help'.\nwords\n" \
     check --base
 refused "'urn:b'" check urn:a urn:b
 refused "'urn:b'" check -- urn:a urn:b
@@ -49,15 +54,14 @@ refused "'chek'" chek urn:a
 no_file='urlcheck: links reads standard input, not a file: urlcheck links <FILE'
 # usage_of WORDS : what is said of how a command is used: an option is one of those that may be left out, also where it is given
 usage_of() { printf '%s' "urlcheck: Usage: $1\nurlcheck: For more information, try '--help'.\n"; }
-usage=$(usage_of 'urlcheck links [--base <TEXT>] [OPTIONS]')
-of_one=$(usage_of 'urlcheck check [--base <TEXT>] [OPTIONS] <TEXT>')
+usage=$(usage_of 'urlcheck links [OPTIONS]')
+of_one=$(usage_of 'urlcheck check [OPTIONS] <TEXT>')
 of_all='urlcheck: --all is an option of check and lint\n'
 expect 2 '' "urlcheck: unexpected argument 'x' found\n$usage$no_file\nwords\n" links x
 expect 2 '' "urlcheck: unexpected argument 'links.txt' found\n$usage$no_file\nwords\n" links --base http://h/ links.txt
 expect 2 '' "urlcheck: unexpected argument '--all' found\n$usage$of_all""words\n" links --all links.txt
 expect 2 '' "urlcheck: unexpected argument '--all' found\n$usage$of_all""words\n" links --all
 refused "'--format'" mend --format gnu
-refused "'b'" mend a b
 refused '<FILE>' vectors
 if has byte_arguments 4; then
     expect 2 '' "urlcheck: argument 2 isn't UTF-8\nwords\n" check $'\xff'
@@ -67,28 +71,63 @@ if has byte_arguments 4; then
 fi
 refused $'unexpected argument \'--\xef\xbf\xbd[2J\'' check $'--\e[2J' a
 refused $'unrecognized subcommand \'a\xef\xbf\xbd\'' $'a\a'
-shows "  2  the arguments, the base or the file of vectors are refused, or lint couldn't read a file" --help
-shows "  2  the arguments, the base or the file of vectors are refused, or lint couldn't read a file" -h
-shows "  urlcheck check 'http://h/a b'" help
-shows '  urlcheck check --base http://h/a/b ../x' check --help
-shows '  urlcheck links --base http://h/ < links.txt' help links
+shows 'Checks how links are written (WHATWG URL Standard). Opens no connection.' --help
+shows '  2  the arguments, the base or the file of vectors are refused, or a file of' help
+shows "  urlcheck check 'https://example.com/a b'" -h
+shows '  urlcheck check --base https://example.com/a/ ../b' check --help
+shows '  urlcheck links --base https://example.com/ <links.txt' help links
 shows '  urlcheck lint --format caret links.txt' lint --help
-shows "  urlcheck mend 'http://h/a b'" mend --help
-shows '  urlcheck vectors vectors/standard.json' help vectors
+shows "  urlcheck mend 'https://example.com/a b'" mend -h
+shows '  urlcheck vectors tests/vectors/standard.json' help vectors
+
+# Each help is at most 80 columns wide, without a space at the end of a line. The long form has the options of the short
+# one, under the same headings, and more: the exit statuses. Both have examples.
+# options_of FILE : the headings of a help and its options, in their order
+options_of() { grep -o -e '^[A-Z][a-z]*:$' -e '^ *\(-[a-zA-Z], \)\?--[a-z-]*\( <[A-Z]*>\)\?' "$1" | sed 's/^ *//'; }
+for command in '' check lint links mend vectors explain; do
+    count=$((count + 1))
+    "$program" $command -h >"$room/short"
+    "$program" $command --help >"$room/long"
+    [ "$(LC_ALL=C.UTF-8 awk 'length > 80 || / $/' "$room/short" "$room/long")" = '' ] || fail "$command --help: a line is too wide"
+    options_of "$room/short" | cmp -s - <(options_of "$room/long") || fail "$command: -h and --help have other options"
+    [ "$(wc -l <"$room/short")" -lt "$(wc -l <"$room/long")" ] || fail "$command --help has no more than -h"
+    grep -q '^Exit statuses:$' "$room/long" || fail "$command --help has no exit statuses"
+    ! grep -q '^Exit statuses:$' "$room/short" || fail "$command -h has exit statuses"
+    [ "$(grep -c -e '^Examples\?:$' "$room/short" "$room/long" | grep -c ':1$')" = 2 ] || fail "$command: a help has no examples"
+done
+# The values that the help names are those that the option accepts, as an unknown value is told, and the first is its default.
+# has_values COMMAND OPTION NOUN : the values of an option in both helps, which the program calls so
+has_values() {
+    local names
+    count=$((count + 1))
+    names=$("$program" $1 --$2 none x 2>&1 </dev/null | sed -n "s/^urlcheck: the $3s: //p")
+    [ -n "$names" ] || fail "$1 --$2: none is named"
+    [ "$("$program" $1 -h | tr -s '\n ' ' ' | sed -n "s/.*--$2 [^[]*\(\[default: [^]]*\] \)\?\[possible values: \([^]]*\)\].*/\2/p")" = "${names// /, }" ] ||
+        fail "$1 -h: --$2 doesn't have the values $names"
+    [ "$("$program" $1 --help | sed -n "/--$2 /,/^\$/s/^ *- \([a-z0-9-]*\):.*/\1/p" | tr '\n' ' ')" = "$names " ] ||
+        fail "$1 --help: --$2 doesn't have the values $names"
+    "$program" $1 -h | tr -s '\n ' ' ' | grep -q -e "--$2 [^[]*\[default: ${names%% *}\]" || [ $2 = only ] ||
+        fail "$1 -h: --$2 has no default"
+}
+for command in check lint links mend; do has_values $command profile profile; done
+has_values lint format format
+has_values lint columns 'column unit'
+count=$((count + 1))
+[ "$("$program" mend -h | tr -s '\n ' ' ' | grep -c 'possible values: same, escaped, changed')" = 1 ] || fail 'mend -h has no kinds'
 expect 0 "urlcheck $(cat "$(dirname "$(dirname "$here")")/VERSION")\n" '' -V
 expect 0 "urlcheck $(cat "$(dirname "$(dirname "$here")")/VERSION")\nUnicode 18.0, in domains\n" '' --version
 
 # The statuses of each command are in its help, and each command that checks says what the profiles are.
 shows '  1  the text is refused' check --help
-shows "  2  the arguments or the base are refused, or a file can't be read; the others are checked" lint --help
+shows "  2  the arguments or the base are refused, or a file can't be read; the others" lint --help
 shows "  1  a line isn't ok" help links
 shows '  1  a case fails' vectors --help
 shows '  2  the arguments are refused, or no rule has the name' explain --help
-shows '      --profile <PROFILE>  standard, wide or parser; without it standard' links --help
-shows '  -q, --quiet              Leaves out the counts on standard error' lint --help
-shows '      --stdin-name <NAME>  Reports on - under this name; without it under -' help lint
+shows '      --profile <PROFILE>  What to accept [default: standard]' links -h
+shows '  -q, --quiet              Leave out the counts on standard error' lint -h
+shows '      --stdin-name <NAME>  Report on - under this name [default: -]' lint -h
 # (a file that can't be read is 2 for lint, which goes on with the others, and 3 for vectors)
-shows "  2  the arguments or the base are refused, or a file can't be read; the others are checked" help lint
+shows "  2  the arguments or the base are refused, or a file can't be read; the others" help lint
 shows "  3  out of memory, the file can't be read, or the output failed" help vectors
 
 # A profile by its name, by `--wide`, and by a name that none has.
@@ -177,6 +216,9 @@ for words in 'chk check' 'chek check' 'LINT lint' 'lnit lint' 'mnd mend' 'vec ve
     no_command "no command is named '$word'; the nearest is $near" $word urn:a
 done
 no_command 'version is no command: write urlcheck --version' version
+# (so is the word after help)
+expect 2 '' "urlcheck: unrecognized subcommand 'lnt'\n$(usage_of "$(basename "$program") <COMMAND>")\
+urlcheck: no command is named 'lnt'; the nearest is lint\nwords\n" help lnt
 # (two begin so, the first letter is another one, or the letters are in another order)
 for word in ln hck vtc; do
     ran 2 $word
@@ -201,7 +243,6 @@ cut_up() {
 }
 cut_up 1 check http://h/a b
 cut_up 1 check --wide http://h/a b c
-cut_up 1 mend http://h/a b
 cut_up 1 check -- -a b
 cut_up 0 check a b --all
 cut_up 0 check --bogus a b
@@ -211,14 +252,14 @@ cut_up 0 links a b
 # The usage shows no option that was given as one that has to be, nor does the help.
 expect 2 '' "urlcheck: unexpected argument 'b' found\n${of_one}urlcheck: check accepts one TEXT: put it in single quotes if it has spaces\n\
 words\n" check --base http://h/ --wide a b
-expect 2 '' "urlcheck: unexpected argument 'b' found\n$(usage_of 'urlcheck mend [--base <TEXT>] [OPTIONS] [TEXT]')\
-urlcheck: mend accepts one TEXT: put it in single quotes if it has spaces\nwords\n" mend --base http://h/ a b
-shows 'Usage: urlcheck lint [--base <TEXT>] [OPTIONS] <FILE>...' lint --help
-shows 'Usage: urlcheck links [--base <TEXT>] [OPTIONS]' help links
+expect 2 '' 'urlcheck: mend accepts one TEXT: put it in single quotes if it has spaces; --in-place mends files\nwords\n' \
+    mend --base http://h/ a b
+shows 'Usage: urlcheck lint [OPTIONS] <FILE>...' lint --help
+shows 'Usage: urlcheck links [OPTIONS]' help links
 
 # A lint without a file: a hint at standard input.
 expect 2 '' "urlcheck: the following required arguments were not provided:\nurlcheck:   <FILE>...\n\
-$(usage_of 'urlcheck lint [--base <TEXT>] [OPTIONS] <FILE>...')\
+$(usage_of 'urlcheck lint [OPTIONS] <FILE>...')\
 urlcheck: lint reads standard input as the FILE -\nwords\n" lint
 
 # An option that another command takes: which commands these are, in place of the tip to hand it over as a text.
@@ -237,6 +278,9 @@ of_others lint check --format json x
 of_others lint check --format=json x
 of_others lint mend --located
 of_others mend lint --only same x
+of_others mend lint --in-place x
+of_others mend lint -i x
+of_others mend lint --all-mended x
 of_others 'check and lint' mend --all x
 of_others 'lint and mend' check -q x
 of_others 'lint and mend' vectors --quiet
@@ -306,7 +350,7 @@ expect 2 '' "urlcheck: unexpected argument '--bse' found\n$usage$no_file\nwords\
 # Each option of the help is one of the commands that have it in their help, and of no other: as vectors says, which has none.
 count=$((count + 1))
 for command in check lint links mend explain; do
-    "$program" help $command | sed -n '/^Options:$/,/^$/p' | grep -o -e '--[a-z0-9-]*' -e '-[a-z],' | tr -d , |
+    "$program" $command -h | grep -o -e '^ *\(-[a-z], \)\?--[a-z-]*' | grep -o -e '--[a-z-]*' -e '-[a-z],' | tr -d , |
         grep -vx -e --help -e -h | sed "s/$/ $command/"
 done | awk '!seen[$0]++' | sort -s -k 1,1 | awk '$1 != option { option = $1; printf "%s%s %s", (NR > 1 ? "\n" : ""), $1, $2; next }
     { printf ", %s", $2 } END { print "" }' | sed 's/, \([a-z]*\)$/ and \1/' >"$room/options"
@@ -318,10 +362,47 @@ done <"$room/options"
 
 # Each of them is the nearest to its name without the last letter.
 for command in check lint links mend explain; do
-    for option in $("$program" help $command | sed -n '/^Options:$/,/^$/p' | grep -o -e '--[a-z0-9-]*' | grep -vx -e --help | awk '!seen[$0]++'); do
+    for option in $("$program" $command -h | sed -n 's/^ *\(-[a-z], \)\{0,1\}\(--[a-z-]*\).*/\2/p' | grep -vx -e --help); do
         nearest_is "$option" $command "${option%?}"
     done
 done
+
+# What people of other tools write: what to write here, in place of clap's tip to hand it over as a text.
+# instead HINT COMMAND OPTION.. : each of these options is refused with this hint, by any command
+instead() {
+    local hint=$1 command=$2 option
+    shift 2
+    for option in "$@"; do
+        ran 2 $command $option x
+        if [ -s "$room/out" ] || [ "$(head -n 1 "$room/err")" != "urlcheck: unexpected argument '${option%%=*}' found" ] ||
+            [ "$(tail -n 2 "$room/err")" != "urlcheck: there is no option ${option%%=*}; $hint"$'\n'words ] ||
+            grep -q 'tip:' "$room/err"; then
+            fail "$command $option: on standard error: $(cat "$room/err")"
+        fi
+    done
+}
+instead 'urlcheck mend --in-place FILE mends the links of a list' lint --fix --unsafe-fixes --write
+instead 'urlcheck mend -q <FILE | diff FILE - shows what mend changes' lint --diff --dry-run
+instead 'nothing here is written in colours' lint --color --no-color
+instead "lint --format FORMAT names the format" lint --output-format --reporter --formatter=json
+instead 'lint --format json writes an object a line' lint --json
+instead 'lint --format sarif writes SARIF' lint --sarif
+instead "lint reports every rule: grep -v '\\[percent\\]$' leaves out the lines of one" lint --select --ignore=percent --disable
+instead 'lint reads the FILEs that it is given, and each of their lines: leave some out before' lint --exclude --include --skip
+instead 'lint reads lists; urlcheck-documents --check FOLDER checks the documents of a folder' lint --recursive -r
+instead 'lint --format caret shows each line; explain RULE explains a rule' lint --verbose -v --debug
+instead 'lint --quiet leaves out the counts' lint --silent -s
+instead '>FILE writes what is printed to a file' lint --output -o --output-file=x
+instead "lint -q FILE | grep -o '\\[[a-z0-9-]*\\]$' | sort | uniq -c counts by rule" lint --statistics --count
+instead '|| [ $? = 1 ] after the command goes on at a refused link' lint --exit-zero
+instead 'lint reads a million links in less than a second: once, on one processor' lint --jobs -j --watch --cache
+instead 'only urlcheck-documents reads a configuration' lint --config
+instead 'no connection is opened: only how a link is written is checked' check --timeout --offline
+instead 'this is an option of urlcheck-documents' lint --check --gfm --type
+instead 'the standard profile is the strictest, and the one without --profile' check --strict
+instead 'urlcheck explain explains every rule' lint --list-rules
+instead 'lint - reads standard input' lint --stdin
+instead 'lint --stdin-name NAME - names standard input' lint --stdin-filename=x
 
 # The text and the base are taken as they are given.
 expect 1 'refused 0 no-scheme\n' '' check ''
@@ -419,4 +500,29 @@ expect 0 'valid\nscheme file\nhost domain h\nsegment C:\nsegment x\n' '' check -
 expect 0 'valid\nscheme urn\nopaque a b\nfragment f\n' '' check --profile parser --base 'urn:a b' '#f'
 expect 2 '' "$(no_base 5 code-point 'U+0020 SPACE is not allowed in a URL')" check --wide --base 'urn:a b' '#f'
 expect 2 '' "$(no_base 7 host-number '256 is above 255, the largest number of an IPv4 address')" check --profile parser --base http://256/ x
-all_cases 322
+# Of a text that is refused, standard error says what is wrong, as lint says it, and what to write, where lint offers that.
+# tells STDERR WORD.. : a check of these words says this of a text that it refuses
+tells() {
+    local said=$1
+    shift
+    ran 1 check "$@"
+    printf '%b' "$said" | cmp -s - "$room/err" || fail "check $*: on standard error: $(cat "$room/err")"
+}
+tells 'urlcheck: at place 10: U+0020 SPACE is not allowed in a URL\nurlcheck: write http://h/a%20b\n' 'http://h/a b'
+tells 'urlcheck: at place 1: U+0020 SPACE is not allowed in a URL\nurlcheck: write a%20b%254\n' --base http://h/ 'a b%4'
+tells 'urlcheck: at place 7: U+005F LOW LINE is not allowed in a domain; --profile wide allows it\n'\
+'urlcheck: at place 11: U+0020 SPACE is not allowed in a URL\n' --all 'http://a_b/ '
+tells 'urlcheck: at place 9: U+007B LEFT CURLY BRACKET is not allowed in a URL; this looks like a template: check what it makes\n' \
+    'http://h/{{ id }}'
+tells 'urlcheck: at place 0: there is no scheme and no base\nurlcheck: - is the text here; lint - and links read standard input\n' -
+while IFS=$'\037' read -r base text; do
+    against=()
+    [ -z "$base" ] || against=(--base "$base")
+    ran 1 check "${against[@]}" -- "$text"
+    printf '%s\n' "$text" | "$program" lint -q --format json "${against[@]}" - >"$room/json"
+    python3 -c 'import json, sys; it = json.load(open(sys.argv[1])); print("urlcheck: at place %d: %s" % (it["column"] - 1, it["message"]));
+if it.get("offered"): print("urlcheck: write " + it["mended"])' "$room/json" | cmp -s - "$room/err" ||
+        fail "check $text: on standard error: $(cat "$room/err")"
+done < <("$program" explain |
+    awk '/^rule / { base = "" } /^base / { base = substr($0, 6) } /^text / { print base "\037" substr($0, 6) }')
+all_cases 404

@@ -27,7 +27,7 @@ function say(lines) {
     else print lines
 }
 
-# an entry of a list: what is before the first two spaces, and what is after them
+# an entry of a list: what is before the first two spaces, and what is after them, or on the next lines
 function say_entry(text,    item, meaning) {
     sub(/^ +/, "", text)
     item = text
@@ -36,6 +36,14 @@ function say_entry(text,    item, meaning) {
         meaning = substr(text, RSTART + RLENGTH)
     }
     say(".TP\n.B " roff(item) (meaning == "" ? "" : "\n" lines_of(meaning)))
+    is_new = meaning == ""
+}
+
+# a further line of an entry
+function say_further(text) {
+    sub(/^ +/, "", text)
+    say((is_new || section == "Exit statuses" ? "" : ".br\n") lines_of(text))
+    is_new = 0
 }
 
 BEGIN { printf ".TH URLCHECK 1 \"%s\" \"%s\" \"User Commands\"\n", day, version }
@@ -46,7 +54,8 @@ FNR == 1 {
     is_late = 0
     section = ""
     about = $0
-    if (is_program) say(".SH NAME\nurlcheck \\- " roff(tolower(substr($0, 1, 1)) substr($0, 2)))
+    sub(/\. .*/, "", about)
+    if (is_program) say(".SH NAME\nurlcheck \\- " roff(tolower(substr(about, 1, 1)) substr(about, 2)))
     next
 }
 
@@ -61,7 +70,7 @@ FNR == 1 {
     is_late = section != "Options"
     if (section == "Commands") next
     if (is_program) say(".SH " (section == "Exit statuses" ? "EXIT STATUS" : toupper(section)))
-    else if (section ~ /^Examples?$/ || section == "Exit statuses") say(".PP\n" section ":")
+    else if (section !~ /^(Arguments|Options)$/) say(".PP\n" section ":")
     next
 }
 
@@ -69,11 +78,18 @@ FNR == 1 {
 
 section == "Commands" { next }
 
+section == "" && /^ +urlcheck / {
+    sub(/^ +/, "")
+    say(".PP\n.B " roff($0))
+    next
+}
+
 /^ / {
     if (section ~ /^Examples?$/) {
         sub(/^ +/, "")
         say((is_program ? "" : ".PP\n") ".RS 4\n.nf\n" roff($0) "\n.fi\n.RE")
-    } else say_entry($0)
+    } else if (/^     / && !/^ +-/ || /^          /) say_further($0)
+    else say_entry($0)
     is_paragraph = 0
     next
 }

@@ -1,4 +1,4 @@
-//! Explanations of rules: that of one rule, the name of none, and each failed write, of pages too.
+//! Explanations of rules: that of one rule, the name of none, and each failed write.
 //! tests/runs/explain.cases.sh has all rules.
 
 use scripted_streams::ScriptSink;
@@ -40,8 +40,8 @@ fn explains_a_rule(rt: HostRuntime) -> Result<(), Fail> {
 fn knows_no_other_names(rt: HostRuntime) -> Result<(), Fail> {
     let mut out = ToWriter::new(Vec::new(rt.alloc()));
     let mut names = only(rt.alloc(), "host-missing")?;
-    names.push("Percent".to_string(rt.alloc())?)?;
-    let end = run_explain(rt.alloc(), names.as_slice(), Told::Page, &mut out)?;
+    names.push("15".to_string(rt.alloc())?)?;
+    let end = run_explain(rt.alloc(), names.as_slice(), Told::Address, &mut out)?;
     assert!(rt; end == ExplainEnd::Unknown);
     assert!(rt; out.into_writer().is_empty());
     Ok(())

@@ -13,6 +13,7 @@ fn every() -> Job {
         base: None,
         profile: Profile::Standard,
         only: None,
+        all: false,
         quiet: false,
     })
 }

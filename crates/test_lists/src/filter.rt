@@ -17,6 +17,7 @@ const SETTING: FilterSetting<'static> = FilterSetting {
     base: None,
     profile: Profile::Standard,
     only: None,
+    all: false,
 };
 
 // A line of each kind, with an end of each kind, and an empty one.

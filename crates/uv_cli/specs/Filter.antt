@@ -1,7 +1,8 @@
 -- What a filter of lines has read and written, and what it has come to.
-use Rattle.std.specs.Prelude.{◌≡◌, ℕ, ◌+◌, Bool, List, Option, Some, None, option_map}
+use Rattle.std.specs.Prelude.{◌≡◌, ℕ, ◌+◌, Bool, false, List, Option, Some, None, option_map}
 use Rattle.std.specs.Borrow.{Bor}
 use Rattle.std.specs.Io.KnownBytes.{Consumes, IsAtEnd}
+use Rattle.uv_filter.specs.declared.counts.FilterCounts.{FilterCounts}
 use Rattle.uv_filter.specs.declared.fault.FilterFault.{FilterFault}
 use Rattle.uv_filter.specs.Fates.{Mender}
 use Rattle.uv_filter.specs.Filtered.{Filtering, starting}
@@ -25,7 +26,8 @@ only_of (Some name) = option_map Some (named_kind name.now)
 
 -- by what the job asks lines to be mended
 abbrev pub mender_of : FilterJob → Option Url → Option MendKind → Mender
-mender_of asked base only = record { profile = asked.profile; base = base; only = only }
+mender_of asked base only =
+    record { profile = asked.profile; base = base; only = only; all = asked.all }
 
 -- what was written of the bytes that were read, by what stopped the filter
 abbrev pub FilteredBy : Option FilterFault → Mender → List ℕ → Filtering → Stream → Stream → Stream → Stream → Type 0
@@ -45,6 +47,7 @@ pub record IsFiltered (mender : Mender) (is_quiet : Bool) (filtered : Filtered) 
   pub written : FilteredBy filtered.stopped mender read now input rest old new
   pub counted : filtered.counts ≡ now.counts
   pub quiet : filtered.is_quiet ≡ is_quiet
+  pub none_left : filtered.is_file_left ≡ false
 
 -- What was read and written of the lines by the texts that the job has. The kind is found first, and then the base is
 -- checked alone, before anything is read or written.
@@ -59,3 +62,20 @@ HasFiltered asked base name (end.Filtered filtered) input rest old new =
     (url : Option Url) × (only : Option MendKind) × IsBase asked.profile base url × (only_of name ≡ Some only)
     × IsFiltered (mender_of asked url only) asked.quiet filtered input rest old new
 HasFiltered asked base name _ input rest old new = ⊥
+
+-- all these bytes were read, what a filter writes of their lines was written, and these are its counts
+abbrev pub HasWrittenMended : Mender → Option (List ℕ) → Option (List ℕ) → Option (List ℕ) → FilterCounts → Type 0
+HasWrittenMended mender bytes old new counts =
+    (read : List ℕ) × (rest : Option (List ℕ)) × (now : Filtering) × Consumes bytes rest read × IsAtEnd rest
+    × Wrote (starting mender) (all_lines read) old new now × (counts ≡ now.counts)
+
+-- How the mending of files in their place ends, by the texts that the job has. The kind is found first, and then the
+-- base is checked alone, before a file is opened. What a file gives and takes no clause can say.
+abbrev pub HasMendedFiles : FilterJob → Option (Bor (List ℕ)) → Option (Bor (List ℕ)) → End → Type 0
+HasMendedFiles asked base name end.UnknownKind = only_of name ≡ None
+HasMendedFiles asked base name (end.BaseRefused refusal) = IsBaseRefused asked.profile base refusal
+HasMendedFiles asked base name (end.Fault cli.Memory) = Unit {0}
+HasMendedFiles asked base name (end.Filtered filtered) =
+    (url : Option Url) × (only : Option MendKind) × IsBase asked.profile base url × (only_of name ≡ Some only)
+    × (filtered.is_quiet ≡ asked.quiet)
+HasMendedFiles asked base name _ = ⊥

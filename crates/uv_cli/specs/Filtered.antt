@@ -1,7 +1,8 @@
 -- What a filter of lines has come to, its exit status, and its lines on standard error.
-use Rattle.std.specs.Prelude.{ℕ, ◌+◌, ◌-◌, ◌^◌, ◌==◌, Bool, List, [], ◌++◌, Option, Some, None, Result, Ok, Err, codes}
+use Rattle.std.specs.Prelude.{ℕ, ◌+◌, ◌-◌, ◌^◌, ◌==◌, Bool, false, true, List, [], ◌++◌, Option, Some, None, Result, Ok, Err, codes}
 use Rattle.std.specs.Prelude.{decimal, is_some, min, if◌then◌else◌}
 use Rattle.uv_filter.specs.declared.counts.FilterCounts.{FilterCounts}
+use Rattle.uv_filter.specs.Counts.{both}
 use Rattle.uv_filter.specs.declared.fault.FilterFault.{FilterFault}
 use Rattle.uv_filter.specs.declared.fault.FilterFault.TheVariants.{Memory, Read, Write, Endless}
 use Rattle.uv_cli.specs.declared.filtered.Filtered.{Filtered}
@@ -13,11 +14,20 @@ fault_of (Err fault) = Some fault
 
 -- by its counts and its answer
 abbrev pub filtered_by : FilterCounts → Result (Unit {0}) FilterFault → Bool → Filtered
-filtered_by counts answer is_quiet = record { counts = counts; stopped = fault_of answer; is_quiet = is_quiet }
+filtered_by counts answer is_quiet =
+    record { counts = counts; stopped = fault_of answer; is_quiet = is_quiet; is_file_left = false }
 
 -- stopped by this fault
 abbrev pub with_fault : Filtered → FilterFault → Filtered
 with_fault filtered fault = record filtered { stopped = Some fault }
+
+-- after a further file of which this was counted
+abbrev pub with_counts : Filtered → FilterCounts → Filtered
+with_counts filtered counts = record filtered { counts = both filtered.counts counts }
+
+-- after a further file that stays as it was, since something failed
+abbrev pub with_file_left : Filtered → Filtered
+with_file_left filtered = record filtered { is_file_left = true }
 
 -- two numbers together, 2^64 - 1 at most
 abbrev pub sum : ℕ → ℕ → ℕ
@@ -34,7 +44,9 @@ refused_count counts = sum (sum counts.refused counts.not_utf8) counts.too_long
 -- the exit status
 abbrev pub filter_status : Filtered → ℕ
 filter_status filtered =
-    if is_some filtered.stopped then 3 else if refused_count filtered.counts == 0 then 0 else 1
+    if is_some filtered.stopped then 3
+    else if filtered.is_file_left then 2
+    else if refused_count filtered.counts == 0 then 0 else 1
 
 -- the line of counts: how many lines came,
 unfoldable pub lines_text : ℕ → List ℕ

@@ -1,5 +1,6 @@
 -- What a job has done with its streams, by the end that it gave.
-use Rattle.std.specs.Prelude.{◌≡◌, ◌≢◌, ℕ, ◌+◌, false, List, Option, String, option_map, string_bytes}
+use Rattle.std.specs.Prelude.{◌≡◌, ◌≢◌, ℕ, ◌+◌, ◌==◌, Bool, false, true, List, Option, String, length}
+use Rattle.std.specs.Prelude.{option_map, string_bytes}
 use Rattle.std.specs.Borrow.{Bor}
 use Rattle.std.specs.Io.KnownBytes.{Consumes, IsAtEnd}
 use Rattle.std.specs.Str.{chars}
@@ -28,7 +29,7 @@ use Rattle.uv_cli.specs.Check.{HasWritten, HasWrittenPrefix, RunsAgainst}
 use Rattle.uv_cli.specs.Stream.{Stream}
 use Rattle.uv_cli.specs.Explain.{HasExplained, HasWrittenText}
 use Rattle.uv_cli.specs.Lint.{HasLinted}
-use Rattle.uv_cli.specs.Filter.{HasFiltered}
+use Rattle.uv_cli.specs.Filter.{HasFiltered, HasMendedFiles}
 use Rattle.uv_cli.specs.Mend.{HasMended}
 
 -- ---- a check
@@ -138,6 +139,16 @@ abbrev pub HasDoneFilter : FilterJob → End → Stream → Stream → Stream �
 HasDoneFilter asked end input rest old new =
     AtLent asked.base (λ base. AtLent asked.only (λ only. HasFiltered asked base only end input rest old new))
 
+-- how the mending of the lines of files in their place ends: refused where no file is named
+abbrev pub EndsInPlace : Bool → FilterJob → End → Type 0
+EndsInPlace true asked ended = ended ≡ end.Words
+EndsInPlace false asked ended =
+    AtLent asked.base (λ base. AtLent asked.only (λ only. HasMendedFiles asked base only ended))
+
+-- the same by the names of the files
+abbrev pub HasDoneInPlace : List (String Global) → FilterJob → End → Type 0
+HasDoneInPlace files asked ended = EndsInPlace (length files == 0) asked ended
+
 -- what the job has read and written, where its file has these bytes
 abbrev pub HasDone : Job → List ℕ → End → Stream → Stream → Stream → Stream → Type 0
 HasDone (job.Check text base extent profile) bytes end input rest old new =
@@ -152,6 +163,9 @@ HasDone (job.Filter asked) bytes end input rest old new = HasDoneFilter asked en
 HasDone job.LintWithoutInput bytes ended input rest old new = (ended ≡ end.Words) × (rest ≡ input) × (new ≡ old)
 HasDone job.LintUnnamed bytes ended input rest old new = (ended ≡ end.Words) × (rest ≡ input) × (new ≡ old)
 HasDone job.FilterOfText bytes ended input rest old new = (ended ≡ end.Words) × (rest ≡ input) × (new ≡ old)
+HasDone job.SeveralTexts bytes ended input rest old new = (ended ≡ end.Words) × (rest ≡ input) × (new ≡ old)
+HasDone (job.InPlace files asked) bytes ended input rest old new =
+    HasDoneInPlace files.items asked ended × (rest ≡ input) × (new ≡ old)
 HasDone (job.Vectors file) bytes end input rest old new = HasRunVectors bytes end old new × (rest ≡ input)
 HasDone (job.Explain rules told) bytes end input rest old new =
     HasRunExplain rules.items end old new × (rest ≡ input)

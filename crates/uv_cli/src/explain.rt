@@ -1,5 +1,5 @@
 //! The command `explain`: what rules ask, their sections of the URL Standard, and an example, of some rules or of each;
-//! or the addresses of the pages about them.
+//! or the addresses of these sections.
 ghost use Rattle.std.specs.Prelude.{◌≡◌, ◌+◌, ◌-◌, ◌^◌, ◌<◌, IfOk, OnOk};
 ghost use Rattle.uv_cli.specs.Explain.{HasExplained, HasWrittenText};
 
@@ -20,8 +20,8 @@ pub enum ExplainEnd {
 
 /// Writes what the rules with these names ask, where they are, and an example of each, in the order of the names and
 /// with an empty line between two; without a name it writes this of each rule, in the order of their numbers. By the
-/// name of a violation with a line that isn't checked it writes what a line is asked. Where `told` asks for the pages,
-/// it writes of each the address of the page about it, in a line, and no more.
+/// name of a violation with a line that isn't checked it writes what a line is asked. Where `told` asks for addresses,
+/// it writes of each that of its section of the URL Standard, in a line, and nothing where it has none.
 ///
 /// An error of memory leaves the output as it was; an error of a write leaves a beginning of what was to be written.
 pub fn run_explain<S: Sink>(

@@ -43,8 +43,8 @@ pub(crate) fn filter_lines<I: Source, S: Sink>(
     }
 }
 
-// The kind with a name, or every kind where none is named.
-fn only_of(name: Option<&str>) -> Option<Option<MendKind>>
+/// The kind with a name, or every kind where none is named.
+pub(crate) fn only_of(name: Option<&str>) -> Option<Option<MendKind>>
     ensures { result ≡ only_of name.entry }
 {
     match name {
@@ -77,6 +77,7 @@ fn filter_against<I: Source, S: Sink>(
         base,
         profile: job.profile,
         only,
+        all: job.all,
     };
     let (counts, answer) = run_filter(alloc, input, out, setting);
     Filtered::new(counts, answer, job.quiet)

@@ -16,6 +16,8 @@ pub struct Filtered {
     pub stopped: Option<FilterFault>,
     /// Whether no counts are wanted.
     pub is_quiet: bool,
+    /// Whether a file stays as it was since it can't be read or written.
+    pub is_file_left: bool,
 }
 
 impl Filtered {
@@ -31,6 +33,43 @@ impl Filtered {
             counts,
             stopped: answer.err(),
             is_quiet,
+            is_file_left: false,
+        }
+    }
+
+    /// Before the first file.
+    pub(crate) fn nothing(is_quiet: bool) -> Filtered
+        ensures { result.is_quiet ≡ is_quiet }
+    {
+        Filtered {
+            counts: FilterCounts::none(),
+            stopped: None,
+            is_quiet,
+            is_file_left: false,
+        }
+    }
+
+    /// The same after a further file of which this was counted.
+    pub(crate) fn with_counts(self, counts: FilterCounts) -> Filtered
+        ensures { result ≡ spec.with_counts self counts }
+    {
+        Filtered {
+            counts: self.counts.with(counts),
+            stopped: self.stopped,
+            is_quiet: self.is_quiet,
+            is_file_left: self.is_file_left,
+        }
+    }
+
+    /// The same after a further file that stays as it was, since something failed.
+    pub(crate) fn with_file_left(self) -> Filtered
+        ensures { result ≡ spec.with_file_left self }
+    {
+        Filtered {
+            counts: self.counts,
+            stopped: self.stopped,
+            is_quiet: self.is_quiet,
+            is_file_left: true,
         }
     }
 
@@ -42,6 +81,7 @@ impl Filtered {
             counts: self.counts,
             stopped: Some(fault),
             is_quiet: self.is_quiet,
+            is_file_left: self.is_file_left,
         }
     }
 
@@ -52,12 +92,15 @@ impl Filtered {
         refused(self.counts) == 0
     }
 
-    /// The exit status: 3 where something stopped the filter; else 1 where a line stays refused; else 0.
+    /// The exit status: 3 where something stopped the filter; else 2 where a file stays as it was since it can't be read
+    /// or written; else 1 where a line stays refused; else 0.
     pub(crate) fn status(self) -> u8
         ensures { result ≡ filter_status self }
     {
         if self.stopped.is_some() {
             3
+        } else if self.is_file_left {
+            2
         } else if refused(self.counts) == 0 {
             0
         } else {

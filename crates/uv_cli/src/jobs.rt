@@ -1,14 +1,15 @@
 //! A job and the run that it asks for, over any reader and writer.
 ghost use Rattle.std.specs.Prelude.{◌≡◌, ◌-◌, ◌^◌, ◌<◌, chars};
 ghost use Rattle.uv_cli.specs.Check.{RunsAgainst};
-ghost use Rattle.uv_cli.specs.Jobs.{HasChecked, HasDone, HasDoneFilter, HasDoneLint, HasRunExplain};
-ghost use Rattle.uv_cli.specs.Jobs.{HasRunVectors};
+ghost use Rattle.uv_cli.specs.Jobs.{HasChecked, HasDone, HasDoneFilter, HasDoneInPlace, HasDoneLint};
+ghost use Rattle.uv_cli.specs.Jobs.{HasRunExplain, HasRunVectors};
 ghost use Rattle.uv_cli.specs.Mend.{HasMended};
 
 use crate::check::{run_check, run_faults};
 use crate::ends::{End, end_of_check, end_of_explanation, end_of_vectors};
 use crate::explain::run_explain;
 use crate::filter::filter_lines;
+use crate::in_place::mend_files;
 use crate::links::list_links;
 use crate::lint::lint_files;
 use crate::mend::run_mend;
@@ -24,7 +25,7 @@ use uv_words::{FilterJob, Job, LintJob, Told};
 /// Does what a job asks for: it checks the job's text, against the job's base and by the profile that the job names, or
 /// says what to write in its place, or says what is wrong with the lines of the job's files, or reports on the lines of
 /// the input, or mends them, or runs the cases of a vector file, or explains the job's rules, or each rule, or says
-/// where the pages about them are.
+/// where they are in the URL Standard.
 ///
 /// The file has the bytes of the job's file, and only a run of vectors looks at it. A lint opens its files itself. The
 /// input is read only by a list, by a filter, and by a lint for a file that is named `-`, and the output isn't flushed.
@@ -60,7 +61,8 @@ pub fn run_job<R: Files + Eprint + AllocGlobal, I: Source, S: Sink>(
             profile,
         } => mend_text(alloc, text.as_str(), base.as_deref(), *profile, out),
         Job::Filter(asked) => filter_asked(alloc, asked, input, out),
-        Job::FilterOfText => End::Words,
+        Job::FilterOfText | Job::SeveralTexts => End::Words,
+        Job::InPlace { files, asked } => files_asked(rt, files.as_slice(), asked),
         Job::Vectors { file: name } => vectors_run(rt, name.as_str(), file, out),
         Job::Explain { rules, told } => explained(alloc, rules.as_slice(), *told, out),
         Job::UnknownProfile { .. } => End::UnknownProfile,
@@ -115,6 +117,22 @@ fn filter_asked<I: Source, S: Sink>(
         asked.only.as_deref(),
         input,
         out,
+    )
+}
+
+// Mends the lines of files in their place, where there are some.
+fn files_asked<R: Files + Eprint + AllocGlobal>(rt: &R, files: &[String], asked: &FilterJob) -> End
+    ensures { HasDoneInPlace files.now asked.now result }
+{
+    if files.is_empty() {
+        return End::Words;
+    }
+    mend_files(
+        rt,
+        files,
+        asked,
+        asked.base.as_deref(),
+        asked.only.as_deref(),
     )
 }
 

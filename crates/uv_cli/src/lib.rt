@@ -7,6 +7,7 @@ mod explain;
 mod fault;
 mod filter;
 mod filtered;
+mod in_place;
 mod jobs;
 mod links;
 mod lint;

@@ -190,6 +190,10 @@ fn shown<R: Print + Eprint + AllocGlobal>(rt: &R, words: &[&str], fault: &WordsF
     if fault.asks_to_show() {
         return printed(rt, end, error.print(rt));
     }
+    if error.kind() == clap::error::ErrorKind::DisplayHelpOnMissingArgumentOrSubcommand {
+        let _ = error.print(rt);
+        return open(end);
+    }
     say(rt, refused_words(rt.alloc(), words, error));
     open(end)
 }

@@ -7,18 +7,20 @@ use crate::linted::Linted;
 use std::alloc::{AllocError, Global};
 use std::io::ErrorKind;
 use uv_filter::FilterFault;
-use uv_grammar::wider_profile;
+use uv_grammar::{faults, wider_profile};
 use uv_links::LinkFault;
 use uv_lint::{LintCounts, LintFault};
+use uv_mend::{Mending, mend};
 use uv_messages::contents::{Content, content_line};
-use uv_messages::hints::{Hint, file_hint, text_hint};
+use uv_messages::hints::{Hint, file_hint, push_text_hint};
 use uv_messages::messages::Message;
 use uv_messages::unknown::{
     refused_unit, unknown_format, unknown_kind, unknown_profile, unknown_rules, unknown_unit,
 };
 use uv_messages::unread::{unread, unwritten, unwritten_line};
-use uv_model::{Profile, Refusal, Rule};
-use uv_report::{Checked, Format, LineViolation, SeenText, Wording, message};
+use uv_model::{Extent, Profile, Record, Refusal, Rule};
+use uv_report::{Checked, Format, LineViolation, SeenText, Wording, is_offered, message};
+use uv_resolve::{ResolveFault, resolve_base};
 use uv_words::Job;
 
 // How standard input is named.
@@ -31,7 +33,12 @@ const OF_INPUT: &str = "--stdin-name is the name of standard input: one of the F
 const OF_NO_NAME: &str = "--stdin-name is the name of standard input, and may not be empty";
 
 // What is said where one text is to be mended as lines are.
-const OF_LINES: &str = "--only and --quiet are for the lines of standard input, not for a TEXT";
+const OF_LINES: &str =
+    "--only, --all-mended and --quiet are for the lines of standard input, not for a TEXT";
+
+// What is said where files are to be mended in their place, and none is named.
+const OF_NO_FILES: &str =
+    "--in-place mends the lines of files: name one, or leave it out for standard input";
 
 /// What was seen of a job's streams, or of a file.
 #[derive(Clone, Copy)]
@@ -71,9 +78,13 @@ fn said_of_names(alloc: Global, job: &Job, end: End) -> Result<Message, AllocErr
         (Job::LintWithoutInput, _) => Message::of(alloc, OF_INPUT),
         (Job::LintUnnamed, _) => Message::of(alloc, OF_NO_NAME),
         (Job::FilterOfText, _) => Message::of(alloc, OF_LINES),
+        (Job::SeveralTexts, _) => Message::of(alloc, Hint::OneTextOfMend.text()),
+        (Job::InPlace { .. }, End::Words) => Message::of(alloc, OF_NO_FILES),
         (Job::UnknownProfile { name }, _) => unknown_profile(alloc, name.as_str()),
         (Job::Explain { rules, .. }, End::UnknownRule) => unknown_rules(alloc, rules.as_slice()),
-        (Job::Filter(asked), End::UnknownKind) => unknown_kind(alloc, or_empty(&asked.only)),
+        (Job::Filter(asked) | Job::InPlace { asked, .. }, End::UnknownKind) => {
+            unknown_kind(alloc, or_empty(&asked.only))
+        }
         (Job::Lint(asked), End::UnknownFormat) => unknown_format(alloc, or_empty(&asked.format)),
         (Job::Lint(asked), End::UnknownColumns) => unknown_unit(alloc, or_empty(&asked.columns)),
         (Job::Lint(asked), End::ColumnsRefused) => refused_unit(
@@ -90,22 +101,104 @@ fn or_empty(name: &Option<String>) -> &str {
     name.as_deref().unwrap_or("")
 }
 
-// What is said where a text is refused, or a line of a list of links; nothing where it is as it was likely meant.
+// What is said where a text is refused, or a line of a list of links: what is wrong with a text that is checked, and
+// what was likely meant instead.
 fn said_of_refused(
     alloc: Global,
     job: &Job,
     content: Option<Content>,
 ) -> Result<Message, AllocError> {
-    let (text, base, of_input, of_list) = match job {
-        Job::Check { text, base, .. } => (text, base, Hint::InputOfCheck, Hint::ListOfCheck),
-        Job::Mend { text, base, .. } => (text, base, Hint::InputOfMend, Hint::ListOfMend),
-        _ => {
-            let mut said = Message::nothing(alloc);
-            push_content(alloc, &mut said, INPUT, content, "links")?;
-            return Ok(said);
+    let mut said = Message::nothing(alloc);
+    match job {
+        Job::Check {
+            text,
+            base,
+            extent,
+            profile,
+        } => {
+            let (text, base) = (text.as_str(), base.as_deref());
+            push_violations(alloc, &mut said, text, base, *extent, *profile)?;
+            let (of_input, of_list) = (Hint::InputOfCheck, Hint::ListOfCheck);
+            push_text_hint(alloc, &mut said, text, base.is_some(), of_input, of_list)?;
         }
+        Job::Mend { text, base, .. } => {
+            let (of_input, of_list) = (Hint::InputOfMend, Hint::ListOfMend);
+            push_text_hint(
+                alloc,
+                &mut said,
+                text.as_str(),
+                base.is_some(),
+                of_input,
+                of_list,
+            )?;
+        }
+        _ => push_content(alloc, &mut said, INPUT, content, "links")?,
+    }
+    Ok(said)
+}
+
+// Pushes what is wrong with a text that is refused, in a sentence for each violation that was printed, and what to
+// write in place of the text, where that is offered.
+fn push_violations(
+    alloc: Global,
+    said: &mut Message,
+    text: &str,
+    base: Option<&str>,
+    extent: Extent,
+    profile: Profile,
+) -> Result<(), AllocError> {
+    let base = match resolve_base(alloc, base, profile) {
+        Ok(base) => base,
+        Err(ResolveFault::Refused(_)) => return Ok(()),
+        Err(ResolveFault::Memory(error)) => return Err(error),
     };
-    text_hint(alloc, text.as_str(), base.is_some(), of_input, of_list)
+    let checked = checked_by(alloc, text, base.as_ref(), profile)?;
+    let mut seen = SeenText::of_several(text);
+    for refusal in &faults(alloc, text, base.as_ref(), profile)? {
+        let place = refusal.place;
+        seen.go_to(place);
+        let sentence = message(alloc, checked, &seen, LineViolation::Refused(*refusal))?;
+        let sentence = sentence.as_str();
+        said.push(
+            alloc,
+            format!(in alloc; "at place {place}: {sentence}")?.as_str(),
+        )?;
+        if extent == Extent::First {
+            break;
+        }
+    }
+    push_offered(alloc, said, &seen, base.as_ref(), profile)
+}
+
+// By what a text was checked, as the sentence on what is wrong with it names that.
+fn checked_by(
+    alloc: Global,
+    text: &str,
+    base: Option<&Record>,
+    profile: Profile,
+) -> Result<Checked, AllocError> {
+    Ok(Checked {
+        profile,
+        accepted_by: wider_profile(alloc, text, base, profile)?,
+        wording: Wording::Options,
+    })
+}
+
+// Pushes what to write in place of a text, where that is offered.
+fn push_offered(
+    alloc: Global,
+    said: &mut Message,
+    seen: &SeenText<'_>,
+    base: Option<&Record>,
+    profile: Profile,
+) -> Result<(), AllocError> {
+    match mend(alloc, seen.as_str(), base, profile)? {
+        Mending::Mended { text, .. } if is_offered(seen, text.as_str()) => {
+            let text = text.as_str();
+            said.push(alloc, format!(in alloc; "write {text}")?.as_str())
+        }
+        _ => Ok(()),
+    }
 }
 
 // Why the job's base is refused: it is checked alone, so that it needs a scheme.
@@ -116,14 +209,10 @@ fn said_of_base(alloc: Global, job: &Job, refusal: Refusal) -> Result<Message, A
     match refusal.rule {
         Rule::NoScheme => line.push_str("it has no scheme")?,
         _ => {
-            let checked = Checked {
-                profile,
-                accepted_by: wider_profile(alloc, base, None, profile)?,
-                wording: Wording::Options,
-            };
+            let checked = checked_by(alloc, base, None, profile)?;
             let violation = LineViolation::Refused(refusal);
-            let said = message(alloc, checked, &SeenText::new(base), violation)?;
-            line.push_str(said.as_str())?;
+            let sentence = message(alloc, checked, &SeenText::new(base), violation)?;
+            line.push_str(sentence.as_str())?;
         }
     }
     Message::of(alloc, line.as_str())
@@ -136,7 +225,7 @@ fn base_of(job: &Job) -> (&str, Profile) {
         | Job::Links { base, profile }
         | Job::Mend { base, profile, .. } => (base, *profile),
         Job::Lint(asked) => (&asked.base, asked.profile),
-        Job::Filter(asked) => (&asked.base, asked.profile),
+        Job::Filter(asked) | Job::InPlace { asked, .. } => (&asked.base, asked.profile),
         _ => return ("", Profile::Standard),
     };
     (base.as_deref().unwrap_or(""), profile)

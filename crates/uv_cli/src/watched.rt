@@ -94,6 +94,15 @@ impl<W> WatchedWriter<W> {
     }
 }
 
+impl<W> WatchedWriter<W> {
+    /// The writer itself.
+    pub(crate) fn into_writer(self) -> W
+        ensures { result ≡ self.writer }
+    {
+        self.writer
+    }
+}
+
 impl<W: Write> Write for WatchedWriter<W> {
     ghost contents = { λ w. W.contents w.writer };
 

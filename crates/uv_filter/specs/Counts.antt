@@ -1,5 +1,5 @@
 -- What has become of lines, counted.
-use Rattle.std.specs.Prelude.{ℕ, ◌+◌, ◌-◌, ◌^◌, min}
+use Rattle.std.specs.Prelude.{ℕ, ◌+◌, ◌-◌, ◌^◌, ◌==◌, ◌||◌, Bool, min, not}
 use Rattle.uv_model.specs.declared.mend_kind.MendKind.{MendKind}
 use Rattle.uv_model.specs.declared.mend_kind.MendKind.TheVariants.{Same, Escaped, Changed}
 use Rattle.uv_filter.specs.declared.counts.FilterCounts.{FilterCounts}
@@ -41,3 +41,25 @@ counted counts (fate.Mended mended found) = with_kind (with_line counts) found
 counted counts fate.Refused = record (with_line counts) { refused = more counts.refused }
 counted counts fate.NotUtf8 = record (with_line counts) { not_utf8 = more counts.not_utf8 }
 counted counts fate.TooLong = record (with_line counts) { too_long = more counts.too_long }
+
+-- two numbers together, 2^64 - 1 at most
+abbrev pub sum : ℕ → ℕ → ℕ
+sum a b = min (a + b) (2 ^ 64 - 1)
+
+-- what was counted of two lists
+abbrev pub both : FilterCounts → FilterCounts → FilterCounts
+both a b = record {
+  lines = sum a.lines b.lines;
+  valid = sum a.valid b.valid;
+  same = sum a.same b.same;
+  escaped = sum a.escaped b.escaped;
+  changed = sum a.changed b.changed;
+  refused = sum a.refused b.refused;
+  not_utf8 = sum a.not_utf8 b.not_utf8;
+  too_long = sum a.too_long b.too_long;
+}
+
+-- a line was mended
+abbrev pub is_mended : FilterCounts → Bool
+is_mended counts =
+    (not (counts.same == 0) || not (counts.escaped == 0)) || not (counts.changed == 0)

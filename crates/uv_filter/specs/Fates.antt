@@ -1,5 +1,5 @@
 -- What becomes of a line: it is mended, or it stays as it was.
-use Rattle.std.specs.Prelude.{◌≡◌, ◌≢◌, ℕ, ◌<◌, ◌≤◌, ◌⊎◌, Bool, true, false, List, [], Option, Some, None, chars}
+use Rattle.std.specs.Prelude.{◌||◌, ◌&&◌, ◌≡◌, ◌≢◌, ℕ, ◌<◌, ◌≤◌, ◌⊎◌, Bool, true, false, List, [], Option, Some, None, chars}
 use Rattle.std.specs.Prelude.{length, option_copied, string_bytes}
 use Rattle.std.specs.Str.{IsUtf8}
 use Rattle.uv_model.specs.declared.profile.Profile.{Profile}
@@ -14,17 +14,25 @@ use Rattle.uv_filter.specs.declared.fate.Fate.{Fate}
 use Rattle.uv_filter.specs.declared.fate.Fate.TheVariants.{Empty, Valid, Mended, Refused, NotUtf8, TooLong}
 use Rattle.uv_filter.specs.declared.setting.FilterSetting.{FilterSetting}
 use Rattle.uv_filter.specs.Lines.{Line, checked_of, replaced, text_of, whole}
+use Rattle.uv_report.specs.Sentences.Intention.{is_offered}
 
--- by what lines are mended: the profile, the base, and the kind of the mended texts that are written, where not all are
+-- by what lines are mended: the profile, the base, the kind of the mended texts that are written, where not all are,
+-- and whether those are written too that aren't offered
 pub record Mender : Type 0 where
   pub profile : Profile
   pub base : Option Url
   pub only : Option MendKind
+  pub all : Bool
 
 -- what a setting asks for
 abbrev pub mender_of : FilterSetting → Mender
 mender_of setting =
-    record { profile = setting.profile; base = option_copied setting.base; only = setting.only }
+    record {
+      profile = setting.profile;
+      base = option_copied setting.base;
+      only = setting.only;
+      all = setting.all;
+    }
 
 -- two kinds are the same
 abbrev pub is_kind : MendKind → MendKind → Bool
@@ -38,12 +46,17 @@ abbrev pub takes : Option MendKind → MendKind → Bool
 takes None found = true
 takes (Some wanted) found = is_kind wanted found
 
--- the text has no mended one, or one of a kind that isn't written
+-- a mended text of this kind is written in place of a text: it is of the kind that is asked for, and it is offered (see
+-- uv_report), where not all are written
+abbrev pub writes : Mender → List ℕ → List ℕ → MendKind → Bool
+writes mender text mended found = takes mender.only found && (mender.all || is_offered text mended)
+
+-- the text has no mended one, or one that isn't written
 abbrev pub StaysRefused : Mender → List ℕ → Type 0
 StaysRefused mender text =
     ((refusal : Refusal) × IsMending mender.profile mender.base text (answer.Refused refusal))
     ⊎ ((mended : List ℕ) × (found : MendKind) × IsMended mender.profile mender.base text mended found
-    × (takes mender.only found ≡ false))
+    × (writes mender text mended found ≡ false))
 
 -- a text that is checked
 pub record IsText (text : List ℕ) : Type 0 where
@@ -57,7 +70,7 @@ IsTextFate mender text NotUtf8 = ¬ (IsUtf8 text)
 IsTextFate mender text Valid = IsText text × IsValid mender.profile mender.base (chars text)
 IsTextFate mender text (Mended mended found) =
     IsText text × IsMended mender.profile mender.base text (string_bytes mended) found
-    × (takes mender.only found ≡ true)
+    × (writes mender text (string_bytes mended) found ≡ true)
 IsTextFate mender text Refused = IsText text × StaysRefused mender text
 IsTextFate mender text TooLong = ⊥
 

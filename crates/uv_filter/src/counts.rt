@@ -1,6 +1,6 @@
 //! What has become of the lines of a list.
 ghost use Rattle.std.specs.Prelude.{◌≡◌};
-ghost use Rattle.uv_filter.specs.Counts.{counted, more, none_counted, with_kind};
+ghost use Rattle.uv_filter.specs.Counts.{both, counted, is_mended, more, none_counted, with_kind};
 
 use crate::fate::Fate;
 use uv_mend::MendKind;
@@ -28,7 +28,7 @@ pub struct FilterCounts {
 
 impl FilterCounts {
     /// No line was counted.
-    pub(crate) fn none() -> FilterCounts
+    pub fn none() -> FilterCounts
         ensures { result ≡ none_counted }
     {
         FilterCounts {
@@ -41,6 +41,29 @@ impl FilterCounts {
             not_utf8: 0,
             too_long: 0,
         }
+    }
+
+    /// Those of two lists together.
+    pub fn with(self, other: FilterCounts) -> FilterCounts
+        ensures { result ≡ both self other }
+    {
+        FilterCounts {
+            lines: self.lines.saturating_add(other.lines),
+            valid: self.valid.saturating_add(other.valid),
+            same: self.same.saturating_add(other.same),
+            escaped: self.escaped.saturating_add(other.escaped),
+            changed: self.changed.saturating_add(other.changed),
+            refused: self.refused.saturating_add(other.refused),
+            not_utf8: self.not_utf8.saturating_add(other.not_utf8),
+            too_long: self.too_long.saturating_add(other.too_long),
+        }
+    }
+
+    /// Whether a line was mended.
+    pub fn is_mended(&self) -> bool
+        ensures { result ≡ is_mended self.now }
+    {
+        self.same != 0 || self.escaped != 0 || self.changed != 0
     }
 
     /// Counts a further line of which this has become.

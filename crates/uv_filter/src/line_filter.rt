@@ -16,6 +16,7 @@ use std::marker::Model;
 use std::str::from_utf8;
 use uv_lines::line_text;
 use uv_mend::{MendKind, Mending, mend};
+use uv_report::{SeenText, is_offered};
 
 // How many bytes a line may have, its end not counted.
 const LINE_BYTES: usize = 65_536;
@@ -134,9 +135,9 @@ impl<'b> LineFilter<'b> {
         let setting = self.setting;
         match mend(alloc, text, setting.base, setting.profile)? {
             Mending::Valid => Ok(Fate::Valid),
-            Mending::Mended { text, kind } => {
-                if takes(setting.only, kind) {
-                    Ok(Fate::Mended { text, kind })
+            Mending::Mended { text: mended, kind } => {
+                if writes(setting, text, mended.as_str(), kind) {
+                    Ok(Fate::Mended { text: mended, kind })
                 } else {
                     Ok(Fate::Refused)
                 }
@@ -144,6 +145,14 @@ impl<'b> LineFilter<'b> {
             Mending::Refused(_) => Ok(Fate::Refused),
         }
     }
+}
+
+// Whether a mended text of this kind is written in place of a text: it is of the kind that is asked for, and reports
+// offer it, where not all are written.
+fn writes(setting: FilterSetting<'_>, text: &str, mended: &str, kind: MendKind) -> bool
+    ensures { result ≡ spec.writes (mender_of setting.entry) text.now mended.now kind }
+{
+    takes(setting.only, kind) && (setting.all || is_offered(&SeenText::new(text), mended))
 }
 
 // Whether mended texts of this kind are written.

@@ -12,4 +12,6 @@ pub struct FilterSetting<'b> {
     pub profile: Profile,
     /// The kind of the mended texts that are written, where not all are.
     pub only: Option<MendKind>,
+    /// Whether mended texts are written too that reports don't offer, since something else was likely meant.
+    pub all: bool,
 }

@@ -1,93 +1,156 @@
 //! Explanations: what rules ask, their sections of the URL Standard, and an example, of some rules or of each; or the
-//! addresses of the pages about them.
-ghost use Rattle.std.specs.Prelude.{◌≡◌, IfOk, is_some};
-ghost use Rattle.uv_messages.specs.Explanations.{are_explained, is_explained};
+//! addresses of these sections.
+ghost use Rattle.std.specs.Prelude.{◌≡◌, IfOk, find, is_some};
+ghost use Rattle.uv_messages.specs.Explanations.{are_explained, has_number, is_explained};
 
 use crate::report::{push_line, push_present, refused_line};
+use itoa::Buffer;
 use std::alloc::{AllocError, Global};
 use uv_model::{Refusal, Rule};
-use uv_report::{LineViolation, explain, rule_page};
+use uv_report::{LineViolation, explain};
 use uv_words::Told;
 
+// What is explained by a name.
+#[derive(Clone, Copy)]
+enum Topic {
+    // A rule by its example, or what else may be wrong with a line.
+    Line(LineViolation),
+    // The rule of documents that a link isn't empty.
+    Empty,
+    // The rule of documents that a link isn't text.
+    NoLink,
+}
+
+// What a link of a document may be wrong by beside the rules of URL strings.
+const EMPTY: &str = "rule empty
+means this link is empty, which its format forbids here
+asks A link of an image, a script, a frame, a form's address or a link element isn't empty.
+";
+
+const NO_LINK: &str = "rule no-link
+means a space ends a link's destination, so that this is text and no link
+asks A destination of Markdown has no space, unless < and > enclose it: it is percent-encoded as %20.
+";
+
 /// What is written where the rules with these names, or each rule, are to be told of: what they ask, where they are
-/// and an example of each, or the addresses of their pages. It is `None` where one of the names is that of no rule, nor
-/// of what else may be wrong with a line.
+/// and an example of each, or the addresses of their sections of the URL Standard, where they have one. It is `None`
+/// where one of the names is that of nothing that is explained.
 pub fn explained(alloc: Global, names: &[String], told: Told) -> Result<Option<String>, AllocError>
     ensures { IfOk result (λ text. is_some text ≡ are_explained names.now) }
 {
-    if !are_explained(names) {
+    let Some(topics) = topics_of(alloc, names)? else {
         return Ok(None);
-    }
-    let texts = if names.is_empty() {
-        texts_of_rules(alloc, told)?
-    } else {
-        texts_of(alloc, names, told)?
     };
+    let topics = if names.is_empty() {
+        rules(alloc)?
+    } else {
+        topics
+    };
+    let mut texts = Vec::new(alloc);
+    for topic in &topics {
+        texts.push(text_of(alloc, *topic, told)?)?;
+    }
     let between = match told {
         Told::Explanation => "\n",
-        Told::Page => "",
+        Told::Address => "",
     };
     Ok(Some(texts.as_slice().join(alloc, between)?))
 }
 
-// Whether each of these names is explained.
-fn are_explained(names: &[String]) -> bool
-    ensures { result ≡ are_explained names.now }
+// What has these names, in their order, where each of them names something.
+fn topics_of(alloc: Global, names: &[String]) -> Result<Option<Vec<Topic>>, AllocError>
+    ensures { IfOk result (λ topics. is_some topics ≡ are_explained names.now) }
 {
-    names.iter().all(|name| is_explained(name.as_str()))
-}
-
-/// Whether a name is explained: that of a rule, or of what else may be wrong with a line.
-pub(crate) fn is_explained(name: &str) -> bool
-    ensures { result ≡ is_explained name.now }
-{
-    Rule::of_name(name).is_some() || LineViolation::of_name(name).is_some()
-}
-
-// What is told of each rule.
-fn texts_of_rules(alloc: Global, told: Told) -> Result<Vec<String>, AllocError> {
-    let mut texts = Vec::new(alloc);
-    for rule in &Rule::in_order() {
-        texts.push(text_of(alloc, example_of(*rule), told)?)?;
-    }
-    Ok(texts)
-}
-
-// What is told of what has these names, in their order.
-fn texts_of(alloc: Global, names: &[String], told: Told) -> Result<Vec<String>, AllocError> {
-    let mut texts = Vec::new(alloc);
+    let mut topics = Vec::new(alloc);
     for name in names {
-        if let Some(violation) = named(name.as_str()) {
-            texts.push(text_of(alloc, violation, told)?)?;
+        match topic_of(name.as_str().to_ascii_lowercase(alloc)?.as_str()) {
+            Some(topic) => topics.push(topic)?,
+            None => return Ok(None),
         }
     }
-    Ok(texts)
+    Ok(Some(topics))
 }
 
-// The violation of the rule with a name, or what else is wrong with a line by that name.
-fn named(name: &str) -> Option<LineViolation> {
-    match Rule::of_name(name) {
+// What has a name in lower case.
+fn topic_of(name: &str) -> Option<Topic>
+    ensures { is_some result ≡ is_explained name.now }
+{
+    if let Some(rule) = Rule::of_name(name) {
+        return Some(example_of(rule));
+    }
+    if let Some(violation) = LineViolation::of_name(name) {
+        return Some(Topic::Line(violation));
+    }
+    if name == "empty" {
+        return Some(Topic::Empty);
+    }
+    if name == "no-link" {
+        return Some(Topic::NoLink);
+    }
+    match numbered(Rule::in_order().as_slice(), name) {
         Some(rule) => Some(example_of(rule)),
-        None => LineViolation::of_name(name),
+        None => None,
     }
 }
 
-// The violation of a rule by its example.
-fn example_of(rule: Rule) -> LineViolation {
-    let place = explain(rule).place;
-    LineViolation::Refused(Refusal { place, rule })
-}
-
-// What is told of a violation.
-fn text_of(alloc: Global, violation: LineViolation, told: Told) -> Result<String, AllocError> {
-    match told {
-        Told::Explanation => explanation(alloc, violation),
-        Told::Page => {
-            let mut line = rule_page(alloc, violation)?;
-            line.push_str("\n")?;
-            Ok(line)
+// The rule with this number, in decimal digits.
+fn numbered(rules: &[Rule], text: &str) -> Option<Rule>
+    ensures { result ≡ find (λ rule. has_number rule text.now) rules.now }
+{
+    for rule in rules {
+        if has_number(*rule, text) {
+            return Some(*rule);
         }
     }
+    None
+}
+
+// Whether a rule has this number.
+fn has_number(rule: Rule, text: &str) -> bool
+    ensures { result ≡ has_number rule text.now }
+{
+    Buffer::new().format(rule.number()) == text
+}
+
+/// Whether a name is explained, in any ASCII case.
+pub(crate) fn is_explained(alloc: Global, name: &str) -> Result<bool, AllocError> {
+    Ok(topic_of(name.to_ascii_lowercase(alloc)?.as_str()).is_some())
+}
+
+// Each rule.
+fn rules(alloc: Global) -> Result<Vec<Topic>, AllocError> {
+    let mut topics = Vec::new(alloc);
+    for rule in &Rule::in_order() {
+        topics.push(example_of(*rule))?;
+    }
+    Ok(topics)
+}
+
+// A rule by its example.
+fn example_of(rule: Rule) -> Topic {
+    let place = explain(rule).place;
+    Topic::Line(LineViolation::Refused(Refusal { place, rule }))
+}
+
+// What is told of a topic.
+fn text_of(alloc: Global, topic: Topic, told: Told) -> Result<String, AllocError> {
+    match (topic, told) {
+        (Topic::Line(violation), Told::Explanation) => explanation(alloc, violation),
+        (Topic::Line(violation), Told::Address) => address_line(alloc, violation),
+        (Topic::Empty, Told::Explanation) => String::from_str(alloc, EMPTY),
+        (Topic::NoLink, Told::Explanation) => String::from_str(alloc, NO_LINK),
+        (Topic::Empty | Topic::NoLink, Told::Address) => Ok(String::new(alloc)),
+    }
+}
+
+// The address of a violation's section of the URL Standard in a line, or nothing where it has none.
+fn address_line(alloc: Global, violation: LineViolation) -> Result<String, AllocError> {
+    let address = violation.address();
+    let mut line = String::new(alloc);
+    if !address.is_empty() {
+        push_line(&mut line, "", address)?;
+    }
+    Ok(line)
 }
 
 // What a violation is called, what is wrong, and what is asked; of a rule where that is, and its example.

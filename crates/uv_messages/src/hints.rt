@@ -48,50 +48,49 @@ impl Hint {
                 "check accepts one TEXT: put it in single quotes if it has spaces"
             }
             Hint::OneTextOfMend => {
-                "mend accepts one TEXT: put it in single quotes if it has spaces"
+                "mend accepts one TEXT: put it in single quotes if it has spaces; --in-place mends files"
             }
             Hint::FileOfLinks => "links reads standard input, not a file: urlcheck links <FILE",
             Hint::InputOfLint => "lint reads standard input as the FILE -",
             Hint::Folder => {
-                "lint reads files, not folders; urlcheck-documents --check FOLDER checks the documents in it"
+                "lint reads files, not folders; urlcheck-documents FOLDER checks the documents in it"
             }
             Hint::Link => {
                 "lint reads files; check TEXT checks one text, and lint - the lines of standard input"
             }
             Hint::Document => {
-                "lint reads one link a line; urlcheck-documents --check FILE checks the links of a document"
+                "lint reads one link a line; urlcheck-documents FILE checks the links of a document"
             }
             Hint::InputOfCheck => "lint - and links read standard input",
             Hint::InputOfMend => "mend without a TEXT reads standard input",
             Hint::ListOfCheck => "lint FILE checks the lines of a file",
             Hint::ListOfMend => "mend <FILE mends the lines of a file",
-            Hint::DocumentOfText => {
-                "urlcheck-documents --check FILE checks the links of a document"
-            }
+            Hint::DocumentOfText => { "urlcheck-documents FILE checks the links of a document" }
         }
     }
 }
 
-/// What is said of a refused text that was likely meant as something else, or nothing: the first hint where it is `-`;
-/// and where there is no base and it looks like the name of a file the second, or that of a document.
-pub fn text_hint(
+/// Pushes what is said of a refused text that was likely meant as something else, if it was: the first hint where it is
+/// `-`; and where there is no base and it looks like the name of a file the second, or that of a document.
+pub fn push_text_hint(
     alloc: Global,
+    said: &mut Message,
     text: &str,
     has_base: bool,
     of_input: Hint,
     of_list: Hint,
-) -> Result<Message, AllocError> {
+) -> Result<(), AllocError> {
     let hint = if text == "-" {
         of_input
     } else if has_base || !names_file(text) {
-        return Ok(Message::nothing(alloc));
+        return Ok(());
     } else if has_document_end(text) {
         Hint::DocumentOfText
     } else {
         of_list
     };
     let instead = hint.text();
-    Message::of(
+    said.push(
         alloc,
         format!(in alloc; "{text} is the text here; {instead}")?.as_str(),
     )

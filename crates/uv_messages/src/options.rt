@@ -1,5 +1,6 @@
 //! Options that a command doesn't take: what is reported where it is given one of them.
 
+use crate::habits::habit;
 use crate::names::meant;
 use clap::error::ErrorKind;
 use std::alloc::{AllocError, Global};
@@ -57,7 +58,7 @@ fn takers(name: &str) -> &'static [&'static str] {
         "--all" => &["check", "lint"],
         "--format" | "--columns" | "--located" | "--stdin-name" => &["lint"],
         "--quiet" | "-q" => &["lint", "mend"],
-        "--only" => &["mend"],
+        "--in-place" | "-i" | "--only" | "--all-mended" => &["mend"],
         "--url" => &["explain"],
         _ => &[],
     }
@@ -79,21 +80,29 @@ fn option_names(command: &str) -> &'static [&'static str] {
             "--quiet",
         ],
         "links" => &["--base", "--profile", "--wide"],
-        "mend" => &["--base", "--profile", "--wide", "--only", "--quiet"],
+        "mend" => &[
+            "--base",
+            "--profile",
+            "--wide",
+            "--in-place",
+            "--only",
+            "--all-mended",
+            "--quiet",
+        ],
         "explain" => &["--url"],
         _ => &[],
     }
 }
 
-/// The hint at an option that a command doesn't take, if there is one: at the commands that take it, else at the one of
-/// the command's own options that is likely meant.
+/// The hint at an option that a command doesn't take, if there is one: at the commands that take it, else at what to
+/// write in place of an option of another tool, else at the one of the command's own options that is likely meant.
 pub(crate) fn option_line(
     alloc: Global,
     command: &str,
     name: &str,
 ) -> Result<Option<String>, AllocError> {
     let Some((last, others)) = takers(name).split_last() else {
-        return near_option_line(alloc, command, name);
+        return other_option_line(alloc, command, name);
     };
     let others = others.join(alloc, ", ")?;
     let and = if others.is_empty() { "" } else { " and " };
@@ -106,12 +115,17 @@ pub(crate) fn option_line(
     Ok(Some(line))
 }
 
-// The hint at an option that no command takes, if one of the command's own is likely meant.
-fn near_option_line(
+// The hint at an option that no command takes: at what other tools mean by it, or at the one of the command's own that
+// is likely meant.
+fn other_option_line(
     alloc: Global,
     command: &str,
     name: &str,
 ) -> Result<Option<String>, AllocError> {
+    if let Some(instead) = habit(name) {
+        let line = format!(in alloc; "there is no option {name}; {instead}")?;
+        return Ok(Some(line));
+    }
     match meant(alloc, name, option_names(command))? {
         Some(near) => {
             let line = format!(in alloc; "{command} has no option {name}; the nearest is {near}")?;

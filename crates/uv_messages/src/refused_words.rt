@@ -15,7 +15,7 @@ pub fn refused_words(
     words: &[&str],
     error: &clap::Error,
 ) -> Result<Message, AllocError> {
-    let command = words.get(1).copied();
+    let command = command_of(words);
     let option = unknown_option(words, error.kind());
     let near = near_line(alloc, command, option, error.kind())?;
     let mut said = of_clap(alloc, error.to_string(alloc)?.as_str(), near.is_some())?;
@@ -28,6 +28,15 @@ pub fn refused_words(
         said.push(alloc, hint.text())?;
     }
     Ok(said)
+}
+
+// The word that names the command: the one after the program's name, and after `help` the next.
+fn command_of<'w>(words: &[&'w str]) -> Option<&'w str> {
+    match words {
+        [_, "help", command, ..] => Some(*command),
+        [_, command, ..] => Some(*command),
+        _ => None,
+    }
 }
 
 // The lines of what `clap` says, but for those that are empty, and for its tips where there is a hint in their place.
@@ -74,7 +83,6 @@ fn words_hint(command: Option<&str>, last: Option<&str>, kind: ErrorKind) -> Opt
         (ErrorKind::MissingRequiredArgument, Some("lint")) => Some(Hint::InputOfLint),
         (ErrorKind::UnknownArgument, Some("links")) if is_word => Some(Hint::FileOfLinks),
         (ErrorKind::UnknownArgument, Some("check")) if is_word => Some(Hint::OneTextOfCheck),
-        (ErrorKind::UnknownArgument, Some("mend")) if is_word => Some(Hint::OneTextOfMend),
         _ => None,
     }
 }

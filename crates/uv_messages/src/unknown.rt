@@ -82,7 +82,7 @@ pub fn unknown_rules(alloc: Global, rules: &[String]) -> Result<Message, AllocEr
     let mut none: Vec<&str> = Vec::new(alloc);
     for rule in rules {
         let name = rule.as_str();
-        if !is_explained(name) && !none.contains(&name) {
+        if !is_explained(alloc, name)? && !none.contains(&name) {
             none.push(name)?;
         }
     }
@@ -91,6 +91,8 @@ pub fn unknown_rules(alloc: Global, rules: &[String]) -> Result<Message, AllocEr
     names.push(LineViolation::NotUtf8(0).name())?;
     names.push(LineViolation::TooLong.name())?;
     names.push(LineViolation::NotLocated(LocatedFault::NoFile).name())?;
+    names.push("empty")?;
+    names.push("no-link")?;
     unknown(alloc, "rule", none.as_slice(), names.as_slice())
 }
 

@@ -35,6 +35,24 @@ fn reason_of(why: Option<ErrorKind>) -> &'static str {
     }
 }
 
+/// What is said of a file that stays as it was since it can't be written, by the kind of the error, if it is known.
+pub fn unmended(alloc: Global, file: &str, why: Option<ErrorKind>) -> Result<Message, AllocError> {
+    let name = name_of(file);
+    let reason = match why {
+        Some(ErrorKind::PermissionDenied) => ": permission denied",
+        Some(ErrorKind::ReadOnlyFilesystem) => ": its file system is read-only",
+        Some(ErrorKind::Unsupported) => ": only the program for Linux writes files",
+        Some(ErrorKind::AlreadyExists) =>
+            ": a file of this name with .urlcheck-new at its end exists",
+        Some(ErrorKind::InvalidFilename) => ": its name is too long",
+        why => reason_of_output(why),
+    };
+    Message::of(
+        alloc,
+        format!(in alloc; "{name}: can't be written{reason}; it stays as it was")?.as_str(),
+    )
+}
+
 /// What is said of an output that can't be written, by the kind of the error, if it is known.
 pub fn unwritten(alloc: Global, why: Option<ErrorKind>) -> Result<Message, AllocError> {
     Message::of(alloc, unwritten_line(alloc, why)?.as_str())
@@ -42,11 +60,16 @@ pub fn unwritten(alloc: Global, why: Option<ErrorKind>) -> Result<Message, Alloc
 
 /// The line of an output that can't be written.
 pub fn unwritten_line(alloc: Global, why: Option<ErrorKind>) -> Result<String, AllocError> {
-    let reason = match why {
+    let reason = reason_of_output(why);
+    format!(in alloc; "standard output: can't be written{reason}")
+}
+
+// What is said of the reason of a failed write.
+fn reason_of_output(why: Option<ErrorKind>) -> &'static str {
+    match why {
         Some(ErrorKind::StorageFull) => ": no space is left",
         Some(ErrorKind::QuotaExceeded) => ": the quota is used up",
         Some(ErrorKind::FileTooLarge) => ": the file may not get larger",
         _ => "",
-    };
-    format!(in alloc; "standard output: can't be written{reason}")
+    }
 }

@@ -22,9 +22,13 @@ quiet_rule = record (flag_rule (codes "quiet")) { short = Some 113 }
 abbrev pub text_rule : Rule
 text_rule = record (new_rule (codes "TEXT")) { required = true }
 
--- TEXT, or none
+-- `--in-place`, which is `-i` too
+abbrev pub in_place_rule : Rule
+in_place_rule = record (flag_rule (codes "in-place")) { short = Some 105 }
+
+-- TEXT, none or more
 abbrev pub mended_rule : Rule
-mended_rule = new_rule (codes "TEXT")
+mended_rule = record (new_rule (codes "TEXT")) { action = Some Append }
 
 -- FILE
 abbrev pub file_rule : Rule
@@ -38,7 +42,7 @@ files_rule = record (new_rule (codes "FILE")) { required = true; action = Some A
 abbrev pub names_rule : Rule
 names_rule = record (new_rule (codes "RULE")) { action = Some Append }
 
--- `check [--base TEXT] [--all] [--profile PROFILE] [--wide] TEXT`
+-- `check [--base URL] [--all] [--profile PROFILE] [--wide] TEXT`
 abbrev pub check_command : App
 check_command =
     with_rule (with_rule (with_rule (with_rule (with_rule (new_app (codes "check"))
@@ -46,7 +50,7 @@ check_command =
     (flag_rule (codes "wide")))
     text_rule
 
--- `lint [--base TEXT] [--all] [--profile PROFILE] [--wide] [--format FORMAT] [--columns UNIT] [--located]
+-- `lint [--base URL] [--all] [--profile PROFILE] [--wide] [--format FORMAT] [--columns UNIT] [--located]
 -- [--stdin-name NAME] [--quiet] FILE..`
 abbrev pub lint_command : App
 lint_command =
@@ -58,18 +62,19 @@ lint_command =
     (option_rule (codes "stdin-name"))) quiet_rule)
     files_rule
 
--- `links [--base TEXT] [--profile PROFILE] [--wide]`
+-- `links [--base URL] [--profile PROFILE] [--wide]`
 abbrev pub links_command : App
 links_command =
     with_rule (with_rule (with_rule (new_app (codes "links"))
     (option_rule (codes "base"))) (option_rule (codes "profile"))) (flag_rule (codes "wide"))
 
--- `mend [--base TEXT] [--profile PROFILE] [--wide] [--only KIND] [--quiet] [TEXT]`
+-- `mend [--base URL] [--profile PROFILE] [--wide] [--in-place] [--only KIND] [--all-mended] [--quiet]
+-- [TEXT..]`
 abbrev pub mend_command : App
 mend_command =
-    with_rule (with_rule (with_rule (with_rule (with_rule (with_rule (new_app (codes "mend"))
-    (option_rule (codes "base"))) (option_rule (codes "profile"))) (flag_rule (codes "wide")))
-    (option_rule (codes "only"))) quiet_rule) mended_rule
+    with_rule (with_rule (with_rule (with_rule (with_rule (with_rule (with_rule (with_rule (new_app (codes "mend"))
+    (option_rule (codes "base"))) (option_rule (codes "profile"))) (flag_rule (codes "wide"))) in_place_rule)
+    (option_rule (codes "only"))) (flag_rule (codes "all-mended"))) quiet_rule) mended_rule
 
 -- `vectors FILE`
 abbrev pub vectors_command : App
@@ -79,9 +84,14 @@ vectors_command = with_rule (new_app (codes "vectors")) file_rule
 abbrev pub explain_command : App
 explain_command = with_rule (with_rule (new_app (codes "explain")) (flag_rule (codes "url"))) names_rule
 
--- a command has to be given, and there is `--version`
+-- a command has to be given, without any argument there is help, and there is `--version`
 abbrev pub with_required : App → App
-with_required = on_top (λ s. record s { subcommand_required = true; has_version = true; has_long_version = true })
+with_required = on_top (λ s. record s {
+  arg_required_else_help = true;
+  subcommand_required = true;
+  has_version = true;
+  has_long_version = true;
+})
 
 -- the program's six commands
 abbrev pub urlcheck : App

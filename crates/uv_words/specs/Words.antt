@@ -1,5 +1,5 @@
 -- What the arguments of the command line ask for, by `clap`'s definition of the arguments that a command takes.
-use Rattle.std.specs.Prelude.{◌≡◌, ◌≢◌, ◌||◌, Bool, List, [], Option, Some, None, true, false, String, codes, is_some}
+use Rattle.std.specs.Prelude.{◌≡◌, ◌≢◌, ◌||◌, Bool, List, [], ◌∷◌, Option, Some, None, true, false, String, codes, is_some}
 use Rattle.std.specs.Prelude.{map, option_and_then, option_map, string_bytes, unwrap_or, if◌then◌else◌}
 use Rattle.std.specs.List.{list_any}
 use Rattle.std.specs.Option.{option_map_or}
@@ -23,7 +23,7 @@ use Rattle.uv_words.specs.declared.words.Job.{Job}
 use Rattle.uv_words.specs.declared.words.Job.TheVariants as job
 use Rattle.uv_words.specs.declared.words.LintJob.{LintJob}
 use Rattle.uv_words.specs.declared.words.Told.{Told}
-use Rattle.uv_words.specs.declared.words.Told.TheVariants.{Explanation, Page}
+use Rattle.uv_words.specs.declared.words.Told.TheVariants.{Address, Explanation}
 use Rattle.uv_words.specs.declared.words.WordsFault.{WordsFault}
 use Rattle.uv_words.specs.declared.words.WordsFault.TheVariants as fault
 
@@ -44,16 +44,17 @@ pub record LintRequest : Type 0 where
   pub quiet : Bool
 
 -- what a filter asks for: the base, the profile, the name of the kind of the mended texts that are wanted, where not
--- all are, and whether no counts are
+-- all are, whether those are too that reports don't offer, and whether no counts are
 pub record FilterRequest : Type 0 where
   pub base : Option Text
   pub profile : Profile
   pub only : Option Text
+  pub all : Bool
   pub quiet : Bool
 
 -- a command with its texts and options: of a check the text, the base, how many violations and the profile; of a list
 -- the base and the profile; of a mending the text, the base and the profile, or it is asked by what is of a filter
--- alone; of vectors the file; of an explanation the rules' names, and what is told of them; or a profile's name that
+-- alone, or of several texts, or it is of files in their place; of vectors the file; of an explanation the rules' names, and what is told of them; or a profile's name that
 -- none has; or a lint is asked by a name of standard input, which it doesn't read, or by an empty one
 pub data Request : Type 0 where
   check : Text → Option Text → Extent → Profile → Request
@@ -64,6 +65,8 @@ pub data Request : Type 0 where
   mend : Text → Option Text → Profile → Request
   filter : FilterRequest → Request
   filter_of_text : Request
+  several_texts : Request
+  in_place : List Text → FilterRequest → Request
   vectors : Text → Request
   explain : List Text → Told → Request
   unknown_profile : Text → Request
@@ -117,22 +120,28 @@ filter_in rows profile = record {
   base = base_in rows;
   profile = profile;
   only = first_of (codes "only") rows;
+  all = has_flag (codes "all-mended") rows;
   quiet = has_flag (codes "quiet") rows;
 }
 
 -- what is of a filter alone is given
 abbrev pub is_filtered : List Row → Bool
-is_filtered rows = has_flag (codes "quiet") rows || is_some (first_of (codes "only") rows)
+is_filtered rows =
+    (has_flag (codes "quiet") rows || has_flag (codes "all-mended") rows) || is_some (first_of (codes "only") rows)
 
 -- the request of a mending, from its entries and by the profile: of its text, or of a filter where it has none
-abbrev pub mend_by : Bool → Option Text → List Row → Profile → Request
-mend_by filtered None rows profile = filter (filter_in rows profile)
-mend_by true (Some text) rows profile = filter_of_text
-mend_by false (Some text) rows profile = mend text (base_in rows) profile
+abbrev pub mend_by : Bool → List Text → List Row → Profile → Request
+mend_by filtered [] rows profile = filter (filter_in rows profile)
+mend_by true (text ∷ []) rows profile = filter_of_text
+mend_by false (text ∷ []) rows profile = mend text (base_in rows) profile
+mend_by filtered (text ∷ other ∷ rest) rows profile = several_texts
 
--- the same from its entries alone
+-- the same from its entries alone; with `--in-place` the texts are the names of files
 abbrev pub mend_in : List Row → Profile → Option Request
-mend_in rows profile = Some (mend_by (is_filtered rows) (first_of (codes "TEXT") rows) rows profile)
+mend_in rows profile =
+    if has_flag (codes "in-place") rows
+    then Some (in_place (unwrap_or (all_of (codes "TEXT") rows) []) (filter_in rows profile))
+    else Some (mend_by (is_filtered rows) (unwrap_or (all_of (codes "TEXT") rows) []) rows profile)
 
 -- the file with this name is standard input
 abbrev pub is_input : Text → Bool
@@ -185,9 +194,9 @@ profiled_in name rows (Some (unknown other)) = Some (unknown_profile other)
 abbrev pub rules_in : List Row → List Text
 rules_in rows = unwrap_or (all_of (codes "RULE") rows) []
 
--- the page about each rule with `--url`, else its explanation
+-- the address of each rule's section with `--url`, else its explanation
 abbrev pub told_in : List Row → Told
-told_in rows = if has_flag (codes "url") rows then Page else Explanation
+told_in rows = if has_flag (codes "url") rows then Address else Explanation
 
 -- the request that a command's name and its entries make
 unfoldable pub request_in : Text → List Row → Option Request
@@ -226,6 +235,7 @@ filter_by asked = record {
   base = text_in asked.base;
   profile = asked.profile;
   only = text_in asked.only;
+  all = asked.all;
   quiet = asked.quiet;
 }
 
@@ -239,6 +249,8 @@ asked_by (job.Links base profile) = links (text_in base) profile
 asked_by (job.Mend text base profile) = mend (string_bytes text) (text_in base) profile
 asked_by (job.Filter asked) = filter (filter_by asked)
 asked_by job.FilterOfText = filter_of_text
+asked_by job.SeveralTexts = several_texts
+asked_by (job.InPlace files asked) = in_place (map string_bytes files.items) (filter_by asked)
 asked_by (job.Vectors file) = vectors (string_bytes file)
 asked_by (job.Explain rules told) = explain (map string_bytes rules.items) told
 asked_by (job.UnknownProfile name) = unknown_profile (string_bytes name)

@@ -4,6 +4,7 @@
 pub mod arguments;
 mod commands;
 mod entries;
+mod help;
 mod inputs;
 mod profile;
 mod words;

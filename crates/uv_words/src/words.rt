@@ -4,7 +4,7 @@ ghost use Rattle.clap.specs.Words.{all_of, first_of, found_of, kind_of, rows_of,
 ghost use Rattle.clap.specs.Words.{takes};
 ghost use Rattle.uv_words.specs.Commands.{urlcheck};
 ghost use Rattle.uv_words.specs.Words.{asked_by, asks_to_show, check_in, checked_in, extent_in, has_flag, lint_in};
-ghost use Rattle.uv_words.specs.Words.{explain, filter_by, filter_in, mend_in, rules_in};
+ghost use Rattle.uv_words.specs.Words.{explain, filter_by, filter_in, is_filtered, mend_in, rules_in};
 ghost use Rattle.uv_words.specs.Words.{request_in, request_of, told_in, vectors, wanted_in, wanted_view, IsFaultOf};
 ghost use Rattle.uv_words.specs.Words.{IsFrom};
 
@@ -55,14 +55,23 @@ pub enum Job {
     },
     /// To write the lines of the standard input, mended where they can be.
     Filter(FilterJob),
-    /// To mend one text by `--only` or `--quiet`, which are of lists alone.
+    /// To mend one text by `--only`, `--all-mended` or `--quiet`, which are of lists alone.
     FilterOfText,
+    /// To mend several texts.
+    SeveralTexts,
+    /// To mend the lines of files, each in its place.
+    InPlace {
+        /// The names of the files, or none.
+        files: Vec<String>,
+        /// By what their lines are mended.
+        asked: FilterJob,
+    },
     /// To run the cases of a file of vectors.
     Vectors {
         /// The file's name.
         file: String,
     },
-    /// To say what rules ask, or where the pages about them are.
+    /// To say what rules ask, or where they are in the URL Standard.
     Explain {
         /// The rules' names, in order, or none where each rule is meant.
         rules: Vec<String>,
@@ -81,8 +90,8 @@ pub enum Job {
 pub enum Told {
     /// Its explanation.
     Explanation,
-    /// The address of the page about it.
-    Page,
+    /// The address of its section of the URL Standard.
+    Address,
 }
 
 /// The files whose lines are checked, by what, and how what is wrong with them is reported.
@@ -117,6 +126,8 @@ pub struct FilterJob {
     pub profile: Profile,
     /// The name of the kind of the mended texts that are wanted, if not all are.
     pub only: Option<String>,
+    /// Whether mended texts are wanted too that reports don't offer.
+    pub all: bool,
     /// Whether no counts are wanted.
     pub quiet: bool,
 }
@@ -243,7 +254,7 @@ fn told_by(entries: &ArgMatches<'_>) -> Told
     ensures { result ≡ told_in (rows_of (found_of entries.now)) }
 {
     if has(entries, "url") {
-        Told::Page
+        Told::Address
     } else {
         Told::Explanation
     }
@@ -311,17 +322,30 @@ fn mend_in(
     ensures { IfOk result (λ job.
         option_map asked_by job ≡ mend_in (rows_of (found_of entries.now)) profile) }
 {
-    let Some(text) = value(entries, "TEXT") else {
-        return Ok(Some(Job::Filter(filter_in(alloc, entries, profile)?)));
-    };
-    if has(entries, "quiet") || value(entries, "only").is_some() {
-        return Ok(Some(Job::FilterOfText));
+    let texts = values(entries, "TEXT").unwrap_or(&[]);
+    if has(entries, "in-place") {
+        return Ok(Some(Job::InPlace {
+            files: copied_all(alloc, texts)?,
+            asked: filter_in(alloc, entries, profile)?,
+        }));
     }
-    Ok(Some(Job::Mend {
-        text: text.to_string(alloc)?,
-        base: copied(alloc, value(entries, "base"))?,
-        profile,
-    }))
+    match texts {
+        [] => Ok(Some(Job::Filter(filter_in(alloc, entries, profile)?))),
+        [_] if is_filtered(entries) => Ok(Some(Job::FilterOfText)),
+        [text] => Ok(Some(Job::Mend {
+            text: text.to_string(alloc)?,
+            base: copied(alloc, value(entries, "base"))?,
+            profile,
+        })),
+        _ => Ok(Some(Job::SeveralTexts)),
+    }
+}
+
+// Whether a command's entries have what is of a filter alone.
+fn is_filtered(entries: &ArgMatches<'_>) -> bool
+    ensures { result ≡ is_filtered (rows_of (found_of entries.now)) }
+{
+    has(entries, "quiet") || has(entries, "all-mended") || value(entries, "only").is_some()
 }
 
 // By what a command's entries ask for lines to be mended.
@@ -332,12 +356,12 @@ fn filter_in(
 ) -> Result<FilterJob, AllocError>
     ensures { IfOk result (λ job. filter_by job ≡ filter_in (rows_of (found_of entries.now)) profile) }
 {
-    let quiet = has(entries, "quiet");
     Ok(FilterJob {
         base: copied(alloc, value(entries, "base"))?,
         profile,
         only: copied(alloc, value(entries, "only"))?,
-        quiet,
+        all: has(entries, "all-mended"),
+        quiet: has(entries, "quiet"),
     })
 }
 

@@ -25,12 +25,12 @@ _urlcheck() {
         *)
             case $command in
                 '') words='check lint links mend vectors explain help --help -h --version -V' ;;
-                check) words='--base --all --profile --wide --help -h' ;;
-                lint) words='--base --all --profile --wide --format --columns --located --stdin-name --quiet -q --help -h' ;;
-                links) words='--base --profile --wide --help -h' ;;
-                mend) words='--base --profile --wide --only --quiet -q --help -h' ;;
+                check) words='--help -h --base --all --profile --wide' ;;
+                lint) words='--help -h --base --all --profile --wide --format --columns --quiet -q --located --stdin-name' ;;
+                links) words='--help -h --base --profile --wide' ;;
+                mend) words='--help -h --base --profile --wide --in-place -i --only --all-mended --quiet -q' ;;
                 vectors) words='--help -h' ;;
-                explain) words='no-scheme opaque-base two-slashes host-missing host-domain host-number host-ipv6 host-code-point port-digit port-range first-segment-empty drive-after-host code-point percent not-utf8 line-too-long not-located --url --help -h' ;;
+                explain) words='no-scheme opaque-base two-slashes host-missing host-domain host-number host-ipv6 host-code-point port-digit port-range first-segment-empty drive-after-host code-point percent not-utf8 line-too-long not-located empty no-link --help -h --url' ;;
                 help) words='check lint links mend vectors explain help' ;;
             esac ;;
     esac
@@ -38,7 +38,7 @@ _urlcheck() {
     if [[ $is_after ]]; then words= is_value=; fi
     mapfile -t COMPREPLY < <(compgen -P "$option" -W "$words" -- "$word")
     case $is_value$command in
-        lint | vectors)
+        lint | mend | vectors)
             compopt -o filenames
             mapfile -t -O ${#COMPREPLY[@]} COMPREPLY < <(compgen -f -- "$word") ;;
     esac

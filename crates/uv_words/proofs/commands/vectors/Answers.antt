@@ -2,4 +2,4 @@
 use Rattle.uv_words.proofs.commands.vectors.Goals as goal
 
 pub returns : goal.returns
-returns c = c.and_arg.ensures _ _ c.bare.ensures c.file.ensures.rule c.file.ensures.local
+returns c = c.and_arg.ensures _ _ c.bare-command.ensures c.file.ensures.rule c.file.ensures.local

@@ -1,18 +1,18 @@
--- A mended text of a kind that isn't written.
+-- A mended text that isn't written.
 use Rattle.std.proofs.Common.{◌∙◌, string_bytes, ap, sym, subst, inr}
 use Rattle.uv_filter.specs.Fates.{StaysRefused}
 use Rattle.uv_filter.proofs.line_filter.LineFilter.mended.Goals as goal
 
-pub returns-else-takes : goal.returns-else-takes
-returns-else-takes c = (
+pub returns-else-writes : goal.returns-else-writes
+returns-else-writes c = (
   λ same. cc,
   (
     record { some = c.requires; utf8 = c.utf8.text },
     subst (λ mender. StaysRefused mender c.args.text.now) (ap (λ f. f.mender) c.self.view_is) (inr (
-      string_bytes c.in-Mended.text,
+      string_bytes c.in-Mended.mended,
       c.in-Mended.kind,
       rw c.in-Mended.is at c.in_ok-mend.ensures,
-      sym c.takes.ensures ∙ c.if-takes.false,
+      sym c.writes.ensures ∙ c.if-writes.false,
     )),
   ),
 )

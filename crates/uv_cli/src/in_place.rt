@@ -1,0 +1,241 @@
+//! The command `mend --in-place`: the lines of files, each mended in its place.
+ghost use Rattle.std.specs.Prelude.{◌≡◌, IfOk};
+ghost use Rattle.uv_cli.specs.Filter.{HasMendedFiles, HasWrittenMended};
+ghost use Rattle.uv_filter.specs.Fates.{mender_of};
+
+use crate::ends::End;
+use crate::fault::CliFault;
+use crate::filter::only_of;
+use crate::filtered::Filtered;
+use crate::watched::{WatchedReader, WatchedWriter};
+use std::alloc::{AllocError, Global};
+use std::fs;
+use std::fs::{Files, OpenFile, OpenOptions};
+use std::io::{self, ErrorKind, Read, Write};
+use uv_filter::{FilterCounts, FilterFault, FilterSetting, run_filter};
+use uv_io::{FromReader, ToWriter};
+use uv_messages::messages::{Message, say};
+use uv_messages::unread::{unmended, unread};
+use uv_resolve::{ResolveFault, resolve_base};
+use uv_words::FilterJob;
+use uv_words::arguments::said_of;
+
+// What is after a file's name in that of the new one, until it takes its place.
+const NEW: &str = ".urlcheck-new";
+
+// Why a file stays as it was.
+#[derive(Drop)]
+enum Left {
+    // Its lines were read, and none of them is mended.
+    Unchanged(FilterCounts),
+    // Memory ran out.
+    Memory,
+    // It can't be read, by an error of this kind, if that is known.
+    Unread(Option<ErrorKind>),
+    // It can't be written, or the new file can't, by an error of this kind, if that is known.
+    Unwritten(Option<ErrorKind>),
+}
+
+impl From<AllocError> for Left {
+    fn from(_error: AllocError) -> Left {
+        Left::Memory
+    }
+}
+
+/// Mends the lines of files by what a job asks for, each in its place: alone or against the base, which is resolved
+/// alone, before a file is opened. The base and the name of the kind are the texts that the job has.
+///
+/// What is written of a file goes to a new one beside it, which gets its permissions, and its name once it is whole.
+/// A file of which no line is mended stays untouched; so does one that can't be read or written, which is reported on
+/// standard error, and the next ones go on. A link is followed, and stays one.
+pub(crate) fn mend_files<R: Files + Eprint + AllocGlobal>(
+    rt: &R,
+    files: &[String],
+    job: &FilterJob,
+    base: Option<&str>,
+    name: Option<&str>,
+) -> End
+    ensures { HasMendedFiles job.now base.entry name.entry result }
+{
+    let Some(only) = only_of(name) else {
+        return End::UnknownKind;
+    };
+    match resolve_base(rt.alloc(), base, job.profile) {
+        Ok(base) => {
+            let setting = FilterSetting {
+                base: base.as_ref(),
+                profile: job.profile,
+                only,
+                all: job.all,
+            };
+            End::Filtered(mend_each(rt, files, setting, job.quiet))
+        }
+        Err(ResolveFault::Refused(refusal)) => End::BaseRefused(refusal),
+        Err(ResolveFault::Memory(_)) => End::Fault(CliFault::Memory),
+    }
+}
+
+// Mends the lines of the files, one after the other.
+fn mend_each<R: Files + Eprint + AllocGlobal>(
+    rt: &R,
+    files: &[String],
+    setting: FilterSetting<'_>,
+    is_quiet: bool,
+) -> Filtered
+    ensures { result.is_quiet ≡ is_quiet }
+{
+    let mut filtered = Filtered::nothing(is_quiet);
+    for file in files {
+        if filtered.stopped.is_none() {
+            filtered = mend_next(rt, file.as_str(), setting, filtered);
+        }
+    }
+    filtered
+}
+
+// Mends the lines of the next file, and says why it stays as it was, where something failed.
+fn mend_next<R: Files + Eprint + AllocGlobal>(
+    rt: &R,
+    file: &str,
+    setting: FilterSetting<'_>,
+    filtered: Filtered,
+) -> Filtered
+    ensures { result.is_quiet ≡ filtered.is_quiet }
+{
+    if let Some(said) = said_of(file) {
+        say(rt, Message::of(rt.alloc(), said));
+        return filtered.with_file_left();
+    }
+    match mend_file(rt, file, setting) {
+        Ok(counts) | Err(Left::Unchanged(counts)) => filtered.with_counts(counts),
+        Err(Left::Memory) => filtered.with_fault(FilterFault::Memory),
+        Err(Left::Unread(why)) => {
+            say(rt, unread(rt.alloc(), file, why));
+            filtered.with_file_left()
+        }
+        Err(Left::Unwritten(why)) => {
+            say(rt, unmended(rt.alloc(), file, why));
+            filtered.with_file_left()
+        }
+    }
+}
+
+// Mends the lines of a file: they are written to a new one, which takes its place.
+fn mend_file<R: Files + AllocGlobal>(
+    rt: &R,
+    file: &str,
+    setting: FilterSetting<'_>,
+) -> Result<FilterCounts, Left> {
+    let path = match rt.canonicalize(rt.alloc(), file) {
+        Ok(path) => path,
+        Err(error) => return Err(left_unfound(error.kind())),
+    };
+    let path = path.as_str();
+    let new = format!(in rt.alloc(); "{path}{NEW}")?;
+    let old = match opened(rt, path) {
+        Ok(old) => old,
+        Err(left) => return Err(left),
+    };
+    let made = OpenOptions::new()
+        .write(true)
+        .create_new(true)
+        .open(rt, new.as_str());
+    let answer = match made {
+        Ok(made) => replaced(rt, path, new.as_str(), old, made, setting),
+        Err(error) => return Err(Left::Unwritten(Some(error.kind()))),
+    };
+    if answer.is_err() {
+        let _ = fs::remove_file(rt, new.as_str());
+    }
+    answer
+}
+
+// Why a file stays as it was whose own path isn't found: there is none, or the system's program replaces no file.
+fn left_unfound(kind: ErrorKind) -> Left {
+    match kind {
+        ErrorKind::OutOfMemory => Left::Memory,
+        ErrorKind::Unsupported => Left::Unwritten(Some(kind)),
+        kind => Left::Unread(Some(kind)),
+    }
+}
+
+// Opens a file that can be read and written, and is no folder and no device.
+fn opened<R: Files>(rt: &R, path: &str) -> Result<R::File, Left> {
+    match fs::metadata(rt, path) {
+        Ok(data) if data.is_file() => {}
+        Ok(data) if data.is_dir() => return Err(Left::Unread(Some(ErrorKind::IsADirectory))),
+        Ok(_) => return Err(Left::Unwritten(None)),
+        Err(error) => return Err(Left::Unread(Some(error.kind()))),
+    }
+    if let Err(error) = fs::open(rt, path) {
+        return Err(Left::Unread(Some(error.kind())));
+    }
+    match OpenOptions::new().read(true).write(true).open(rt, path) {
+        Ok(file) => Ok(file),
+        Err(error) => Err(Left::Unwritten(Some(error.kind()))),
+    }
+}
+
+// Writes the lines of an old file to a new one, mended, and gives the new one the permissions and the name of the old
+// one, where a line of it is mended.
+fn replaced<R: Files + AllocGlobal>(
+    rt: &R,
+    path: &str,
+    new: &str,
+    old: R::File,
+    made: R::File,
+    setting: FilterSetting<'_>,
+) -> Result<FilterCounts, Left> {
+    let (written, answer) = written_mended(rt.alloc(), old, made, setting);
+    let counts = answer?;
+    if !counts.is_mended() {
+        return Err(Left::Unchanged(counts));
+    }
+    match renamed(rt, path, new, written) {
+        Ok(()) => Ok(counts),
+        Err(error) => Err(Left::Unwritten(Some(error.kind()))),
+    }
+}
+
+// Writes each line of a reader to a writer, mended where it can be, and gives the writer back with the counts.
+fn written_mended<I: Read + Drop, W: Write + Drop>(
+    alloc: Global,
+    old: I,
+    made: W,
+    setting: FilterSetting<'_>,
+) -> (W, Result<FilterCounts, Left>)
+    ensures { IfOk result.1 (HasWrittenMended (mender_of setting.entry) (I.remaining old) (W.contents made)
+        (W.contents result.0)) }
+{
+    let mut input = FromReader::new(WatchedReader::new(old));
+    let mut out = ToWriter::new(WatchedWriter::new(made));
+    let (counts, answer) = run_filter(alloc, &mut input, &mut out, setting);
+    let out = out.into_writer();
+    let why = out.fault();
+    let written = out.into_writer();
+    match answer {
+        Ok(()) => (written, Ok(counts)),
+        Err(fault) => (
+            written,
+            Err(left_by(fault, input.into_reader().fault(), why)),
+        ),
+    }
+}
+
+// Why a file stays as it was where its lines weren't read or written, by the kinds of the last errors of both.
+fn left_by(fault: FilterFault, read: Option<ErrorKind>, written: Option<ErrorKind>) -> Left {
+    match fault {
+        FilterFault::Memory => Left::Memory,
+        FilterFault::Write => Left::Unwritten(written),
+        FilterFault::Read | FilterFault::Endless => Left::Unread(read),
+    }
+}
+
+// Gives a new file, once it is on its disk, the permissions and the name of the old one.
+fn renamed<R: Files>(rt: &R, path: &str, new: &str, made: R::File) -> io::Result<()> {
+    let mut made = made;
+    made.flush()?;
+    made.set_permissions(fs::metadata(rt, path)?.permissions())?;
+    made.sync_all()?;
+    fs::rename(rt, new, path)
+}
