@@ -7,7 +7,7 @@
 # Usage: bench/languages.sh [--count COUNT] [--rounds ROUNDS] [--seed SEED]
 set -euo pipefail
 top=$(dirname "$(dirname "$(realpath "$0")")")
-seed=1 count=100000 rounds=20
+seed=1 count=10000 rounds=100
 . "$top/bench/words.sh"
 words seed count rounds -- "$@"
 . "$top/bench/peers/build.sh"

@@ -56,11 +56,15 @@ func main() {
 		own, accepted := least(rounds, texts, call.call)
 		row(call.name, own, accepted)
 	}
-	accepted, started := 0, time.Now()
-	for _, err := range urlcheck.By(urlcheck.Standard).CheckMany(texts) {
-		if err == nil {
-			accepted++
+	accepted := 0
+	all, _ := least(rounds, texts[:1], func(string) bool {
+		accepted = 0
+		for _, err := range urlcheck.By(urlcheck.Standard).CheckMany(texts) {
+			if err == nil {
+				accepted++
+			}
 		}
-	}
-	row("CheckMany", float64(time.Since(started).Nanoseconds())/float64(len(texts)), accepted)
+		return true
+	})
+	row("CheckMany", all/float64(len(texts)), accepted)
 }
