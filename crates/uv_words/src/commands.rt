@@ -112,8 +112,8 @@ pub(crate) fn urlcheck<'a>(alloc: Global) -> Result<Command<'a>, AllocError>
     ensures { IfOk result (λ c. app_of c ≡ urlcheck) }
 {
     let program = Command::new(alloc, "urlcheck")
-        .version("0.3.0")
-        .long_version("0.3.0\nUnicode 18.0, in domains")
+        .version("0.4.0")
+        .long_version("0.4.0\nUnicode 18.0, in domains")
         .about("Says whether a text is a valid URL string")
         .after_help(STATUSES)
         .subcommand_required(true);

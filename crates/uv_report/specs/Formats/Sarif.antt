@@ -64,7 +64,7 @@ column_kind _ = []
 unfoldable pub driver_begin : List ℕ
 driver_begin =
     codes "\"tool\":{\"driver\":{\"informationUri\":\"" ++ (address
-    ++ codes "/\",\"name\":\"urlcheck\",\"version\":\"0.3.0\",\"rules\":[")
+    ++ codes "/\",\"name\":\"urlcheck\",\"version\":\"0.4.0\",\"rules\":[")
 
 -- what it begins with
 unfoldable pub sarif_begin : Columns → List ℕ

@@ -48,7 +48,7 @@ fn push_driver(text: &mut String) -> Result<(), AllocError>
 {
     text.push_str("\"tool\":{\"driver\":{\"informationUri\":\"")?;
     text.push_str(ADDRESS)?;
-    text.push_str("/\",\"name\":\"urlcheck\",\"version\":\"0.3.0\",\"rules\":[")?;
+    text.push_str("/\",\"name\":\"urlcheck\",\"version\":\"0.4.0\",\"rules\":[")?;
     Ok(())
 }
 

@@ -9,5 +9,5 @@ pub returns : goal.returns
 unfolding driver_begin
 returns c =
     three_pieces (string_bytes c.args.text.now) (codes "\"tool\":{\"driver\":{\"informationUri\":\"") address
-    (codes "/\",\"name\":\"urlcheck\",\"version\":\"0.3.0\",\"rules\":[") c.in_ok-push_str.ensures.bytes
+    (codes "/\",\"name\":\"urlcheck\",\"version\":\"0.4.0\",\"rules\":[") c.in_ok-push_str.ensures.bytes
     c.in_ok-push_str-2.ensures.bytes c.in_ok-push_str-3.ensures.bytes
