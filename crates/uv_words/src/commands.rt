@@ -33,8 +33,8 @@ pub(crate) fn urlcheck<'a>(alloc: Global) -> Result<Command<'a>, AllocError>
     ensures { IfOk result (λ c. app_of c ≡ urlcheck) }
 {
     let program = Command::new(alloc, "urlcheck")
-        .version("0.3.0")
-        .long_version("0.3.0\nUnicode 18.0, in domains")
+        .version("0.4.0")
+        .long_version("0.4.0\nUnicode 18.0, in domains")
         .about(help::ABOUT)
         .after_help(help::EXAMPLES)
         .after_long_help(help::NOTES)

@@ -26,21 +26,35 @@ pub(crate) struct FoundViolation<'t> {
 }
 
 /// Writes the sentence, without its end, on a violation of a text by a profile, at a place in code points: what is
-/// after `error: ` in the lines of compilers.
+/// after `error: ` in the lines of compilers. The wording is one of four, by its number.
 #[unsafe(no_mangle)]
 pub extern "C" fn urlcheck_message(
     alloc: Global,
     text: &[u8],
     profile: u32,
+    wording: u32,
     rule: u32,
     place: usize,
     out: &mut [u8],
 ) -> Written
-    ensures { IsMessageAnswer profile rule place text.now out.old out.new result }
+    ensures { IsMessageAnswer profile wording rule place text.now out.old out.new result }
 {
+    if wording > 3 {
+        return Written::refused(CallOutcome::NoWording);
+    }
     match violation_read(text, profile, rule, place) {
-        Ok(found) => given(&sentence(alloc, &found), out),
+        Ok(found) => given(&sentence(alloc, &found, wording_of(wording)), out),
         Err(found) => Written::none(found),
+    }
+}
+
+// The wording with this number, and for any other the silent one.
+fn wording_of(number: u32) -> Wording {
+    match number {
+        0 => Wording::Options,
+        1 => Wording::Arguments,
+        2 => Wording::Sql,
+        _ => Wording::Silent,
     }
 }
 
@@ -71,8 +85,12 @@ pub(crate) fn violation_read<'t>(
     })
 }
 
-// The sentence.
-fn sentence(alloc: Global, found: &FoundViolation<'_>) -> Result<String, AllocError>
+// The sentence, by this wording.
+fn sentence(
+    alloc: Global,
+    found: &FoundViolation<'_>,
+    wording: Wording,
+) -> Result<String, AllocError>
     ensures { IfOk result (λ text. IsMessage (string_bytes text)) }
 {
     let accepted_by = if found.violation.is_by_choice() {
@@ -83,7 +101,7 @@ fn sentence(alloc: Global, found: &FoundViolation<'_>) -> Result<String, AllocEr
     let checked = Checked {
         profile: found.profile,
         accepted_by,
-        wording: Wording::Options,
+        wording,
     };
     message(alloc, checked, &SeenText::new(found.text), found.violation)
 }

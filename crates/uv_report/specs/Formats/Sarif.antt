@@ -76,7 +76,7 @@ column_kind _ = []
 
 -- the tool up to its rules (section 3.19): its name and its version
 abbrev pub driver_begin : List ℕ
-driver_begin = codes "\"tool\":{\"driver\":{\"name\":\"urlcheck\",\"version\":\"0.3.0\",\"rules\":["
+driver_begin = codes "\"tool\":{\"driver\":{\"name\":\"urlcheck\",\"version\":\"0.4.0\",\"rules\":["
 
 -- what it begins with
 unfoldable pub sarif_begin : Columns → List ℕ

@@ -34,7 +34,7 @@ pub(crate) fn push_sarif_begin(
     )?;
     text.push_str("\"runs\":[{")?;
     text.push_str(column_kind(columns))?;
-    text.push_str("\"tool\":{\"driver\":{\"name\":\"urlcheck\",\"version\":\"0.3.0\",\"rules\":[")?;
+    text.push_str("\"tool\":{\"driver\":{\"name\":\"urlcheck\",\"version\":\"0.4.0\",\"rules\":[")?;
     push_rules(alloc, text)?;
     text.push_str("]}},\"results\":[\n")?;
     Ok(())
