@@ -19,6 +19,7 @@ export const OPAQUE_PATH = 13
 export const IS_SAME = 14
 // Of a mended text.
 export const MEND_KIND = 5
+export const IS_OFFERED = 6
 // Of the lines that were checked in one call; the length is how many of them aren't valid.
 export const LINES = 5
 export const EMPTY_LINES = 6

@@ -22,9 +22,9 @@ import { ANSWER_WORDS, DONE, LENGTH, MEMORY, NO_COLUMN, NO_PLACE, VERDICT } from
  * @property {(format: number, fileLength: number) => void} report_file_begin
  * @property {(format: number) => void} report_file_end
  * @property {(format: number, completion: number) => void} report_end
- * @property {(format: number, unit: number, isFirst: number, profile: number, rule: number, place: number, line: number,
- *   column: number, length: number, fileLength: number, kind: number, mendedLength: number) => void} diagnostic
- * @property {(length: number, profile: number, rule: number, place: number) => void} message
+ * @property {(length: number, profile: number, wording: number, rule: number, place: number) => void} message
+ * @property {(format: number, unit: number, isFirst: number, rule: number, place: number, line: number, column: number,
+ *   length: number, fileLength: number, kind: number, isOffered: number, fixLength: number) => void} diagnostic
  * @property {(format: number) => number} shows_mended
  * @property {(format: number, unit: number) => number} takes_unit
  * @property {(what: number, number: number) => number} text
@@ -209,17 +209,25 @@ export class Room {
   }
 
   /**
-   * The text that a call has written.
-   * @returns {string}
+   * Stops where a call has written no text.
    * @throws {RangeError} where there is no memory for it
    */
-  writtenText() {
+  stopUnlessWritten() {
     this.look()
     const verdict = this.answer[VERDICT]
     if (verdict === MEMORY) this.stopForMemory()
     if (verdict === NO_PLACE) throw new RangeError('the place is after the end of the text')
     if (verdict === NO_COLUMN) throw new RangeError('a column is above 4294967295')
     if (verdict !== DONE) throw new Error(`urlcheck.wasm answers ${verdict}`)
+  }
+
+  /**
+   * The text that a call has written.
+   * @returns {string}
+   * @throws what `stopUnlessWritten` throws
+   */
+  writtenText() {
+    this.stopUnlessWritten()
     return this.out(this.answer[LENGTH])
   }
 }

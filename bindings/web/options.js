@@ -2,6 +2,7 @@
 
 /** @typedef {import('./urlcheck.js').Options} Options */
 /** @typedef {import('./urlcheck.js').Profile} Profile */
+/** @typedef {import('./urlcheck.js').Wording} Wording */
 
 /** A base that was checked, and is valid: the calls of a checker take it in the place of its text. */
 export class CheckedBase {
@@ -37,6 +38,22 @@ export function profileNumber(profile) {
   if (profile === 'wide') return 1
   if (profile === 'parser') return 2
   throw new TypeError("the profile has to be 'standard', 'wide' or 'parser'")
+}
+
+/**
+ * How a sentence names a profile and a base, by the numbers of `urlcheck_wording`.
+ * @type {Wording[]}
+ */
+const WORDINGS = ['options', 'arguments', 'sql', 'none']
+
+/**
+ * @param {unknown} wording
+ * @returns {number}
+ */
+export function wordingNumber(wording = 'arguments') {
+  const number = WORDINGS.indexOf(/** @type {Wording} */ (wording))
+  if (number < 0) throw new TypeError("the wording has to be 'arguments', 'options', 'sql' or 'none'")
+  return number
 }
 
 /**

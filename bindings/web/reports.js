@@ -38,6 +38,7 @@ export class Report {
   #numbers
   #format
   #unit
+  #wording
   #isFirst = true
 
   /**
@@ -45,12 +46,14 @@ export class Report {
    * @param {Numbers} numbers
    * @param {number} format
    * @param {number} unit
+   * @param {number} wording
    */
-  constructor(room, numbers, format, unit) {
+  constructor(room, numbers, format, unit, wording) {
     this.#room = room
     this.#numbers = numbers
     this.#format = format
     this.#unit = unit
+    this.#wording = wording
     /** Whether its diagnostics say what to write in place of a text. */
     this.showsMended = room.exports.shows_mended(format) === 1
   }
@@ -89,22 +92,16 @@ export class Report {
     const room = this.#room
     const name = encoded(file, 'name of the file')
     const instead = encoded(mended?.text ?? '', 'mended text')
+    const number = this.#numbers.ofRule(rule)
+    const at = wholeNumber(place, 'place', 0)
+    const where = [wholeNumber(line, 'line', 1), wholeNumber(column, 'column', 1)]
+    const kind = mended ? this.#numbers.ofKind(mended.kind) : 0
     const length = room.put(text)
     room.putInBase(name, instead)
-    room.exports.diagnostic(
-      this.#format,
-      this.#unit,
-      this.#isFirst ? 1 : 0,
-      this.#numbers.ofProfile(profile),
-      this.#numbers.ofRule(rule),
-      wholeNumber(place, 'place', 0),
-      wholeNumber(line, 'line', 1),
-      wholeNumber(column, 'column', 1),
-      length,
-      name.length,
-      mended ? this.#numbers.ofKind(mended.kind) : 0,
-      instead.length
-    )
+    room.exports.message(length, this.#numbers.ofProfile(profile), this.#wording, number, at)
+    room.stopUnlessWritten()
+    room.exports.diagnostic(this.#format, this.#unit, this.#isFirst ? 1 : 0, number, at, where[0], where[1], length,
+      name.length, kind, mended?.isOffered ? 1 : 0, instead.length)
     const written = room.writtenText()
     this.#isFirst = false
     return written

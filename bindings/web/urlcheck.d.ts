@@ -72,21 +72,23 @@ export interface Checker {
   checkMany(lines: Uint8Array, options?: Options): Many
 
   /**
-   * The sentence on a violation of a text, without its end: what `urlcheck lint` writes after `error: `.
+   * The sentence on a violation of a text, without its end: what `urlcheck lint` writes after `error: `, in the words
+   * of the caller's choice.
    * @param violation such as a fault or a refusal
    * @param options by whose profile the text was checked
-   * @throws {TypeError} where a text is no string or has a lone surrogate, or no rule or profile has the name
+   * @throws {TypeError} where a text is no string or has a lone surrogate, or no rule, profile or wording has the name
    * @throws {RangeError} where the place is after the end of the text, or there is no memory
    */
-  message(text: string, violation: Violation, options?: Options): string
+  message(text: string, violation: Violation, options?: MessageOptions): string
 
   /**
    * A report in pieces, as `urlcheck lint` writes it: `begin`, for each file `fileBegin`, its diagnostics and
    * `fileEnd`, and then `end`.
    * @param unit what its columns count; without one code points, and in `rdjson` bytes
-   * @throws {TypeError} where no format or unit has the name, or the format has no word for the unit
+   * @param wording how its sentences name a profile and a base; `'options'` are those of `urlcheck lint`
+   * @throws {TypeError} where no format, unit or wording has the name, or the format has no word for the unit
    */
-  report(format: ReportFormat, unit?: ColumnUnit): Report
+  report(format: ReportFormat, unit?: ColumnUnit, wording?: Wording): Report
 
   /** The names of the rules, in the order of their numbers. */
   readonly rules: readonly RuleName[]
@@ -111,6 +113,18 @@ export interface Options {
    */
   profile?: Profile | undefined
 }
+
+/** How a text was checked, and how a sentence on it is worded. */
+export interface MessageOptions extends Options {
+  /** How the sentence names a profile and a base; without one `'arguments'`. */
+  wording?: Wording | undefined
+}
+
+/**
+ * How a sentence names a profile and a base. `arguments`: as an argument of a call, `profile='wide'`. `options`: as on a
+ * command line, `--profile wide`. `sql`: as in a statement of SQL, `profile 'wide'`. `none`: it names neither.
+ */
+export type Wording = 'arguments' | 'options' | 'sql' | 'none'
 
 /** How a base is checked. */
 export interface BaseOptions {
@@ -294,6 +308,8 @@ export interface Refused extends Fault {
 export interface Mended {
   text: string
   kind: MendKind
+  /** Whether a report says to write it: else its author may have meant another one. */
+  isOffered: boolean
 }
 
 /**

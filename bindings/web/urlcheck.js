@@ -10,12 +10,12 @@
  * @module
  */
 import {
-  BASE_REFUSED, BYTE_PLACE, FAULT_BYTE_PLACE, FAULT_PLACE, FAULT_WORDS, IS_SAME, LENGTH, MEMORY, MENDED, MEND_KIND,
-  PLACE, REFUSED, RULE, VERDICT
+  BASE_REFUSED, BYTE_PLACE, FAULT_BYTE_PLACE, FAULT_PLACE, FAULT_WORDS, IS_OFFERED, IS_SAME, LENGTH, MEMORY, MENDED,
+  MEND_KIND, PLACE, REFUSED, RULE, VERDICT
 } from './layout.js'
 import { checkedLines } from './lines.js'
 import { Room } from './memory.js'
-import { CheckedBase, profileNumber, readingOf, stopForBase, stopUnlessOptions } from './options.js'
+import { CheckedBase, profileNumber, readingOf, stopForBase, stopUnlessOptions, wordingNumber } from './options.js'
 import { ResolvedText, UnitWalker, ValidText } from './parts.js'
 import { Report, wholeNumber } from './reports.js'
 import { FORMAT_NAME, LINE_RULES, RULE_NAME, UNIT_NAME, explanationOf, namesOf } from './rules.js'
@@ -38,6 +38,8 @@ import { moduleOf } from './source.js'
 /** @typedef {import('./urlcheck.js').Many} Many */
 /** @typedef {import('./urlcheck.js').ReportFormat} ReportFormat */
 /** @typedef {import('./urlcheck.js').ColumnUnit} ColumnUnit */
+/** @typedef {import('./urlcheck.js').MessageOptions} MessageOptions */
+/** @typedef {import('./urlcheck.js').Wording} Wording */
 
 /**
  * How a mended text differs from the refused one, by the numbers of `urlcheck_mend_kind` from 1.
@@ -188,7 +190,8 @@ class Checker {
     room.look()
     const { answer } = room
     if (answer[VERDICT] !== MENDED) return this.#isRefused(base) ? this.#refused(text, length) : null
-    return { text: room.out(answer[LENGTH]), kind: MEND_KINDS[answer[MEND_KIND] - 1] }
+    const isOffered = answer[IS_OFFERED] === 1
+    return { text: room.out(answer[LENGTH]), kind: MEND_KINDS[answer[MEND_KIND] - 1], isOffered }
   }
 
   /**
@@ -209,16 +212,17 @@ class Checker {
    * The sentence on a violation of a text: what a report for compilers has after `error: `.
    * @param {string} text
    * @param {Violation} violation such as a fault, or a refusal
-   * @param {Options} [options] by whose profile it was checked
+   * @param {MessageOptions} [options] by whose profile it was checked
    * @returns {string}
-   * @throws {TypeError} where a text is no string or has a lone surrogate, or no rule or profile has the name
+   * @throws {TypeError} where a text is no string or has a lone surrogate, or no rule, profile or wording has the name
    * @throws {RangeError} where the place is after the end of the text, or there is no memory for the sentence
    */
   message(text, { rule, place }, options) {
     const room = this.#room
     const { profile } = readingOf(options)
     const length = room.put(text)
-    room.exports.message(length, profile, this.#numberOfAny(rule), wholeNumber(place, 'place', 0))
+    const wording = wordingNumber(options?.wording)
+    room.exports.message(length, profile, wording, this.#numberOfAny(rule), wholeNumber(place, 'place', 0))
     return room.writtenText()
   }
 
@@ -226,10 +230,11 @@ class Checker {
    * A report, as `urlcheck lint` writes it.
    * @param {ReportFormat} format
    * @param {ColumnUnit} [unit] what its columns count; without one the first that the format takes
+   * @param {Wording} [wording] how its sentences name a profile and a base
    * @returns {Report}
-   * @throws {TypeError} where no format or unit has the name, or the format has no word for the unit
+   * @throws {TypeError} where no format, unit or wording has the name, or the format has no word for the unit
    */
-  report(format, unit) {
+  report(format, unit, wording) {
     const one = this.formats.indexOf(format)
     if (one < 0) throw new TypeError(`no format has the name ${String(format)}`)
     const takes = (/** @type {number} */ number) => this.#room.exports.takes_unit(one, number) !== 0
@@ -237,7 +242,7 @@ class Checker {
     if (other < 0) throw new TypeError(`no unit has the name ${String(unit)}`)
     if (!takes(other)) throw new TypeError(`the format ${format} has no word for ${String(unit)}`)
     const numbers = { ofRule: this.#numberOfAny, ofProfile: profileNumber, ofKind: kindNumber }
-    return new Report(this.#room, numbers, one, other)
+    return new Report(this.#room, numbers, one, other, wordingNumber(wording))
   }
 
   /**

@@ -5,21 +5,16 @@
  */
 #include "glue.h"
 
-uint64_t proved_check(urlcheck_answer *answer, const uint8_t *text, size_t length, uint32_t profile) PROVED("check");
 uint64_t proved_prepare(urlcheck_base *answer, const uint8_t *base, size_t length, uint32_t profile) PROVED("prepare");
-uint64_t proved_mend(urlcheck_mended *answer, const uint8_t *text, size_t length, uint32_t profile, uint8_t *out,
-                     size_t room) PROVED("mend");
-uint64_t proved_mend_against(urlcheck_mended *answer, const uint8_t *text, size_t length, const uint8_t *base,
-                             size_t base_length, uint32_t profile, uint8_t *out, size_t room) PROVED("mend_against");
-uint64_t proved_resolve(urlcheck_record *answer, const uint8_t *text, size_t length, uint32_t profile, uint8_t *out,
-                        size_t room) PROVED("resolve_record");
-uint64_t proved_resolve_against(urlcheck_record *answer, const uint8_t *text, size_t length, const uint8_t *base,
-                                size_t base_length, uint32_t profile, uint8_t *out, size_t room)
-    PROVED("resolve_record_against");
 uint64_t proved_faults(urlcheck_fault_count *answer, const uint8_t *text, size_t length, uint32_t profile,
-                       urlcheck_fault *out, size_t room) PROVED("faults");
-uint64_t proved_faults_with(urlcheck_fault_count *answer, const uint8_t *text, size_t length, const urlcheck_base *base,
-                            urlcheck_fault *out, size_t room) PROVED("faults_with");
+                       const urlcheck_base *base, uint32_t has_base, urlcheck_fault *out, size_t room)
+    PROVED("faults");
+uint64_t proved_resolve(urlcheck_record *answer, const uint8_t *text, size_t length, uint32_t profile,
+                        const uint8_t *base, size_t base_length, uint32_t has_base, uint8_t *out, size_t room)
+    PROVED("resolve");
+uint64_t proved_mend(urlcheck_mended *answer, const uint8_t *text, size_t length, uint32_t profile,
+                     const uint8_t *base, size_t base_length, uint32_t has_base, uint8_t *out, size_t room)
+    PROVED("mend");
 
 /* Where urlcheck.js reads the faults: it knows these numbers. */
 _Static_assert(offsetof(urlcheck_fault, rule) == 0 && offsetof(urlcheck_fault, place) == 8, "layout");
@@ -89,8 +84,7 @@ void prepare(uint32_t base_length, uint32_t profile) {
 void check(uint32_t length, uint32_t profile, uint32_t is_held) {
     urlcheck_answer checked;
     heap_empty();
-    if (is_held) proved_check_with(&checked, heap_text(), length, &held);
-    else proved_check(&checked, heap_text(), length, profile);
+    proved_check(&checked, heap_text(), length, profile, &held, is_held);
     say(&checked.found, 0);
     say_parts(&checked.parts);
 }
@@ -98,8 +92,7 @@ void check(uint32_t length, uint32_t profile, uint32_t is_held) {
 /* 1 where the text is known to be valid, else 0. */
 uint32_t is_valid(uint32_t length, uint32_t profile, uint32_t is_held) {
     heap_empty();
-    return is_held ? urlcheck_is_valid_with(heap_text(), length, &held)
-                   : urlcheck_is_valid(heap_text(), length, profile);
+    return proved_is_valid(heap_text(), length, profile, &held, is_held);
 }
 
 /* All faults are at `out`. */
@@ -108,14 +101,16 @@ void faults(uint32_t length, uint32_t profile, uint32_t is_held) {
     const uint8_t *text = heap_text();
     heap_empty();
     WRITE(FAULTS, sizeof(urlcheck_fault), counted.count,
-          is_held ? proved_faults_with(&counted, text, length, &held, out, room)
-                  : proved_faults(&counted, text, length, profile, out, room));
+          proved_faults(&counted, text, length, profile, &held, is_held, out, room));
     say(&counted.found, counted.count);
 }
 
+/* How long a base is; a length below 0 says that there is none. */
+static uint32_t bytes_of_base(int32_t base_length) { return base_length < 0 ? 0 : (uint32_t)base_length; }
+
 /* The room that a first call has for a URL's text, or a mended one: most texts fit. */
 static uint64_t room_for(uint32_t length, int32_t base_length) {
-    return (uint64_t)length + (base_length < 0 ? 0 : (uint32_t)base_length) + 256;
+    return (uint64_t)length + bytes_of_base(base_length) + 256;
 }
 
 static bool are_same(const uint8_t *one, const uint8_t *other, uint32_t length) {
@@ -128,9 +123,7 @@ void resolve(uint32_t length, uint32_t profile, int32_t base_length) {
     const uint8_t *text = heap_text(), *base = heap_base();
     heap_empty();
     WRITE(room_for(length, base_length), 1, record.length,
-          base_length < 0 ? proved_resolve(&record, text, length, profile, out, room)
-                          : proved_resolve_against(&record, text, length, base, (uint32_t)base_length, profile, out,
-                                                   room));
+          proved_resolve(&record, text, length, profile, base, bytes_of_base(base_length), base_length >= 0, out, room));
     say(&record.found, record.length);
     say_parts(&record.parts);
     answer[HOST_KIND] = record.host;
@@ -144,11 +137,10 @@ void mend(uint32_t length, uint32_t profile, int32_t base_length) {
     const uint8_t *text = heap_text(), *base = heap_base();
     heap_empty();
     WRITE(room_for(length, base_length), 1, mended.length,
-          base_length < 0 ? proved_mend(&mended, text, length, profile, out, room)
-                          : proved_mend_against(&mended, text, length, base, (uint32_t)base_length, profile, out,
-                                                room));
+          proved_mend(&mended, text, length, profile, base, bytes_of_base(base_length), base_length >= 0, out, room));
     say(&mended.found, mended.length);
     answer[MEND_KIND] = mended.kind;
+    answer[IS_OFFERED] = mended.offered;
 }
 
 uint32_t version(void) { return urlcheck_version(); }

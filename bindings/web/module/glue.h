@@ -13,14 +13,16 @@
  * the answer's address comes first, and is given back.
  */
 #define PROVED(name) __asm__("urlcheck_" name)
-uint64_t proved_check_with(urlcheck_answer *answer, const uint8_t *text, size_t length, const urlcheck_base *base)
-    PROVED("check_with");
+uint64_t proved_check(urlcheck_answer *answer, const uint8_t *text, size_t length, uint32_t profile,
+                      const urlcheck_base *base, uint32_t has_base) PROVED("check");
+uint32_t proved_is_valid(const uint8_t *text, size_t length, uint32_t profile, const urlcheck_base *base,
+                         uint32_t has_base) PROVED("is_valid");
 
-/* Where an answer has its words of 32 bits: layout.js has the same numbers. A call that writes says how much at LENGTH. */
+/* Where an answer has its words of 32 bits: layout.js has the same numbers. At LENGTH is how much a call has written. */
 enum {
     VERDICT, RULE, PLACE, BYTE_PLACE, LENGTH,
     SCHEME_END = 5, HOST_END, PORT_END, PATH_START, PATH_END, QUERY_END, FRAGMENT_END, HOST_KIND, OPAQUE_PATH, IS_SAME,
-    MEND_KIND = 5,
+    MEND_KIND = 5, IS_OFFERED,
     LINES = 5, EMPTY_LINES, NEXT_LINE,
     ANSWER_WORDS = 15
 };

@@ -42,9 +42,9 @@ static urlcheck_line next_refused_with(const uint8_t *lines, size_t length, size
     for (size_t at = from; at < length; passed++) {
         urlcheck_line line = first_line(lines, length, at);
         const uint8_t *text = lines + line.start;
-        if (line.length == 0 || !urlcheck_is_valid_with(text, line.length, &held)) {
+        if (line.length == 0 || !proved_is_valid(text, line.length, held.profile, &held, true)) {
             urlcheck_answer checked;
-            proved_check_with(&checked, text, line.length, &held);
+            proved_check(&checked, text, line.length, held.profile, &held, true);
             line.found = checked.found;
             line.passed = passed;
             if (line.length == 0 || checked.found.verdict != URLCHECK_VALID) return line;

@@ -13,40 +13,49 @@ uint64_t proved_report_file_end(urlcheck_written *answer, uint32_t format, uint8
 uint64_t proved_report_end(urlcheck_written *answer, uint32_t format, uint32_t completion, uint8_t *out, size_t room)
     PROVED("report_end");
 uint64_t proved_diagnostic(urlcheck_written *answer, uint32_t format, uint32_t is_first,
-                           const urlcheck_violation *violation, const uint8_t *file, size_t file_length,
-                           const uint8_t *text, size_t length, const uint8_t *mended, size_t mended_length,
-                           uint8_t *out, size_t room) PROVED("diagnostic");
-uint64_t proved_message(urlcheck_written *answer, const uint8_t *text, size_t length, uint32_t profile, uint32_t rule,
-                        size_t place, uint8_t *out, size_t room) PROVED("message");
+                           const urlcheck_reported_numbers *numbers, const uint8_t *file, size_t file_length,
+                           const uint8_t *rule, size_t rule_length, const uint8_t *uri, size_t uri_length,
+                           const uint8_t *message, size_t message_length, const uint8_t *within, size_t within_length,
+                           const uint8_t *text, size_t length, const uint8_t *fix, size_t fix_length, uint8_t *out,
+                           size_t room) PROVED("diagnostic");
+uint64_t proved_message(urlcheck_written *answer, const uint8_t *text, size_t length, uint32_t profile,
+                        uint32_t wording, uint32_t rule, size_t place, uint8_t *out, size_t room) PROVED("message");
 uint64_t proved_column(urlcheck_counted *answer, const uint8_t *text, size_t length, uint32_t unit, uint64_t start,
                        size_t place) PROVED("column");
 
-/* The bytes that a first call has room for, where more are rare. */
-enum { SHORT = 2048 };
+/* The bytes that a first call has room for, where more are rare, and those that each fixed text of the library fits. */
+enum { SHORT = 2048, LONGEST = 4096 };
 
-/* Has a call write a text, and says how it ended. */
+/* Has a call write a text after what is on the heap, and says how it ended. */
 #define WRITE_TEXT(call)                              \
     urlcheck_written written;                         \
-    heap_empty();                                     \
     WRITE(SHORT, 1, written.length, call);            \
     say(&written.found, written.length)
 
 void report_begin(uint32_t format, uint32_t unit) {
+    heap_empty();
     WRITE_TEXT(proved_report_begin(&written, format, unit, out, room));
 }
 
 void report_file_begin(uint32_t format, uint32_t file_length) {
+    heap_empty();
     WRITE_TEXT(proved_report_file_begin(&written, format, heap_base(), file_length, out, room));
 }
 
-void report_file_end(uint32_t format) { WRITE_TEXT(proved_report_file_end(&written, format, out, room)); }
+void report_file_end(uint32_t format) {
+    heap_empty();
+    WRITE_TEXT(proved_report_file_end(&written, format, out, room));
+}
 
 void report_end(uint32_t format, uint32_t completion) {
+    heap_empty();
     WRITE_TEXT(proved_report_end(&written, format, completion, out, room));
 }
 
-void message(uint32_t length, uint32_t profile, uint32_t rule, uint32_t place) {
-    WRITE_TEXT(proved_message(&written, heap_text(), length, profile, rule, place, out, room));
+/* The sentence on a violation of the text. */
+void message(uint32_t length, uint32_t profile, uint32_t wording, uint32_t rule, uint32_t place) {
+    heap_empty();
+    WRITE_TEXT(proved_message(&written, heap_text(), length, profile, wording, rule, place, out, room));
 }
 
 /* The column of a place of the text, which begins in the column `start`, and 0 where there is none, which is said. */
@@ -64,25 +73,40 @@ static uint64_t code_points(const uint8_t *text, uint32_t length) {
     return count;
 }
 
+/* A fixed text of the library on the heap. */
+typedef struct {
+    const uint8_t *bytes;
+    size_t length;
+} fixed_text;
+
+static bool takes_text(fixed_text *taken, uint32_t what, uint32_t number) {
+    if (!takes_out(heap_mark(), LONGEST)) return false;
+    *taken = (fixed_text){out, urlcheck_text(what, number, out, LONGEST)};
+    return true;
+}
+
 /*
- * What is reported of a violation of the text, which begins in the column `column`. In the room of the base is the name
- * of the file, and after it the mended text, where its kind isn't 0.
+ * What is reported of a violation of the text, which begins in the column `column`, and whose sentence `message` has
+ * just written. In the room of the base is the name of the file, and after it the fix, where its kind isn't 0.
  */
-void diagnostic(uint32_t format, uint32_t unit, uint32_t is_first, uint32_t profile, uint32_t rule, uint32_t place,
-                uint32_t line, uint32_t column, uint32_t length, uint32_t file_length, uint32_t kind,
-                uint32_t mended_length) {
-    uint64_t points = code_points(heap_text(), length);
+void diagnostic(uint32_t format, uint32_t unit, uint32_t is_first, uint32_t rule, uint32_t place, uint32_t line,
+                uint32_t column, uint32_t length, uint32_t file_length, uint32_t kind, uint32_t is_offered,
+                uint32_t fix_length) {
+    const uint8_t *said = out, *text = heap_text(), *file = heap_base();
+    size_t said_length = answer[LENGTH];
+    uint64_t points = code_points(text, length);
     bool has_point = rule < URLCHECK_LINE_NO_UTF8 && place < points;
-    heap_empty();
-    urlcheck_violation told = {
-        .profile = profile, .rule = rule, .place = place, .line = line, .kind = kind, .has_region = kind != 0,
-        .first_column = column, .column = column_of(length, unit, column, place)};
-    if (told.column == 0) return;
-    told.end_column = column_of(length, unit, column, points);
-    told.end = has_point ? column_of(length, unit, column, (uint64_t)place + 1) : told.column;
-    const uint8_t *file = heap_base(), *mended = file + file_length;
-    WRITE_TEXT(proved_diagnostic(&written, format, is_first, &told, file, file_length, heap_text(), length, mended,
-                                 mended_length, out, room));
+    urlcheck_region whole = {line, column, line, column_of(length, unit, column, points)};
+    urlcheck_region wrong = {line, column_of(length, unit, column, place), line, 0};
+    if (wrong.column == 0 || whole.end_column == 0) return;
+    wrong.end_column = has_point ? column_of(length, unit, column, (uint64_t)place + 1) : wrong.column;
+    urlcheck_reported_numbers numbers = {.region = wrong, .place = place, .kind = kind, .offered = is_offered};
+    if (kind != 0) numbers.fix_region = whole;
+    fixed_text name, address;
+    if (!takes_text(&name, URLCHECK_RULE_NAME, rule) || !takes_text(&address, URLCHECK_RULE_ADDRESS, rule)) return;
+    WRITE_TEXT(proved_diagnostic(&written, format, is_first, &numbers, file, file_length, name.bytes, name.length,
+                                 address.bytes, address.length, said, said_length, file, 0, text, length,
+                                 file + file_length, fix_length, out, room));
 }
 
 uint32_t shows_mended(uint32_t format) { return urlcheck_shows_mended(format); }
@@ -92,20 +116,8 @@ uint32_t takes_unit(uint32_t format, uint32_t unit) { return urlcheck_takes_unit
 uint32_t example_place(uint32_t rule) { return (uint32_t)urlcheck_example_place(rule); }
 
 /* A text of the library, for which each has room; its length is given, and is 0 where no number is such a one. */
-enum { LONGEST = 4096 };
-
-/* What the texts are, by the numbers that urlcheck.js gives. */
-enum { RULE_NAME, RULE_SENTENCE, RULE_REQUIRES = 3, FORMAT_NAME = 8, UNIT_NAME };
-
-static size_t text_into(uint32_t what, uint32_t number) {
-    if (what == RULE_NAME) return urlcheck_rule_name(number, out, LONGEST);
-    if (what == RULE_SENTENCE) return urlcheck_rule_sentence(number, out, LONGEST);
-    if (what == FORMAT_NAME) return urlcheck_format_name(number, out, LONGEST);
-    if (what == UNIT_NAME) return urlcheck_unit_name(number, out, LONGEST);
-    return urlcheck_explain(number, what - RULE_REQUIRES, out, LONGEST);
-}
-
 uint32_t text(uint32_t what, uint32_t number) {
+    fixed_text taken;
     heap_empty();
-    return takes_out(heap_mark(), LONGEST) ? (uint32_t)text_into(what, number) : 0;
+    return takes_text(&taken, what, number) ? (uint32_t)taken.length : 0;
 }

@@ -51,7 +51,11 @@ void *memmove(void *to, const void *from, size_t count) {
 
 int memcmp(const void *one, const void *other, size_t count) {
     const uint8_t *first = one, *second = other;
-    for (size_t at = 0; at < count; at++) {
+    size_t at = 0;
+    while (count - at >= sizeof(word) && ((const word *)(first + at))->whole == ((const word *)(second + at))->whole) {
+        at += sizeof(word);
+    }
+    for (; at < count; at++) {
         if (first[at] != second[at]) return first[at] < second[at] ? -1 : 1;
     }
     return 0;

@@ -142,7 +142,7 @@ export class ReportView {
       this.say('bad', 'Not checked', message)
       return
     }
-    const sentence = this.urlcheck.message(this.base, base, { profile: this.profile })
+    const sentence = this.urlcheck.message(this.base, base, { profile: this.profile, wording: 'none' })
     this.say('bad', 'Base refused', `${sentence}, at place ${counted(base.place)}`)
   }
 

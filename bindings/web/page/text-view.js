@@ -19,7 +19,7 @@ export function checkText(urlcheck, text, base, profile) {
     const isLong = text.length > LONGEST_FOR_FAULTS
     if (isLong) return { kind: 'refused', isLong, faults: [answer] }
     const faults = urlcheck.faults(text, options)
-    return { kind: 'refused', isLong, faults, instead: insteadOf(urlcheck, text, answer, options) }
+    return { kind: 'refused', isLong, faults, instead: insteadOf(urlcheck, text, options) }
   } catch (error) {
     if (error instanceof BaseRefused) return { kind: 'base', faults: urlcheck.faults(base, { profile }) }
     if (error instanceof RangeError) return { kind: 'unchecked', message: 'out of memory: the text is too large' }
@@ -28,16 +28,11 @@ export function checkText(urlcheck, text, base, profile) {
   }
 }
 
-/**
- * What a refused text is mended to, and whether that is offered in its place: JSON says so. It is null where there is
- * none, or no memory for it.
- */
-function insteadOf(urlcheck, text, { rule, place }, options) {
+/** What a refused text is mended to. It is null where there is none, or no memory for it. */
+function insteadOf(urlcheck, text, options) {
   try {
     const mended = urlcheck.mend(text, options)
-    if (mended === null || !('text' in mended)) return null
-    const told = { file: '', line: 1, text, rule, place, profile: options.profile, mended }
-    return { ...mended, isOffered: JSON.parse(urlcheck.report('json').diagnostic(told)).offered }
+    return mended !== null && 'text' in mended ? mended : null
   } catch (error) {
     if (error instanceof RangeError) return null
     throw error
@@ -136,7 +131,7 @@ function bySentence(urlcheck, text, faults, profile) {
   const found = new Map()
   faults.slice(0, TOLD_FAULTS).forEach((fault, at) => {
     const { rule, place } = fault
-    const sentence = urlcheck.message(text, fault, { profile })
+    const sentence = urlcheck.message(text, fault, { profile, wording: 'none' })
     const key = `${rule} ${sentence}`
     if (!found.has(key)) found.set(key, { rule, sentence, numbers: [], places: [] })
     found.get(key).numbers.push(at + 1)

@@ -120,8 +120,9 @@ class Job {
 
   /** Some of the refused texts, each with the sentence on it. */
   told(from, count) {
+    const options = { ...this.options, wording: 'none' }
     return this.rows.slice(from, from + count)
-      .map(row => ({ ...row, sentence: this.urlcheck.message(row.text, row, this.options) }))
+      .map(row => ({ ...row, sentence: this.urlcheck.message(row.text, row, options) }))
   }
 
   /** What to write in place of a refused text, or nothing. */
@@ -133,7 +134,7 @@ class Job {
 
   /** The report in pieces. The links of a document are the lines of a list of their own. */
   *pieces(format) {
-    const report = this.urlcheck.report(format)
+    const report = this.urlcheck.report(format, undefined, 'none')
     const file = this.source.kind === 'links' ? `${this.name}.links` : this.name
     const { profile } = this.options
     yield report.begin()

@@ -257,10 +257,14 @@ const tests = {
     const urlcheck = await load()
     const base = urlcheck.base('http://h/a')
     assert.equal(urlcheck.mend('http://h/'), null)
-    assert.deepEqual(urlcheck.mend('http://h/\u{1f600} b'), { text: 'http://h/\u{1f600}%20b', kind: 'same' })
-    assert.deepEqual(urlcheck.mend('http://h/100%'), { text: 'http://h/100%25', kind: 'escaped' })
-    assert.deepEqual(urlcheck.mend('http:a', { base }), { text: 'http://a', kind: 'changed' })
-    assert.deepEqual(urlcheck.mend('\ufeff b', { base }), { text: '\ufeff%20b', kind: 'same' })
+    assert.deepEqual(urlcheck.mend('http://h/\u{1f600} b'), { text: 'http://h/\u{1f600}%20b', kind: 'same', isOffered: true })
+    assert.deepEqual(urlcheck.mend('http://h/100%'), { text: 'http://h/100%25', kind: 'escaped', isOffered: true })
+    const { isOffered, ...changed } = urlcheck.mend('http:a', { base })
+    assert.deepEqual(changed, { text: 'http://a', kind: 'changed' })
+    assert.equal(typeof isOffered, 'boolean')
+    assert.deepEqual(urlcheck.mend('\ufeff b', { base }), { text: '\ufeff%20b', kind: 'same', isOffered: true })
+    // (of two slashes one may have been meant)
+    assert.equal(urlcheck.mend('http://h//a').isOffered, false)
     assert.deepEqual(urlcheck.mend('\u{1f600}'), { valid: false, rule: 'no-scheme', place: 0, index: 0 })
     assert.deepEqual(urlcheck.mend('http://\u{1f600}@h:x/'), urlcheck.check('http://\u{1f600}@h:x/'))
     const long = 'http://h/'.padEnd(100_000, ' ')
@@ -338,6 +342,19 @@ const tests = {
     assert.equal(urlcheck.message('http://h/\u{1f600} ', refused), 'U+0020 SPACE is not allowed in a URL')
     assert.notEqual(urlcheck.message('http://a_b/', { rule: 'host-domain', place: 7 }), urlcheck.explain('host-domain').sentence)
     assert.equal(urlcheck.message('', { rule: 'line-too-long', place: 0 }), 'this line has more than 65536 bytes')
+    const taken = { arguments: "profile='wide'", options: '--profile wide', sql: "profile 'wide'", none: null }
+    for (const [wording, name] of Object.entries(taken)) {
+      const sentence = `U+005F LOW LINE is not allowed in a domain${name === null ? '' : `; ${name} allows it`}`
+      const options = { wording }
+      assert.equal(urlcheck.message('http://a_b/', { rule: 'host-domain', place: 8 }, options), sentence)
+      const told = { file: 'a', line: 1, text: 'http://a_b/', rule: 'host-domain', place: 8 }
+      assert.equal(JSON.parse(urlcheck.report('json', undefined, wording).diagnostic(told)).message, sentence)
+    }
+    assert.ok(urlcheck.message('http://a_b/', { rule: 'host-domain', place: 8 }).endsWith("; profile='wide' allows it"))
+    for (const wording of ['', 'Options', null, 0, 4, 'toString']) {
+      assert.throws(() => urlcheck.message('a', { rule: 'percent', place: 0 }, { wording }), { name: 'TypeError', message: /wording/ })
+      assert.throws(() => urlcheck.report('gnu', undefined, wording), { name: 'TypeError', message: /wording/ })
+    }
     assert.throws(() => urlcheck.message('a', { rule: 'percent', place: 2 }), { name: 'RangeError', message: /after the end/ })
     for (const place of [-1, 0.5, NaN, '0', undefined, 2 ** 32]) {
       assert.throws(() => urlcheck.message('a', { rule: 'percent', place }), { name: 'RangeError', message: /no whole number/ })

@@ -102,7 +102,11 @@ script 'a mended text that is left out' reports reports.js "s/mended?.text ?? ''
 script 'two ends of a report that are swapped' calls reports.js "s/'whole', 'unread', 'stopped'\]/'whole', 'stopped', 'unread']/"
 script 'a sentence by another profile' reports urlcheck.js 's/exports.message(length, profile,/exports.message(length, 0,/'
 script 'a report by another profile' reports reports.js 's/this.#numbers.ofProfile(profile)/0/'
-script 'a report in another unit' reports reports.js '/exports.diagnostic(/,/)/s/this.#unit,/0,/'
+script 'a report in another unit' reports reports.js 's/exports.diagnostic(this.#format, this.#unit/exports.diagnostic(this.#format, 0/'
+script 'a mended text that is offered by none' reports reports.js 's/mended?.isOffered ? 1 : 0/0/'
+script 'a sentence of other words' calls urlcheck.js 's/exports.message(length, profile, wording,/exports.message(length, profile, 0,/'
+script 'a report of other words' calls reports.js 's/ofProfile(profile), this.#wording,/ofProfile(profile), 0,/'
+script 'each mended text taken for one to write' calls urlcheck.js 's/answer\[IS_OFFERED\] === 1/true/'
 script 'a mended text of another kind' reports reports.js 's/this.#numbers.ofKind(mended.kind)/3/'
 
 # The heap alone: with this edit of it its test fails.
@@ -140,7 +144,7 @@ glue() {
 if [ -n "$module" ]; then
     glue 'a heap of the module that is not emptied' calls heap.c \
         '/^void heap_empty(/s/top = last = bottom/if (!top) top = last = bottom/'
-    glue 'a base that the glue holds and ignores' vectors glue.c 's/^    if (is_held) proved_check_with/    if (0) proved_check_with/'
+    glue 'a base that the glue holds and ignores' vectors glue.c '/proved_check(&/s/is_held/0/'
     glue 'an end without its start' vectors glue.c 's/(part->start + part->length)/(part->length)/'
     glue 'a URL that is said to be the text' vectors glue.c 's/record.length == length \&\& are_same/1 || are_same/'
     glue 'a long text that is not written' calls glue.h 's/^        if ((needed) <= room) break; /        if ((needed) <= 9 * room) break; /'

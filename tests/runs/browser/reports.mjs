@@ -21,7 +21,7 @@ const bytes = Buffer.concat([...texts.map(it => Buffer.from(it)), ...ODD].flatMa
 
 /** What the checker says of the list in a format. */
 function reported(name, format, unit, options) {
-  const report = urlcheck.report(format, unit)
+  const report = urlcheck.report(format, unit, 'options')
   const pieces = [report.begin(), report.fileBegin(name)]
   for (const { line, start, end, rule, place } of urlcheck.checkMany(bytes, options).refused) {
     const text = decoder.decode(bytes.subarray(start, end))
@@ -36,7 +36,7 @@ function reported(name, format, unit, options) {
 function areSentencesOf(report, options) {
   const wanted = report.split('\n').filter(line => line !== '').map(line => line.replace(/^.*?: error: (.*) \[[a-z0-9-]+\]$/s, '$1'))
   const found = urlcheck.checkMany(bytes, options).refused.map(({ start, end, rule, place }) =>
-    urlcheck.message(decoder.decode(bytes.subarray(start, end)), { rule, place }, options))
+    urlcheck.message(decoder.decode(bytes.subarray(start, end)), { rule, place }, { ...options, wording: 'options' }))
   return wanted.length > 100 && wanted.length === found.length && wanted.every((line, at) => line === found[at])
 }
 

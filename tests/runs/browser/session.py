@@ -4,6 +4,7 @@ from __future__ import annotations
 
 import contextlib
 import os
+import re
 import shutil
 import subprocess
 import tempfile
@@ -17,8 +18,15 @@ from selenium.webdriver.remote.webdriver import WebDriver
 
 HERE = os.path.dirname(os.path.abspath(__file__))
 TOP = os.path.dirname(os.path.dirname(os.path.dirname(HERE)))
+# What a sentence of the program says of an option of the command line, which the page doesn't have.
+OPTION = re.compile(r"; --profile \w+ allows it|, or use --profile \w+| \(--base\)")
 # What is first in the head of the page.
 FIRST = '<meta charset="utf-8">'
+
+
+def without_options(report: str) -> str:
+    """What the program writes, without the options of the command line that its sentences name."""
+    return OPTION.sub("", report)
 
 
 @dataclass(frozen=True)

@@ -50,6 +50,10 @@ ALL = (
         "page/main.js", "byId('text').addEventListener('input'", "byId('text').addEventListener('change'", True,
     ),
     Spoiled(
+        "a sentence with an option of the command line", "rules", " != 1",
+        "page/text-view.js", "{ profile, wording: 'none' }", "{ profile, wording: 'options' }",
+    ),
+    Spoiled(
         "a rule that asks nothing", "rules", "not found in",
         "page/text-view.js", "element('p', { class: 'asks' }, asks,", "element('p', { class: 'asks' },",
     ),

@@ -10,7 +10,7 @@ import subprocess
 import sys
 import types
 
-from session import TOP, PageCase
+from session import TOP, PageCase, without_options
 
 # So many lines a list has, and in a sample.
 LINES = 200_000
@@ -37,7 +37,8 @@ class Lists(PageCase):
             ended = self.program("lint", "--format", format, "links.txt")
             self.assertTrue(ended.out, format)
             # (not by assertEqual, which would look for each difference of two long texts)
-            self.assertTrue(self.page.kept(format) == ended.out, "the report differs from that of lint: " + format)
+            is_same = self.page.kept(format) == without_options(ended.out)
+            self.assertTrue(is_same, "the report differs from that of lint: " + format)
             word, rest = self.page.verdict("#report")
             self.assertEqual(word, "Refused")
             self.assertEqual("urlcheck: " + rest.replace(",", ""), ended.error.strip().replace(",", ""))
@@ -71,7 +72,7 @@ class Lists(PageCase):
 
     def shows_what_lint_says(self) -> None:
         """The counts by rule, and the first rows."""
-        told = self.program("lint", "--format", "json", "links.txt").out
+        told = without_options(self.program("lint", "--format", "json", "links.txt").out)
         wanted = [json.loads(line) for line in told.splitlines()]
         chart = self.page.run(
             "return [...document.querySelectorAll('.chart tr')].map(it =>"

@@ -6,7 +6,7 @@ from typing import Any
 
 from page import Page
 from selenium.webdriver.common.keys import Keys
-from session import PageCase
+from session import PageCase, without_options
 
 # In milliseconds: when the first answer comes at the latest, on a machine that does much else.
 FIRST_ANSWER = 5000
@@ -134,9 +134,9 @@ class Texts(PageCase):
         return wanted is not None
 
     def message(self, name: str, example: dict[str, Any]) -> str:
-        """The sentence that `lint` writes of a rule's example."""
+        """The sentence that `lint` writes of a rule's example, as the page says it."""
         self.write(name, example["text"])
-        told = self.program("lint", *self.base_of(example), name).out
+        told = without_options(self.program("lint", *self.base_of(example), name).out)
         message = told.partition(": error: ")[2].rpartition(" [")[0]
         self.assertTrue(message, told)
         return message

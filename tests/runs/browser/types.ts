@@ -1,7 +1,7 @@
 // A caller in TypeScript, as strictly as the compiler can: it is compiled and not run.
 import { BaseRefused, load } from './urlcheck.js'
 import type { Base, Checker, Diagnostic, Explanation, Fault, MendKind, Parts, Profile, Range, Refused } from './urlcheck.js'
-import type { Many, RefusedLine, Report, Resolved, RuleName, Valid } from './urlcheck.js'
+import type { Many, RefusedLine, Report, Resolved, RuleName, Valid, Wording } from './urlcheck.js'
 import type * as Wanted from './urlcheck.js'
 import * as written from './written.js'
 
@@ -33,7 +33,8 @@ const isValid: boolean = urlcheck.isValid('x', { base: 'http://h/' })
 const mended = urlcheck.mend('http://h/a b')
 if (mended !== null && 'text' in mended) {
   const kind: MendKind = mended.kind
-  console.log(isValid, kind, mended.text)
+  const isOffered: boolean = mended.isOffered
+  console.log(isValid, kind, mended.text, isOffered)
 } else if (mended !== null) console.log(mended.rule, mended.index)
 
 const profiles: Record<Profile, number> = { standard: 0, wide: 1, parser: 2 }
@@ -48,7 +49,9 @@ const many: Many = urlcheck.checkMany(new TextEncoder().encode('urn:a\nx'), { ba
 const lines: RefusedLine[] = many.refused
 console.log(many.lines - many.judged, lines.map(({ line, start, end, byte }) => [line, start, end, byte]))
 
-const report: Report = urlcheck.report('sarif', 'utf16')
+const wording: Wording = 'none'
+const report: Report = urlcheck.report('sarif', 'utf16', wording)
+console.log(urlcheck.message('x', faults[0], { profile, wording }), JSON.stringify(urlcheck.resolve('urn:a')))
 const told: Diagnostic = { file: 'a.txt', line: 1, text: 'x', rule: 'not-utf8', place: 0, mended: null }
 console.log(report.begin() + report.fileBegin('a.txt') + report.diagnostic(told) + report.fileEnd() + report.end())
 console.log(urlcheck.message('x', faults[0]), urlcheck.formats.length, urlcheck.units.length, report.showsMended)
@@ -63,6 +66,8 @@ try {
 urlcheck.report('text')
 // @ts-expect-error: lines are bytes
 urlcheck.checkMany('urn:a')
+// @ts-expect-error: a wording has one of four names
+urlcheck.report('gnu', 'bytes', 'Options')
 // @ts-expect-error: a profile has one of three names
 urlcheck.check('x', { profile: 'Wide' })
 // @ts-expect-error: a text is a string
