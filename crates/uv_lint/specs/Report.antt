@@ -69,13 +69,11 @@ fix_of columns reported mended = record {
 abbrev pub fix_on : Columns → ReportedText → Option MendedText → Option FixView
 fix_on columns reported mended = option_map (fix_of columns reported) mended
 
--- A diagnostic on a text of which this is said: it is from the column of the place of the violation up to that of the
--- place at which what is wrong ends.
-abbrev pub diagnostic_on : Columns → ReportedText → Option FixView → LineViolation → List ℕ → DiagnosticView
-diagnostic_on columns reported fix violation message = record {
+-- a diagnostic on a text of which this is said, in this region
+abbrev pub diagnostic_in : ReportedText → Region → Option FixView → LineViolation → List ℕ → DiagnosticView
+diagnostic_in reported region fix violation message = record {
   file = reported.file;
-  region = region_in reported (column_at columns reported.start reported.text (violation_place violation))
-      (column_at columns reported.start reported.text (violation_end violation));
+  region = region;
   rule = violation_name violation;
   uri = violation_address violation;
   message = message;
@@ -85,6 +83,13 @@ diagnostic_on columns reported fix violation message = record {
   repeat = 0;
   fix = fix;
 }
+
+-- the same from the column of the place of the violation up to that of the place at which what is wrong ends
+abbrev pub diagnostic_on : Columns → ReportedText → Option FixView → LineViolation → List ℕ → DiagnosticView
+diagnostic_on columns reported fix violation message =
+    diagnostic_in reported
+    (region_in reported (column_at columns reported.start reported.text (violation_place violation))
+    (column_at columns reported.start reported.text (violation_end violation))) fix violation message
 
 -- in each unit the column of bytes that aren't UTF-8 is that after their longest beginning that is
 abbrev pub ForeignColumns : Type 0

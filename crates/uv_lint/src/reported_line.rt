@@ -5,10 +5,9 @@ ghost use Rattle.std.specs.Prelude.{option_map, string_bytes};
 ghost use Rattle.uv_lines.specs.Fault.{failed_within};
 ghost use Rattle.uv_lines.specs.Waiting.{LeavesParts, Passes};
 ghost use Rattle.uv_report.specs.Diagnostic.{IsMessage, diagnostic_view, fix_view};
-ghost use Rattle.uv_report.specs.LineViolation.{violation_address, violation_name, violation_place};
 ghost use Rattle.uv_lint.specs.LocatedViews.{link_view};
 ghost use Rattle.uv_lint.specs.Findings.{AreMessages, IsUtf8WhereRefused, bytes_by, is_refused, shown};
-ghost use Rattle.uv_lint.specs.Report.{one_text, region_in, reported_by};
+ghost use Rattle.uv_lint.specs.Report.{diagnostic_in, one_text, region_in, reported_by};
 ghost use Rattle.uv_lint.specs.Reporting.{IsNoneOr};
 ghost use Rattle.uv_lint.specs.ReportedView.{AreFirstSaid, place_view, reported_view, text_said};
 
@@ -126,16 +125,19 @@ impl<'l> ReportedLine<'l> {
             let Ok(message) = message_of(alloc, setting, &seen, *violation) else {
                 return Err(ReportFault::Reporter(AllocError));
             };
-            let found = diagnostic_on(
+            if let Err(fault) = say_violation(
+                alloc,
+                reported,
+                setting,
                 self,
                 &seen,
                 self.region(column, end),
                 *violation,
                 message.as_str(),
                 fix,
-            );
-            if let Err(fault) = say_framed(
-                alloc, reported, setting, &found, is_first, text, writer,
+                is_first,
+                text,
+                writer,
             ) {
                 return Err(fault);
             }
@@ -156,18 +158,8 @@ fn diagnostic_on<'x>(
     fix: Option<Fix<'x>>,
 ) -> Diagnostic<'x>
     requires { seen.now ≡ line.now.text.now }
-    ensures { diagnostic_view result ≡ record {
-      file = line.now.file.now;
-      region = region;
-      rule = violation_name violation;
-      uri = violation_address violation;
-      message = message.now;
-      within = [];
-      text = line.now.text.now;
-      place = violation_place violation;
-      repeat = 0;
-      fix = option_map fix_view fix.entry;
-    } }
+    ensures { diagnostic_view result
+        ≡ diagnostic_in (reported_view line.now) region (option_map fix_view fix.entry) violation message.now }
 {
     Diagnostic {
         file: line.file,
@@ -223,6 +215,36 @@ fn seen_text<'l>(text: &'l str, violations: &[LineViolation]) -> SeenText<'l>
         [] | [_] => SeenText::new(text),
         _ => SeenText::of_several(text),
     }
+}
+
+// Says a diagnostic on the text of a line, which is seen so, in this region, with this message.
+fn say_violation<W: Sink>(
+    alloc: Global,
+    reported: &mut String,
+    setting: LintSetting<'_>,
+    line: &ReportedLine<'_>,
+    seen: &SeenText<'_>,
+    region: Region,
+    violation: LineViolation,
+    message: &str,
+    fix: Option<Fix<'_>>,
+    is_first: bool,
+    text: &mut Vec<u8>,
+    writer: &mut W,
+) -> Result<(), ReportFault<AllocError>>
+    requires writes { W.failed writer.old < 2 ^ 64 - 1 }
+    requires seen { seen.now ≡ line.now.text.now }
+    ensures text { OnOk result (Passes (text.old.items ++ one_text setting.entry.form setting.entry.format is_first
+        (diagnostic_in (reported_view line.now) region (option_map fix_view fix.entry) violation message.now))
+        (W.contents writer.old) (W.contents writer.new) text.new.items) }
+    ensures quiet { OnOk result (W.failed writer.new ≡ W.failed writer.old) }
+    ensures fault { IfErr result (λ e. LeavesParts (IsNoneOr (one_text setting.entry.form setting.entry.format is_first
+        (diagnostic_in (reported_view line.now) region (option_map fix_view fix.entry) violation message.now))) e
+        text.old.items (W.contents writer.old) text.new.items (W.contents writer.new)) }
+    ensures failed { IfErr result (λ e. W.failed writer.new ≡ W.failed writer.old + failed_within e) }
+{
+    let found = diagnostic_on(line, seen, region, violation, message, fix);
+    say_framed(alloc, reported, setting, &found, is_first, text, writer)
 }
 
 // Says a diagnostic, and ends a part after it.

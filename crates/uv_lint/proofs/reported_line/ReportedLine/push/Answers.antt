@@ -4,12 +4,12 @@ use Rattle.std.proofs.Common.{inl, inr, sym, ap, subst, string_bytes, append-nil
 use Rattle.uv_model.specs.declared.rule.Rule.TheVariants.{NoScheme}
 use Rattle.uv_report.specs.declared.line_violation.LineViolation.{LineViolation}
 use Rattle.uv_report.specs.declared.line_violation.LineViolation.TheVariants.{Refused}
-use Rattle.uv_report.specs.Diagnostic.{diagnostic_view, fix_view}
+use Rattle.uv_report.specs.Diagnostic.{fix_view}
 use Rattle.uv_lines.specs.Fault.{failed_within}
 use Rattle.uv_lines.specs.Waiting.{Passes}
 use Rattle.uv_lines.proofs.WaitingLemmas.{parts_after, passes_more, passes_none}
 use Rattle.uv_lint.specs.Findings.{AreMessages}
-use Rattle.uv_lint.specs.Report.{diagnostic_on, diagnostics_text, fix_on, one_text}
+use Rattle.uv_lint.specs.Report.{diagnostic_in, diagnostic_on, diagnostics_text, fix_on, one_text}
 use Rattle.uv_lint.specs.Reporting.{IsNoneOr}
 use Rattle.uv_lint.specs.ReportedView.{AreFirstSaid, mended_line_view, reported_view}
 use Rattle.uv_lint.proofs.DiagnosticLemmas.{IsSaidBefore, are_all, are_next, blanks, first_with, said_first}
@@ -40,8 +40,8 @@ loop-violation-init g c =
 pub fix_in_place-fix-requires : goal.fix_in_place-fix-requires
 fix_in_place-fix-requires g c = c.seen_text-seen.ensures
 
-pub diagnostic_on-found-requires : goal.diagnostic_on-found-requires
-diagnostic_on-found-requires g c = c.go_to.ensures ∙ c.loop-violation.invariant.seen
+pub say_violation-requires-clause-seen : goal.say_violation-requires-clause-seen
+say_violation-requires-clause-seen g c = c.go_to.ensures ∙ c.loop-violation.invariant.seen
 
 pub loop-violation-preserved : goal.loop-violation-preserved
 loop-violation-preserved g c =
@@ -61,11 +61,10 @@ loop-violation-preserved g c =
     let one = one_text setting.form setting.format c.loop-violation.is_first
     (diagnostic_on setting.columns reported told violation message) in
     let old = g.W.Sink.contents c.args.writer.now in
-    let new = g.W.Sink.contents c.say_framed.new.writer in
-    let is : diagnostic_view c.diagnostic_on-found.result
+    let new = g.W.Sink.contents c.say_violation.new.writer in
+    let is : diagnostic_in reported c.region.result told violation c.as_str.result.now
     ≡ diagnostic_on setting.columns reported told violation message =
-    c.diagnostic_on-found.ensures
-    ∙ rw (
+    rw (
       c.region.ensures,
       c.column-column.ensures.column,
       c.column_ahead-end.ensures,
@@ -78,12 +77,12 @@ loop-violation-preserved g c =
     record {
       said = (
         said.0 ++ one,
-        subst (λ t. Passes t old new c.say_framed.new.text.items) (append_assoc c.args.text.now.items said.0 one)
+        subst (λ t. Passes t old new c.say_violation.new.text.items) (append_assoc c.args.text.now.items said.0 one)
             (passes_more (c.args.text.now.items ++ said.0) one old (g.W.Sink.contents c.loop-violation.writer) new
-            c.loop-violation.text.items c.say_framed.new.text.items said.1
+            c.loop-violation.text.items c.say_violation.new.text.items said.1
             (subst (λ found. Passes (c.loop-violation.text.items
             ++ one_text setting.form setting.format c.loop-violation.is_first found)
-            (g.W.Sink.contents c.loop-violation.writer) new c.say_framed.new.text.items) is
+            (g.W.Sink.contents c.loop-violation.writer) new c.say_violation.new.text.items) is
             c.in_default.ensures.text)),
         said.2.0 ++ message ∷ [],
         are_next violations i none said.2.0 message c.loop-violation-test.true said.2.1 c.in-Ok.ensures,
@@ -134,10 +133,9 @@ returns-in-Err-clause-fault g c =
     let fix = fix_on setting.columns reported (option_map mended_line_view c.args.mended.now) in
     let one = one_text setting.form setting.format c.loop-violation.is_first
     (diagnostic_on setting.columns reported told violation message) in
-    let is : diagnostic_view c.diagnostic_on-found.result
+    let is : diagnostic_in reported c.region.result told violation c.as_str.result.now
     ≡ diagnostic_on setting.columns reported told violation message =
-    c.diagnostic_on-found.ensures
-    ∙ rw (
+    rw (
       c.region.ensures,
       c.column-column.ensures.column,
       c.column_ahead-end.ensures,
@@ -154,7 +152,7 @@ returns-in-Err-clause-fault g c =
     parts_after (IsNoneOr one) (AreFirstSaid line setting c.args.is_first c.args.mended.now violations)
     c.in-Err.fault c.args.text.now.items said.0
     (g.W.Sink.contents c.args.writer.now) (g.W.Sink.contents c.loop-violation.writer)
-    (g.W.Sink.contents c.say_framed.new.writer) c.loop-violation.text.items c.say_framed.new.text.items said.1
+    (g.W.Sink.contents c.say_violation.new.writer) c.loop-violation.text.items c.say_violation.new.text.items said.1
     (λ parts begun. first_with line setting c.args.is_first c.args.mended.now violations i said.2.0 message said.0 one
     c.loop-violation.is_first told parts said.2.1 said.2.2 told_next with_one begun)
     (rw is at c.in-Err.ensures.fault)
