@@ -7,6 +7,7 @@ use Rattle.uv_grammar.specs.PartViolations.{AfterAuthority}
 use Rattle.uv_grammar.specs.PartValues.{FitsHostPart, FitsPortPart}
 use Rattle.uv_model.specs.declared.host.Host.{Host}
 use Rattle.uv_model.specs.declared.profile.Profile.{Profile}
+use Rattle.uv_model.specs.declared.profile.Profile.TheVariants.{Standard, Wide, Parser}
 use Rattle.uv_model.specs.declared.rule.Refusal.{Refusal}
 use Rattle.uv_model.specs.declared.rule.Rule.{Rule}
 use Rattle.uv_model.specs.Violations.Violation.{Violation}
@@ -38,6 +39,16 @@ IsVerdict profile base text (No refusal) = IsRefused profile base text refusal
 abbrev pub IsValidity : Profile → Option Url → List ℕ → Bool → Type 0
 IsValidity profile base text true = (parts : Parts) × Valid profile base text parts
 IsValidity profile base text false = (parts : Parts) → ¬ (Valid profile base text parts)
+
+-- the next wider profile by which the text is valid
+abbrev pub IsWiderProfile : Profile → Option Url → List ℕ → Option Profile → Type 0
+IsWiderProfile Standard base text (Some Wide) = IsValidity Wide base text true
+IsWiderProfile Standard base text (Some Parser) = IsValidity Wide base text false × IsValidity Parser base text true
+IsWiderProfile Standard base text None = IsValidity Wide base text false × IsValidity Parser base text false
+IsWiderProfile Wide base text (Some Parser) = IsValidity Parser base text true
+IsWiderProfile Wide base text None = IsValidity Parser base text false
+IsWiderProfile Parser base text None = Unit {0}
+IsWiderProfile profile base text found = ⊥
 
 -- ---- parts of a cut text
 

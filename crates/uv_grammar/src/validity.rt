@@ -5,7 +5,7 @@ ghost use Rattle.uv_model.specs.declared.profile.Profile.{Profile};
 ghost use Rattle.uv_model.specs.Records.Url.{Url};
 ghost use Rattle.uv_grammar.specs.Bases.{IsOfKind};
 ghost use Rattle.uv_grammar.specs.NoMemory.{TakesNoMemoryAgainst};
-ghost use Rattle.uv_grammar.specs.Verdict.{IsValidity, IsVerdict};
+ghost use Rattle.uv_grammar.specs.Verdict.{IsValidity, IsVerdict, IsWiderProfile};
 
 use crate::bases::BaseKind;
 use crate::checker::{Verdict, check, check_of_kind};
@@ -40,14 +40,16 @@ pub fn is_valid_of_kind(
     Ok(says_yes(&check_of_kind(alloc, text, base, profile)?))
 }
 
-/// The next wider profile by which a text is valid, alone or against a base, where there is one: what `is_valid` says by
-/// each. Only sentences for people name it. The error is out of memory.
+/// The next wider profile by which a text is valid, alone or against a base, where there is one. The error is out of
+/// memory.
 pub fn wider_profile(
     alloc: Global,
     text: &str,
     base: Option<&Record>,
     profile: Profile,
-) -> Result<Option<Profile>, AllocError> {
+) -> Result<Option<Profile>, AllocError>
+    ensures { IfOk result (IsWiderProfile profile (option_copied base.entry) (chars text.now)) }
+{
     match profile {
         Profile::Standard => {
             if is_valid(alloc, text, base, Profile::Wide)? {
