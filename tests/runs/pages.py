@@ -146,6 +146,7 @@ INDEX = pathlib.Path("docs/README.md")
 PROVED = pathlib.Path("docs/PROVED.md")
 CONTRACTS = pathlib.Path("docs/contracts.md")
 LIBRARY = pathlib.Path("docs/LIBRARY.md")
+HISTORY = pathlib.Path("CHANGELOG.md")
 
 
 def rows_of(section):
@@ -203,7 +204,9 @@ def check_header(top, text, wrong):
     """docs/LIBRARY.md names each function of the header for C, and each verdict with its number."""
     header = re.sub(r"/\*.*?\*/", "", (top / "bindings/c/include/urlcheck.h").read_text(encoding="utf-8"), flags=re.S)
     for name in dict.fromkeys(re.findall(r"\b(urlcheck_\w+)\(", header)):
-        if "`{}`".format(name) not in text and not re.search(r"\b{}\(".format(name), text):
+        # (the page says once how the calls that end with `_to` are to the others)
+        own = name[: -len("_to")] if name.endswith("_to") else name
+        if "`{}`".format(own) not in text and not re.search(r"\b{}\(".format(own), text):
             wrong.append("{}: no word on `{}`".format(LIBRARY, name))
     for name, number in re.findall(r"(\w+) = (\d+)", header.partition("enum urlcheck_outcome {")[2].partition("}")[0]):
         if "| `{}` | {} |".format(name, number) not in text:
@@ -223,13 +226,22 @@ def words_of_code(top):
     return words
 
 
+def names_before(text):
+    """The names of earlier versions: those of the first column of a table that begins with `Until`."""
+    tables = re.findall(r"^\| Until .*\n\|[-|]*\n((?:\|.*\n)*)", text, flags=re.M)
+    return {name for table in tables for row in table.splitlines() for name in re.findall(r"\w+", row.split("|")[1])}
+
+
 def check_words(top, texts, wrong):
-    """Each word that a page gives as code, and that has the form of a name or of its beginning, is somewhere."""
+    """Each word that a page gives as code, and that has the form of a name or of its beginning, is somewhere. What was
+    renamed may be named by the page that says so, and by what tells of earlier versions."""
     known = words_of_code(top)
+    before = names_before(texts.get(LIBRARY, ""))
     for page, text in texts.items():
         for code in re.findall(r"`([A-Za-z][\w:]*)`", "\n".join(prose_of(text))):
             name = code.split("::")[-1]
             stands = name in known or (name.endswith("_") and any(word.startswith(name) for word in known))
+            stands = stands or (name in before and page in (LIBRARY, HISTORY))
             if re.search(r"_|[a-z][A-Z]|::", code) and not stands:
                 wrong.append("{}: `{}` is the name of nothing here".format(page, code))
 
