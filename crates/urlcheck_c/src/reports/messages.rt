@@ -25,18 +25,22 @@ pub(crate) struct FoundViolation<'t> {
 }
 
 /// Writes the sentence, without its end, on a violation of a text by a profile, at a place in code points: what is
-/// after `error: ` in the lines of compilers.
+/// after `error: ` in the lines of compilers. The wording is one of four, by its number.
 #[unsafe(no_mangle)]
 pub extern "C" fn urlcheck_message(
     alloc: Global,
     text: &[u8],
     profile: u32,
+    wording: u32,
     rule: u32,
     place: usize,
     out: &mut [u8],
 ) -> Written
-    ensures { IsMessageAnswer profile rule place text.now out.old out.new result }
+    ensures { IsMessageAnswer profile wording rule place text.now out.old out.new result }
 {
+    if wording > 3 {
+        return Written::refused(CallOutcome::NoWording);
+    }
     match violation_read(text, profile, rule, place) {
         Ok(found) => given(&message(alloc, &found), out),
         Err(found) => Written::none(found),

@@ -1,5 +1,5 @@
 -- The tokens, one after the other.
-use Rattle.std.proofs.Common.{append_assoc}
+use Rattle.std.proofs.Common.{append_assoc, refl}
 use Rattle.uv_report.proofs.formats.rdjson.write_diagnostic.Goals as goal
 
 pub returns : goal.returns
@@ -12,4 +12,4 @@ returns c =
       c.in_ok-write_code.ensures,
       c.in_ok-begin_object.ensures,
     )
-    (simp append_assoc)
+    (simp append_assoc refl)

@@ -16,6 +16,5 @@ returns c =
       c.in_ok-object_of.ensures,
       c.in_ok-begin_object.ensures,
       c.in_ok-begin_array.ensures,
-      c.requires,
     )
     (simp append_assoc)
