@@ -124,7 +124,8 @@ impl<'l> ReportedLine<'l> {
             let Ok(message) = message_of(alloc, setting, &seen, *violation) else {
                 return Err(ReportFault::Reporter(AllocError));
             };
-            let found = self.diagnostic_in(
+            let found = diagnostic_on(
+                self,
                 &seen,
                 self.region(column, end),
                 *violation,
@@ -141,42 +142,42 @@ impl<'l> ReportedLine<'l> {
         }
         Ok(())
     }
+}
 
-    // A diagnostic on the text, which is seen so, in this region, with this message.
-    fn diagnostic_in<'x>(
-        &self,
-        seen: &'x SeenText<'x>,
-        region: Region,
-        violation: LineViolation,
-        message: &'x str,
-        fix: Option<Fix<'x>>,
-    ) -> Diagnostic<'x>
-        requires { seen.now ≡ self.now.text.now }
-        ensures { diagnostic_view result ≡ record {
-          file = self.now.file.now;
-          region = region;
-          rule = violation_name violation;
-          uri = violation_address violation;
-          message = message.now;
-          within = [];
-          text = self.now.text.now;
-          place = violation_place violation;
-          repeat = 0;
-          fix = option_map fix_view fix.entry;
-        } }
-    {
-        Diagnostic {
-            file: self.file,
-            region,
-            rule: violation.name(),
-            uri: violation.address(),
-            message,
-            within: "",
-            text: seen,
-            place: violation.place(),
-            repeat: 0,
-            fix,
-        }
+// A diagnostic on the text of a line, which is seen so, in this region, with this message.
+fn diagnostic_on<'x>(
+    line: &ReportedLine<'x>,
+    seen: &'x SeenText<'x>,
+    region: Region,
+    violation: LineViolation,
+    message: &'x str,
+    fix: Option<Fix<'x>>,
+) -> Diagnostic<'x>
+    requires { seen.now ≡ line.now.text.now }
+    ensures { diagnostic_view result ≡ record {
+      file = line.now.file.now;
+      region = region;
+      rule = violation_name violation;
+      uri = violation_address violation;
+      message = message.now;
+      within = [];
+      text = line.now.text.now;
+      place = violation_place violation;
+      repeat = 0;
+      fix = option_map fix_view fix.entry;
+    } }
+{
+    Diagnostic {
+        file: line.file,
+        region,
+        rule: violation.name(),
+        uri: violation.address(),
+        message,
+        within: "",
+        text: seen,
+        place: violation.place(),
+        repeat: 0,
+        fix,
     }
 }
 

@@ -54,13 +54,16 @@ abbrev pub suggestions_member : Option (Region × FixView) → Members
 suggestions_member None = no_members
 suggestions_member (Some edit) = member (codes "suggestions") (single (suggestion_value edit)) no_members
 
--- the diagnostic, with the mended text that is offered
-abbrev pub rdjson_value : DiagnosticView → Json
-rdjson_value found =
-    object (member (codes "code") (code_value found.uri found.rule)
-    (member (codes "location") (location_value found)
+-- where and what it is, with the mended text that is offered
+unfoldable pub told_members : DiagnosticView → Members
+told_members found =
+    member (codes "location") (location_value found)
     (member (codes "message") (string found.message)
-    (member (codes "severity") (string (codes "ERROR")) (suggestions_member (edit_of found.fix))))))
+    (member (codes "severity") (string (codes "ERROR")) (suggestions_member (edit_of found.fix))))
+
+-- the diagnostic
+abbrev pub rdjson_value : DiagnosticView → Json
+rdjson_value found = object (member (codes "code") (code_value found.uri found.rule) (told_members found))
 
 -- its text after a comma where it isn't the first, and a line feed
 unfoldable pub rdjson_text : Bool → DiagnosticView → List ℕ

@@ -166,10 +166,12 @@ fix_sentence Escaped = codes "percent-encode what is not allowed in a URL string
 fix_sentence Changed = codes "write a valid URL string, which may be another URL"
 
 -- a text in place of what is in this region
-abbrev pub replacement_value : Region → List ℕ → Json
+unfoldable pub inserted_members : List ℕ → Members
+inserted_members text = member (codes "insertedContent") (message text) no_members
+
+unfoldable pub replacement_value : Region → List ℕ → Json
 replacement_value region text =
-    object (member (codes "deletedRegion") (region_value region)
-    (member (codes "insertedContent") (message text) no_members))
+    object (member (codes "deletedRegion") (region_value region) (inserted_members text))
 
 -- the same, in a file
 abbrev pub change_value : List ℕ → Region → List ℕ → Json

@@ -40,6 +40,15 @@ fn write_diagnostic(json: &mut JsonText, found: &Diagnostic<'_>) -> Result<(), A
 {
     json.begin_object()?;
     write_code(json, found.uri, found.rule)?;
+    write_members(json, found)?;
+    Ok(())
+}
+
+// Writes the members that follow that of the rule, and ends the object.
+#[tactic(auto, unfolding(crate::specs::Formats::Rdjson::told_members))]
+fn write_members(json: &mut JsonText, found: &Diagnostic<'_>) -> Result<(), AllocError>
+    ensures { OnOk result (json.new ≡ json.old ++ members_tokens (spec.told_members (diagnostic_view found.now))) }
+{
     write_location(json, found)?;
     json.text("message", found.message)?;
     json.text("severity", "ERROR")?;

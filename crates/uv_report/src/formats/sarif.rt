@@ -393,13 +393,31 @@ fn write_change(
     json.begin_object()?;
     json.object_of("artifactLocation", "uri", uri)?;
     json.begin_array("replacements")?;
+    write_replacement(json, region, text)?;
+    json.end_array()?;
+    json.end_object()?;
+    json.end_array()?;
+    Ok(())
+}
+
+// Writes a text in place of what is in a region.
+#[tactic(auto, unfolding(crate::specs::Formats::Sarif::replacement_value))]
+fn write_replacement(json: &mut JsonText, region: Region, text: &str) -> Result<(), AllocError>
+    ensures { OnOk result (json.new ≡ json.old ++ json_tokens (spec.replacement_value region text.now)) }
+{
     json.begin_object()?;
     write_region(json, "deletedRegion", region)?;
+    write_inserted(json, text)?;
+    Ok(())
+}
+
+// Writes the member of the text, and ends the object.
+#[tactic(auto, unfolding(crate::specs::Formats::Sarif::inserted_members))]
+fn write_inserted(json: &mut JsonText, text: &str) -> Result<(), AllocError>
+    ensures { OnOk result (json.new ≡ json.old ++ members_tokens (spec.inserted_members text.now)) }
+{
     json.object_of("insertedContent", "text", text)?;
     json.end_object()?;
-    json.end_array()?;
-    json.end_object()?;
-    json.end_array()?;
     Ok(())
 }
 

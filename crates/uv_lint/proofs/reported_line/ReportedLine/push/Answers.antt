@@ -40,8 +40,8 @@ loop-violation-init g c =
 pub fix_in_place-fix-requires : goal.fix_in_place-fix-requires
 fix_in_place-fix-requires g c = c.seen_text-seen.ensures
 
-pub diagnostic_in-found-requires : goal.diagnostic_in-found-requires
-diagnostic_in-found-requires g c = c.go_to.ensures ∙ c.loop-violation.invariant.seen
+pub diagnostic_on-found-requires : goal.diagnostic_on-found-requires
+diagnostic_on-found-requires g c = c.go_to.ensures ∙ c.loop-violation.invariant.seen
 
 pub loop-violation-preserved : goal.loop-violation-preserved
 loop-violation-preserved g c =
@@ -62,9 +62,9 @@ loop-violation-preserved g c =
     (diagnostic_on setting.columns reported told violation message) in
     let old = g.W.Sink.contents c.args.writer.now in
     let new = g.W.Sink.contents c.say_framed.new.writer in
-    let is : diagnostic_view c.diagnostic_in-found.result
+    let is : diagnostic_view c.diagnostic_on-found.result
     ≡ diagnostic_on setting.columns reported told violation message =
-    c.diagnostic_in-found.ensures
+    c.diagnostic_on-found.ensures
     ∙ rw (
       c.region.ensures,
       c.column-column.ensures.column,
@@ -134,9 +134,9 @@ returns-in-Err-clause-fault g c =
     let fix = fix_on setting.columns reported (option_map mended_line_view c.args.mended.now) in
     let one = one_text setting.form setting.format c.loop-violation.is_first
     (diagnostic_on setting.columns reported told violation message) in
-    let is : diagnostic_view c.diagnostic_in-found.result
+    let is : diagnostic_view c.diagnostic_on-found.result
     ≡ diagnostic_on setting.columns reported told violation message =
-    c.diagnostic_in-found.ensures
+    c.diagnostic_on-found.ensures
     ∙ rw (
       c.region.ensures,
       c.column-column.ensures.column,
