@@ -412,11 +412,13 @@ urlcheck_written urlcheck_report_file_begin(uint32_t format, const uint8_t *file
                                             size_t room);
 
 /*
- * A diagnostic of the report. `is_first` is 1 where no other one is before it, else 0. The outcome is the first of
- * these that is so: URLCHECK_NO_FORMAT, URLCHECK_FILE_NO_UTF8, URLCHECK_REPORTED_NO_UTF8, URLCHECK_NO_UTF8 of the text,
- * URLCHECK_NO_PLACE, URLCHECK_NO_COLUMN where a line or a column is out of range or a region ends before it begins,
- * URLCHECK_NO_KIND, URLCHECK_MENDED_NO_UTF8 of the fix. SARIF and rdjson write an edit, so they leave out a fix that
- * isn't offered or has no region. A format that says no text to write (urlcheck_shows_mended) leaves each out.
+ * A diagnostic of the report. `is_first` is 1 where no other one is before it, else 0. Why there is none: the format
+ * has no such number (URLCHECK_NO_FORMAT); the text is no UTF-8 (URLCHECK_NO_UTF8), or the place is after its end
+ * (URLCHECK_NO_PLACE); the file's name is no UTF-8 (URLCHECK_FILE_NO_UTF8), or another text but the fix
+ * (URLCHECK_REPORTED_NO_UTF8); a line or a column is out of range, or a region ends before it begins
+ * (URLCHECK_NO_COLUMN); the kind has no such number (URLCHECK_NO_KIND), or the fix is no UTF-8
+ * (URLCHECK_MENDED_NO_UTF8). SARIF and rdjson write an edit, so they leave out a fix that isn't offered or has no
+ * region. A format that says no text to write (urlcheck_shows_mended) leaves each out.
  */
 urlcheck_written urlcheck_diagnostic(uint32_t format, uint32_t is_first, const urlcheck_reported *reported,
                                      uint8_t *out, size_t room);
