@@ -172,22 +172,21 @@ issue() {
     echo "{\"check_name\":\"$3\",\"description\":\"$4\",\"fingerprint\":\"$2\",\
 \"location\":{\"lines\":{\"begin\":$1},\"path\":\"list\"},\"severity\":\"major\"}"
 }
-no_scheme=$(issue 1 "$(digest '1\n1\n"list"\nno-scheme\n0\n/\xe6\x97\xa5\xc3\xa9 ')" no-scheme 'there is no scheme and no base')
-no_utf8=$(issue 2 "$(digest '2\n2\n"list"\nnot-utf8\n1\na\xef\xbf\xbdb')" not-utf8 "this line isn't UTF-8")
+no_scheme=$(issue 1 "$(digest '"list"\n0\nno-scheme\n0\n/\xe6\x97\xa5\xc3\xa9 ')" no-scheme 'there is no scheme and no base')
+no_utf8=$(issue 2 "$(digest '"list"\n0\nnot-utf8\n1\na\xef\xbf\xbdb')" not-utf8 "this line isn't UTF-8")
 of_list 1 "[\n$no_scheme\n,$no_utf8\n]\n" "$(counted 2 2)" "$both" --format gitlab
 of_list 0 '[\n]\n' "$(counted 1 0)" 'urn:a\n' --format gitlab
-# told LINE START END PAGE NAME SENTENCE : a diagnostic of reviewdog
-site=https://yuccaeave.example/urlcheck
+# told LINE START END SECTION NAME SENTENCE : a diagnostic of reviewdog; a rule of lines has no section
 told() {
-    echo "{\"code\":{\"url\":\"$site/docs/$4.html\",\"value\":\"$5\"},\"location\":{\"path\":\"list\",\"range\":{\
+    echo "{\"code\":{${4:+\"url\":\"https://url.spec.whatwg.org/#$4\",}\"value\":\"$5\"},\"location\":{\"path\":\"list\",\"range\":{\
 \"end\":{\"column\":$3,\"line\":$1},\"start\":{\"column\":$2,\"line\":$1}}},\"message\":\"$6\",\"severity\":\"ERROR\""
 }
-told_begin="{\"source\":{\"name\":\"urlcheck\",\"url\":\"$site/\"},\"severity\":\"ERROR\",\"diagnostics\":[\n"
-of_list 1 "$told_begin$(told 1 1 2 rules/no-scheme no-scheme 'there is no scheme and no base')}
-,$(told 2 2 2 COMMANDS not-utf8 "this line isn't UTF-8")}\n]}\n" "$(counted 2 2)" "$both" --format rdjson
+told_begin="{\"source\":{\"name\":\"urlcheck\"},\"severity\":\"ERROR\",\"diagnostics\":[\n"
+of_list 1 "$told_begin$(told 1 1 2 relative-url-string no-scheme 'there is no scheme and no base')}
+,$(told 2 2 2 '' not-utf8 "this line isn't UTF-8")}\n]}\n" "$(counted 2 2)" "$both" --format rdjson
 of_list 0 "$told_begin]}\n" "$(counted 1 0)" 'urn:a\n' --format rdjson
 # Its columns are bytes of UTF-8: after 13 of them is one of three, and with the suggestion all 16 are replaced.
-of_list 1 "$told_begin$(told 1 14 17 rules/code-point code-point 'U+FDD0 <noncharacter> is not allowed in a URL'),\"suggestions\":[{\
+of_list 1 "$told_begin$(told 1 14 17 url-code-points code-point 'U+FDD0 <noncharacter> is not allowed in a URL'),\"suggestions\":[{\
 \"range\":{\"end\":{\"column\":17,\"line\":1},\"start\":{\"column\":1,\"line\":1}},\
 \"text\":\"http://h/\xf0\x9f\x98\x80%EF%B7%90\"}]}\n]}\n" "$(counted 1 1)" \
     'http://h/\xf0\x9f\x98\x80\xef\xb7\x90\n' --format rdjson

@@ -37,10 +37,9 @@ in_sarif 'two results' "a b/"$'\xc3\xa9.md' <<'ROWS'
 /runs/0/tool/driver/rules/2/id "not-located"
 /runs/0/tool/driver/rules/7/id "host-domain"
 /runs/0/tool/driver/rules/16/id "percent"
-/runs/0/tool/driver/informationUri "https://yuccaeave.example/urlcheck/"
-/runs/0/tool/driver/rules/0/helpUri "https://yuccaeave.example/urlcheck/docs/COMMANDS.html"
-/runs/0/tool/driver/rules/7/helpUri "https://yuccaeave.example/urlcheck/docs/rules/host-domain.html"
-/runs/0/tool/driver/rules/7/properties {"section": "https://url.spec.whatwg.org/#valid-domain-string"}
+/runs/0/tool/driver/informationUri
+/runs/0/tool/driver/rules/0/helpUri
+/runs/0/tool/driver/rules/7/helpUri "https://url.spec.whatwg.org/#valid-domain-string"
 /runs/0/tool/driver/rules/10/fullDescription/text "Under a scheme that isn't special a host has URL units, but no forbidden host code points."
 /runs/0/results/0/ruleIndex 7
 /runs/0/results/0/level "error"

@@ -1,30 +1,50 @@
 //! A diagnostic of the tests.
-ghost use Rattle.std.specs.Prelude.{◌≡◌, ◌+◌, None, min};
+ghost use Rattle.std.specs.Prelude.{◌≡◌, ◌+◌, ◌-◌, ◌^◌, [], None, min};
+ghost use Rattle.uv_report.specs.Diagnostic.{diagnostic_view};
 
-use uv_model::{Profile, Refusal, Rule};
-use uv_report::{Diagnostic, LineViolation};
+use uv_report::{Diagnostic, Region, SeenText};
 
-/// A diagnostic on the third line of a file, of a text that begins its line and violates a rule of the standard profile
-/// at a place.
-pub fn refused<'a>(file: &'a str, rule: Rule, place: usize, text: &'a str) -> Diagnostic<'a>
-    ensures file { result.file.now ≡ file.now }
-    ensures line { result.line ≡ 3 }
-    ensures column { result.column ≡ min (place + 1) u64.MAX }
-    ensures end { result.end ≡ min (place + 2) u64.MAX }
-    ensures profile { result.profile ≡ Profile.Standard }
-    ensures violation { result.violation
-        ≡ LineViolation.Refused (record { place = place; rule = rule }) }
-    ensures text { result.text.now ≡ text.now }
-    ensures plain { result.mended ≡ None }
+/// A diagnostic on the third line of a file, on a text that begins its line and violates a rule at a place.
+pub fn refused<'a>(
+    file: &'a str,
+    rule: &'a str,
+    message: &'a str,
+    place: usize,
+    text: &'a SeenText<'a>,
+) -> Diagnostic<'a>
+    ensures { diagnostic_view result ≡ record {
+      file = file.now;
+      region = record {
+        line = 3;
+        column = min (place + 1) (2 ^ 64 - 1);
+        end_line = 3;
+        end_column = min (place + 2) (2 ^ 64 - 1);
+      };
+      rule = rule.now;
+      uri = [];
+      message = message.now;
+      within = [];
+      text = text.now;
+      place = place;
+      repeat = 0;
+      fix = None;
+    } }
 {
     Diagnostic {
         file,
-        line: 3,
-        column: (place as u64).saturating_add(1),
-        end: (place as u64).saturating_add(2),
-        profile: Profile::Standard,
-        violation: LineViolation::Refused(Refusal { place, rule }),
+        region: Region {
+            line: 3,
+            column: (place as u64).saturating_add(1),
+            end_line: 3,
+            end_column: (place as u64).saturating_add(2),
+        },
+        rule,
+        uri: "",
+        message,
+        within: "",
         text,
-        mended: None,
+        place,
+        repeat: 0,
+        fix: None,
     }
 }

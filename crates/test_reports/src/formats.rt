@@ -1,36 +1,145 @@
-//! Diagnostics that no run of the program reports, written out by hand: without a text, of a host that is no domain
-//! though nothing is wrong with it by the profile, and the end of a document of SARIF after a run that was stopped.
+//! Diagnostics that no run of the program reports, written out by hand: without a text, by a rule of the caller's own,
+//! within something, over two lines, with a line feed in the message; of a host that is no domain though nothing is
+//! wrong with it by the profile; and the end of a document of SARIF after a run that was stopped.
 
 use crate::diagnostics::refused;
 use crate::reports::report;
 use std::process::Abort;
 use std::test::Fail;
-use uv_model::{Profile, Rule};
-use uv_report::{Completion, Diagnostic, Format, LineViolation, end_of};
+use uv_model::{MendKind, Profile, Refusal, Rule};
+use uv_report::{
+    Completion, Diagnostic, Fix, Format, LineViolation, Region, SeenText, end_of, message,
+};
 
 // Where no text is carried there is no line to show and no place below it.
 #[test]
 fn shows_no_line_without_a_text(rt: HostRuntime) -> Result<(), Fail> {
-    let found = Diagnostic {
-        violation: LineViolation::NotUtf8(0),
-        ..refused("-", Rule::CodePoint, 0, "")
-    };
+    let none = SeenText::new("");
+    let found = refused("-", "not-utf8", "this line isn't UTF-8", 0, &none);
     let text = report(rt.alloc(), Format::Caret, &found)?;
     assert!(rt; text.as_str() == "-:3:1: error: this line isn't UTF-8 [not-utf8]\n");
     Ok(())
 }
 
+// A rule that the library doesn't have has no number among the rules of a document of SARIF.
+#[test]
+fn takes_a_rule_of_the_callers_own(rt: HostRuntime) -> Result<(), Fail> {
+    let link = SeenText::new("page.html");
+    let found = refused("f", "own", "no page is there", 0, &link);
+    let sarif = report(rt.alloc(), Format::Sarif, &found)?;
+    assert!(rt; sarif.contains("\"text\":\"page.html\"},\"ruleId\":\"own\"}\n"));
+    let known = refused("f", "no-scheme", "there is no scheme", 0, &link);
+    let sarif = report(rt.alloc(), Format::Sarif, &known)?;
+    assert!(rt; sarif.contains("\"ruleId\":\"no-scheme\",\"ruleIndex\":3}\n"));
+    Ok(())
+}
+
+// Reviewdog names the page of a rule where there is one.
+#[test]
+fn names_a_page_where_there_is_one(rt: HostRuntime) -> Result<(), Fail> {
+    let link = SeenText::new("page.html");
+    let found = refused("f", "own", "no page is there", 0, &link);
+    let bare = report(rt.alloc(), Format::Rdjson, &found)?;
+    assert!(rt; bare.contains("{\"code\":{\"value\":\"own\"},\"location\":"));
+    let paged = Diagnostic {
+        uri: "https://h.example/own",
+        ..found
+    };
+    let text = report(rt.alloc(), Format::Rdjson, &paged)?;
+    assert!(rt; text.contains("{\"code\":{\"url\":\"https://h.example/own\",\"value\":\"own\"},"));
+    Ok(())
+}
+
+// Within what the text is follows the message, with the escapes of the format.
+#[test]
+fn says_within_what_the_text_is(rt: HostRuntime) -> Result<(), Fail> {
+    let link = SeenText::new("page.html");
+    let found = Diagnostic {
+        within: "row <2>",
+        ..refused("f", "own", "no page is there", 0, &link)
+    };
+    let gnu = report(rt.alloc(), Format::Gnu, &found)?;
+    assert!(rt; gnu.as_str() == "f:3:1: error: no page is there, in row <2> [own]\n");
+    let checkstyle = report(rt.alloc(), Format::Checkstyle, &found)?;
+    assert!(rt; checkstyle.contains("message=\"no page is there, in row &lt;2&gt;\" source="));
+    Ok(())
+}
+
+// A diagnostic is one line, whatever the message is.
+#[test]
+fn stays_on_one_line(rt: HostRuntime) -> Result<(), Fail> {
+    let link = SeenText::new("page.html");
+    let found = refused("f", "own", "no page\nis there", 0, &link);
+    let text = report(rt.alloc(), Format::Gnu, &found)?;
+    assert!(rt; text.as_str() == "f:3:1: error: no page\u{FFFD}is there [own]\n");
+    Ok(())
+}
+
+// A text that goes on in another line is replaced over both.
+#[test]
+fn replaces_a_text_over_two_lines(rt: HostRuntime) -> Result<(), Fail> {
+    let link = SeenText::new("a b");
+    let region = Region {
+        line: 2,
+        column: 5,
+        end_line: 3,
+        end_column: 2,
+    };
+    let fix = Fix {
+        region: Some(region),
+        text: "a%20b",
+        kind: MendKind::Escaped,
+        is_offered: true,
+    };
+    let found = Diagnostic {
+        fix: Some(fix),
+        ..refused("f", "code-point", "no space is allowed", 1, &link)
+    };
+    let sarif = report(rt.alloc(), Format::Sarif, &found)?;
+    assert!(rt;
+        sarif.contains(
+            "\"deletedRegion\":{\"endColumn\":2,\"endLine\":3,\"startColumn\":5,\"startLine\":2}"
+        )
+    );
+    let rdjson = report(rt.alloc(), Format::Rdjson, &found)?;
+    assert!(rt;
+        rdjson.contains(
+            "[{\"range\":{\"end\":{\"column\":2,\"line\":3},\"start\":{\"column\":5,\"line\":2}},"
+        )
+    );
+    Ok(())
+}
+
+// A text that may be written nowhere in the file is said, but is no edit of it.
+#[test]
+fn edits_no_file_without_a_region(rt: HostRuntime) -> Result<(), Fail> {
+    let link = SeenText::new("a b");
+    let fix = Fix {
+        region: None,
+        text: "a%20b",
+        kind: MendKind::Escaped,
+        is_offered: true,
+    };
+    let found = Diagnostic {
+        fix: Some(fix),
+        ..refused("f", "code-point", "no space is allowed", 1, &link)
+    };
+    let sarif = report(rt.alloc(), Format::Sarif, &found)?;
+    assert!(rt; !sarif.contains("a%20b"));
+    let json = report(rt.alloc(), Format::Json, &found)?;
+    assert!(rt; json.contains("\"kind\":\"escaped\",\"line\":3,\"mended\":\"a%20b\""));
+    Ok(())
+}
+
 #[test]
 fn says_no_more_of_a_domain_with_nothing_wrong(rt: HostRuntime) -> Result<(), Fail> {
-    let found = Diagnostic {
-        profile: Profile::Wide,
-        ..refused("f", Rule::HostDomain, 7, "http://-a--b-")
-    };
-    let text = report(rt.alloc(), Format::Gnu, &found)?;
-    assert!(rt;
-        text.as_str()
-            == "f:3:8: error: the host that begins here is no valid domain [host-domain]\n"
-    );
+    let link = SeenText::new("http://-a--b-");
+    let violation = LineViolation::Refused(Refusal {
+        place: 7,
+        rule: Rule::HostDomain,
+    });
+    let text = message(rt.alloc(), Profile::Wide, &link, violation)?;
+    assert!(rt; text.as_str() == "the host that begins here is no valid domain");
     Ok(())
 }
 

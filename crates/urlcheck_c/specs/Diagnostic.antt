@@ -1,96 +1,179 @@
--- A diagnostic on a text that is in a file, by numbers.
-use Rattle.std.specs.Prelude.{◌≡◌, ◌≢◌, ℕ, ◌⊎◌, ◌==◌, not, true, List, Option, Some, None, Result, Ok, Err, IsUtf8}
+-- A diagnostic on a text that is in a file, by numbers and bytes.
+use Rattle.std.specs.Prelude.{◌≡◌, ◌≢◌, ℕ, ◌⊎◌, ◌==◌, ◌&&◌, ◌≤◌, ◌<◌, not, Bool, true, false, List, length, Option, Some}
+use Rattle.std.specs.Prelude.{None, Result, Ok, Err, IsUtf8}
+use Rattle.std.specs.Borrow.{Bor}
+use Rattle.std.specs.Str.{chars}
 use Rattle.uv_model.specs.declared.mend_kind.MendKind.{MendKind}
 use Rattle.uv_report.specs.declared.diagnostic.Diagnostic.{Diagnostic}
+use Rattle.uv_report.specs.declared.diagnostic.Fix.{Fix}
+use Rattle.uv_report.specs.declared.diagnostic.Region.{Region}
 use Rattle.uv_report.specs.declared.format.Format.{Format}
-use Rattle.uv_report.specs.declared.mended.Mended.{Mended}
-use Rattle.uv_report.specs.Format.{writes_edits}
+use Rattle.uv_report.specs.Diagnostic.{DiagnosticView, FixView, diagnostic_view, fix_view}
 use Rattle.uv_report.specs.Report.{diagnostic_text}
-use Rattle.urlcheck_c.specs.declared.reports.diagnostics.Violation.{Violation}
+use Rattle.urlcheck_c.specs.declared.reports.diagnostics.ReportedNumbers.{ReportedNumbers}
+use Rattle.urlcheck_c.specs.declared.reports.diagnostics.ReportedTexts as code
 use Rattle.urlcheck_c.specs.declared.finding.Finding.{Finding}
-use Rattle.urlcheck_c.specs.declared.finding.CallOutcome.TheVariants.{NoFormat, NoKind, NoColumn, FileNoUtf8}
-use Rattle.urlcheck_c.specs.declared.finding.CallOutcome.TheVariants.{MendedNoUtf8}
+use Rattle.urlcheck_c.specs.declared.finding.CallOutcome.TheVariants.{NoFormat, NoKind, NoColumn, NoUtf8, NoPlace}
+use Rattle.urlcheck_c.specs.declared.finding.CallOutcome.TheVariants.{FileNoUtf8, MendedNoUtf8, ReportedNoUtf8}
 use Rattle.urlcheck_c.specs.declared.written.Written.{Written}
 use Rattle.urlcheck_c.specs.Column.{IsInRange}
 use Rattle.urlcheck_c.specs.Finding.{plain_finding}
 use Rattle.urlcheck_c.specs.ReportNumbers.{format_of, kind_of}
 use Rattle.urlcheck_c.specs.Request.{IsNoText}
-use Rattle.urlcheck_c.specs.Violation.{IsNoViolation, IsViolation}
 use Rattle.urlcheck_c.specs.Written.{IsGiven, IsRefusedFor, IsUnwritten}
 
--- ---- the mended text
+-- the texts of a diagnostic
+pub record ReportedTexts : Type 0 where
+  pub file : List ℕ
+  pub rule : List ℕ
+  pub uri : List ℕ
+  pub message : List ℕ
+  pub within : List ℕ
+  pub text : List ℕ
+  pub fix : List ℕ
 
--- The numbers say this mended text: its kind, its bytes, and in its line where the text is in whose place it is. An
--- edit of the file is written where there is a region alone, whose columns are in range.
-pub record IsMended (format : Format) (violation : Violation) (bytes : List ℕ) (mended : Mended) : Type 0 where
-  pub kind_is : kind_of violation.kind ≡ Some mended.kind
+-- as the code has them
+abbrev pub texts_view : code.ReportedTexts → ReportedTexts
+texts_view texts = record {
+  file = texts.file.now;
+  rule = texts.rule.now;
+  uri = texts.uri.now;
+  message = texts.message.now;
+  within = texts.within.now;
+  text = texts.text.now;
+  fix = texts.fix.now;
+}
+
+-- ---- regions
+
+-- a region doesn't end before it begins
+abbrev pub IsInOrder : Region → Type 0
+IsInOrder region =
+    (region.line < region.end_line) ⊎ ((region.line ≡ region.end_line) × (region.column ≤ region.end_column))
+
+-- its lines and columns are in range
+abbrev pub IsRegion : Region → Type 0
+IsRegion region =
+    IsInRange region.line × IsInRange region.column × IsInRange region.end_line × IsInRange region.end_column
+    × IsInOrder region
+
+-- a region of zeros is none
+abbrev pub is_nowhere : Region → Bool
+is_nowhere region =
+    (region.line == 0) && ((region.column == 0) && ((region.end_line == 0) && (region.end_column == 0)))
+
+-- where a fix may be written: nowhere, or in this region
+abbrev pub IsFixRegion : Region → Option Region → Type 0
+IsFixRegion given None = is_nowhere given ≡ true
+IsFixRegion given (Some region) = (is_nowhere given ≡ false) × (region ≡ given) × IsRegion given
+
+-- it is no region
+abbrev pub IsNoFixRegion : Region → Finding → Type 0
+IsNoFixRegion given finding = (is_nowhere given ≡ false) × ¬ (IsRegion given) × (finding ≡ plain_finding NoColumn)
+
+abbrev pub IsFixRegionRead : Region → Result (Option Region) Finding → Type 0
+IsFixRegionRead given (Ok region) = IsFixRegion given region
+IsFixRegionRead given (Err finding) = IsNoFixRegion given finding
+
+-- ---- the fix
+
+-- The numbers and the bytes say this fix: its kind, its text, where that may be written, and whether it is offered.
+pub record IsSomeFix (numbers : ReportedNumbers) (bytes : List ℕ) (fix : FixView) : Type 0 where
+  pub told : numbers.kind ≢ 0
+  pub kind_is : kind_of numbers.kind ≡ Some fix.kind
   pub utf8 : IsUtf8 bytes
-  pub text : mended.text.now ≡ bytes
-  pub start : mended.start ≡ violation.first_column
-  pub end : mended.end ≡ violation.end_column
-  pub region : writes_edits format ≡ true → violation.has_region ≢ 0
-  pub range : violation.has_region ≢ 0 → IsInRange violation.first_column × IsInRange violation.end_column
+  pub text : fix.text ≡ bytes
+  pub region : IsFixRegion numbers.fix_region fix.region
+  pub offered : fix.is_offered ≡ not (numbers.offered == 0)
 
--- A diagnostic carries none: the kind is 0; or the numbers say one without a region, which an edit of the file needs.
-abbrev pub HasNoMended : Format → Violation → List ℕ → Type 0
-HasNoMended format violation bytes =
-    (violation.kind ≡ 0)
-    ⊎ ((kind : MendKind) × (kind_of violation.kind ≡ Some kind) × IsUtf8 bytes × (violation.has_region ≡ 0)
-    × (writes_edits format ≡ true))
+-- there is none, or this one
+abbrev pub IsFix : ReportedNumbers → List ℕ → Option FixView → Type 0
+IsFix numbers bytes None = numbers.kind ≡ 0
+IsFix numbers bytes (Some fix) = IsSomeFix numbers bytes fix
 
--- The numbers say none of these: no kind has the number, the bytes are no UTF-8, or there is a region of which a column
--- is out of range.
-abbrev pub IsNoMended : Violation → List ℕ → Finding → Type 0
-IsNoMended violation bytes finding =
-    ((kind_of violation.kind ≡ None) × (finding ≡ plain_finding NoKind))
-    ⊎ (IsNoText MendedNoUtf8 bytes finding
-    ⊎ ((violation.has_region ≢ 0) × (¬ (IsInRange violation.first_column × IsInRange violation.end_column))
-    × (finding ≡ plain_finding NoColumn)))
+-- They say none of these: no kind has the number, the bytes are no UTF-8, or the region is none.
+abbrev pub IsNoFix : ReportedNumbers → List ℕ → Finding → Type 0
+IsNoFix numbers bytes finding =
+    (numbers.kind ≢ 0)
+    × (((kind_of numbers.kind ≡ None) × (finding ≡ plain_finding NoKind))
+    ⊎ (IsNoText MendedNoUtf8 bytes finding ⊎ IsNoFixRegion numbers.fix_region finding))
 
--- what a diagnostic in the format carries of a mended text, or why nothing is said
-abbrev pub IsMendedRead : Format → Violation → List ℕ → Result (Option Mended) Finding → Type 0
-IsMendedRead format violation bytes (Ok None) = HasNoMended format violation bytes
-IsMendedRead format violation bytes (Ok (Some mended)) = IsMended format violation bytes mended
-IsMendedRead format violation bytes (Err finding) = (violation.kind ≢ 0) × IsNoMended violation bytes finding
+-- the same as the code has it
+abbrev pub IsFixRead : ReportedNumbers → List ℕ → Result (Option Fix) Finding → Type 0
+IsFixRead numbers bytes (Ok None) = numbers.kind ≡ 0
+IsFixRead numbers bytes (Ok (Some fix)) = IsSomeFix numbers bytes (fix_view fix)
+IsFixRead numbers bytes (Err finding) = IsNoFix numbers bytes finding
+
+-- ---- the text
+
+-- the text is UTF-8, and the place isn't after its end
+abbrev pub IsText : List ℕ → ℕ → Type 0
+IsText bytes place = IsUtf8 bytes × (place ≤ length (chars bytes))
+
+-- it isn't, or the place is
+abbrev pub IsNoTextAt : List ℕ → ℕ → Finding → Type 0
+IsNoTextAt bytes place finding =
+    IsNoText NoUtf8 bytes finding
+    ⊎ ((length (chars bytes) < place) × (finding ≡ plain_finding NoPlace))
+
+abbrev pub IsTextFound : List ℕ → ℕ → Result (Bor (List ℕ)) Finding → Type 0
+IsTextFound bytes place (Ok text) = (text.now ≡ bytes) × IsText bytes place
+IsTextFound bytes place (Err finding) = IsNoTextAt bytes place finding
 
 -- ---- the diagnostic
 
--- the numbers and the bytes say this diagnostic
-pub record IsDiagnostic (format : Format) (violation : Violation) (file text mended : List ℕ)
-    (diagnostic : Diagnostic) : Type 0 where
-  pub file_is : diagnostic.file.now ≡ file
-  pub utf8 : IsUtf8 file
-  pub line : diagnostic.line ≡ violation.line
-  pub column : diagnostic.column ≡ violation.column
-  pub end : diagnostic.end ≡ violation.end
-  pub range : IsInRange violation.line × IsInRange violation.column × IsInRange violation.end
-  pub text_is : diagnostic.text.now ≡ text
-  pub violated : IsViolation violation.profile violation.rule violation.place text diagnostic.profile
-      diagnostic.violation
-  pub mended_is : IsMendedRead format violation mended (Ok diagnostic.mended)
+-- The numbers and the bytes say this diagnostic on the text.
+pub record IsDiagnostic (numbers : ReportedNumbers) (texts : ReportedTexts) (text : List ℕ) (found : DiagnosticView)
+    : Type 0 where
+  pub file : IsUtf8 texts.file
+  pub rule : IsUtf8 texts.rule
+  pub uri : IsUtf8 texts.uri
+  pub message : IsUtf8 texts.message
+  pub within : IsUtf8 texts.within
+  pub region : IsRegion numbers.region
+  pub fix : IsFix numbers texts.fix found.fix
+  pub is : found ≡ record {
+    file = texts.file;
+    region = numbers.region;
+    rule = texts.rule;
+    uri = texts.uri;
+    message = texts.message;
+    within = texts.within;
+    text = text;
+    place = numbers.place;
+    repeat = numbers.repeat;
+    fix = found.fix;
+  }
 
--- They say none: nothing is said of the text, the file's name is no UTF-8, the line or one of both columns is out of
--- range, or no mended text is said.
-abbrev pub IsNoDiagnostic : Violation → List ℕ → List ℕ → List ℕ → Finding → Type 0
-IsNoDiagnostic violation file text mended finding =
-    IsNoViolation violation.profile violation.rule violation.place text finding
-    ⊎ (IsNoText FileNoUtf8 file finding
-    ⊎ (((¬ (IsInRange violation.line × IsInRange violation.column × IsInRange violation.end))
-    × (finding ≡ plain_finding NoColumn))
-    ⊎ ((violation.kind ≢ 0) × IsNoMended violation mended finding)))
+-- They say none: one of the texts is no UTF-8, the region is none, or the fix is.
+abbrev pub IsNoDiagnostic : ReportedNumbers → ReportedTexts → Finding → Type 0
+IsNoDiagnostic numbers texts finding =
+    IsNoText FileNoUtf8 texts.file finding
+    ⊎ (IsNoText ReportedNoUtf8 texts.rule finding
+    ⊎ (IsNoText ReportedNoUtf8 texts.uri finding
+    ⊎ (IsNoText ReportedNoUtf8 texts.message finding
+    ⊎ (IsNoText ReportedNoUtf8 texts.within finding
+    ⊎ ((¬ (IsRegion numbers.region) × (finding ≡ plain_finding NoColumn))
+    ⊎ IsNoFix numbers texts.fix finding)))))
 
--- the diagnostic that they say, or why they say none
-abbrev pub IsDiagnosticRead : Format → Violation → List ℕ → List ℕ → List ℕ → Result Diagnostic Finding → Type 0
-IsDiagnosticRead format violation file text mended (Ok diagnostic) =
-    IsDiagnostic format violation file text mended diagnostic
-IsDiagnosticRead format violation file text mended (Err finding) =
-    IsNoDiagnostic violation file text mended finding
+abbrev pub IsDiagnosticRead : ReportedNumbers → ReportedTexts → List ℕ → Result Diagnostic Finding → Type 0
+IsDiagnosticRead numbers texts text (Ok found) = IsDiagnostic numbers texts text (diagnostic_view found)
+IsDiagnosticRead numbers texts text (Err finding) = IsNoDiagnostic numbers texts finding
 
--- No format has the number, or there is no diagnostic, and nothing was written; or its text is given.
-abbrev pub IsDiagnosticAnswer : ℕ → ℕ → Violation → List ℕ → List ℕ → List ℕ → List ℕ → List ℕ → Written → Type 0
-IsDiagnosticAnswer format is_first violation file text mended old new answer =
+-- ---- the answer
+
+-- There is no text, or no diagnostic on it, and nothing was written; or its text is given.
+abbrev pub IsReportedAnswer : Format → Bool → ReportedNumbers → ReportedTexts → List ℕ → List ℕ → Written → Type 0
+IsReportedAnswer format is_first numbers texts old new answer =
+    ((finding : Finding) × IsNoTextAt texts.text numbers.place finding × IsUnwritten finding old new answer)
+    ⊎ (IsText texts.text numbers.place
+    × (((finding : Finding) × IsNoDiagnostic numbers texts finding × IsUnwritten finding old new answer)
+    ⊎ ((found : DiagnosticView) × IsDiagnostic numbers texts texts.text found
+    × IsGiven (diagnostic_text format is_first found) old new answer)))
+
+-- No format has the number, and nothing was written; or it is answered in the format.
+abbrev pub IsDiagnosticAnswer : ℕ → ℕ → ReportedNumbers → ReportedTexts → List ℕ → List ℕ → Written → Type 0
+IsDiagnosticAnswer format is_first numbers texts old new answer =
     ((format_of format ≡ None) × IsRefusedFor NoFormat old new answer)
     ⊎ ((known : Format) × (format_of format ≡ Some known)
-    × (((finding : Finding) × IsNoDiagnostic violation file text mended finding × IsUnwritten finding old new answer)
-    ⊎ ((diagnostic : Diagnostic) × IsDiagnostic known violation file text mended diagnostic
-    × IsGiven (diagnostic_text known (not (is_first == 0)) diagnostic) old new answer)))
+    × IsReportedAnswer known (not (is_first == 0)) numbers texts old new answer)

@@ -9,7 +9,7 @@ use crate::finding::Finding;
 use crate::lines::Line;
 use crate::mended::Mended;
 use crate::records::PlacedRecord;
-use crate::reports::diagnostics::Violation;
+use crate::reports::diagnostics::ReportedNumbers;
 use crate::reports::fault_lists::{Fault, FaultCount};
 use crate::spans::{Span, Spans};
 use crate::written::Written;
@@ -38,6 +38,6 @@ const _: () = prove!(size_of::<Written>() == 32);
 
 const _: () = prove!(size_of::<Counted>() == 32);
 
-const _: () = prove!(size_of::<Violation>() == 64);
+const _: () = prove!(size_of::<ReportedNumbers>() == 88);
 
 const _: () = prove!(size_of::<Line>() == 56);

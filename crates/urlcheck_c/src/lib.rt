@@ -33,7 +33,7 @@ pub use finding::Finding;
 pub use lines::Line;
 pub use mended::Mended;
 pub use records::PlacedRecord;
-pub use reports::diagnostics::Violation;
+pub use reports::diagnostics::ReportedNumbers;
 pub use reports::fault_lists::{Fault, FaultCount};
 pub use spans::{Span, Spans};
 pub use written::Written;

@@ -10,7 +10,7 @@ use Rattle.uv_lines.specs.declared.fault.ReportFault.TheVariants as within
 use Rattle.uv_lines.specs.Waiting.{Adds, AreFirstParts, LeavesParts, Passes}
 use Rattle.uv_lines.proofs.WaitingLemmas.{passes_none}
 use Rattle.uv_lint.specs.declared.reported_line.Place.{Place}
-use Rattle.uv_lint.specs.Findings.{AreFindings, Findings, IsMended, MendedText, shown, text_by}
+use Rattle.uv_lint.specs.Findings.{AreFindings, AreMessages, Findings, IsMended, MendedText, shown, text_by}
 use Rattle.uv_lint.specs.LineViolations.{AreViolations, link_of}
 use Rattle.uv_lint.specs.Located.{LocatedLink}
 use Rattle.uv_lint.specs.Report.{checked_line, line_text, reported_by}
@@ -58,13 +58,14 @@ reported_text file number line (Some link) = refl
 reported_text file number line None = refl
 
 -- what is found with a line that is checked so, and reported so
-found_in : (before : Linting) (line : Option (List ℕ)) (found : List LineViolation) (mended : Option MendedText)
-    → AreViolations before.setting line found
+found_in : (before : Linting) (line : Option (List ℕ)) (found : List LineViolation) (messages : List (List ℕ))
+    (mended : Option MendedText) → AreViolations before.setting line found → AreMessages found messages
     → IsMended before.setting.format before.setting.profile before.setting.base found
     (reported_by before.setting.file (before.lines + 1) line (link_of before.setting.form line)).text mended
-    → AreFindings before.setting line (record { violations = found; mended = mended })
-found_in before line found mended are is = record {
+    → AreFindings before.setting line (record { violations = found; messages = messages; mended = mended })
+found_in before line found messages mended are told is = record {
   violations = are;
+  messages = told;
   mended = subst (λ t. IsMended before.setting.format before.setting.profile before.setting.base found t mended)
       (reported_text before.setting.file (before.lines + 1) line (link_of before.setting.form line)) is;
 }
@@ -84,18 +85,18 @@ adds_line before now after lines line checked found reported counted waited a b 
     let has : HasReportedLine before (checked_line before.lines line) found waited a b waits =
     subst (λ j. HasReportedLine before j found waited a b waits) same
     (subst (λ vs. HasReportedLine before checked vs waited a b waits) is_reported said) in
-    let findings : Findings = record { violations = found; mended = has.0 } in
+    let findings : Findings = record { violations = found; messages = has.2.0; mended = has.0 } in
     record {
       said = line_text before.setting (before.lines + 1) (checked_line before.lines line) before.is_first findings;
       reported = record {
         findings = findings;
-        found = found_in before (checked_line before.lines line) found has.0
-            (subst (λ j. AreViolations before.setting j found) same are) has.1;
+        found = found_in before (checked_line before.lines line) found has.2.0 has.0
+            (subst (λ j. AreViolations before.setting j found) same are) has.2.1 has.1;
         written = refl;
         left = left;
       };
       count = ap (λ r. r.lines) left;
-      passes = has.2;
+      passes = has.2.2;
     }
 
 -- what was said first of what is shown of a text was said of the line that is there
@@ -113,10 +114,10 @@ begins_line : (before : Linting) (line : Option (List ℕ)) (found : List LineVi
     → HasBegunLine before (checked_line before.lines line) found parts → AreFirstParts Begins before line parts
 begins_line before line found parts are (inl none) = inl none
 begins_line before line found parts are (inr begun) = inr (record {
-  findings = record { violations = found; mended = begun.0 };
-  found = found_in before (checked_line before.lines line) found begun.0 are begun.1;
-  count = begun.2.0;
-  written = begun.2.1;
+  findings = record { violations = found; messages = begun.2.0; mended = begun.0 };
+  found = found_in before (checked_line before.lines line) found begun.2.0 begun.0 are begun.2.1 begun.1;
+  count = begun.2.2.0;
+  written = begun.2.2.1;
 })
 
 -- what a fault within a line leaves, which was checked so when these lines came before

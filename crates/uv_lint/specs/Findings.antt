@@ -14,6 +14,7 @@ use Rattle.uv_mend.specs.Mending.{IsMending}
 use Rattle.uv_report.specs.declared.format.Format.{Format}
 use Rattle.uv_report.specs.declared.line_violation.LineViolation.{LineViolation}
 use Rattle.uv_report.specs.declared.line_violation.LineViolation.TheVariants.{Refused}
+use Rattle.uv_report.specs.Diagnostic.{IsMessage}
 use Rattle.uv_report.specs.Format.{shows_mended}
 use Rattle.uv_lint.specs.LineViolations.{AreViolations, FileSetting, link_of}
 use Rattle.uv_lint.specs.Located.{LocatedLink}
@@ -23,14 +24,22 @@ pub record MendedText : Type 0 where
   pub text : List ℕ
   pub kind : MendKind
 
--- what is wrong with a line, and what to write in place of its text, where that is to be said
+-- what is wrong with a line, what is said of each violation, and what to write in place of the line's text, where that
+-- is to be said
 pub record Findings : Type 0 where
   pub violations : List LineViolation
+  pub messages : List (List ℕ)
   pub mended : Option MendedText
 
--- nothing is to be written in place of a line
-abbrev pub unmended : List LineViolation → Findings
-unmended violations = record { violations = violations; mended = None }
+-- what is wrong with a line of which nothing more is told
+abbrev pub untold : List LineViolation → Findings
+untold violations = record { violations = violations; messages = []; mended = None }
+
+-- one message for each of the violations
+abbrev pub AreMessages : List LineViolation → List (List ℕ) → Type 0
+AreMessages [] [] = Unit {0}
+AreMessages (violation ∷ rest) (message ∷ messages) = IsMessage message × AreMessages rest messages
+AreMessages _ _ = ⊥
 
 -- ---- the text
 
@@ -101,6 +110,7 @@ IsMended format profile base violations text mended =
 -- what is found with a line
 pub record AreFindings (setting : FileSetting) (line : Option (List ℕ)) (findings : Findings) : Type 0 where
   pub violations : AreViolations setting line findings.violations
+  pub messages : AreMessages findings.violations findings.messages
   pub mended : IsMended setting.format setting.profile setting.base findings.violations (text_of setting line)
       findings.mended
 

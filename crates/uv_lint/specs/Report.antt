@@ -2,18 +2,18 @@
 -- and what is after them.
 use Rattle.std.specs.Prelude.{◌≡◌, ℕ, ◌+◌, ◌-◌, ◌^◌, ◌==◌, Bool, false, List, [], ◌∷◌, ◌++◌, Option, Some, None}
 use Rattle.std.specs.Prelude.{if◌then◌else◌, length, map, min, option_map, sum_by, take}
-use Rattle.std.specs.Borrow.{Bor}
 use Rattle.std.specs.Str.{IsUtf8, chars}
 use Rattle.std.specs.Str.Lossy.{utf8_valid_len}
-use Rattle.uv_model.specs.declared.profile.Profile.{Profile}
 use Rattle.uv_report.specs.declared.places.column.Columns.{Columns}
-use Rattle.uv_report.specs.declared.diagnostic.Diagnostic.{Diagnostic}
+use Rattle.uv_report.specs.declared.diagnostic.Region.{Region}
 use Rattle.uv_report.specs.declared.line_violation.LineViolation.{LineViolation}
 use Rattle.uv_report.specs.declared.format.Format.{Format}
-use Rattle.uv_report.specs.declared.mended.Mended.{Mended}
 use Rattle.uv_report.specs.Places.Column.{column_at, width}
-use Rattle.uv_report.specs.LineViolation.{violation_end, violation_place}
+use Rattle.uv_report.specs.Diagnostic.{DiagnosticView, FixView}
+use Rattle.uv_report.specs.LineViolation.{violation_address, violation_end, violation_name}
+use Rattle.uv_report.specs.LineViolation.{violation_place}
 use Rattle.uv_report.specs.Report.{diagnostic_text, file_begin_text, file_end_text}
+use Rattle.uv_report.specs.Sentences.Intention.{is_offered}
 use Rattle.uv_lines.specs.Lines.{short_line, without_mark}
 use Rattle.uv_lint.specs.declared.counts.LintCounts.{LintCounts}
 use Rattle.uv_lint.specs.declared.setting.LineForm.{LineForm}
@@ -23,10 +23,6 @@ use Rattle.uv_lint.specs.LineViolations.{FileSetting, foreign_place, link_of}
 use Rattle.uv_lint.specs.Located.{LocatedLink}
 
 -- ---- the diagnostics
-
--- a text after a reference; where that points no diagnostic says
-abbrev pub lent : List ℕ → Bor (List ℕ)
-lent text = record { ref_ptr = (0, 0); now = text }
 
 -- What is before the diagnostics of a file. Where lines say where their links are, each diagnostic is about a
 -- file of its own, and this is before each diagnostic.
@@ -55,27 +51,39 @@ pub record ReportedText : Type 0 where
 abbrev pub end_column : Columns → ℕ → List ℕ → ℕ
 end_column columns start text = column_at columns start text (length (chars text))
 
--- a mended text in place of a text that begins in this column
-abbrev pub mended_at : Columns → ℕ → List ℕ → MendedText → Mended
-mended_at columns start text mended =
-    record { text = lent mended.text; kind = mended.kind; start = start; end = end_column columns start text }
+-- from one column of its line to another
+abbrev pub region_in : ReportedText → ℕ → ℕ → Region
+region_in reported column end =
+    record { line = reported.line; column = column; end_line = reported.line; end_column = end }
+
+-- a mended text in place of all of it
+abbrev pub fix_of : Columns → ReportedText → MendedText → FixView
+fix_of columns reported mended = record {
+  region = Some (region_in reported reported.start (end_column columns reported.start reported.text));
+  text = mended.text;
+  kind = mended.kind;
+  is_offered = is_offered reported.text mended.text;
+}
 
 -- what a diagnostic carries of it
-abbrev pub mended_on : Columns → ReportedText → Option MendedText → Option Mended
-mended_on columns reported mended = option_map (mended_at columns reported.start reported.text) mended
+abbrev pub fix_on : Columns → ReportedText → Option MendedText → Option FixView
+fix_on columns reported mended = option_map (fix_of columns reported) mended
 
--- a diagnostic on a text that is checked by a profile: its columns are those of the place of the violation, and of the
--- one at which what is wrong ends
-abbrev pub diagnostic_on : Columns → Profile → ReportedText → Option Mended → LineViolation → Diagnostic
-diagnostic_on columns profile reported mended violation = record {
-  file = lent reported.file;
-  line = reported.line;
-  column = column_at columns reported.start reported.text (violation_place violation);
-  end = column_at columns reported.start reported.text (violation_end violation);
-  profile = profile;
-  violation = violation;
-  text = lent reported.text;
-  mended = mended;
+-- A diagnostic on a text of which this is said: it is from the column of the place of the violation up to that of the
+-- place at which what is wrong ends.
+abbrev pub diagnostic_on : Columns → ReportedText → Option FixView → LineViolation → List ℕ → DiagnosticView
+diagnostic_on columns reported fix violation message = record {
+  file = reported.file;
+  region = region_in reported (column_at columns reported.start reported.text (violation_place violation))
+      (column_at columns reported.start reported.text (violation_end violation));
+  rule = violation_name violation;
+  uri = violation_address violation;
+  message = message;
+  within = [];
+  text = reported.text;
+  place = violation_place violation;
+  repeat = 0;
+  fix = fix;
 }
 
 -- in each unit the column of bytes that aren't UTF-8 is that after their longest beginning that is
@@ -85,27 +93,25 @@ ForeignColumns =
     → column_at columns start (shown (Some bytes)) (foreign_place bytes)
     ≡ min (start + width columns start (chars (take (utf8_valid_len bytes) bytes))) (2 ^ 64 - 1)
 
--- A diagnostic for each violation; the first of them is the first one of the report, or isn't, and it alone says what
--- to write in place of the text.
-abbrev pub diagnostics_text : LineForm → Format → Columns → Profile → ReportedText → Bool → Option Mended
-    → List LineViolation → List ℕ
-diagnostics_text form format columns profile reported is_first mended [] = []
-diagnostics_text form format columns profile reported is_first mended (violation ∷ rest) =
-    framed_text form format reported.file
-    (diagnostic_text format is_first (diagnostic_on columns profile reported mended violation))
-    ++ diagnostics_text form format columns profile reported false None rest
+-- a diagnostic with what is round it
+abbrev pub one_text : LineForm → Format → Bool → DiagnosticView → List ℕ
+one_text form format is_first found =
+    framed_text form format found.file (diagnostic_text format is_first found)
 
--- some of the first of these diagnostics
-abbrev pub AreFirstDiagnostics : LineForm → Format → Columns → Profile → ReportedText → Bool → Option Mended
-    → List LineViolation → List ℕ → Type 0
-AreFirstDiagnostics form format columns profile reported is_first mended violations text =
-    (count : ℕ) × (text ≡ diagnostics_text form format columns profile reported is_first mended (take count violations))
+-- A diagnostic for each violation, with its message; the first of them is the first one of the report, or isn't, and it
+-- alone says what to write in place of the text.
+abbrev pub diagnostics_text : LineForm → Format → Columns → ReportedText → Bool → Option FixView
+    → List LineViolation → List (List ℕ) → List ℕ
+diagnostics_text form format columns reported is_first fix (violation ∷ rest) (message ∷ messages) =
+    one_text form format is_first (diagnostic_on columns reported fix violation message)
+    ++ diagnostics_text form format columns reported false None rest messages
+diagnostics_text form format columns reported is_first fix _ _ = []
 
 -- the diagnostics on a text of which this was found
 abbrev pub text_diagnostics : FileSetting → ReportedText → Bool → Findings → List ℕ
 text_diagnostics setting reported is_first findings =
-    diagnostics_text setting.form setting.format setting.columns setting.profile reported is_first
-    (mended_on setting.columns reported findings.mended) findings.violations
+    diagnostics_text setting.form setting.format setting.columns reported is_first
+    (fix_on setting.columns reported findings.mended) findings.violations findings.messages
 
 -- what the diagnostics on a line tell: its link, where the line says that it is, else the line with this number
 abbrev pub reported_by : List ℕ → ℕ → Option (List ℕ) → Option LocatedLink → ReportedText
@@ -120,8 +126,7 @@ line_text setting number line is_first findings =
 
 -- what was found, of the violations so many of the first
 abbrev pub first_found : ℕ → Findings → Findings
-first_found count findings =
-    record { violations = take count findings.violations; mended = findings.mended }
+first_found count findings = record findings { violations = take count findings.violations }
 
 -- no diagnostic was written yet, nor for these violations
 abbrev pub is_still_first : Bool → List LineViolation → Bool

@@ -1,14 +1,13 @@
 -- What the code's values of a text and its place denote.
 use Rattle.std.specs.Prelude.{◌≡◌, ℕ, Bool, List, Option, option_copied, option_map, string_bytes, take}
 use Rattle.uv_report.specs.declared.line_violation.LineViolation.{LineViolation}
-use Rattle.uv_report.specs.declared.mended.Mended.{Mended}
 use Rattle.uv_lint.specs.declared.mended_line.MendedLine.{MendedLine}
 use Rattle.uv_lint.specs.declared.reported_line.Place.{Place}
 use Rattle.uv_lint.specs.declared.reported_line.ReportedLine.{ReportedLine}
 use Rattle.uv_lint.specs.declared.setting.LintSetting.{LintSetting}
-use Rattle.uv_lint.specs.Findings.{MendedText, shown}
+use Rattle.uv_lint.specs.Findings.{AreMessages, MendedText, shown}
 use Rattle.uv_lint.specs.LineViolations.{file_setting}
-use Rattle.uv_lint.specs.Report.{ReportedText, lent, text_diagnostics}
+use Rattle.uv_lint.specs.Report.{ReportedText, text_diagnostics}
 
 -- a text that isn't shown yet
 abbrev pub place_view : Place → ReportedText
@@ -32,22 +31,15 @@ reported_view reported =
 abbrev pub mended_line_view : MendedLine → MendedText
 mended_line_view mended = record { text = string_bytes mended.text; kind = mended.kind }
 
--- what a diagnostic carries of one; where the reference points no diagnostic says
-abbrev pub lent_mended : Mended → Mended
-lent_mended mended =
-    record { text = lent mended.text.now; kind = mended.kind; start = mended.start; end = mended.end }
-
--- the same where there is one
-abbrev pub lent_if_mended : Option Mended → Option Mended
-lent_if_mended mended = option_map lent_mended mended
-
--- what is said of a text of which this was found
-abbrev pub text_said : ReportedLine → LintSetting → Bool → Option MendedLine → List LineViolation → List ℕ
-text_said line setting is_first mended violations =
+-- what is said of a text of which this was found, by these messages
+abbrev pub text_said : ReportedLine → LintSetting → Bool → Option MendedLine → List LineViolation → List (List ℕ)
+    → List ℕ
+text_said line setting is_first mended violations messages =
     text_diagnostics (file_setting line.file.now setting) (reported_view line) is_first
-    (record { violations = violations; mended = option_map mended_line_view mended })
+    (record { violations = violations; messages = messages; mended = option_map mended_line_view mended })
 
 -- some of its first diagnostics
 abbrev pub AreFirstSaid : ReportedLine → LintSetting → Bool → Option MendedLine → List LineViolation → List ℕ → Type 0
 AreFirstSaid line setting is_first mended violations text =
-    (count : ℕ) × (text ≡ text_said line setting is_first mended (take count violations))
+    (messages : List (List ℕ)) × AreMessages violations messages
+    × ((count : ℕ) × (text ≡ text_said line setting is_first mended (take count violations) messages))

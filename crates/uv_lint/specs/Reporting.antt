@@ -3,7 +3,7 @@ use Rattle.std.specs.Prelude.{◌≡◌, ℕ, ◌+◌, ◌⊎◌, Bool, List, []
 use Rattle.uv_report.specs.declared.line_violation.LineViolation.{LineViolation}
 use Rattle.uv_lines.specs.Waiting.{Passes}
 use Rattle.uv_lint.specs.declared.counts.LintCounts.{LintCounts}
-use Rattle.uv_lint.specs.Findings.{AreFindings, Findings, IsMended, MendedText}
+use Rattle.uv_lint.specs.Findings.{AreFindings, AreMessages, Findings, IsMended, MendedText}
 use Rattle.uv_lint.specs.LineViolations.{FileSetting, link_of}
 use Rattle.uv_lint.specs.Report.{ReportedText, checked_line, counted, first_found, is_still_first, line_text}
 use Rattle.uv_lint.specs.Report.{reported_by, text_diagnostics}
@@ -34,16 +34,18 @@ abbrev pub HasReported : Linting → ReportedText → List LineViolation → Lis
 HasReported before reported violations waited old new waits =
     (mended : Option MendedText)
     × IsMended before.setting.format before.setting.profile before.setting.base violations reported.text mended
+    × ((messages : List (List ℕ)) × AreMessages violations messages
     × Passes (waited ++ text_diagnostics before.setting reported before.is_first
-    (record { violations = violations; mended = mended })) old new waits
+    (record { violations = violations; messages = messages; mended = mended })) old new waits)
 
 -- some of the first of them, or none
 abbrev pub HasBegun : Linting → ReportedText → List LineViolation → List ℕ → Type 0
 HasBegun before reported violations parts =
     (parts ≡ []) ⊎ ((mended : Option MendedText)
     × IsMended before.setting.format before.setting.profile before.setting.base violations reported.text mended
+    × ((messages : List (List ℕ)) × AreMessages violations messages
     × ((count : ℕ) × (parts ≡ text_diagnostics before.setting reported before.is_first
-    (first_found count (record { violations = violations; mended = mended })))))
+    (first_found count (record { violations = violations; messages = messages; mended = mended }))))))
 
 -- the same of the next line
 abbrev pub HasReportedLine : Linting → Option (List ℕ) → List LineViolation → List ℕ → Option (List ℕ)

@@ -1,9 +1,9 @@
 //! Laws over reports on files, each as the clause of a function that does nothing.
-ghost use Rattle.uv_lint.specs.LocatedRows.{LocatedFaultRows, LocatedReportRows, LocatedRows};
+ghost use Rattle.uv_lint.specs.LocatedRows.{LocatedFaultRows, LocatedRows};
 ghost use Rattle.uv_lint.specs.Report.{ForeignColumns};
 ghost use Rattle.uv_lint.specs.ReportRows.{LintRows};
 
-/// The diagnostics on a list that is written out, and its counts.
+/// The lines of a list that is written out, as they are checked, and its counts.
 pub fn lint_rows()
     ensures { LintRows }
 {}
@@ -21,9 +21,4 @@ pub fn located_fault_rows()
 /// The column of a line that isn't UTF-8, in each unit.
 pub fn foreign_columns()
     ensures { ForeignColumns }
-{}
-
-/// The diagnostics on a list of located lines.
-pub fn located_report_rows()
-    ensures { LocatedReportRows }
 {}

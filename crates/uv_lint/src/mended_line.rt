@@ -2,15 +2,17 @@
 ghost use Rattle.std.specs.Prelude.{◌≡◌, IfOk, option_copied, option_map};
 ghost use Rattle.uv_lint.specs.Findings as spec;
 ghost use Rattle.uv_lint.specs.Findings.{IsMended, IsRefusedFirst, mended_of};
-ghost use Rattle.uv_lint.specs.Report.{end_column, mended_at};
-ghost use Rattle.uv_lint.specs.ReportedView.{lent_if_mended, mended_line_view};
+ghost use Rattle.uv_lint.specs.Report.{end_column, fix_on};
+ghost use Rattle.uv_lint.specs.ReportedView.{mended_line_view, reported_view};
+ghost use Rattle.uv_report.specs.Diagnostic.{fix_view};
 
 use crate::code_points::count;
+use crate::reported_line::ReportedLine;
 use crate::setting::LintSetting;
 use std::alloc::{AllocError, Global};
 use uv_mend::{MendKind, Mending, mend_refused};
 use uv_model::Refusal;
-use uv_report::{ColumnCounter, Columns, LineViolation, Mended};
+use uv_report::{ColumnCounter, Columns, Fix, LineViolation, SeenText, is_offered};
 
 /// A valid text, and how it is to the refused one.
 #[derive(Drop)]
@@ -62,22 +64,23 @@ fn first_refusal(violations: &[LineViolation]) -> Option<Refusal>
     }
 }
 
-/// What a diagnostic carries of what to write in place of a text that begins in this column.
-pub(crate) fn mended_in_place<'l>(
+/// What a diagnostic carries of what to write in place of a text, which is seen so.
+pub(crate) fn fix_in_place<'l>(
     mended: &'l Option<MendedLine>,
     columns: Columns,
-    start: u64,
-    text: &str,
-) -> Option<Mended<'l>>
-    ensures { lent_if_mended result
-        ≡ option_map (mended_at columns start text.now) (option_map mended_line_view mended.now) }
+    line: &ReportedLine<'_>,
+    seen: &SeenText<'_>,
+) -> Option<Fix<'l>>
+    requires { seen.now ≡ line.now.text.now }
+    ensures { option_map fix_view result
+        ≡ fix_on columns (reported_view line.now) (option_map mended_line_view mended.now) }
 {
     match mended {
-        Some(mended) => Some(Mended {
+        Some(mended) => Some(Fix {
+            region: Some(line.region(line.start, end_column(columns, line.start, line.text))),
             text: mended.text.as_str(),
             kind: mended.kind,
-            start,
-            end: end_column(columns, start, text),
+            is_offered: is_offered(seen, mended.text.as_str()),
         }),
         None => None,
     }

@@ -1,28 +1,28 @@
 //! The diagnostics on a line.
 ghost use Rattle.std.specs.Cow.{cow_str_bytes};
-ghost use Rattle.std.specs.Prelude.{◌≡◌, ◌+◌, ◌-◌, ◌^◌, ◌<◌, ◌++◌, IfErr, IfOk, OnErr, OnOk, option_copied, option_map};
-ghost use Rattle.std.specs.Prelude.{string_bytes};
+ghost use Rattle.std.specs.Prelude.{◌≡◌, ℕ, ◌+◌, ◌-◌, ◌^◌, ◌<◌, List, [], ◌++◌, IfErr, IfOk, OnErr, OnOk, option_copied};
+ghost use Rattle.std.specs.Prelude.{option_map, string_bytes};
 ghost use Rattle.uv_lines.specs.Fault.{failed_within};
 ghost use Rattle.uv_lines.specs.Waiting.{LeavesParts, Passes};
-ghost use Rattle.uv_report.specs.Report.{diagnostic_text};
+ghost use Rattle.uv_report.specs.Diagnostic.{IsMessage, diagnostic_view, fix_view};
+ghost use Rattle.uv_report.specs.LineViolation.{violation_address, violation_name, violation_place};
 ghost use Rattle.uv_lint.specs.LocatedViews.{link_view};
-ghost use Rattle.uv_lint.specs.Findings.{IsUtf8WhereRefused, bytes_by, is_refused, shown};
-ghost use Rattle.uv_lint.specs.Report.{framed_text, reported_by};
+ghost use Rattle.uv_lint.specs.Findings.{AreMessages, IsUtf8WhereRefused, bytes_by, is_refused, shown};
+ghost use Rattle.uv_lint.specs.Report.{one_text, region_in, reported_by};
 ghost use Rattle.uv_lint.specs.Reporting.{IsNoneOr};
-ghost use Rattle.uv_lint.specs.ReportedView.{AreFirstSaid, place_view, text_said};
+ghost use Rattle.uv_lint.specs.ReportedView.{AreFirstSaid, place_view, reported_view, text_said};
 
 use crate::located::LocatedLink;
-use crate::mended_line::{MendedLine, mended_in_place};
+use crate::mended_line::{MendedLine, fix_in_place};
 use crate::setting::{LineForm, LintSetting};
 use std::alloc::{AllocError, Global};
 use std::borrow::CowStr;
 use std::str::{from_utf8, from_utf8_unchecked};
 use uv_io::{DeviceFault, Sink};
 use uv_lines::{ReportFault, end_part};
-use uv_model::Profile;
 use uv_report::{
-    ColumnCounter, Diagnostic, LineViolation, Mended, SeenText, push_file_begin, push_file_end,
-    push_seen_diagnostic,
+    ColumnCounter, Diagnostic, Fix, LineViolation, Region, SeenText, message, push,
+    push_file_begin, push_file_end, push_shown,
 };
 
 /// A line, or the link of one, with the place where it is.
@@ -79,6 +79,18 @@ pub(crate) struct ReportedLine<'l> {
 }
 
 impl<'l> ReportedLine<'l> {
+    /// From one column of its line to another.
+    pub(crate) fn region(&self, column: u64, end: u64) -> Region
+        ensures { result ≡ region_in (reported_view self.now) column end }
+    {
+        Region {
+            line: self.line,
+            column,
+            end_line: self.line,
+            end_column: end,
+        }
+    }
+
     /// Says a diagnostic for each violation, the first of which says what to write. It is given whether the first of
     /// them is the first one of the report. A part ends after each diagnostic; room for one is given.
     pub(crate) fn push<W: Sink>(
@@ -93,8 +105,9 @@ impl<'l> ReportedLine<'l> {
         writer: &mut W,
     ) -> Result<(), ReportFault<AllocError>>
         requires { W.failed writer.old < 2 ^ 64 - 1 }
-        ensures text { OnOk result (Passes (text.old.items ++ text_said self.now setting.entry is_first
-            mended.entry.now violations.now) (W.contents writer.old) (W.contents writer.new) text.new.items) }
+        ensures text { OnOk result ((messages : List (List ℕ)) × AreMessages violations.now messages
+            × Passes (text.old.items ++ text_said self.now setting.entry is_first mended.entry.now violations.now
+            messages) (W.contents writer.old) (W.contents writer.new) text.new.items) }
         ensures quiet { OnOk result (W.failed writer.new ≡ W.failed writer.old) }
         ensures fault { IfErr result (λ e. LeavesParts (AreFirstSaid self.now setting.entry is_first mended.entry.now
             violations.now) e text.old.items (W.contents writer.old) text.new.items (W.contents writer.new)) }
@@ -103,54 +116,84 @@ impl<'l> ReportedLine<'l> {
         let mut counter = ColumnCounter::new(setting.columns, self.start, self.text);
         let mut seen = seen_text(self.text, violations);
         let mut is_first = is_first;
-        let mut told = mended_in_place(mended, setting.columns, self.start, self.text);
+        let mut fix = fix_in_place(mended, setting.columns, self, &seen);
         for violation in violations {
             let column = counter.column(violation.place());
             let end = counter.column_ahead(violation.end());
-            let found = self.diagnostic_in(column, end, setting.profile, *violation, told);
             seen.go_to(violation.place());
+            let Ok(message) = message_of(alloc, setting, &seen, *violation) else {
+                return Err(ReportFault::Reporter(AllocError));
+            };
+            let found = diagnostic_on(
+                self,
+                &seen,
+                self.region(column, end),
+                *violation,
+                message.as_str(),
+                fix,
+            );
             if let Err(fault) = say_framed(
-                alloc, reported, setting, &found, &seen, is_first, text, writer,
+                alloc, reported, setting, &found, is_first, text, writer,
             ) {
                 return Err(fault);
             }
             is_first = false;
-            told = None;
+            fix = None;
         }
         Ok(())
     }
+}
 
-    // A diagnostic on the text, which is checked by a profile, from this column up to another.
-    fn diagnostic_in(
-        &self,
-        column: u64,
-        end: u64,
-        profile: Profile,
-        violation: LineViolation,
-        mended: Option<Mended<'l>>,
-    ) -> Diagnostic<'l>
-        ensures { result ≡ record {
-          file = self.now.file;
-          line = self.now.line;
-          column = column;
-          end = end;
-          profile = profile;
-          violation = violation;
-          text = self.now.text;
-          mended = mended.entry;
-        } }
-    {
-        Diagnostic {
-            file: self.file,
-            line: self.line,
-            column,
-            end,
-            profile,
-            violation,
-            text: self.text,
-            mended,
-        }
+// A diagnostic on the text of a line, which is seen so, in this region, with this message.
+fn diagnostic_on<'x>(
+    line: &ReportedLine<'x>,
+    seen: &'x SeenText<'x>,
+    region: Region,
+    violation: LineViolation,
+    message: &'x str,
+    fix: Option<Fix<'x>>,
+) -> Diagnostic<'x>
+    requires { seen.now ≡ line.now.text.now }
+    ensures { diagnostic_view result ≡ record {
+      file = line.now.file.now;
+      region = region;
+      rule = violation_name violation;
+      uri = violation_address violation;
+      message = message.now;
+      within = [];
+      text = line.now.text.now;
+      place = violation_place violation;
+      repeat = 0;
+      fix = option_map fix_view fix.entry;
+    } }
+{
+    Diagnostic {
+        file: line.file,
+        region,
+        rule: violation.name(),
+        uri: violation.address(),
+        message,
+        within: "",
+        text: seen,
+        place: violation.place(),
+        repeat: 0,
+        fix,
     }
+}
+
+// What is reported of a violation of a text, which is seen so, on one line.
+fn message_of(
+    alloc: Global,
+    setting: LintSetting<'_>,
+    seen: &SeenText<'_>,
+    violation: LineViolation,
+) -> Result<String, AllocError>
+    ensures { IfOk result (λ text. IsMessage (string_bytes text)) }
+{
+    let sentence = message(alloc, setting.profile, seen, violation)?;
+    let mut text = String::with_capacity(alloc, sentence.len())?;
+    push_shown(&mut text, sentence.as_str())?;
+    Ok(text)
 }
 
 // A text of which this was found, as it is seen.
@@ -164,31 +207,26 @@ fn seen_text<'l>(text: &'l str, violations: &[LineViolation]) -> SeenText<'l>
     }
 }
 
-// Says a diagnostic whose text was seen, and ends a part after it.
+// Says a diagnostic, and ends a part after it.
 fn say_framed<W: Sink>(
     alloc: Global,
     reported: &mut String,
     setting: LintSetting<'_>,
     diagnostic: &Diagnostic<'_>,
-    seen: &SeenText<'_>,
     is_first: bool,
     text: &mut Vec<u8>,
     writer: &mut W,
 ) -> Result<(), ReportFault<AllocError>>
-    requires writes { W.failed writer.old < 2 ^ 64 - 1 }
-    requires seen { seen.now ≡ diagnostic.now.text.now }
-    ensures text { OnOk result (Passes (text.old.items ++ framed_text setting.entry.form setting.entry.format
-        diagnostic.now.file.now (diagnostic_text setting.entry.format is_first diagnostic.now))
-        (W.contents writer.old) (W.contents writer.new) text.new.items) }
+    requires { W.failed writer.old < 2 ^ 64 - 1 }
+    ensures text { OnOk result (Passes (text.old.items ++ one_text setting.entry.form setting.entry.format is_first
+        (diagnostic_view diagnostic.now)) (W.contents writer.old) (W.contents writer.new) text.new.items) }
     ensures quiet { OnOk result (W.failed writer.new ≡ W.failed writer.old) }
-    ensures fault { IfErr result (λ e. LeavesParts (IsNoneOr (framed_text setting.entry.form setting.entry.format
-        diagnostic.now.file.now (diagnostic_text setting.entry.format is_first diagnostic.now))) e text.old.items
-        (W.contents writer.old) text.new.items (W.contents writer.new)) }
+    ensures fault { IfErr result (λ e. LeavesParts (IsNoneOr (one_text setting.entry.form setting.entry.format is_first
+        (diagnostic_view diagnostic.now))) e text.old.items (W.contents writer.old) text.new.items
+        (W.contents writer.new)) }
     ensures failed { IfErr result (λ e. W.failed writer.new ≡ W.failed writer.old + failed_within e) }
 {
-    if let Err(AllocError) = append_framed(
-        alloc, reported, setting, diagnostic, seen, is_first, text,
-    ) {
+    if let Err(AllocError) = append_framed(alloc, reported, setting, diagnostic, is_first, text) {
         return Err(ReportFault::Reporter(AllocError));
     }
     match end_part(text, writer) {
@@ -197,49 +235,42 @@ fn say_framed<W: Sink>(
     }
 }
 
-// Appends a diagnostic whose text was seen whole, or nothing.
+// Appends a diagnostic whole, or nothing.
 fn append_framed(
     alloc: Global,
     reported: &mut String,
     setting: LintSetting<'_>,
     diagnostic: &Diagnostic<'_>,
-    seen: &SeenText<'_>,
     is_first: bool,
     text: &mut Vec<u8>,
 ) -> Result<(), AllocError>
-    requires { seen.now ≡ diagnostic.now.text.now }
-    ensures text { OnOk result (text.new.items ≡ text.old.items ++ framed_text setting.entry.form
-        setting.entry.format diagnostic.now.file.now
-        (diagnostic_text setting.entry.format is_first diagnostic.now)) }
+    ensures text { OnOk result (text.new.items ≡ text.old.items ++ one_text setting.entry.form setting.entry.format
+        is_first (diagnostic_view diagnostic.now)) }
     ensures none { OnErr result (text.new.items ≡ text.old.items) }
 {
-    put_framed(alloc, reported, setting, diagnostic, seen, is_first)?;
+    put_framed(alloc, reported, setting, diagnostic, is_first)?;
     text.extend_from_slice(reported.as_bytes())
 }
 
-// Puts a diagnostic whose text was seen in the place of what a text has. Where lines say where their links are, what
-// is round the diagnostics of its file is round it.
+// Puts a diagnostic in the place of what a text has. Where lines say where their links are, what is round the
+// diagnostics of its file is round it.
 fn put_framed(
     alloc: Global,
     reported: &mut String,
     setting: LintSetting<'_>,
     diagnostic: &Diagnostic<'_>,
-    seen: &SeenText<'_>,
     is_first: bool,
 ) -> Result<(), AllocError>
-    requires { seen.now ≡ diagnostic.now.text.now }
-    ensures { OnOk result (string_bytes reported.new ≡ framed_text setting.entry.form setting.entry.format
-        diagnostic.now.file.now (diagnostic_text setting.entry.format is_first diagnostic.now)) }
+    ensures { OnOk result (string_bytes reported.new ≡ one_text setting.entry.form setting.entry.format is_first
+        (diagnostic_view diagnostic.now)) }
 {
     let format = setting.format;
     reported.clear();
     match setting.form {
-        LineForm::Plain => push_seen_diagnostic(
-            alloc, reported, format, diagnostic, seen, is_first,
-        ),
+        LineForm::Plain => push(alloc, reported, format, diagnostic, is_first),
         LineForm::Located => {
             push_file_begin(alloc, reported, format, diagnostic.file)?;
-            push_seen_diagnostic(alloc, reported, format, diagnostic, seen, is_first)?;
+            push(alloc, reported, format, diagnostic, is_first)?;
             push_file_end(reported, format)
         }
     }

@@ -1,6 +1,5 @@
 pub mod PieceLemmas
 mod ColumnLemmas
-mod EntryLemmas
 pub mod FirstLemmas
 mod IntentionLemmas
 mod Ipv6Lemmas

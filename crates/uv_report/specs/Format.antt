@@ -54,9 +54,3 @@ shows_mended Checkstyle = false
 shows_mended Junit = false
 shows_mended Gitlab = false
 shows_mended Rdjson = true
-
--- it says that as an edit of its file
-abbrev pub writes_edits : Format → Bool
-writes_edits Sarif = true
-writes_edits Rdjson = true
-writes_edits _ = false

@@ -6,7 +6,7 @@ pub mod Escaping
 pub mod Places
 pub mod Sentences
 pub mod Json
-pub mod Entry
+pub mod Diagnostic
 pub mod Format
 pub mod Formats
 pub mod Report

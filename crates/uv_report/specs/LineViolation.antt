@@ -1,7 +1,8 @@
 -- What is wrong with a line: its name, its sentence and its place.
 use Rattle.std.specs.Prelude.{ℕ, ◌+◌, ◌-◌, ◌^◌, List, [], ◌∷◌, codes, min, Option, find}
+use Rattle.std.specs.Option.{option_map, option_or}
 use Rattle.std.specs.Str.{bytes_eq}
-use Rattle.uv_model.specs.Violations.Rule.{rule_name, rule_number, rule_sentence}
+use Rattle.uv_model.specs.Violations.Rule.{named_rule, rule_name, rule_number, rule_sentence}
 use Rattle.uv_report.specs.declared.line_violation.LineViolation.{LineViolation}
 use Rattle.uv_report.specs.Rules.Explanation.{rule_asks, rule_uri}
 use Rattle.uv_report.specs.declared.line_violation.LineViolation.TheVariants.{Refused, NotUtf8, TooLong, NotLocated}
@@ -35,12 +36,10 @@ violation_help TooLong =
 violation_help (NotLocated fault) =
     codes "A located line is FILE:LINE:COLUMN:LINK. FILE isn't empty; LINE and COLUMN are from 1 to 4294967295."
 
--- where that is: the section of the rule, or what a valid URL string is
-abbrev pub violation_uri : LineViolation → List ℕ
-violation_uri (Refused refusal) = rule_uri refusal.rule
-violation_uri (NotUtf8 place) = codes "https://url.spec.whatwg.org/#valid-url-string"
-violation_uri TooLong = codes "https://url.spec.whatwg.org/#valid-url-string"
-violation_uri (NotLocated fault) = codes "https://url.spec.whatwg.org/#valid-url-string"
+-- where that is: the section of the rule; none of a rule of lines
+abbrev pub violation_address : LineViolation → List ℕ
+violation_address (Refused refusal) = rule_uri refusal.rule
+violation_address violation = []
 
 -- where its rule is among all of them, from 0: after the three that are no refusal, by the rule's number
 abbrev pub violation_index : LineViolation → ℕ
@@ -48,6 +47,12 @@ violation_index (Refused refusal) = rule_number refusal.rule + 2
 violation_index (NotUtf8 place) = 0
 violation_index TooLong = 1
 violation_index (NotLocated fault) = 2
+
+-- the same by the rule's name, where it is among them
+abbrev pub rule_index : List ℕ → Option ℕ
+rule_index name =
+    option_or (option_map violation_index (named_violation name))
+    (option_map (λ rule. rule_number rule + 2) (named_rule name))
 
 -- the place at which a line is wrong
 abbrev pub violation_place : LineViolation → ℕ

@@ -3,11 +3,10 @@
 use Rattle.std.specs.Prelude.{ℕ, Bool, List, []}
 use Rattle.uv_report.specs.declared.places.column.Columns.{Columns}
 use Rattle.uv_report.specs.declared.completion.Completion.{Completion}
-use Rattle.uv_report.specs.declared.diagnostic.Diagnostic.{Diagnostic}
 use Rattle.uv_report.specs.declared.format.Format.{Format}
 use Rattle.uv_report.specs.declared.format.Format.TheVariants.{Gnu, Caret, Json, Github, Sarif, Checkstyle}
 use Rattle.uv_report.specs.declared.format.Format.TheVariants.{Junit, Gitlab, Rdjson}
-use Rattle.uv_report.specs.Entry.{EntryView, entry_of}
+use Rattle.uv_report.specs.Diagnostic.{DiagnosticView, told}
 use Rattle.uv_report.specs.Formats.Caret.{caret_text}
 use Rattle.uv_report.specs.Formats.Checkstyle.{checkstyle_text, document_begin, document_end, file_begin, file_end}
 use Rattle.uv_report.specs.Formats.Github.{github_text}
@@ -33,21 +32,22 @@ file_begin_text Checkstyle file = file_begin file
 file_begin_text Junit file = suite_begin file
 file_begin_text _ file = []
 
--- a diagnostic with its texts, which is the first one of the report or isn't
-abbrev pub entry_text : Format → Bool → EntryView → List ℕ
-entry_text Gnu is_first entry = gnu_text entry
-entry_text Caret is_first entry = caret_text entry
-entry_text Json is_first entry = json_line entry
-entry_text Github is_first entry = github_text entry
-entry_text Sarif is_first entry = sarif_text is_first entry
-entry_text Checkstyle is_first entry = checkstyle_text entry
-entry_text Junit is_first entry = junit_text entry
-entry_text Gitlab is_first entry = gitlab_text is_first entry
-entry_text Rdjson is_first entry = rdjson_text is_first entry
+-- a diagnostic with its whole message, which is the first one of the report or isn't
+abbrev pub told_text : Format → Bool → DiagnosticView → List ℕ
+told_text Gnu is_first found = gnu_text found
+told_text Caret is_first found = caret_text found
+told_text Json is_first found = json_line found
+told_text Github is_first found = github_text found
+told_text Sarif is_first found = sarif_text is_first found
+told_text Checkstyle is_first found = checkstyle_text found
+told_text Junit is_first found = junit_text found
+told_text Gitlab is_first found = gitlab_text is_first found
+told_text Rdjson is_first found = rdjson_text is_first found
 
--- a diagnostic
-abbrev pub diagnostic_text : Format → Bool → Diagnostic → List ℕ
-diagnostic_text format is_first diagnostic = entry_text format is_first (entry_of diagnostic)
+-- a diagnostic: within what it is is said after its message
+abbrev pub diagnostic_text : Format → Bool → DiagnosticView → List ℕ
+diagnostic_text format is_first found =
+    told_text format is_first (record found { message = told found.message found.within })
 
 -- what is after the diagnostics of a file
 abbrev pub file_end_text : Format → List ℕ

@@ -1,27 +1,119 @@
-//! The message on a line.
+//! A diagnostic as data: each of its texts is made by who has it, and a format only writes them.
+ghost use Rattle.std.specs.Cow.{cow_str_bytes};
+ghost use Rattle.std.specs.Prelude.{◌≡◌, ◌++◌, IfOk, codes, option_map, string_bytes};
+ghost use Rattle.uv_report.specs.Diagnostic as spec;
+ghost use Rattle.uv_report.specs.Places.Window as shown;
 
-use crate::line_violation::LineViolation;
-use crate::mended::Mended;
-use uv_model::Profile;
+use crate::places::seen_text::SeenText;
+use crate::places::window::carried;
+use std::alloc::{AllocError, Global};
+use std::borrow::CowStr;
+use uv_model::MendKind;
+
+/// Where something is in a file. Lines and columns are from 1. C hands it over as it is.
+#[repr(C)]
+#[derive(Clone, Copy)]
+pub struct Region {
+    /// The line of its first code point.
+    pub line: u64,
+    /// The column of its first code point.
+    pub column: u64,
+    /// The line of its last code point.
+    pub end_line: u64,
+    /// The column after its last code point, in that line.
+    pub end_column: u64,
+}
+
+/// What to write in place of a text.
+#[derive(Clone, Copy)]
+pub struct Fix<'a> {
+    /// Where that text is, all of it, if a program may write there.
+    pub region: Option<Region>,
+    /// A valid text.
+    pub text: &'a str,
+    /// How it is to the text that it replaces.
+    pub kind: MendKind,
+    /// Whether it is offered: nothing shows that something else was meant.
+    pub is_offered: bool,
+}
 
 /// What is wrong with a line of a file, or with a text that is a part of one.
 #[derive(Clone, Copy)]
 pub struct Diagnostic<'a> {
     /// The file's name, as it was given.
     pub file: &'a str,
-    /// The line's number, from 1.
-    pub line: u64,
-    /// The column of the place at which the text is wrong, in its line, from 1: `ColumnCounter::column` tells it.
-    pub column: u64,
-    /// The column at which what is wrong ends, after its last code point: that of the place `LineViolation::end`.
-    pub end: u64,
-    /// By which profile the text is checked.
-    pub profile: Profile,
-    /// What is wrong with the text.
-    pub violation: LineViolation,
+    /// Where in the file it is: from the place at which the text is wrong up to where what is wrong ends.
+    pub region: Region,
+    /// The name of the violated rule, which may be one that this library doesn't have.
+    pub rule: &'a str,
+    /// The address of where that rule is told of, or nothing.
+    pub uri: &'a str,
+    /// What is wrong, in a sentence without its end.
+    pub message: &'a str,
+    /// Where in the file it is besides, or nothing.
+    pub within: &'a str,
     /// The text, without the line's end. Where it isn't UTF-8, U+FFFD stands for what can't be read.
-    pub text: &'a str,
-    /// What to write in place of the text, where that is to be said. A format for which `Format::shows_mended` is false
-    /// leaves it out.
-    pub mended: Option<Mended<'a>>,
+    pub text: &'a SeenText<'a>,
+    /// The place at which it is wrong, in code points from 0.
+    pub place: usize,
+    /// How many diagnostics of the file before it have the same rule, place and text, as far as that is counted.
+    pub repeat: u64,
+    /// What to write in its place, where that is to be said. A format for which `Format::shows_mended` is false leaves
+    /// it out.
+    pub fix: Option<Fix<'a>>,
+}
+
+impl<'a> Diagnostic<'a> {
+    /// Whether a report carries a window of the text alone.
+    pub(crate) fn is_cut(&self) -> bool
+        ensures { result ≡ shown.is_cut (spec.diagnostic_view self.now).text }
+    {
+        self.text.is_cut()
+    }
+
+    /// What a report carries of the text.
+    pub(crate) fn carried(&self, alloc: Global) -> Result<CowStr<'a>, AllocError>
+        ensures { IfOk result (λ text. cow_str_bytes text ≡ spec.carried_text (spec.diagnostic_view self.now)) }
+    {
+        carried(alloc, self.text, self.place)
+    }
+
+    /// The message, and after it where in the file that is besides.
+    pub(crate) fn told(&self, alloc: Global) -> Result<CowStr<'a>, AllocError>
+        ensures { IfOk result (λ text. cow_str_bytes text ≡ spec.told self.now.message.now self.now.within.now) }
+    {
+        if self.within.is_empty() {
+            return Ok(CowStr::Borrowed(self.message));
+        }
+        Ok(CowStr::Owned(told_within(alloc, self.message, self.within)?))
+    }
+
+    /// What to write in place of the text, and where, if that is offered and a program may write there.
+    pub(crate) fn edit(&self) -> Option<(Region, Fix<'a>)>
+        ensures { option_map spec.edit_view result ≡ spec.edit_of (spec.diagnostic_view self.now).fix }
+    {
+        match self.fix {
+            Some(fix) if fix.is_offered => fix.edit(),
+            _ => None,
+        }
+    }
+}
+
+impl<'a> Fix<'a> {
+    // The same with where it may be written.
+    fn edit(self) -> Option<(Region, Fix<'a>)>
+        ensures { option_map spec.edit_view result ≡ spec.edit_at (spec.fix_view self.entry) }
+    {
+        match self.region {
+            Some(region) => Some((region, self)),
+            None => None,
+        }
+    }
+}
+
+// A message, and after it where in the file that is.
+fn told_within(alloc: Global, message: &str, within: &str) -> Result<String, AllocError>
+    ensures { IfOk result (λ text. string_bytes text ≡ message.now ++ (codes ", in " ++ within.now)) }
+{
+    format!(in alloc; "{message}, in {within}")
 }

@@ -58,23 +58,6 @@ impl Format {
         }
     }
 
-    /// Whether a diagnostic says that as an edit of its file: then the columns between which the replaced text is
-    /// are written with it.
-    pub fn writes_edits(self) -> bool
-        ensures { result ≡ spec.writes_edits self }
-    {
-        match self {
-            Format::Sarif | Format::Rdjson => true,
-            Format::Gnu
-            | Format::Caret
-            | Format::Json
-            | Format::Github
-            | Format::Checkstyle
-            | Format::Junit
-            | Format::Gitlab => false,
-        }
-    }
-
     /// The format with this name, or `None` where no format has it.
     pub fn of_name(name: &str) -> Option<Format>
         ensures { result ≡ named_format name.now }

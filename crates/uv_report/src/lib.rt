@@ -4,7 +4,6 @@
 
 mod completion;
 mod diagnostic;
-mod entry;
 mod escaping;
 mod format;
 mod formats;
@@ -12,26 +11,22 @@ mod json_text;
 pub mod laws;
 mod line_violation;
 mod located_fault;
-mod mended;
 mod places;
 mod report;
 mod rules;
 mod sentences;
 
 pub use completion::Completion;
-pub use diagnostic::Diagnostic;
+pub use diagnostic::{Diagnostic, Fix, Region};
 pub use escaping::escapes::push_shown;
 pub use format::Format;
 pub use line_violation::LineViolation;
 pub use located_fault::LocatedFault;
-pub use mended::Mended;
 pub use places::column::Columns;
 pub use places::column_counter::ColumnCounter;
 pub use places::seen_text::SeenText;
-pub use report::{
-    end_of, push_begin, push_diagnostic, push_file_begin, push_file_end, push_seen_diagnostic,
-};
+pub use report::{end_of, push, push_begin, push_file_begin, push_file_end};
 pub use rules::explanation::{Explanation, explain};
 pub use rules::page::rule_page;
-pub use sentences::intention::{Intention, intention_of};
-pub use sentences::message::push_message;
+pub use sentences::intention::{Intention, intention_of, is_offered};
+pub use sentences::message::{message, push_message};

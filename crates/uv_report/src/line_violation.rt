@@ -1,11 +1,13 @@
 //! What is wrong with a line.
-ghost use Rattle.std.specs.Prelude.{◌≡◌};
+ghost use Rattle.std.specs.Prelude.{◌≡◌, ◌+◌, option_map};
+ghost use Rattle.uv_model.specs.Violations.Rule.{named_rule, rule_number};
+ghost use Rattle.uv_report.specs.LineViolation as spec;
 ghost use Rattle.uv_report.specs.LineViolation.{violation_end, violation_help, violation_index, violation_name};
-ghost use Rattle.uv_report.specs.LineViolation.{violation_place, violation_sentence, violation_uri, named_violation};
+ghost use Rattle.uv_report.specs.LineViolation.{named_violation, violation_address, violation_place, violation_sentence};
 
 use crate::located_fault::LocatedFault;
 use crate::rules::explanation::{explain, section_uri};
-use uv_model::Refusal;
+use uv_model::{Refusal, Rule};
 
 /// What is wrong with a line of a file: as a text it is refused, or it is no text that is checked.
 #[derive(Clone, Copy, PartialEq, Eq)]
@@ -75,15 +77,13 @@ impl LineViolation {
         }
     }
 
-    /// Where that is in the URL Standard: the section of the rule, or what a valid URL string is.
-    pub(crate) fn uri(self) -> &'static str
-        ensures { result.now ≡ violation_uri self }
+    /// The address of where that is in the URL Standard: of the section of the rule, and nothing for a rule of lines.
+    pub fn address(self) -> &'static str
+        ensures { result.now ≡ violation_address self }
     {
         match self {
             LineViolation::Refused(refusal) => section_uri(refusal.rule),
-            LineViolation::NotUtf8(_) | LineViolation::TooLong | LineViolation::NotLocated(_) => {
-                "https://url.spec.whatwg.org/#valid-url-string"
-            }
+            LineViolation::NotUtf8(_) | LineViolation::TooLong | LineViolation::NotLocated(_) => "",
         }
     }
 
@@ -122,5 +122,25 @@ impl LineViolation {
                 self.place()
             }
         }
+    }
+}
+
+/// Where the rule with this name is among all that can be wrong, from 0, if it is among them.
+pub(crate) fn rule_index(name: &str) -> Option<u64>
+    ensures { result ≡ spec.rule_index name.now }
+{
+    match LineViolation::of_name(name) {
+        Some(violation) => Some(violation.index()),
+        None => index_of_rule(name),
+    }
+}
+
+// The same of a rule of valid URL strings.
+fn index_of_rule(name: &str) -> Option<u64>
+    ensures { result ≡ option_map (λ rule. rule_number rule + 2) (named_rule name.now) }
+{
+    match Rule::of_name(name) {
+        Some(rule) => Some(u64::from(rule.number()) + 2),
+        None => None,
     }
 }

@@ -1,16 +1,12 @@
 //! Reports in any format. A report is a beginning, then for each file its own beginning, its diagnostics and its end,
 //! and then an end.
 ghost use Rattle.std.specs.Prelude.{◌≡◌, ◌++◌, IfOk, OnErr, OnOk, string_bytes};
-ghost use Rattle.uv_report.specs.Entry.{entry_view};
-ghost use Rattle.uv_report.specs.LineViolation.{violation_place};
-ghost use Rattle.uv_report.specs.Places.Window as shown;
-ghost use Rattle.uv_report.specs.Report.{begin_text, diagnostic_text, end_text, entry_text, file_begin_text};
-ghost use Rattle.uv_report.specs.Report.{file_end_text};
-ghost use Rattle.uv_report.specs.Sentences.Message as spec;
+ghost use Rattle.uv_report.specs.Diagnostic.{diagnostic_view};
+ghost use Rattle.uv_report.specs.Report.{begin_text, diagnostic_text, end_text, file_begin_text, file_end_text};
+ghost use Rattle.uv_report.specs.Report.{told_text};
 
 use crate::completion::Completion;
 use crate::diagnostic::Diagnostic;
-use crate::entry::{Entry, fix_of};
 use crate::format::Format;
 use crate::formats::caret::push_caret;
 use crate::formats::checkstyle::{push_checkstyle, push_checkstyle_file};
@@ -19,12 +15,9 @@ use crate::formats::gitlab::push_gitlab;
 use crate::formats::gnu::push_gnu;
 use crate::formats::json_lines::push_json;
 use crate::formats::junit::{JUNIT_BEGIN, junit_end, push_junit, push_junit_file};
-use crate::formats::rdjson::{push_rdjson, push_rdjson_begin};
+use crate::formats::rdjson::{RDJSON_BEGIN, push_rdjson};
 use crate::formats::sarif::{push_sarif, push_sarif_begin, sarif_end};
 use crate::places::column::Columns;
-use crate::places::seen_text::SeenText;
-use crate::places::window::carried;
-use crate::sentences::message::message;
 use std::alloc::{AllocError, Global};
 
 /// Pushes what a report begins with. In SARIF that says what columns count, where SARIF has a word for it. Where an
@@ -56,7 +49,7 @@ fn begin_of(alloc: Global, format: Format, columns: Columns) -> Result<String, A
         }
         Format::Junit => begin.push_str(JUNIT_BEGIN)?,
         Format::Gitlab => begin.push_str("[\n")?,
-        Format::Rdjson => push_rdjson_begin(&mut begin)?,
+        Format::Rdjson => begin.push_str(RDJSON_BEGIN)?,
         Format::Gnu | Format::Caret | Format::Json | Format::Github => {}
     }
     Ok(begin)
@@ -98,8 +91,10 @@ fn file_begin_of(alloc: Global, format: Format, file: &str) -> Result<String, Al
 }
 
 /// Pushes a diagnostic. In SARIF and in the formats of GitLab and reviewdog a comma is before each but the first
-/// one of the report. Where an allocation fails, the text stays as it was.
-pub fn push_diagnostic(
+/// one of the report. Where an allocation fails, the text stays as it was. Several diagnostics on one text take no more
+/// time than the text and what is written of it, where they come in the order of their places, and the text is led to
+/// each place before.
+pub fn push(
     alloc: Global,
     text: &mut String,
     format: Format,
@@ -107,101 +102,55 @@ pub fn push_diagnostic(
     is_first: bool,
 ) -> Result<(), AllocError>
     ensures ok { OnOk result (string_bytes text.new
-        ≡ string_bytes text.old ++ diagnostic_text format is_first diagnostic.now) }
+        ≡ string_bytes text.old ++ diagnostic_text format is_first (diagnostic_view diagnostic.now)) }
     ensures err { OnErr result (string_bytes text.new ≡ string_bytes text.old) }
 {
-    let seen = SeenText::new(diagnostic.text);
-    let mut reported = String::new(alloc);
-    push_seen_diagnostic(alloc, &mut reported, format, diagnostic, &seen, is_first)?;
+    let reported = reported(alloc, format, diagnostic, is_first)?;
     text.push_str(reported.as_str())
 }
 
-/// The same of a diagnostic whose text was seen. Several diagnostics on one text take no more time than the text and
-/// what is written of it, where they come in the order of their places, and the text is led to each place before.
-/// Where an allocation fails, a beginning of it was pushed.
-pub fn push_seen_diagnostic(
+// The text of a diagnostic.
+fn reported(
     alloc: Global,
-    text: &mut String,
     format: Format,
     diagnostic: &Diagnostic<'_>,
-    seen: &SeenText<'_>,
     is_first: bool,
-) -> Result<(), AllocError>
-    requires { seen.now ≡ diagnostic.now.text.now }
-    ensures { OnOk result (string_bytes text.new
-        ≡ string_bytes text.old ++ diagnostic_text format is_first diagnostic.now) }
+) -> Result<String, AllocError>
+    ensures { IfOk result (λ text. string_bytes text
+        ≡ diagnostic_text format is_first (diagnostic_view diagnostic.now)) }
 {
-    let violation = diagnostic.violation;
-    let said = message(alloc, diagnostic.profile, seen, violation)?;
-    let kept = carried(alloc, seen, violation.place())?;
-    push_made(
-        alloc,
-        text,
-        format,
-        diagnostic,
-        seen,
-        said.as_str(),
-        kept.as_str(),
-        is_first,
-    )
-}
-
-// Pushes a diagnostic of which this is reported, and whose text is carried so.
-fn push_made<'x>(
-    alloc: Global,
-    text: &mut String,
-    format: Format,
-    diagnostic: &'x Diagnostic<'x>,
-    seen: &'x SeenText<'x>,
-    message: &'x str,
-    carried: &'x str,
-    is_first: bool,
-) -> Result<(), AllocError>
-    requires seen { seen.now ≡ diagnostic.now.text.now }
-    requires message { message.now
-        ≡ spec.message diagnostic.now.profile diagnostic.now.text.now diagnostic.now.violation }
-    requires carried { carried.now ≡ shown.carried diagnostic.now.text.now (violation_place diagnostic.now.violation) }
-    ensures { OnOk result (string_bytes text.new
-        ≡ string_bytes text.old ++ diagnostic_text format is_first diagnostic.now) }
-{
-    let entry = Entry {
-        file: diagnostic.file,
-        line: diagnostic.line,
-        column: diagnostic.column,
-        end: diagnostic.end,
-        violation: diagnostic.violation,
-        message,
-        text: seen,
-        carried,
-        fix: fix_of(seen, diagnostic.mended),
+    let message = diagnostic.told(alloc)?;
+    let told = Diagnostic {
+        message: message.as_str(),
+        ..*diagnostic
     };
-    push_entry(alloc, text, format, &entry, is_first)?;
-    Ok(())
+    // Room for most diagnostics: what grows piece by piece is moved at many of them.
+    let mut text = String::with_capacity(alloc, 1_000)?;
+    push_told(alloc, &mut text, format, &told, is_first)?;
+    Ok(text)
 }
 
-// Pushes a diagnostic as data. Where an allocation fails, a beginning of it was pushed.
-fn push_entry(
+// Pushes a diagnostic with its whole message.
+fn push_told(
     alloc: Global,
     text: &mut String,
     format: Format,
-    entry: &Entry<'_>,
+    found: &Diagnostic<'_>,
     is_first: bool,
 ) -> Result<(), AllocError>
     ensures { OnOk result (string_bytes text.new
-        ≡ string_bytes text.old ++ entry_text format is_first (entry_view entry.now)) }
+        ≡ string_bytes text.old ++ told_text format is_first (diagnostic_view found.now)) }
 {
-    // Room for most diagnostics: what grows piece by piece is moved at many of them.
-    text.reserve(1_000)?;
     match format {
-        Format::Gnu => push_gnu(alloc, text, entry),
-        Format::Caret => push_caret(alloc, text, entry),
-        Format::Json => push_json(alloc, text, entry),
-        Format::Github => push_github(alloc, text, entry),
-        Format::Sarif => push_sarif(alloc, text, entry, is_first),
-        Format::Checkstyle => push_checkstyle(alloc, text, entry),
-        Format::Junit => push_junit(alloc, text, entry),
-        Format::Gitlab => push_gitlab(alloc, text, entry, is_first),
-        Format::Rdjson => push_rdjson(alloc, text, entry, is_first),
+        Format::Gnu => push_gnu(alloc, text, found),
+        Format::Caret => push_caret(alloc, text, found),
+        Format::Json => push_json(alloc, text, found),
+        Format::Github => push_github(alloc, text, found),
+        Format::Sarif => push_sarif(alloc, text, found, is_first),
+        Format::Checkstyle => push_checkstyle(alloc, text, found),
+        Format::Junit => push_junit(alloc, text, found),
+        Format::Gitlab => push_gitlab(alloc, text, found, is_first),
+        Format::Rdjson => push_rdjson(alloc, text, found, is_first),
     }
 }
 

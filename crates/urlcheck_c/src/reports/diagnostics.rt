@@ -1,62 +1,110 @@
-//! A diagnostic on a text that is in a file.
-ghost use Rattle.std.specs.Prelude.{◌≡◌, ◌==◌, IfOk, not, string_bytes};
+//! A diagnostic on a text that is in a file: what is said of it is given.
+ghost use Rattle.std.specs.Prelude.{◌≡◌, ◌==◌, ◌↔◌, IfOk, IsTrue, not, string_bytes};
+ghost use Rattle.uv_report.specs.Diagnostic.{diagnostic_view};
 ghost use Rattle.uv_report.specs.Report.{diagnostic_text};
-ghost use Rattle.urlcheck_c.specs.Diagnostic.{IsDiagnosticAnswer, IsDiagnosticRead, IsMendedRead};
+ghost use Rattle.urlcheck_c.specs.Diagnostic.{IsDiagnosticAnswer, IsDiagnosticRead, IsFixRead, IsFixRegionRead};
+ghost use Rattle.urlcheck_c.specs.Diagnostic.{IsInOrder, IsRegion, IsTextFound, texts_view};
+ghost use Rattle.urlcheck_c.specs.Diagnostic as spec;
 
 use crate::columns::is_in_range;
 use crate::finding::{CallOutcome, Finding};
-use crate::reports::messages::violation_read;
 use crate::reports::report_numbers::{format_of, kind_of};
 use crate::request::text_of;
 use crate::written::{Written, given};
 use std::alloc::{AllocError, Global};
-use uv_report::{Diagnostic, Format, Mended, push_diagnostic};
+use uv_report::{Diagnostic, Fix, Format, Region, SeenText, push};
+use uv_text::count_code_points;
 
-/// What is wrong with a text that is in a file, by numbers.
+/// The numbers of a diagnostic.
 #[repr(C)]
 #[derive(Clone, Copy)]
-pub struct Violation {
-    /// The number of the profile by which the text is checked.
-    pub profile: u32,
-    /// The number of the violated rule, of texts or of lines.
-    pub rule: u32,
+pub struct ReportedNumbers {
+    /// Where what is wrong is.
+    pub region: Region,
+    /// Where the text is in whose place the mended one is to be written; all zeros where it may not be written there.
+    pub fix_region: Region,
     /// The place at which the text is wrong, in code points from 0.
     pub place: usize,
-    /// The line of that place in the file, from 1.
-    pub line: u64,
-    /// Its column, from 1.
-    pub column: u64,
+    /// How many diagnostics before it in the file have the same rule, place and text.
+    pub repeat: u64,
     /// The number of the kind of the text to write in its place, or 0 where there is none.
     pub kind: u32,
-    /// Whether a program may write that where the text is: not 0 for yes.
-    pub has_region: u32,
-    /// The column of the text's first code point, from 1.
-    pub first_column: u64,
-    /// The column after its last one, from 1.
-    pub end_column: u64,
-    /// The column at which what is wrong ends, from 1.
-    pub end: u64,
+    /// Whether that is offered: not 0 for yes.
+    pub offered: u32,
 }
 
-/// Writes what is reported of a violation of a text in the file of that name, in the format with this number.
+/// The texts of a diagnostic, as bytes.
+#[derive(Clone, Copy)]
+pub(crate) struct ReportedTexts<'t> {
+    file: &'t [u8],
+    rule: &'t [u8],
+    uri: &'t [u8],
+    message: &'t [u8],
+    within: &'t [u8],
+    text: &'t [u8],
+    fix: &'t [u8],
+}
+
+/// Writes what is reported of a text in the file of that name, in the format with this number: the name of a rule, the
+/// address of its page, which may be empty, what is wrong, and within what in the file it is, which may be empty too.
 #[unsafe(no_mangle)]
 pub extern "C" fn urlcheck_diagnostic(
     alloc: Global,
     format: u32,
     is_first: u32,
-    violation: &Violation,
+    numbers: &ReportedNumbers,
     file: &[u8],
+    rule: &[u8],
+    uri: &[u8],
+    message: &[u8],
+    within: &[u8],
     text: &[u8],
-    mended: &[u8],
+    fix: &[u8],
     out: &mut [u8],
 ) -> Written
-    ensures { IsDiagnosticAnswer format is_first violation.now file.now text.now mended.now out.old out.new result }
+    ensures { IsDiagnosticAnswer format is_first numbers.now (record {
+      file = file.now;
+      rule = rule.now;
+      uri = uri.now;
+      message = message.now;
+      within = within.now;
+      text = text.now;
+      fix = fix.now;
+    }) out.old out.new result }
 {
     let Some(format) = format_of(format) else {
         return Written::refused(CallOutcome::NoFormat);
     };
-    match diagnostic_read(format, violation, file, text, mended) {
-        Ok(diagnostic) => given(&said(alloc, format, &diagnostic, is_first != 0), out),
+    let texts = ReportedTexts {
+        file,
+        rule,
+        uri,
+        message,
+        within,
+        text,
+        fix,
+    };
+    written(alloc, format, is_first != 0, numbers, texts, out)
+}
+
+// Writes the diagnostic that the numbers and the texts say, or gives why they say none.
+fn written(
+    alloc: Global,
+    format: Format,
+    is_first: bool,
+    numbers: &ReportedNumbers,
+    texts: ReportedTexts<'_>,
+    out: &mut [u8],
+) -> Written
+    ensures { spec.IsReportedAnswer format is_first numbers.now (texts_view texts.entry) out.old out.new result }
+{
+    let text = match text_found(texts.text, numbers.place) {
+        Ok(text) => text,
+        Err(found) => return Written::none(found),
+    };
+    let seen = SeenText::new(text);
+    match diagnostic_read(numbers, texts, &seen) {
+        Ok(diagnostic) => given(&said(alloc, format, &diagnostic, is_first), out),
         Err(found) => Written::none(found),
     }
 }
@@ -68,71 +116,112 @@ fn said(
     diagnostic: &Diagnostic<'_>,
     is_first: bool,
 ) -> Result<String, AllocError>
-    ensures { IfOk result (λ text. string_bytes text ≡ diagnostic_text format is_first diagnostic.now) }
+    ensures { IfOk result (λ text. string_bytes text
+        ≡ diagnostic_text format is_first (diagnostic_view diagnostic.now)) }
 {
     let mut text = String::new(alloc);
-    push_diagnostic(alloc, &mut text, format, diagnostic, is_first)?;
+    push(alloc, &mut text, format, diagnostic, is_first)?;
     Ok(text)
 }
 
-// The diagnostic that the numbers and the bytes say, or why they say none.
-fn diagnostic_read<'t>(
-    format: Format,
-    violation: &Violation,
-    file: &'t [u8],
-    text: &'t [u8],
-    mended: &'t [u8],
-) -> Result<Diagnostic<'t>, Finding>
-    ensures { IsDiagnosticRead format violation.now file.now text.now mended.now result }
+// The text that is wrong at a place, or why these are none.
+fn text_found<'t>(bytes: &'t [u8], place: usize) -> Result<&'t str, Finding>
+    ensures { IsTextFound bytes.now place result }
 {
-    let found = violation_read(text, violation.profile, violation.rule, violation.place)?;
-    let file = text_of(file, CallOutcome::FileNoUtf8)?;
-    if !is_in_range(violation.line)
-        || !is_in_range(violation.column)
-        || !is_in_range(violation.end)
-    {
+    let text = text_of(bytes, CallOutcome::NoUtf8)?;
+    if place > count_code_points(text) {
+        return Err(Finding::plain(CallOutcome::NoPlace));
+    }
+    Ok(text)
+}
+
+// The diagnostic on this text, or why the others say none.
+fn diagnostic_read<'t>(
+    numbers: &ReportedNumbers,
+    texts: ReportedTexts<'t>,
+    text: &'t SeenText<'t>,
+) -> Result<Diagnostic<'t>, Finding>
+    ensures { IsDiagnosticRead numbers.now (texts_view texts.entry) text.now result }
+{
+    let file = text_of(texts.file, CallOutcome::FileNoUtf8)?;
+    let rule = text_of(texts.rule, CallOutcome::ReportedNoUtf8)?;
+    let uri = text_of(texts.uri, CallOutcome::ReportedNoUtf8)?;
+    let message = text_of(texts.message, CallOutcome::ReportedNoUtf8)?;
+    let within = text_of(texts.within, CallOutcome::ReportedNoUtf8)?;
+    if !is_region(numbers.region) {
         return Err(Finding::plain(CallOutcome::NoColumn));
     }
-    let mended = mended_read(format, violation, mended)?;
+    let fix = fix_read(numbers, texts.fix)?;
     Ok(Diagnostic {
         file,
-        line: violation.line,
-        column: violation.column,
-        end: violation.end,
-        profile: found.profile,
-        violation: found.violation,
-        text: found.text,
-        mended,
+        region: numbers.region,
+        rule,
+        uri,
+        message,
+        within,
+        text,
+        place: numbers.place,
+        repeat: numbers.repeat,
+        fix,
     })
 }
 
-// What a diagnostic in this format carries of the text to write.
-fn mended_read<'t>(
-    format: Format,
-    violation: &Violation,
-    mended: &'t [u8],
-) -> Result<Option<Mended<'t>>, Finding>
-    ensures { IsMendedRead format violation.now mended.now result }
+// What to write in place of the text, if the numbers say it, or why they don't.
+fn fix_read<'t>(numbers: &ReportedNumbers, fix: &'t [u8]) -> Result<Option<Fix<'t>>, Finding>
+    ensures { IsFixRead numbers.now fix.now result }
 {
-    if violation.kind == 0 {
+    if numbers.kind == 0 {
         return Ok(None);
     }
-    let Some(kind) = kind_of(violation.kind) else {
+    let Some(kind) = kind_of(numbers.kind) else {
         return Err(Finding::plain(CallOutcome::NoKind));
     };
-    let text = text_of(mended, CallOutcome::MendedNoUtf8)?;
-    if violation.has_region == 0 && format.writes_edits() {
-        return Ok(None);
-    }
-    if violation.has_region != 0
-        && !(is_in_range(violation.first_column) && is_in_range(violation.end_column))
-    {
-        return Err(Finding::plain(CallOutcome::NoColumn));
-    }
-    Ok(Some(Mended {
+    let text = text_of(fix, CallOutcome::MendedNoUtf8)?;
+    let region = fix_region_read(numbers.fix_region)?;
+    Ok(Some(Fix {
+        region,
         text,
         kind,
-        start: violation.first_column,
-        end: violation.end_column,
+        is_offered: numbers.offered != 0,
     }))
+}
+
+// Where a fix may be written, if it may be, or why the region is none.
+fn fix_region_read(region: Region) -> Result<Option<Region>, Finding>
+    ensures { IsFixRegionRead region result }
+{
+    if is_nowhere(region) {
+        return Ok(None);
+    }
+    if is_region(region) {
+        Ok(Some(region))
+    } else {
+        Err(Finding::plain(CallOutcome::NoColumn))
+    }
+}
+
+// Whether a region is of zeros.
+fn is_nowhere(region: Region) -> bool
+    ensures { result ≡ spec.is_nowhere region }
+{
+    region.line == 0 && region.column == 0 && region.end_line == 0 && region.end_column == 0
+}
+
+// Whether the lines and the columns of a region are in range, and it doesn't end before it begins.
+fn is_region(region: Region) -> bool
+    ensures { IsTrue result ↔ IsRegion region }
+{
+    is_in_range(region.line)
+        && is_in_range(region.column)
+        && is_in_range(region.end_line)
+        && is_in_range(region.end_column)
+        && is_in_order(region)
+}
+
+// Whether a region doesn't end before it begins.
+fn is_in_order(region: Region) -> bool
+    ensures { IsTrue result ↔ IsInOrder region }
+{
+    region.line < region.end_line
+        || (region.line == region.end_line && region.column <= region.end_column)
 }

@@ -1,18 +1,16 @@
 -- A diagnostic with the line that it is about, a caret below the place, and what to write in place of the line. Of a
 -- line that isn't checked and of which no text is carried, as of one that is too long, the diagnostic is alone.
-use Rattle.std.specs.Prelude.{ℕ, Bool, true, false, not, ◌==◌, List, [], ◌++◌, codes, if◌then◌else◌, length, replicate}
-use Rattle.std.specs.Prelude.{take, Option, Some, None}
+use Rattle.std.specs.Prelude.{ℕ, Bool, true, false, not, ◌==◌, ◌||◌, List, [], ◌++◌, codes, if◌then◌else◌, is_none}
+use Rattle.std.specs.Prelude.{length, replicate, take, Option, Some, None}
 use Rattle.std.specs.List.{flat_map}
 use Rattle.std.specs.Str.{chars}
 use Rattle.uv_model.specs.declared.mend_kind.MendKind.{MendKind}
 use Rattle.uv_model.specs.declared.mend_kind.MendKind.TheVariants.{Same, Escaped, Changed}
-use Rattle.uv_report.specs.Entry.{EntryView, FixView}
+use Rattle.uv_report.specs.Diagnostic.{DiagnosticView, FixView}
 use Rattle.uv_report.specs.declared.escaping.escapes.Escapes.TheVariants.{Shown}
-use Rattle.uv_report.specs.declared.line_violation.LineViolation.{LineViolation}
-use Rattle.uv_report.specs.declared.line_violation.LineViolation.TheVariants.{Refused}
 use Rattle.uv_report.specs.Places.Column.{shown_width}
 use Rattle.uv_report.specs.Escaping.Escapes.{escaped}
-use Rattle.uv_report.specs.LineViolation.{violation_place}
+use Rattle.uv_report.specs.LineViolation.{named_violation}
 use Rattle.uv_report.specs.Formats.Gnu.{gnu_text}
 use Rattle.uv_report.specs.Places.Window.{window, window_place}
 
@@ -32,15 +30,14 @@ caret_lines line place = escaped Shown line ++ (codes "\n" ++ (padding (take pla
 unfoldable pub window_lines : List ℕ → ℕ → List ℕ
 window_lines line place = caret_lines (window line place) (window_place line place)
 
--- the diagnostic carries the text that is wrong: one that is refused, also an empty one, or else what isn't empty
-abbrev pub shows_line : LineViolation → List ℕ → Bool
-shows_line (Refused refusal) line = true
-shows_line violation line = not (length line == 0)
+-- the diagnostic carries the text that is wrong: one that isn't empty, or also an empty one, but by the rules of lines
+-- that aren't checked
+abbrev pub shows_line : List ℕ → List ℕ → Bool
+shows_line rule line = not (length line == 0) || is_none (named_violation rule)
 
 -- the two lines, where it carries that
-abbrev pub shown_lines : LineViolation → List ℕ → List ℕ
-shown_lines violation line =
-    if shows_line violation line then window_lines line (violation_place violation) else []
+abbrev pub shown_lines : List ℕ → List ℕ → ℕ → List ℕ
+shown_lines rule line place = if shows_line rule line then window_lines line place else []
 
 -- how a mended text is named that isn't offered, by how it is to the refused one
 abbrev pub named_as : MendKind → List ℕ
@@ -63,6 +60,6 @@ help_text place None = []
 help_text place (Some fix) = help_line (help_words fix.is_offered fix.kind) place fix.text
 
 -- the line of the format `gnu`, these two, and that one
-unfoldable pub caret_text : EntryView → List ℕ
-caret_text entry =
-    gnu_text entry ++ (shown_lines entry.violation entry.text ++ help_text (violation_place entry.violation) entry.fix)
+unfoldable pub caret_text : DiagnosticView → List ℕ
+caret_text found =
+    gnu_text found ++ (shown_lines found.rule found.text found.place ++ help_text found.place found.fix)

@@ -1,9 +1,8 @@
 -- A diagnostic as an element of a document of Checkstyle, in XML 1.0.
 use Rattle.std.specs.Prelude.{ℕ, List, ◌++◌, codes, decimal}
 use Rattle.uv_report.specs.declared.escaping.escapes.Escapes.TheVariants.{Attribute}
-use Rattle.uv_report.specs.Entry.{EntryView}
+use Rattle.uv_report.specs.Diagnostic.{DiagnosticView}
 use Rattle.uv_report.specs.Escaping.Escapes.{escaped}
-use Rattle.uv_report.specs.LineViolation.{violation_name}
 
 -- what a document begins with
 abbrev pub document_begin : List ℕ
@@ -22,8 +21,8 @@ abbrev pub file_end : List ℕ
 file_end = codes "</file>\n"
 
 -- the element of a diagnostic: the line, the column, the message and what it comes from
-unfoldable pub checkstyle_text : EntryView → List ℕ
-checkstyle_text entry =
-    codes "<error line=\"" ++ (decimal entry.line ++ (codes "\" column=\"" ++ (decimal entry.column
-    ++ (codes "\" severity=\"error\" message=\"" ++ (escaped Attribute entry.message ++ (codes "\" source=\"urlcheck."
-    ++ (escaped Attribute (violation_name entry.violation) ++ codes "\"/>\n")))))))
+unfoldable pub checkstyle_text : DiagnosticView → List ℕ
+checkstyle_text found =
+    codes "<error line=\"" ++ (decimal found.region.line ++ (codes "\" column=\"" ++ (decimal found.region.column
+    ++ (codes "\" severity=\"error\" message=\"" ++ (escaped Attribute found.message ++ (codes "\" source=\"urlcheck."
+    ++ (escaped Attribute found.rule ++ codes "\"/>\n")))))))

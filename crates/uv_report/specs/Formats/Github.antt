@@ -1,14 +1,13 @@
 -- A diagnostic as a workflow command of GitHub (Workflow commands for GitHub Actions, Setting an error message).
 use Rattle.std.specs.Prelude.{ℕ, List, ◌++◌, codes, decimal}
 use Rattle.uv_report.specs.declared.escaping.escapes.Escapes.TheVariants.{Message, Property}
-use Rattle.uv_report.specs.Entry.{EntryView}
+use Rattle.uv_report.specs.Diagnostic.{DiagnosticView}
 use Rattle.uv_report.specs.Escaping.Escapes.{escaped}
-use Rattle.uv_report.specs.LineViolation.{violation_name}
 
 -- `::error file=FILE,line=LINE,col=COLUMN,title=RULE::SENTENCE` and a line feed
-unfoldable pub github_text : EntryView → List ℕ
-github_text entry =
-    codes "::error file=" ++ (escaped Property entry.file ++ (codes ",line=" ++ (decimal entry.line
-    ++ (codes ",col=" ++ (decimal entry.column ++ (codes ",title="
-    ++ (escaped Property (violation_name entry.violation) ++ (codes "::"
-    ++ (escaped Message entry.message ++ codes "\n")))))))))
+unfoldable pub github_text : DiagnosticView → List ℕ
+github_text found =
+    codes "::error file=" ++ (escaped Property found.file ++ (codes ",line=" ++ (decimal found.region.line
+    ++ (codes ",col=" ++ (decimal found.region.column ++ (codes ",title="
+    ++ (escaped Property found.rule ++ (codes "::"
+    ++ (escaped Message found.message ++ codes "\n")))))))))

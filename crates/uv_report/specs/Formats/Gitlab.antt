@@ -2,11 +2,10 @@
 -- Code Quality, report format).
 use Rattle.std.specs.Prelude.{ℕ, Bool, List, ◌++◌, codes}
 use Rattle.json.specs.Json.{Json, member, no_members, object, string}
-use Rattle.uv_report.specs.Entry.{EntryView}
-use Rattle.uv_report.specs.Formats.Fingerprint.{place_fingerprint}
+use Rattle.uv_report.specs.Diagnostic.{DiagnosticView}
+use Rattle.uv_report.specs.Formats.Fingerprint.{file_fingerprint}
 use Rattle.uv_report.specs.Formats.Sarif.{separator}
 use Rattle.uv_report.specs.Json.{json_text, whole}
-use Rattle.uv_report.specs.LineViolation.{violation_name}
 
 -- what the array begins with
 abbrev pub gitlab_begin : List ℕ
@@ -17,20 +16,20 @@ abbrev pub gitlab_end : List ℕ
 gitlab_end = codes "]\n"
 
 -- the line at which a diagnostic is, and the file
-abbrev pub location_value : EntryView → Json
-location_value entry =
-    object (member (codes "lines") (object (member (codes "begin") (whole entry.line) no_members))
-    (member (codes "path") (string entry.file) no_members))
+abbrev pub location_value : DiagnosticView → Json
+location_value found =
+    object (member (codes "lines") (object (member (codes "begin") (whole found.region.line) no_members))
+    (member (codes "path") (string found.file) no_members))
 
 -- the issue of a diagnostic; the third of the five severities stands for an error
-abbrev pub issue_value : EntryView → Json
-issue_value entry =
-    object (member (codes "check_name") (string (violation_name entry.violation))
-    (member (codes "description") (string entry.message)
-    (member (codes "fingerprint") (string (place_fingerprint entry))
-    (member (codes "location") (location_value entry)
+abbrev pub issue_value : DiagnosticView → Json
+issue_value found =
+    object (member (codes "check_name") (string found.rule)
+    (member (codes "description") (string found.message)
+    (member (codes "fingerprint") (string (file_fingerprint found))
+    (member (codes "location") (location_value found)
     (member (codes "severity") (string (codes "major")) no_members)))))
 
 -- its text after a comma where it isn't the first, and a line feed
-unfoldable pub gitlab_text : Bool → EntryView → List ℕ
-gitlab_text is_first entry = separator is_first ++ (json_text (issue_value entry) ++ codes "\n")
+unfoldable pub gitlab_text : Bool → DiagnosticView → List ℕ
+gitlab_text is_first found = separator is_first ++ (json_text (issue_value found) ++ codes "\n")

@@ -1,46 +1,49 @@
 -- A diagnostic as an object of JSON.
-use Rattle.std.specs.Prelude.{ℕ, List, ◌++◌, codes, Option, Some, None}
-use Rattle.json.specs.Json.{Json, boolean, member, no_members, object, string}
+use Rattle.std.specs.Prelude.{ℕ, Bool, List, ◌++◌, codes, Option, Some, None}
+use Rattle.json.specs.Json.{Json, Members, boolean, member, no_members, object, string}
 use Rattle.uv_model.specs.MendKindName.{kind_name}
-use Rattle.uv_report.specs.Entry.{EntryView, FixView}
+use Rattle.uv_report.specs.Diagnostic.{DiagnosticView, FixView, carried_text}
 use Rattle.uv_report.specs.Json.{json_text, whole}
-use Rattle.uv_report.specs.LineViolation.{violation_name}
 use Rattle.uv_report.specs.Places.Window.{is_cut}
 
 -- the object of a diagnostic, by its members' names; a text is escaped by JSON alone
-abbrev pub plain_value : EntryView → Json
-plain_value entry =
-    object (member (codes "column") (whole entry.column)
-    (member (codes "cut") (boolean (is_cut entry.text))
-    (member (codes "file") (string entry.file)
-    (member (codes "line") (whole entry.line)
-    (member (codes "message") (string entry.message)
-    (member (codes "rule") (string (violation_name entry.violation))
-    (member (codes "text") (string entry.carried) no_members)))))))
+abbrev pub plain_value : DiagnosticView → Json
+plain_value found =
+    object (member (codes "column") (whole found.region.column)
+    (member (codes "cut") (boolean (is_cut found.text))
+    (member (codes "file") (string found.file)
+    (member (codes "line") (whole found.region.line)
+    (member (codes "message") (string found.message)
+    (member (codes "rule") (string found.rule)
+    (member (codes "text") (string (carried_text found)) no_members)))))))
+
+-- the message, whether a mended text is offered, the rule, and what is carried of the text
+unfoldable pub offered_members : DiagnosticView → Bool → Members
+offered_members found is_offered =
+    member (codes "message") (string found.message)
+    (member (codes "offered") (boolean is_offered)
+    (member (codes "rule") (string found.rule)
+    (member (codes "text") (string (carried_text found)) no_members)))
 
 -- with how a mended text is to the refused one, the mended text, which is whole, and whether it is offered
-abbrev pub mended_value : EntryView → FixView → Json
-mended_value entry fix =
-    object (member (codes "column") (whole entry.column)
-    (member (codes "cut") (boolean (is_cut entry.text))
-    (member (codes "file") (string entry.file)
+abbrev pub mended_value : DiagnosticView → FixView → Json
+mended_value found fix =
+    object (member (codes "column") (whole found.region.column)
+    (member (codes "cut") (boolean (is_cut found.text))
+    (member (codes "file") (string found.file)
     (member (codes "kind") (string (kind_name fix.kind))
-    (member (codes "line") (whole entry.line)
-    (member (codes "mended") (string fix.text)
-    (member (codes "message") (string entry.message)
-    (member (codes "offered") (boolean fix.is_offered)
-    (member (codes "rule") (string (violation_name entry.violation))
-    (member (codes "text") (string entry.carried) no_members))))))))))
+    (member (codes "line") (whole found.region.line)
+    (member (codes "mended") (string fix.text) (offered_members found fix.is_offered)))))))
 
 -- by whether there is one
-abbrev pub value_with : EntryView → Option FixView → Json
-value_with entry None = plain_value entry
-value_with entry (Some fix) = mended_value entry fix
+abbrev pub value_with : DiagnosticView → Option FixView → Json
+value_with found None = plain_value found
+value_with found (Some fix) = mended_value found fix
 
 -- the object of a diagnostic
-abbrev pub json_value : EntryView → Json
-json_value entry = value_with entry entry.fix
+abbrev pub json_value : DiagnosticView → Json
+json_value found = value_with found found.fix
 
 -- its text, and a line feed
-unfoldable pub json_line : EntryView → List ℕ
-json_line entry = json_text (json_value entry) ++ codes "\n"
+unfoldable pub json_line : DiagnosticView → List ℕ
+json_line found = json_text (json_value found) ++ codes "\n"

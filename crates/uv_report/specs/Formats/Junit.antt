@@ -3,9 +3,8 @@ use Rattle.std.specs.Prelude.{ℕ, List, ◌++◌, codes, decimal}
 use Rattle.uv_report.specs.declared.completion.Completion.{Completion}
 use Rattle.uv_report.specs.declared.completion.Completion.TheVariants.{Whole, Unread, Stopped}
 use Rattle.uv_report.specs.declared.escaping.escapes.Escapes.TheVariants.{Attribute}
-use Rattle.uv_report.specs.Entry.{EntryView}
+use Rattle.uv_report.specs.Diagnostic.{DiagnosticView, carried_text}
 use Rattle.uv_report.specs.Escaping.Escapes.{escaped}
-use Rattle.uv_report.specs.LineViolation.{violation_name}
 
 -- ---- the document
 
@@ -40,19 +39,19 @@ suite_end = codes "</testsuite>\n"
 -- ---- a diagnostic
 
 -- the start tag of its test, which is named by the place and the rule
-unfoldable pub case_begin : EntryView → List ℕ
-case_begin entry =
-    codes "<testcase classname=\"" ++ (escaped Attribute entry.file ++ (codes "\" name=\""
-    ++ (decimal entry.line ++ (codes ":" ++ (decimal entry.column ++ (codes " "
-    ++ (violation_name entry.violation ++ codes "\">")))))))
+unfoldable pub case_begin : DiagnosticView → List ℕ
+case_begin found =
+    codes "<testcase classname=\"" ++ (escaped Attribute found.file ++ (codes "\" name=\""
+    ++ (decimal found.region.line ++ (codes ":" ++ (decimal found.region.column ++ (codes " "
+    ++ (escaped Attribute found.rule ++ codes "\">")))))))
 
 -- the failure: its rule, its message, and the text that is wrong, as far as a report carries it
-unfoldable pub failure : EntryView → List ℕ
-failure entry =
-    codes "<failure type=\"" ++ (violation_name entry.violation ++ (codes "\" message=\""
-    ++ (escaped Attribute entry.message ++ (codes "\">"
-    ++ (escaped Attribute entry.carried ++ codes "</failure></testcase>\n")))))
+unfoldable pub failure : DiagnosticView → List ℕ
+failure found =
+    codes "<failure type=\"" ++ (escaped Attribute found.rule ++ (codes "\" message=\""
+    ++ (escaped Attribute found.message ++ (codes "\">"
+    ++ (escaped Attribute (carried_text found) ++ codes "</failure></testcase>\n")))))
 
 -- the test
-unfoldable pub junit_text : EntryView → List ℕ
-junit_text entry = case_begin entry ++ failure entry
+unfoldable pub junit_text : DiagnosticView → List ℕ
+junit_text found = case_begin found ++ failure found

@@ -1,6 +1,7 @@
 -- A diagnostic as a result of SARIF 2.1.0 (sections 3.27 to 3.30, and 3.55 to 3.57), and the document round the
 -- results.
-use Rattle.std.specs.Prelude.{ℕ, Bool, true, false, List, [], ◌++◌, codes, flat_map, Option, Some, None}
+use Rattle.std.specs.Prelude.{ℕ, ◌==◌, Bool, true, false, List, [], ◌++◌, codes, flat_map, if◌then◌else◌, length}
+use Rattle.std.specs.Prelude.{Option, Some, None}
 use Rattle.json.specs.Json.{Json, Members, boolean, member, no_members, object, string}
 use Rattle.uv_model.specs.declared.mend_kind.MendKind.{MendKind}
 use Rattle.uv_model.specs.declared.mend_kind.MendKind.TheVariants.{Same, Escaped, Changed}
@@ -9,18 +10,18 @@ use Rattle.uv_model.specs.Violations.Rule.{rules_in_order}
 use Rattle.uv_report.specs.declared.places.column.Columns.{Columns}
 use Rattle.uv_report.specs.declared.places.column.Columns.TheVariants.{CodePoints, Utf16}
 use Rattle.uv_report.specs.declared.completion.Completion.{Completion}
+use Rattle.uv_report.specs.declared.diagnostic.Region.{Region}
 use Rattle.uv_report.specs.declared.completion.Completion.TheVariants.{Whole, Unread, Stopped}
 use Rattle.uv_report.specs.declared.line_violation.LineViolation.{LineViolation}
 use Rattle.uv_report.specs.declared.line_violation.LineViolation.TheVariants.{Refused, NotUtf8, TooLong, NotLocated}
 use Rattle.uv_report.specs.declared.located_fault.LocatedFault.TheVariants.{NoFile}
-use Rattle.uv_report.specs.Entry.{EntryView, FixView, offered}
+use Rattle.uv_report.specs.Diagnostic.{DiagnosticView, FixView, carried_text, edit_of}
 use Rattle.uv_report.specs.Escaping.Uri.{uri_path}
 use Rattle.uv_report.specs.Formats.Fingerprint.{text_fingerprint}
 use Rattle.uv_report.specs.Json.{json_text, object_of, single, whole}
-use Rattle.uv_report.specs.LineViolation.{violation_help, violation_index, violation_name, violation_sentence}
-use Rattle.uv_report.specs.LineViolation.{violation_uri}
+use Rattle.uv_report.specs.LineViolation.{rule_index, violation_help, violation_name, violation_sentence}
+use Rattle.uv_report.specs.LineViolation.{violation_address}
 use Rattle.uv_report.specs.Places.Window.{is_cut}
-use Rattle.uv_report.specs.Rules.Page.{address, rule_page}
 
 -- a text for people
 abbrev pub message : List ℕ → Json
@@ -28,15 +29,28 @@ message text = object_of (codes "text") text
 
 -- ---- the rules (section 3.49)
 
--- the rule of a violation, with where what it asks is in the URL Standard
-abbrev pub rule_value : LineViolation → Json
-rule_value violation =
+-- the rule's name, and what is wrong where it is violated
+abbrev pub named_members : LineViolation → Members
+named_members violation =
+    member (codes "id") (string (violation_name violation))
+    (member (codes "shortDescription") (message (violation_sentence violation)) no_members)
+
+-- a rule that is in no section of the URL Standard, and one that is in the section with this address
+abbrev pub line_rule : LineViolation → Json
+line_rule violation =
+    object (member (codes "fullDescription") (message (violation_help violation))
+    (member (codes "help") (message (violation_help violation)) (named_members violation)))
+
+abbrev pub text_rule : LineViolation → Json
+text_rule violation =
     object (member (codes "fullDescription") (message (violation_help violation))
     (member (codes "help") (message (violation_help violation))
-    (member (codes "helpUri") (string (rule_page violation))
-    (member (codes "id") (string (violation_name violation))
-    (member (codes "properties") (object_of (codes "section") (violation_uri violation))
-    (member (codes "shortDescription") (message (violation_sentence violation)) no_members))))))
+    (member (codes "helpUri") (string (violation_address violation)) (named_members violation))))
+
+-- the rule of a violation
+unfoldable pub rule_value : LineViolation → Json
+rule_value violation =
+    if length (violation_address violation) == 0 then line_rule violation else text_rule violation
 
 -- its text
 unfoldable pub rule_text : LineViolation → List ℕ
@@ -60,11 +74,9 @@ column_kind CodePoints = codes "\"columnKind\":\"unicodeCodePoints\","
 column_kind Utf16 = codes "\"columnKind\":\"utf16CodeUnits\","
 column_kind _ = []
 
--- the tool up to its rules (section 3.19): where it is told of, its name and its version
-unfoldable pub driver_begin : List ℕ
-driver_begin =
-    codes "\"tool\":{\"driver\":{\"informationUri\":\"" ++ (address
-    ++ codes "/\",\"name\":\"urlcheck\",\"version\":\"0.4.0\",\"rules\":[")
+-- the tool up to its rules (section 3.19): its name and its version
+abbrev pub driver_begin : List ℕ
+driver_begin = codes "\"tool\":{\"driver\":{\"name\":\"urlcheck\",\"version\":\"0.4.0\",\"rules\":["
 
 -- what it begins with
 unfoldable pub sarif_begin : Columns → List ℕ
@@ -92,41 +104,58 @@ sarif_end completion = codes "],\"invocations\":[{" ++ (invocation completion ++
 
 -- ---- the results
 
--- between which columns of the line with this number something is (section 3.30)
-abbrev pub region_value : ℕ → ℕ → ℕ → Json
-region_value line start end =
-    object (member (codes "endColumn") (whole end)
-    (member (codes "startColumn") (whole start)
-    (member (codes "startLine") (whole line) no_members)))
+-- what is in one line (section 3.30)
+abbrev pub line_region : Region → Json
+line_region region =
+    object (member (codes "endColumn") (whole region.end_column)
+    (member (codes "startColumn") (whole region.column)
+    (member (codes "startLine") (whole region.line) no_members)))
 
--- a file: its name as the path of a URI reference
+-- what ends in another line than it begins in
+abbrev pub lines_region : Region → Json
+lines_region region =
+    object (member (codes "endColumn") (whole region.end_column)
+    (member (codes "endLine") (whole region.end_line)
+    (member (codes "startColumn") (whole region.column)
+    (member (codes "startLine") (whole region.line) no_members))))
+
+-- where something is
+abbrev pub region_value : Region → Json
+region_value region = if region.end_line == region.line then line_region region else lines_region region
+
+-- a file, by the path of a URI reference
 abbrev pub artifact_value : List ℕ → Json
-artifact_value file = object_of (codes "uri") (uri_path file)
+artifact_value uri = object_of (codes "uri") uri
 
--- where a diagnostic is
-abbrev pub location_value : EntryView → Json
-location_value entry =
+-- where in that file a diagnostic is
+abbrev pub location_value : List ℕ → Region → Json
+location_value uri region =
     object (member (codes "physicalLocation")
-    (object (member (codes "artifactLocation") (artifact_value entry.file)
-    (member (codes "region") (region_value entry.line entry.column entry.end) no_members))) no_members)
+    (object (member (codes "artifactLocation") (artifact_value uri)
+    (member (codes "region") (region_value region) no_members))) no_members)
+
+-- where the rule is among those of the document; no member for one that isn't among them
+abbrev pub index_members : Option ℕ → Members
+index_members None = no_members
+index_members (Some index) = member (codes "ruleIndex") (whole index) no_members
 
 -- what is carried of the text, and the violated rule
-unfoldable pub violation_members : EntryView → Members
-violation_members entry =
-    member (codes "properties") (object (member (codes "cut") (boolean (is_cut entry.text))
-    (member (codes "text") (string entry.carried) no_members)))
-    (member (codes "ruleId") (string (violation_name entry.violation))
-    (member (codes "ruleIndex") (whole (violation_index entry.violation)) no_members))
+unfoldable pub violation_members : DiagnosticView → Members
+violation_members found =
+    member (codes "properties") (object (member (codes "cut") (boolean (is_cut found.text))
+    (member (codes "text") (string (carried_text found)) no_members)))
+    (member (codes "ruleId") (string found.rule)
+    (index_members (rule_index found.rule)))
 
 -- The members of each result. What tells it from another in a later run too, wherever it is then (section 3.27.17), is
 -- by a name whose number rises where it is made in another way.
-abbrev pub result_members : EntryView → Members
-result_members entry =
+abbrev pub result_members : DiagnosticView → Members
+result_members found =
     member (codes "level") (string (codes "error"))
-    (member (codes "locations") (single (location_value entry))
-    (member (codes "message") (message entry.message)
-    (member (codes "partialFingerprints") (object_of (codes "urlcheckText/v1") (text_fingerprint entry))
-    (violation_members entry))))
+    (member (codes "locations") (single (location_value (uri_path found.file) found.region))
+    (member (codes "message") (message found.message)
+    (member (codes "partialFingerprints") (object_of (codes "urlcheckText/v1") (text_fingerprint found))
+    (violation_members found))))
 
 -- ---- the fix of a result (sections 3.55 to 3.57)
 
@@ -136,32 +165,34 @@ fix_sentence Same = codes "write the same URL as a valid URL string"
 fix_sentence Escaped = codes "percent-encode what is not allowed in a URL string"
 fix_sentence Changed = codes "write a valid URL string, which may be another URL"
 
--- the mended text in place of all of the text, which is in the line with this number
-abbrev pub replacement_value : ℕ → FixView → Json
-replacement_value line fix =
-    object (member (codes "deletedRegion") (region_value line fix.start fix.end)
-    (member (codes "insertedContent") (message fix.text) no_members))
+-- a text in place of what is in this region
+unfoldable pub inserted_members : List ℕ → Members
+inserted_members text = member (codes "insertedContent") (message text) no_members
 
--- the same, in the file of the diagnostic
-abbrev pub change_value : EntryView → FixView → Json
-change_value entry fix =
-    object (member (codes "artifactLocation") (artifact_value entry.file)
-    (member (codes "replacements") (single (replacement_value entry.line fix)) no_members))
+unfoldable pub replacement_value : Region → List ℕ → Json
+replacement_value region text =
+    object (member (codes "deletedRegion") (region_value region) (inserted_members text))
 
--- this change, and what it does
-abbrev pub fix_value : EntryView → FixView → Json
-fix_value entry fix =
-    object (member (codes "artifactChanges") (single (change_value entry fix))
-    (member (codes "description") (message (fix_sentence fix.kind)) no_members))
+-- the same, in a file
+abbrev pub change_value : List ℕ → Region → List ℕ → Json
+change_value uri region text =
+    object (member (codes "artifactLocation") (artifact_value uri)
+    (member (codes "replacements") (single (replacement_value region text)) no_members))
 
--- this fix before the members of each result; no member where nothing is offered
-abbrev pub members_with : EntryView → Option FixView → Members
-members_with entry None = result_members entry
-members_with entry (Some fix) = member (codes "fixes") (single (fix_value entry fix)) (result_members entry)
+-- the mended text in place of all of the text, and what that does
+abbrev pub fix_value : List ℕ → Region × FixView → Json
+fix_value uri edit =
+    object (member (codes "artifactChanges") (single (change_value uri edit.0 edit.1.text))
+    (member (codes "description") (message (fix_sentence edit.1.kind)) no_members))
+
+-- this fix before the members of each result; no member where nothing is offered, or may be written there
+abbrev pub members_with : DiagnosticView → Option (Region × FixView) → Members
+members_with found None = result_members found
+members_with found (Some edit) = member (codes "fixes") (single (fix_value (uri_path found.file) edit)) (result_members found)
 
 -- the result of a diagnostic: its fix writes the mended text that is offered
-abbrev pub result_value : EntryView → Json
-result_value entry = object (members_with entry (offered entry.fix))
+abbrev pub result_value : DiagnosticView → Json
+result_value found = object (members_with found (edit_of found.fix))
 
 -- a comma before each result but the first
 abbrev pub separator : Bool → List ℕ
@@ -169,5 +200,5 @@ separator true = []
 separator false = codes ","
 
 -- its text after a comma where it isn't the first, and a line feed
-unfoldable pub sarif_text : Bool → EntryView → List ℕ
-sarif_text is_first entry = separator is_first ++ (json_text (result_value entry) ++ codes "\n")
+unfoldable pub sarif_text : Bool → DiagnosticView → List ℕ
+sarif_text is_first found = separator is_first ++ (json_text (result_value found) ++ codes "\n")

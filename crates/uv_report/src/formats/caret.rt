@@ -3,13 +3,13 @@ ghost use Rattle.std.specs.Prelude.{◌≡◌, ◌++◌, OnOk, option_map, repli
 ghost use Rattle.std.specs.List.{flat_map};
 ghost use Rattle.std.specs.Str.{chars};
 ghost use Rattle.uv_report.specs.Escaping.Escapes.{shown_text};
-ghost use Rattle.uv_report.specs.Entry.{entry_view, fix_view};
+ghost use Rattle.uv_report.specs.Diagnostic.{diagnostic_view, fix_view};
 ghost use Rattle.uv_report.specs.Places.Window.{window};
 ghost use Rattle.uv_report.specs.Formats.Caret.{below, caret_lines, caret_text, help_line, help_text, help_words};
 ghost use Rattle.uv_report.specs.Formats.Caret.{named_as};
 ghost use Rattle.uv_report.specs.Formats.Caret.{padding, shown_lines, shows_line, window_lines};
 
-use crate::entry::{Entry, Fix};
+use crate::diagnostic::{Diagnostic, Fix};
 use crate::escaping::escapes::push_shown as push_shown_text;
 use crate::escaping::printable::is_printable_text;
 use crate::formats::gnu::push_gnu;
@@ -30,41 +30,33 @@ const SPACES: &str =
 pub(crate) fn push_caret(
     alloc: Global,
     text: &mut String,
-    entry: &Entry<'_>,
+    found: &Diagnostic<'_>,
 ) -> Result<(), AllocError>
-    ensures { OnOk result (string_bytes text.new ≡ string_bytes text.old ++ caret_text (entry_view entry.now)) }
+    ensures { OnOk result (string_bytes text.new ≡ string_bytes text.old ++ caret_text (diagnostic_view found.now)) }
 {
-    push_gnu(alloc, text, entry)?;
-    push_shown(alloc, text, entry.text, entry.violation)?;
-    push_help(alloc, text, entry.violation.place(), entry.fix)?;
+    push_gnu(alloc, text, found)?;
+    push_shown(alloc, text, found)?;
+    push_help(alloc, text, found.place, found.fix)?;
     Ok(())
 }
 
 // Pushes what is shown of a line, and a caret below the place, where the text that is wrong is carried.
-fn push_shown(
-    alloc: Global,
-    text: &mut String,
-    line: &SeenText<'_>,
-    violation: LineViolation,
-) -> Result<(), AllocError>
-    ensures { OnOk result (string_bytes text.new ≡ string_bytes text.old ++ shown_lines violation line.now) }
+fn push_shown(alloc: Global, text: &mut String, found: &Diagnostic<'_>) -> Result<(), AllocError>
+    ensures { OnOk result (string_bytes text.new
+        ≡ string_bytes text.old ++ shown_lines found.now.rule.now found.now.text.now found.now.place) }
 {
-    if !shows_line(line, violation) {
+    if !shows_line(found.rule, found.text.as_str()) {
         return Ok(());
     }
-    push_window(alloc, text, line, violation.place())
+    push_window(alloc, text, found.text, found.place)
 }
 
-// Whether the text that is wrong is carried: one that is refused, also an empty one, or else what isn't empty.
-fn shows_line(line: &SeenText<'_>, violation: LineViolation) -> bool
-    ensures { result ≡ shows_line violation line.now }
+// Whether the text that is wrong is carried: one that isn't empty, or also an empty one, but by the rules of lines that
+// aren't checked.
+fn shows_line(rule: &str, line: &str) -> bool
+    ensures { result ≡ shows_line rule.now line.now }
 {
-    match violation {
-        LineViolation::Refused(_) => true,
-        LineViolation::NotUtf8(_) | LineViolation::TooLong | LineViolation::NotLocated(_) => {
-            !line.as_str().is_empty()
-        }
-    }
+    !line.is_empty() || LineViolation::of_name(rule).is_none()
 }
 
 // Pushes what is shown of a line, and a caret below one of the line's places. A line that is shown whole isn't copied.

@@ -1,9 +1,9 @@
 //! Diagnostics as a document of Checkstyle, in XML.
 ghost use Rattle.std.specs.Prelude.{◌≡◌, ◌++◌, OnOk, string_bytes};
-ghost use Rattle.uv_report.specs.Entry.{entry_view};
+ghost use Rattle.uv_report.specs.Diagnostic.{diagnostic_view};
 ghost use Rattle.uv_report.specs.Formats.Checkstyle.{checkstyle_text, file_begin};
 
-use crate::entry::Entry;
+use crate::diagnostic::Diagnostic;
 use crate::escaping::escapes::{Escapes, escaped, push_escaped};
 use std::alloc::{AllocError, Global};
 
@@ -23,14 +23,14 @@ pub(crate) fn push_checkstyle_file(text: &mut String, file: &str) -> Result<(), 
 pub(crate) fn push_checkstyle(
     alloc: Global,
     text: &mut String,
-    entry: &Entry<'_>,
+    found: &Diagnostic<'_>,
 ) -> Result<(), AllocError>
-    ensures { OnOk result (string_bytes text.new ≡ string_bytes text.old ++ checkstyle_text (entry_view entry.now)) }
+    ensures { OnOk result (string_bytes text.new ≡ string_bytes text.old ++ checkstyle_text (diagnostic_view found.now)) }
 {
-    let line = entry.line;
-    let column = entry.column;
-    let message = escaped(alloc, entry.message, Escapes::Attribute)?;
-    let rule = escaped(alloc, entry.violation.name(), Escapes::Attribute)?;
+    let line = found.region.line;
+    let column = found.region.column;
+    let message = escaped(alloc, found.message, Escapes::Attribute)?;
+    let rule = escaped(alloc, found.rule, Escapes::Attribute)?;
     let element = format!(in alloc;
         "<error line=\"{line}\" column=\"{column}\" severity=\"error\" message=\"{message}\" \
         source=\"urlcheck.{rule}\"/>\n"

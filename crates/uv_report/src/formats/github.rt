@@ -1,9 +1,9 @@
 //! Diagnostics as workflow commands of GitHub.
 ghost use Rattle.std.specs.Prelude.{◌≡◌, ◌++◌, OnOk, string_bytes};
-ghost use Rattle.uv_report.specs.Entry.{entry_view};
+ghost use Rattle.uv_report.specs.Diagnostic.{diagnostic_view};
 ghost use Rattle.uv_report.specs.Formats.Github.{github_text};
 
-use crate::entry::Entry;
+use crate::diagnostic::Diagnostic;
 use crate::escaping::escapes::{Escapes, escaped};
 use std::alloc::{AllocError, Global};
 
@@ -12,15 +12,15 @@ use std::alloc::{AllocError, Global};
 pub(crate) fn push_github(
     alloc: Global,
     text: &mut String,
-    entry: &Entry<'_>,
+    found: &Diagnostic<'_>,
 ) -> Result<(), AllocError>
-    ensures { OnOk result (string_bytes text.new ≡ string_bytes text.old ++ github_text (entry_view entry.now)) }
+    ensures { OnOk result (string_bytes text.new ≡ string_bytes text.old ++ github_text (diagnostic_view found.now)) }
 {
-    let line = entry.line;
-    let column = entry.column;
-    let file = escaped(alloc, entry.file, Escapes::Property)?;
-    let rule = escaped(alloc, entry.violation.name(), Escapes::Property)?;
-    let message = escaped(alloc, entry.message, Escapes::Message)?;
+    let line = found.region.line;
+    let column = found.region.column;
+    let file = escaped(alloc, found.file, Escapes::Property)?;
+    let rule = escaped(alloc, found.rule, Escapes::Property)?;
+    let message = escaped(alloc, found.message, Escapes::Message)?;
     let command = format!(in alloc;
         "::error file={file},line={line},col={column},title={rule}::{message}\n"
     )?;

@@ -1,11 +1,11 @@
 //! Diagnostics as a report of GitLab on the quality of code, which is written issue by issue.
 ghost use Rattle.json.specs.Tree.{json_tokens};
 ghost use Rattle.std.specs.Prelude.{◌≡◌, ◌++◌, OnOk, string_bytes};
-ghost use Rattle.uv_report.specs.Entry.{entry_view};
+ghost use Rattle.uv_report.specs.Diagnostic.{diagnostic_view};
 ghost use Rattle.uv_report.specs.Formats.Gitlab as spec;
 
-use crate::entry::Entry;
-use crate::formats::fingerprint::place_fingerprint;
+use crate::diagnostic::Diagnostic;
+use crate::formats::fingerprint::file_fingerprint;
 use crate::formats::sarif::separator;
 use crate::json_text::JsonText;
 use std::alloc::{AllocError, Global};
@@ -15,14 +15,14 @@ use std::alloc::{AllocError, Global};
 pub(crate) fn push_gitlab(
     alloc: Global,
     text: &mut String,
-    entry: &Entry<'_>,
+    found: &Diagnostic<'_>,
     is_first: bool,
 ) -> Result<(), AllocError>
     ensures { OnOk result (string_bytes text.new
-        ≡ string_bytes text.old ++ spec.gitlab_text is_first (entry_view entry.now)) }
+        ≡ string_bytes text.old ++ spec.gitlab_text is_first (diagnostic_view found.now)) }
 {
     let mut json = JsonText::new(alloc)?;
-    write_issue(alloc, &mut json, entry)?;
+    write_issue(alloc, &mut json, found)?;
     text.push_str(separator(is_first))?;
     json.push_to(text)?;
     text.push_str("\n")?;
@@ -30,19 +30,19 @@ pub(crate) fn push_gitlab(
 }
 
 // Writes the issue of a diagnostic.
-fn write_issue(alloc: Global, json: &mut JsonText, entry: &Entry<'_>) -> Result<(), AllocError>
-    ensures { OnOk result (json.new ≡ json.old ++ json_tokens (spec.issue_value (entry_view entry.now))) }
+fn write_issue(alloc: Global, json: &mut JsonText, found: &Diagnostic<'_>) -> Result<(), AllocError>
+    ensures { OnOk result (json.new ≡ json.old ++ json_tokens (spec.issue_value (diagnostic_view found.now))) }
 {
-    let fingerprint = place_fingerprint(alloc, entry)?;
+    let fingerprint = file_fingerprint(alloc, found)?;
     json.begin_object()?;
-    json.text("check_name", entry.violation.name())?;
-    json.text("description", entry.message)?;
+    json.text("check_name", found.rule)?;
+    json.text("description", found.message)?;
     json.text("fingerprint", fingerprint.as_str())?;
     json.begin_member("location")?;
     json.begin_member("lines")?;
-    json.number("begin", entry.line)?;
+    json.number("begin", found.region.line)?;
     json.end_object()?;
-    json.text("path", entry.file)?;
+    json.text("path", found.file)?;
     json.end_object()?;
     json.text("severity", "major")?;
     json.end_object()?;

@@ -1,9 +1,9 @@
 //! Diagnostics as compilers write them.
 ghost use Rattle.std.specs.Prelude.{◌≡◌, ◌++◌, OnOk, string_bytes};
-ghost use Rattle.uv_report.specs.Entry.{entry_view};
+ghost use Rattle.uv_report.specs.Diagnostic.{diagnostic_view};
 ghost use Rattle.uv_report.specs.Formats.Gnu.{gnu_text};
 
-use crate::entry::Entry;
+use crate::diagnostic::Diagnostic;
 use crate::escaping::escapes::push_shown;
 use std::alloc::{AllocError, Global};
 
@@ -12,16 +12,18 @@ use std::alloc::{AllocError, Global};
 pub(crate) fn push_gnu(
     alloc: Global,
     text: &mut String,
-    entry: &Entry<'_>,
+    found: &Diagnostic<'_>,
 ) -> Result<(), AllocError>
-    ensures { OnOk result (string_bytes text.new ≡ string_bytes text.old ++ gnu_text (entry_view entry.now)) }
+    ensures { OnOk result (string_bytes text.new ≡ string_bytes text.old ++ gnu_text (diagnostic_view found.now)) }
 {
-    let line = entry.line;
-    let column = entry.column;
-    let message = entry.message;
-    let rule = entry.violation.name();
-    push_shown(text, entry.file)?;
-    let rest = format!(in alloc; ":{line}:{column}: error: {message} [{rule}]\n")?;
-    text.push_str(rest.as_str())?;
+    let line = found.region.line;
+    let column = found.region.column;
+    let place = format!(in alloc; ":{line}:{column}: error: ")?;
+    push_shown(text, found.file)?;
+    text.push_str(place.as_str())?;
+    push_shown(text, found.message)?;
+    text.push_str(" [")?;
+    push_shown(text, found.rule)?;
+    text.push_str("]\n")?;
     Ok(())
 }

@@ -1,10 +1,10 @@
 //! Diagnostics as a document of JUnit, in XML.
 ghost use Rattle.std.specs.Prelude.{◌≡◌, ◌++◌, OnOk, string_bytes};
-ghost use Rattle.uv_report.specs.Entry.{entry_view};
+ghost use Rattle.uv_report.specs.Diagnostic.{diagnostic_view};
 ghost use Rattle.uv_report.specs.Formats.Junit as spec;
 
 use crate::completion::Completion;
-use crate::entry::Entry;
+use crate::diagnostic::Diagnostic;
 use crate::escaping::escapes::{Escapes, escaped, push_escaped};
 use std::alloc::{AllocError, Global};
 
@@ -52,25 +52,25 @@ pub(crate) fn push_junit_file(text: &mut String, file: &str) -> Result<(), Alloc
 pub(crate) fn push_junit(
     alloc: Global,
     text: &mut String,
-    entry: &Entry<'_>,
+    found: &Diagnostic<'_>,
 ) -> Result<(), AllocError>
-    ensures { OnOk result (string_bytes text.new ≡ string_bytes text.old ++ spec.junit_text (entry_view entry.now)) }
+    ensures { OnOk result (string_bytes text.new ≡ string_bytes text.old ++ spec.junit_text (diagnostic_view found.now)) }
 {
-    push_case(alloc, text, entry)?;
-    push_failure(alloc, text, entry)?;
+    push_case(alloc, text, found)?;
+    push_failure(alloc, text, found)?;
     Ok(())
 }
 
 // Pushes the start tag of the test.
 #[tactic(auto, unfolding(crate::specs::Formats::Junit::case_begin))]
-fn push_case(alloc: Global, text: &mut String, entry: &Entry<'_>) -> Result<(), AllocError>
-    ensures { OnOk result (string_bytes text.new ≡ string_bytes text.old ++ spec.case_begin (entry_view entry.now)) }
+fn push_case(alloc: Global, text: &mut String, found: &Diagnostic<'_>) -> Result<(), AllocError>
+    ensures { OnOk result (string_bytes text.new ≡ string_bytes text.old ++ spec.case_begin (diagnostic_view found.now)) }
 {
-    let line = entry.line;
-    let column = entry.column;
-    let rule = entry.violation.name();
+    let line = found.region.line;
+    let column = found.region.column;
+    let rule = escaped(alloc, found.rule, Escapes::Attribute)?;
     text.push_str("<testcase classname=\"")?;
-    push_escaped(text, entry.file, Escapes::Attribute)?;
+    push_escaped(text, found.file, Escapes::Attribute)?;
     let name = format!(in alloc; "\" name=\"{line}:{column} {rule}\">")?;
     text.push_str(name.as_str())?;
     Ok(())
@@ -78,12 +78,13 @@ fn push_case(alloc: Global, text: &mut String, entry: &Entry<'_>) -> Result<(), 
 
 // Pushes the failure, and the test's end tag.
 #[tactic(auto, unfolding(crate::specs::Formats::Junit::failure))]
-fn push_failure(alloc: Global, text: &mut String, entry: &Entry<'_>) -> Result<(), AllocError>
-    ensures { OnOk result (string_bytes text.new ≡ string_bytes text.old ++ spec.failure (entry_view entry.now)) }
+fn push_failure(alloc: Global, text: &mut String, found: &Diagnostic<'_>) -> Result<(), AllocError>
+    ensures { OnOk result (string_bytes text.new ≡ string_bytes text.old ++ spec.failure (diagnostic_view found.now)) }
 {
-    let rule = entry.violation.name();
-    let message = escaped(alloc, entry.message, Escapes::Attribute)?;
-    let carried = escaped(alloc, entry.carried, Escapes::Attribute)?;
+    let rule = escaped(alloc, found.rule, Escapes::Attribute)?;
+    let message = escaped(alloc, found.message, Escapes::Attribute)?;
+    let carried = found.carried(alloc)?;
+    let carried = escaped(alloc, carried.as_str(), Escapes::Attribute)?;
     let failure = format!(in alloc;
         "<failure type=\"{rule}\" message=\"{message}\">{carried}</failure></testcase>\n"
     )?;

@@ -2,40 +2,32 @@
 ghost use Rattle.json.specs.Token.{begin_object, key};
 ghost use Rattle.json.specs.Tree.{json_tokens, members_tokens};
 ghost use Rattle.std.specs.Prelude.{◌≡◌, ◌∷◌, ◌++◌, OnOk, codes, string_bytes};
-ghost use Rattle.uv_report.specs.Entry.{entry_view, fix_view, offered};
+ghost use Rattle.uv_report.specs.Diagnostic.{diagnostic_view, edit_of, edit_view};
 ghost use Rattle.uv_report.specs.Formats.Rdjson as spec;
 ghost use Rattle.uv_report.specs.Json.{single};
 
-use crate::entry::{Entry, Fix};
+use crate::diagnostic::{Diagnostic, Fix, Region};
 use crate::formats::sarif::separator;
 use crate::json_text::JsonText;
-use crate::line_violation::LineViolation;
-use crate::rules::page::{ADDRESS, rule_page};
 use std::alloc::{AllocError, Global};
 
-/// Pushes what the document begins with.
-pub(crate) fn push_rdjson_begin(text: &mut String) -> Result<(), AllocError>
-    ensures { OnOk result (string_bytes text.new ≡ string_bytes text.old ++ spec.rdjson_begin) }
-{
-    text.push_str("{\"source\":{\"name\":\"urlcheck\",\"url\":\"")?;
-    text.push_str(ADDRESS)?;
-    text.push_str("/\"},\"severity\":\"ERROR\",\"diagnostics\":[\n")?;
-    Ok(())
-}
+/// What the document begins with.
+pub(crate) const RDJSON_BEGIN: &str =
+    "{\"source\":{\"name\":\"urlcheck\"},\"severity\":\"ERROR\",\"diagnostics\":[\n";
 
 /// Pushes a diagnostic, and before it a comma where it isn't the first one.
 #[tactic(auto, unfolding(crate::specs::Formats::Rdjson::rdjson_text))]
 pub(crate) fn push_rdjson(
     alloc: Global,
     text: &mut String,
-    entry: &Entry<'_>,
+    found: &Diagnostic<'_>,
     is_first: bool,
 ) -> Result<(), AllocError>
     ensures { OnOk result (string_bytes text.new
-        ≡ string_bytes text.old ++ spec.rdjson_text is_first (entry_view entry.now)) }
+        ≡ string_bytes text.old ++ spec.rdjson_text is_first (diagnostic_view found.now)) }
 {
     let mut json = JsonText::new(alloc)?;
-    write_diagnostic(alloc, &mut json, entry)?;
+    write_diagnostic(&mut json, found)?;
     text.push_str(separator(is_first))?;
     json.push_to(text)?;
     text.push_str("\n")?;
@@ -43,66 +35,83 @@ pub(crate) fn push_rdjson(
 }
 
 // Writes the object of a diagnostic.
-fn write_diagnostic(alloc: Global, json: &mut JsonText, entry: &Entry<'_>) -> Result<(), AllocError>
-    ensures { OnOk result (json.new ≡ json.old ++ json_tokens (spec.rdjson_value (entry_view entry.now))) }
+fn write_diagnostic(json: &mut JsonText, found: &Diagnostic<'_>) -> Result<(), AllocError>
+    ensures { OnOk result (json.new ≡ json.old ++ json_tokens (spec.rdjson_value (diagnostic_view found.now))) }
 {
     json.begin_object()?;
-    write_code(alloc, json, entry.violation)?;
-    write_location(json, entry)?;
-    json.text("message", entry.message)?;
-    json.text("severity", "ERROR")?;
-    write_suggestions(json, entry)?;
+    write_code(json, found.uri, found.rule)?;
+    write_members(json, found)?;
     Ok(())
 }
 
-// Writes the member of the rule, and of its page.
-fn write_code(
-    alloc: Global,
-    json: &mut JsonText,
-    violation: LineViolation,
-) -> Result<(), AllocError>
-    ensures { OnOk result (json.new ≡ json.old ++ key (codes "code") ∷ json_tokens (spec.code_value violation)) }
+// Writes the members that follow that of the rule, and ends the object.
+#[tactic(auto, unfolding(crate::specs::Formats::Rdjson::told_members))]
+fn write_members(json: &mut JsonText, found: &Diagnostic<'_>) -> Result<(), AllocError>
+    ensures { OnOk result (json.new ≡ json.old ++ members_tokens (spec.told_members (diagnostic_view found.now))) }
 {
-    let page = rule_page(alloc, violation)?;
+    write_location(json, found)?;
+    json.text("message", found.message)?;
+    json.text("severity", "ERROR")?;
+    write_suggestions(json, found)?;
+    Ok(())
+}
+
+// Writes the member of the rule, and of its address where it has one.
+#[tactic(auto, unfolding(crate::specs::Formats::Rdjson::code_value))]
+fn write_code(json: &mut JsonText, uri: &str, rule: &str) -> Result<(), AllocError>
+    ensures { OnOk result (json.new
+        ≡ json.old ++ key (codes "code") ∷ json_tokens (spec.code_value uri.now rule.now)) }
+{
+    if uri.is_empty() {
+        json.object_of("code", "value", rule)
+    } else {
+        write_addressed_code(json, uri, rule)
+    }
+}
+
+// The same of a rule that has an address.
+fn write_addressed_code(json: &mut JsonText, uri: &str, rule: &str) -> Result<(), AllocError>
+    ensures { OnOk result (json.new
+        ≡ json.old ++ key (codes "code") ∷ json_tokens (spec.addressed_code uri.now rule.now)) }
+{
     json.begin_member("code")?;
-    json.text("url", page.as_str())?;
-    json.text("value", violation.name())?;
+    json.text("url", uri)?;
+    json.text("value", rule)?;
     json.end_object()?;
     Ok(())
 }
 
 // Writes the member of the file, and of what is wrong in it.
-fn write_location(json: &mut JsonText, entry: &Entry<'_>) -> Result<(), AllocError>
+fn write_location(json: &mut JsonText, found: &Diagnostic<'_>) -> Result<(), AllocError>
     ensures { OnOk result (json.new
-        ≡ json.old ++ key (codes "location") ∷ json_tokens (spec.location_value (entry_view entry.now))) }
+        ≡ json.old ++ key (codes "location") ∷ json_tokens (spec.location_value (diagnostic_view found.now))) }
 {
     json.begin_member("location")?;
-    json.text("path", entry.file)?;
-    write_range(json, entry.line, entry.column, entry.end)?;
+    json.text("path", found.file)?;
+    write_range(json, found.region)?;
     json.end_object()?;
     Ok(())
 }
 
 // Writes the member of the mended text, where that is offered, and ends the object.
-fn write_suggestions(json: &mut JsonText, entry: &Entry<'_>) -> Result<(), AllocError>
+fn write_suggestions(json: &mut JsonText, found: &Diagnostic<'_>) -> Result<(), AllocError>
     ensures { OnOk result (json.new ≡ json.old ++ members_tokens (spec.suggestions_member
-        (entry_view entry.now).line (offered (entry_view entry.now).fix))) }
+        (edit_of (diagnostic_view found.now).fix))) }
 {
-    match entry.offered() {
-        Some(fix) => write_suggestion(json, entry.line, fix),
+    match found.edit() {
+        Some((region, fix)) => write_suggestion(json, region, fix),
         None => json.end_object(),
     }
 }
 
-// Writes the member of a mended text in place of all of the text, which is in the line with this number, and ends the
-// object.
-fn write_suggestion(json: &mut JsonText, line: u64, fix: Fix<'_>) -> Result<(), AllocError>
+// Writes the member of a mended text in place of all of the text, which is in this region, and ends the object.
+fn write_suggestion(json: &mut JsonText, region: Region, fix: Fix<'_>) -> Result<(), AllocError>
     ensures { OnOk result (json.new
-        ≡ json.old ++ members_tokens (spec.suggestions_member line (Some (fix_view fix.entry)))) }
+        ≡ json.old ++ members_tokens (spec.suggestions_member (Some (edit_view (region, fix.entry))))) }
 {
     json.begin_array("suggestions")?;
     json.begin_object()?;
-    write_range(json, line, fix.start, fix.end)?;
+    write_range(json, region)?;
     json.text("text", fix.text)?;
     json.end_object()?;
     json.end_array()?;
@@ -110,19 +119,18 @@ fn write_suggestion(json: &mut JsonText, line: u64, fix: Fix<'_>) -> Result<(), 
     Ok(())
 }
 
-// Writes the member of what is in a line from a column on, up to the one after it.
-fn write_range(json: &mut JsonText, line: u64, start: u64, end: u64) -> Result<(), AllocError>
-    ensures { OnOk result (json.new
-        ≡ json.old ++ key (codes "range") ∷ json_tokens (spec.range_value line start end)) }
+// Writes the member of a region.
+fn write_range(json: &mut JsonText, region: Region) -> Result<(), AllocError>
+    ensures { OnOk result (json.new ≡ json.old ++ key (codes "range") ∷ json_tokens (spec.range_value region)) }
 {
     json.begin_member("range")?;
-    write_position(json, "end", line, end)?;
-    write_position(json, "start", line, start)?;
+    write_position(json, "end", region.end_line, region.end_column)?;
+    write_position(json, "start", region.line, region.column)?;
     json.end_object()?;
     Ok(())
 }
 
-// Writes the member of a column of a line.
+// Writes the member of a place.
 fn write_position(json: &mut JsonText, name: &str, line: u64, column: u64) -> Result<(), AllocError>
     ensures { OnOk result (json.new ≡ json.old ++ key name.now ∷ json_tokens (spec.position_value line column)) }
 {

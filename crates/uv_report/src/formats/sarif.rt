@@ -3,21 +3,20 @@ ghost use Rattle.json.specs.Json.{member, object};
 ghost use Rattle.json.specs.Token.{begin_array, begin_object, end_array, end_object, key};
 ghost use Rattle.json.specs.Tree.{json_tokens, members_tokens};
 ghost use Rattle.std.specs.Prelude.{◌≡◌, ◌∷◌, ◌++◌, [], IfOk, OnOk, codes, flat_map, string_bytes};
-ghost use Rattle.uv_report.specs.Entry.{entry_view, fix_view, offered};
+ghost use Rattle.uv_report.specs.Diagnostic.{carried_text, diagnostic_view, edit_view};
 ghost use Rattle.uv_report.specs.Escaping.Uri as uris;
-ghost use Rattle.uv_report.specs.Formats.Fingerprint as prints;
 ghost use Rattle.uv_report.specs.Formats.Sarif as spec;
 ghost use Rattle.uv_report.specs.Json.{single};
+ghost use Rattle.uv_report.specs.LineViolation.{rule_index};
 
 use crate::completion::Completion;
-use crate::entry::{Entry, Fix};
+use crate::diagnostic::{Diagnostic, Fix, Region};
 use crate::escaping::uri::push_uri_path;
 use crate::formats::fingerprint::text_fingerprint;
 use crate::json_text::JsonText;
-use crate::line_violation::LineViolation;
+use crate::line_violation::{LineViolation, rule_index};
 use crate::located_fault::LocatedFault;
 use crate::places::column::Columns;
-use crate::rules::page::{ADDRESS, rule_page};
 use std::alloc::{AllocError, Global};
 use uv_model::{MendKind, Refusal, Rule};
 
@@ -35,20 +34,9 @@ pub(crate) fn push_sarif_begin(
     )?;
     text.push_str("\"runs\":[{")?;
     text.push_str(column_kind(columns))?;
-    push_driver(text)?;
+    text.push_str("\"tool\":{\"driver\":{\"name\":\"urlcheck\",\"version\":\"0.4.0\",\"rules\":[")?;
     push_rules(alloc, text)?;
     text.push_str("]}},\"results\":[\n")?;
-    Ok(())
-}
-
-// Pushes the tool up to its rules: where it is told of, its name and its version.
-#[tactic(auto, unfolding(crate::specs::Formats::Sarif::driver_begin))]
-fn push_driver(text: &mut String) -> Result<(), AllocError>
-    ensures { OnOk result (string_bytes text.new ≡ string_bytes text.old ++ spec.driver_begin) }
-{
-    text.push_str("\"tool\":{\"driver\":{\"informationUri\":\"")?;
-    text.push_str(ADDRESS)?;
-    text.push_str("/\",\"name\":\"urlcheck\",\"version\":\"0.4.0\",\"rules\":[")?;
     Ok(())
 }
 
@@ -125,26 +113,52 @@ fn push_rule(alloc: Global, text: &mut String, violation: LineViolation) -> Resu
     ensures { OnOk result (string_bytes text.new ≡ string_bytes text.old ++ spec.rule_text violation) }
 {
     let mut json = JsonText::new(alloc)?;
-    write_rule(alloc, &mut json, violation)?;
+    write_rule(&mut json, violation)?;
     json.push_to(text)?;
     Ok(())
 }
 
-// Writes a rule, with what is wrong where it is violated, what it asks, its page, and where it is in the URL Standard.
-fn write_rule(
-    alloc: Global,
-    json: &mut JsonText,
-    violation: LineViolation,
-) -> Result<(), AllocError>
+// Writes a rule: what it asks, the address of its section where it has one, its name, and what is wrong where it is
+// violated.
+#[tactic(auto, unfolding(crate::specs::Formats::Sarif::rule_value))]
+fn write_rule(json: &mut JsonText, violation: LineViolation) -> Result<(), AllocError>
     ensures { OnOk result (json.new ≡ json.old ++ json_tokens (spec.rule_value violation)) }
 {
-    let page = rule_page(alloc, violation)?;
+    if violation.address().is_empty() {
+        write_line_rule(json, violation)
+    } else {
+        write_text_rule(json, violation)
+    }
+}
+
+// Writes a rule of lines.
+fn write_line_rule(json: &mut JsonText, violation: LineViolation) -> Result<(), AllocError>
+    ensures { OnOk result (json.new ≡ json.old ++ json_tokens (spec.line_rule violation)) }
+{
     json.begin_object()?;
     json.object_of("fullDescription", "text", violation.help())?;
     json.object_of("help", "text", violation.help())?;
-    json.text("helpUri", page.as_str())?;
+    write_named(json, violation)?;
+    Ok(())
+}
+
+// Writes a rule of valid URL strings.
+fn write_text_rule(json: &mut JsonText, violation: LineViolation) -> Result<(), AllocError>
+    ensures { OnOk result (json.new ≡ json.old ++ json_tokens (spec.text_rule violation)) }
+{
+    json.begin_object()?;
+    json.object_of("fullDescription", "text", violation.help())?;
+    json.object_of("help", "text", violation.help())?;
+    json.text("helpUri", violation.address())?;
+    write_named(json, violation)?;
+    Ok(())
+}
+
+// Writes the members of a rule's name and of what is wrong where it is violated, and ends the rule.
+fn write_named(json: &mut JsonText, violation: LineViolation) -> Result<(), AllocError>
+    ensures { OnOk result (json.new ≡ json.old ++ members_tokens (spec.named_members violation)) }
+{
     json.text("id", violation.name())?;
-    json.object_of("properties", "section", violation.uri())?;
     json.object_of("shortDescription", "text", violation.sentence())?;
     json.end_object()?;
     Ok(())
@@ -155,14 +169,14 @@ fn write_rule(
 pub(crate) fn push_sarif(
     alloc: Global,
     text: &mut String,
-    entry: &Entry<'_>,
+    found: &Diagnostic<'_>,
     is_first: bool,
 ) -> Result<(), AllocError>
     ensures { OnOk result (string_bytes text.new
-        ≡ string_bytes text.old ++ spec.sarif_text is_first (entry_view entry.now)) }
+        ≡ string_bytes text.old ++ spec.sarif_text is_first (diagnostic_view found.now)) }
 {
     let mut json = JsonText::new(alloc)?;
-    write_result(alloc, &mut json, entry)?;
+    write_result(alloc, &mut json, found)?;
     text.push_str(separator(is_first))?;
     json.push_to(text)?;
     text.push_str("\n")?;
@@ -177,14 +191,17 @@ pub(crate) fn separator(is_first: bool) -> &'static str
 }
 
 // Writes the result of a diagnostic.
-fn write_result(alloc: Global, json: &mut JsonText, entry: &Entry<'_>) -> Result<(), AllocError>
-    ensures { OnOk result (json.new ≡ json.old ++ json_tokens (spec.result_value (entry_view entry.now))) }
+fn write_result(
+    alloc: Global,
+    json: &mut JsonText,
+    found: &Diagnostic<'_>,
+) -> Result<(), AllocError>
+    ensures { OnOk result (json.new ≡ json.old ++ json_tokens (spec.result_value (diagnostic_view found.now))) }
 {
-    let uri = uri_of(alloc, entry.file)?;
-    let fingerprint = text_fingerprint(alloc, entry)?;
-    match entry.offered() {
-        Some(fix) => write_fixed(json, entry, uri.as_str(), fingerprint.as_str(), fix),
-        None => write_plain(json, entry, uri.as_str(), fingerprint.as_str()),
+    let uri = uri_of(alloc, found.file)?;
+    match found.edit() {
+        Some((region, fix)) => write_fixed(alloc, json, found, uri.as_str(), region, fix),
+        None => write_plain(alloc, json, found, uri.as_str()),
     }
 }
 
@@ -199,151 +216,208 @@ fn uri_of(alloc: Global, file: &str) -> Result<String, AllocError>
 
 // Writes the result of a diagnostic without a fix.
 fn write_plain(
+    alloc: Global,
     json: &mut JsonText,
-    entry: &Entry<'_>,
+    found: &Diagnostic<'_>,
     uri: &str,
-    fingerprint: &str,
 ) -> Result<(), AllocError>
-    requires uri { uri.now ≡ uris.uri_path entry.now.file.now }
-    requires fingerprint { fingerprint.now ≡ prints.text_fingerprint (entry_view entry.now) }
+    requires { uri.now ≡ uris.uri_path found.now.file.now }
     ensures { OnOk result (json.new
-        ≡ json.old ++ json_tokens (object (spec.result_members (entry_view entry.now)))) }
+        ≡ json.old ++ json_tokens (object (spec.result_members (diagnostic_view found.now)))) }
 {
     json.begin_object()?;
-    write_members(json, entry, uri, fingerprint)?;
+    write_members(alloc, json, found, uri)?;
     Ok(())
 }
 
-// Writes the result of a diagnostic with this fix.
+// Writes the result of a diagnostic with this fix of what is in this region.
 fn write_fixed(
+    alloc: Global,
     json: &mut JsonText,
-    entry: &Entry<'_>,
+    found: &Diagnostic<'_>,
     uri: &str,
-    fingerprint: &str,
+    region: Region,
     fix: Fix<'_>,
 ) -> Result<(), AllocError>
-    requires uri { uri.now ≡ uris.uri_path entry.now.file.now }
-    requires fingerprint { fingerprint.now ≡ prints.text_fingerprint (entry_view entry.now) }
-    ensures { OnOk result (json.new ≡ json.old ++ json_tokens (object (spec.members_with (entry_view entry.now)
-        (Some (fix_view fix.entry))))) }
+    requires { uri.now ≡ uris.uri_path found.now.file.now }
+    ensures { OnOk result (json.new ≡ json.old ++ json_tokens (object (spec.members_with (diagnostic_view found.now)
+        (Some (edit_view (region, fix.entry)))))) }
 {
     json.begin_object()?;
-    write_fix(json, entry, uri, fix)?;
-    write_members(json, entry, uri, fingerprint)?;
+    write_fix(json, uri, region, fix)?;
+    write_members(alloc, json, found, uri)?;
     Ok(())
 }
 
 // Writes the members of each result, and ends it.
 fn write_members(
+    alloc: Global,
     json: &mut JsonText,
-    entry: &Entry<'_>,
+    found: &Diagnostic<'_>,
     uri: &str,
-    fingerprint: &str,
 ) -> Result<(), AllocError>
-    requires uri { uri.now ≡ uris.uri_path entry.now.file.now }
-    requires fingerprint { fingerprint.now ≡ prints.text_fingerprint (entry_view entry.now) }
-    ensures { OnOk result (json.new ≡ json.old ++ members_tokens (spec.result_members (entry_view entry.now))) }
+    requires { uri.now ≡ uris.uri_path found.now.file.now }
+    ensures { OnOk result (json.new
+        ≡ json.old ++ members_tokens (spec.result_members (diagnostic_view found.now))) }
 {
+    let fingerprint = text_fingerprint(alloc, found)?;
+    let carried = found.carried(alloc)?;
     json.text("level", "error")?;
-    write_location(json, entry, uri)?;
-    json.object_of("message", "text", entry.message)?;
-    json.object_of("partialFingerprints", "urlcheckText/v1", fingerprint)?;
-    write_violation(json, entry)?;
+    write_location(json, found.region, uri)?;
+    json.object_of("message", "text", found.message)?;
+    json.object_of(
+        "partialFingerprints",
+        "urlcheckText/v1",
+        fingerprint.as_str(),
+    )?;
+    write_violation(json, found, carried.as_str())?;
     Ok(())
 }
 
 // Writes the members of what is carried of the text, and of the violated rule, and ends the result.
 #[tactic(auto, unfolding(crate::specs::Formats::Sarif::violation_members))]
-fn write_violation(json: &mut JsonText, entry: &Entry<'_>) -> Result<(), AllocError>
-    ensures { OnOk result (json.new ≡ json.old ++ members_tokens (spec.violation_members (entry_view entry.now))) }
+fn write_violation(
+    json: &mut JsonText,
+    found: &Diagnostic<'_>,
+    carried: &str,
+) -> Result<(), AllocError>
+    requires { carried.now ≡ carried_text (diagnostic_view found.now) }
+    ensures { OnOk result (json.new
+        ≡ json.old ++ members_tokens (spec.violation_members (diagnostic_view found.now))) }
 {
     json.begin_member("properties")?;
-    json.boolean("cut", entry.is_cut())?;
-    json.text("text", entry.carried)?;
+    json.boolean("cut", found.is_cut())?;
+    json.text("text", carried)?;
     json.end_object()?;
-    json.text("ruleId", entry.violation.name())?;
-    json.number("ruleIndex", entry.violation.index())?;
+    json.text("ruleId", found.rule)?;
+    write_index(json, found.rule)?;
+    Ok(())
+}
+
+// Writes the member of where a rule is among those of the document, if it is, and ends the result.
+fn write_index(json: &mut JsonText, rule: &str) -> Result<(), AllocError>
+    ensures { OnOk result (json.new ≡ json.old ++ members_tokens (spec.index_members (rule_index rule.now))) }
+{
+    match rule_index(rule) {
+        Some(index) => write_known_index(json, index),
+        None => json.end_object(),
+    }
+}
+
+// The same where it is.
+fn write_known_index(json: &mut JsonText, index: u64) -> Result<(), AllocError>
+    ensures { OnOk result (json.new ≡ json.old ++ members_tokens (spec.index_members (Some index))) }
+{
+    json.number("ruleIndex", index)?;
     json.end_object()?;
     Ok(())
 }
 
 // Writes the member of where a diagnostic is.
-fn write_location(json: &mut JsonText, entry: &Entry<'_>, uri: &str) -> Result<(), AllocError>
-    requires { uri.now ≡ uris.uri_path entry.now.file.now }
+fn write_location(json: &mut JsonText, region: Region, uri: &str) -> Result<(), AllocError>
     ensures { OnOk result (json.new ≡ json.old
-        ++ key (codes "locations") ∷ json_tokens (single (spec.location_value (entry_view entry.now)))) }
+        ++ key (codes "locations") ∷ json_tokens (single (spec.location_value uri.now region))) }
 {
     json.begin_array("locations")?;
     json.begin_object()?;
     json.begin_member("physicalLocation")?;
     json.object_of("artifactLocation", "uri", uri)?;
-    write_region(json, "region", entry.line, entry.column, entry.end)?;
+    write_region(json, "region", region)?;
     json.end_object()?;
     json.end_object()?;
     json.end_array()?;
     Ok(())
 }
 
-// Writes the member of a region: between which columns of the line with this number something is.
-fn write_region(
-    json: &mut JsonText,
-    name: &str,
-    line: u64,
-    start: u64,
-    end: u64,
-) -> Result<(), AllocError>
-    ensures { OnOk result (json.new ≡ json.old ++ key name.now ∷ json_tokens (spec.region_value line start end)) }
+// Writes the member of a region.
+fn write_region(json: &mut JsonText, name: &str, region: Region) -> Result<(), AllocError>
+    ensures { OnOk result (json.new ≡ json.old ++ key name.now ∷ json_tokens (spec.region_value region)) }
+{
+    if region.end_line == region.line {
+        write_line_region(json, name, region)
+    } else {
+        write_lines_region(json, name, region)
+    }
+}
+
+// The same of what is in one line.
+fn write_line_region(json: &mut JsonText, name: &str, region: Region) -> Result<(), AllocError>
+    ensures { OnOk result (json.new ≡ json.old ++ key name.now ∷ json_tokens (spec.line_region region)) }
 {
     json.begin_member(name)?;
-    json.number("endColumn", end)?;
-    json.number("startColumn", start)?;
-    json.number("startLine", line)?;
+    json.number("endColumn", region.end_column)?;
+    json.number("startColumn", region.column)?;
+    json.number("startLine", region.line)?;
+    json.end_object()?;
+    Ok(())
+}
+
+// The same of what ends in another line than it begins in.
+fn write_lines_region(json: &mut JsonText, name: &str, region: Region) -> Result<(), AllocError>
+    ensures { OnOk result (json.new ≡ json.old ++ key name.now ∷ json_tokens (spec.lines_region region)) }
+{
+    json.begin_member(name)?;
+    json.number("endColumn", region.end_column)?;
+    json.number("endLine", region.end_line)?;
+    json.number("startColumn", region.column)?;
+    json.number("startLine", region.line)?;
     json.end_object()?;
     Ok(())
 }
 
 // Writes the member of the fix that writes a mended text, alone in an array.
-fn write_fix(
-    json: &mut JsonText,
-    entry: &Entry<'_>,
-    uri: &str,
-    fix: Fix<'_>,
-) -> Result<(), AllocError>
-    requires { uri.now ≡ uris.uri_path entry.now.file.now }
+fn write_fix(json: &mut JsonText, uri: &str, region: Region, fix: Fix<'_>) -> Result<(), AllocError>
     ensures { OnOk result (json.new ≡ json.old ++ key (codes "fixes")
-        ∷ json_tokens (single (spec.fix_value (entry_view entry.now) (fix_view fix.entry)))) }
+        ∷ json_tokens (single (spec.fix_value uri.now (edit_view (region, fix.entry))))) }
 {
     json.begin_array("fixes")?;
     json.begin_object()?;
-    write_change(json, entry, uri, fix)?;
+    write_change(json, uri, region, fix.text)?;
     json.object_of("description", "text", fix_sentence(fix.kind))?;
     json.end_object()?;
     json.end_array()?;
     Ok(())
 }
 
-// Writes the member of the change, alone in an array: a mended text in place of all of the text.
+// Writes the member of the change, alone in an array: a text in place of what is in this region.
 fn write_change(
     json: &mut JsonText,
-    entry: &Entry<'_>,
     uri: &str,
-    fix: Fix<'_>,
+    region: Region,
+    text: &str,
 ) -> Result<(), AllocError>
-    requires { uri.now ≡ uris.uri_path entry.now.file.now }
     ensures { OnOk result (json.new ≡ json.old ++ key (codes "artifactChanges")
-        ∷ json_tokens (single (spec.change_value (entry_view entry.now) (fix_view fix.entry)))) }
+        ∷ json_tokens (single (spec.change_value uri.now region text.now))) }
 {
     json.begin_array("artifactChanges")?;
     json.begin_object()?;
     json.object_of("artifactLocation", "uri", uri)?;
     json.begin_array("replacements")?;
+    write_replacement(json, region, text)?;
+    json.end_array()?;
+    json.end_object()?;
+    json.end_array()?;
+    Ok(())
+}
+
+// Writes a text in place of what is in a region.
+#[tactic(auto, unfolding(crate::specs::Formats::Sarif::replacement_value))]
+fn write_replacement(json: &mut JsonText, region: Region, text: &str) -> Result<(), AllocError>
+    ensures { OnOk result (json.new ≡ json.old ++ json_tokens (spec.replacement_value region text.now)) }
+{
     json.begin_object()?;
-    write_region(json, "deletedRegion", entry.line, fix.start, fix.end)?;
-    json.object_of("insertedContent", "text", fix.text)?;
+    write_region(json, "deletedRegion", region)?;
+    write_inserted(json, text)?;
+    Ok(())
+}
+
+// Writes the member of the text, and ends the object.
+#[tactic(auto, unfolding(crate::specs::Formats::Sarif::inserted_members))]
+fn write_inserted(json: &mut JsonText, text: &str) -> Result<(), AllocError>
+    ensures { OnOk result (json.new ≡ json.old ++ members_tokens (spec.inserted_members text.now)) }
+{
+    json.object_of("insertedContent", "text", text)?;
     json.end_object()?;
-    json.end_array()?;
-    json.end_object()?;
-    json.end_array()?;
     Ok(())
 }
 

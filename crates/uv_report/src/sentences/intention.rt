@@ -63,7 +63,7 @@ fn seen_intention(text: &SeenText<'_>, mended: &str) -> Option<Intention>
 }
 
 /// Whether a mended text is to be offered: nothing shows that something else was meant.
-pub(crate) fn is_offered(text: &SeenText<'_>, mended: &str) -> bool
+pub fn is_offered(text: &SeenText<'_>, mended: &str) -> bool
     ensures { result ≡ spec.is_offered text.now mended.now }
 {
     seen_intention(text, mended).is_none()

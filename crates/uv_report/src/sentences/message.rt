@@ -24,7 +24,7 @@ const ZONE: &str = "an IPv6 address in a URL has no zone: leave out the % and wh
 const BARE_IPV6: &str = "a host that is an IPv6 address is written in brackets";
 
 /// What is reported of a line that is checked by a profile, in a sentence without its end.
-pub(crate) fn message(
+pub fn message(
     alloc: Global,
     profile: Profile,
     line: &SeenText<'_>,

@@ -1,16 +1,16 @@
 -- The diagnostic comes to what waits whole, or not at all.
 use Rattle.std.proofs.Common.{refl, subst, inl, inr}
 use Rattle.uv_lines.specs.Waiting.{CutsOff, Passes}
-use Rattle.uv_report.specs.Report.{diagnostic_text}
-use Rattle.uv_lint.specs.Report.{framed_text}
+use Rattle.uv_report.specs.Diagnostic.{diagnostic_view}
+use Rattle.uv_lint.specs.Report.{one_text}
 use Rattle.uv_lint.specs.Reporting.{IsNoneOr}
 use Rattle.uv_lint.proofs.ReporterLemmas.{left_none}
 use Rattle.uv_lint.proofs.reported_line.say_framed.Goals as goal
 
 pub returns-in-Err-clause-fault : goal.returns-in-Err-clause-fault
 returns-in-Err-clause-fault g c =
-    let one = framed_text c.args.setting.form c.args.setting.format c.args.diagnostic.now.file.now
-    (diagnostic_text c.args.setting.format c.args.is_first c.args.diagnostic.now) in
+    let one = one_text c.args.setting.form c.args.setting.format c.args.is_first
+    (diagnostic_view c.args.diagnostic.now) in
     left_none (IsNoneOr one) c.args.text.now.items c.append_framed.new.text.items
     (g.W.Sink.contents c.args.writer.now) (inl refl) c.in-Err.ensures.none
 
@@ -21,8 +21,8 @@ returns-in-Ok-clause-text g c =
 
 pub returns-in-Err-end_part-clause-fault : goal.returns-in-Err-end_part-clause-fault
 returns-in-Err-end_part-clause-fault g c =
-    let one = framed_text c.args.setting.form c.args.setting.format c.args.diagnostic.now.file.now
-    (diagnostic_text c.args.setting.format c.args.is_first c.args.diagnostic.now) in (
+    let one = one_text c.args.setting.form c.args.setting.format c.args.is_first
+    (diagnostic_view c.args.diagnostic.now) in (
       one,
       inr refl,
       subst (λ t. CutsOff t (g.W.Sink.contents c.args.writer.now) (g.W.Sink.contents c.end_part.new.writer))

@@ -1,18 +1,19 @@
 -- A diagnostic more, and at the end no violation is left.
-use Rattle.std.proofs.Common.{◌≡◌, ◌+◌, ◌++◌, ◌∙◌, [], arith, get_or, option_map, take, take_all, refl}
-use Rattle.std.proofs.Common.{sym, ap, subst, append-nil, append_assoc}
+use Rattle.std.proofs.Common.{◌≡◌, ◌+◌, ◌++◌, ◌∷◌, ◌∙◌, [], arith, drop, get_or, option_map, take, take_all, refl}
+use Rattle.std.proofs.Common.{inl, inr, sym, ap, subst, string_bytes, append-nil, append_assoc}
 use Rattle.uv_model.specs.declared.rule.Rule.TheVariants.{NoScheme}
-use Rattle.uv_report.specs.declared.diagnostic.Diagnostic.{Diagnostic}
 use Rattle.uv_report.specs.declared.line_violation.LineViolation.{LineViolation}
 use Rattle.uv_report.specs.declared.line_violation.LineViolation.TheVariants.{Refused}
-use Rattle.uv_report.specs.Report.{diagnostic_text}
+use Rattle.uv_report.specs.Diagnostic.{diagnostic_view, fix_view}
 use Rattle.uv_lines.specs.Fault.{failed_within}
 use Rattle.uv_lines.specs.Waiting.{Passes}
 use Rattle.uv_lines.proofs.WaitingLemmas.{parts_after, passes_more, passes_none}
-use Rattle.uv_lint.specs.Report.{AreFirstDiagnostics, diagnostics_text, framed_text, mended_on}
+use Rattle.uv_lint.specs.Findings.{AreMessages}
+use Rattle.uv_lint.specs.Report.{diagnostic_on, diagnostics_text, fix_on, one_text}
 use Rattle.uv_lint.specs.Reporting.{IsNoneOr}
-use Rattle.uv_lint.specs.ReportedView.{lent_if_mended, mended_line_view, reported_view}
-use Rattle.uv_lint.proofs.DiagnosticLemmas.{IsSaidBefore, diagnostic_in, first_with, said_first, said_next, said_none}
+use Rattle.uv_lint.specs.ReportedView.{AreFirstSaid, mended_line_view, reported_view}
+use Rattle.uv_lint.proofs.DiagnosticLemmas.{IsSaidBefore, are_all, are_next, blanks, first_with, said_first}
+use Rattle.uv_lint.proofs.DiagnosticLemmas.{said_next, said_none}
 use Rattle.uv_lint.proofs.reported_line.ReportedLine.push.Goals as goal
 
 pub loop-violation-init : goal.loop-violation-init
@@ -20,25 +21,32 @@ loop-violation-init g c =
     let line = c.args.self.now in
     let setting = c.args.setting in
     let waited = c.args.text.now.items in
-    let mended = mended_on setting.columns (reported_view line) (option_map mended_line_view c.args.mended.now) in
+    let fix = fix_on setting.columns (reported_view line) (option_map mended_line_view c.args.mended.now) in
     record {
       said = (
         [],
         rw (append-nil waited) (passes_none waited (g.W.Sink.contents c.args.writer.now)),
-        subst (λ told. IsSaidBefore setting.form setting.format setting.columns setting.profile (reported_view
-            line) c.args.is_first
-            mended [] [] c.args.is_first told) (sym c.mended_in_place-told.ensures)
-            (said_none setting.form setting.format setting.columns setting.profile (reported_view line)
-            c.args.is_first mended),
+        [],
+        tt {0},
+        subst (λ told. IsSaidBefore setting.form setting.format setting.columns (reported_view line) c.args.is_first
+            fix [] [] [] c.args.is_first told) (sym c.fix_in_place-fix.ensures)
+            (said_none setting.form setting.format setting.columns (reported_view line) c.args.is_first fix),
       );
       quiet = refl;
       counter = c.new-counter.ensures;
       seen = c.seen_text-seen.ensures;
     }
 
+pub fix_in_place-fix-requires : goal.fix_in_place-fix-requires
+fix_in_place-fix-requires g c = c.seen_text-seen.ensures
+
+pub diagnostic_on-found-requires : goal.diagnostic_on-found-requires
+diagnostic_on-found-requires g c = c.go_to.ensures ∙ c.loop-violation.invariant.seen
+
 pub loop-violation-preserved : goal.loop-violation-preserved
 loop-violation-preserved g c =
     let line = c.args.self.now in
+    let reported = reported_view line in
     let setting = c.args.setting in
     let violations = c.args.violations.now in
     let i = c.loop-violation.violation-index in
@@ -47,40 +55,72 @@ loop-violation-preserved g c =
     let invariant = c.loop-violation.invariant in
     let said = invariant.said in
     let counted = c.column-column.ensures.same ∙ invariant.counter in
-    let told = c.loop-violation.told in
-    let mended = mended_on setting.columns (reported_view line) (option_map mended_line_view c.args.mended.now) in
-    let one = framed_text setting.form setting.format line.file.now (diagnostic_text setting.format
-    c.loop-violation.is_first
-    (diagnostic_in line.file line.text line.line c.column-column.result c.column_ahead-end.result setting.profile
-    violation told)) in
+    let told = option_map fix_view c.loop-violation.fix in
+    let message = string_bytes c.in-Ok.message in
+    let fix = fix_on setting.columns reported (option_map mended_line_view c.args.mended.now) in
+    let one = one_text setting.form setting.format c.loop-violation.is_first
+    (diagnostic_on setting.columns reported told violation message) in
     let old = g.W.Sink.contents c.args.writer.now in
     let new = g.W.Sink.contents c.say_framed.new.writer in
+    let is : diagnostic_view c.diagnostic_on-found.result
+    ≡ diagnostic_on setting.columns reported told violation message =
+    c.diagnostic_on-found.ensures
+    ∙ rw (
+      c.region.ensures,
+      c.column-column.ensures.column,
+      c.column_ahead-end.ensures,
+      counted,
+      invariant.counter,
+      c.place.ensures,
+      c.end.ensures,
+      c.as_str.ensures.value,
+    ) refl in
     record {
       said = (
         said.0 ++ one,
         subst (λ t. Passes t old new c.say_framed.new.text.items) (append_assoc c.args.text.now.items said.0 one)
             (passes_more (c.args.text.now.items ++ said.0) one old (g.W.Sink.contents c.loop-violation.writer) new
             c.loop-violation.text.items c.say_framed.new.text.items said.1
-            (rw c.diagnostic_in-found.ensures at c.in_default.ensures.text)),
-        said_next setting.form setting.format setting.columns setting.profile line.file line.text line.line line.start
-            c.column-column.result c.column_ahead-end.result c.args.is_first c.loop-violation.is_first mended told
-            violations i none said.0 c.loop-violation-test.true
-            (c.column-column.ensures.column ∙ rw (invariant.counter, c.place.ensures) refl)
-            (c.column_ahead-end.ensures ∙ rw (counted, c.end.ensures) refl) said.2,
+            (subst (λ found. Passes (c.loop-violation.text.items
+            ++ one_text setting.form setting.format c.loop-violation.is_first found)
+            (g.W.Sink.contents c.loop-violation.writer) new c.say_framed.new.text.items) is
+            c.in_default.ensures.text)),
+        said.2.0 ++ message ∷ [],
+        are_next violations i none said.2.0 message c.loop-violation-test.true said.2.1 c.in-Ok.ensures,
+        said_next setting.form setting.format setting.columns reported c.args.is_first c.loop-violation.is_first fix
+            told violations i none said.2.0 message said.0 c.loop-violation-test.true said.2.2,
       );
       quiet = c.in_default.ensures.quiet ∙ invariant.quiet;
       counter = c.column-column.ensures.same ∙ invariant.counter;
       seen = c.go_to.ensures ∙ invariant.seen;
     }
 
-pub say_framed-requires-clause-seen : goal.say_framed-requires-clause-seen
-say_framed-requires-clause-seen g c =
-    c.go_to.ensures ∙ c.loop-violation.invariant.seen
-    ∙ ap (λ (found : Diagnostic). found.text.now) (sym c.diagnostic_in-found.ensures)
+-- where no memory was left for what is said of a violation, the diagnostics before it were said
+pub returns-in_default-clause-fault : goal.returns-in_default-clause-fault
+returns-in_default-clause-fault g c =
+    let line = c.args.self.now in
+    let reported = reported_view line in
+    let setting = c.args.setting in
+    let violations = c.args.violations.now in
+    let i = c.loop-violation.violation-index in
+    let said = c.loop-violation.invariant.said in
+    let fix = fix_on setting.columns reported (option_map mended_line_view c.args.mended.now) in
+    let others = blanks (drop i violations) in (
+      said.0,
+      (
+        said.2.0 ++ others,
+        are_all violations i said.2.0 said.2.1,
+        i,
+        said_first setting.form setting.format setting.columns reported c.args.is_first fix (take i violations)
+            said.2.0 others said.0 c.loop-violation.is_first (option_map fix_view c.loop-violation.fix) said.2.2,
+      ),
+      said.1,
+    )
 
 pub returns-in-Err-clause-fault : goal.returns-in-Err-clause-fault
 returns-in-Err-clause-fault g c =
     let line = c.args.self.now in
+    let reported = reported_view line in
     let setting = c.args.setting in
     let violations = c.args.violations.now in
     let i = c.loop-violation.violation-index in
@@ -89,26 +129,35 @@ returns-in-Err-clause-fault g c =
     let invariant = c.loop-violation.invariant in
     let said = invariant.said in
     let counted = c.column-column.ensures.same ∙ invariant.counter in
-    let told = c.loop-violation.told in
-    let mended = mended_on setting.columns (reported_view line) (option_map mended_line_view c.args.mended.now) in
-    let one = framed_text setting.form setting.format line.file.now (diagnostic_text setting.format
-    c.loop-violation.is_first
-    (diagnostic_in line.file line.text line.line c.column-column.result c.column_ahead-end.result setting.profile
-    violation told)) in
-    let with_one = said_next setting.form setting.format setting.columns setting.profile line.file line.text line.line
-    line.start c.column-column.result c.column_ahead-end.result c.args.is_first c.loop-violation.is_first mended told
-    violations i none said.0 c.loop-violation-test.true
-    (c.column-column.ensures.column ∙ rw (invariant.counter, c.place.ensures) refl)
-    (c.column_ahead-end.ensures ∙ rw (counted, c.end.ensures) refl) said.2 in
-    parts_after (IsNoneOr one) (AreFirstDiagnostics setting.form setting.format setting.columns
-    setting.profile (reported_view line)
-    c.args.is_first mended violations) c.in-Err.fault c.args.text.now.items said.0
+    let told = option_map fix_view c.loop-violation.fix in
+    let message = string_bytes c.in-Ok.message in
+    let fix = fix_on setting.columns reported (option_map mended_line_view c.args.mended.now) in
+    let one = one_text setting.form setting.format c.loop-violation.is_first
+    (diagnostic_on setting.columns reported told violation message) in
+    let is : diagnostic_view c.diagnostic_on-found.result
+    ≡ diagnostic_on setting.columns reported told violation message =
+    c.diagnostic_on-found.ensures
+    ∙ rw (
+      c.region.ensures,
+      c.column-column.ensures.column,
+      c.column_ahead-end.ensures,
+      counted,
+      invariant.counter,
+      c.place.ensures,
+      c.end.ensures,
+      c.as_str.ensures.value,
+    ) refl in
+    let with_one = said_next setting.form setting.format setting.columns reported c.args.is_first
+    c.loop-violation.is_first fix told violations i none said.2.0 message said.0 c.loop-violation-test.true said.2.2 in
+    let told_next = are_next violations i none said.2.0 message c.loop-violation-test.true said.2.1
+    c.in-Ok.ensures in
+    parts_after (IsNoneOr one) (AreFirstSaid line setting c.args.is_first c.args.mended.now violations)
+    c.in-Err.fault c.args.text.now.items said.0
     (g.W.Sink.contents c.args.writer.now) (g.W.Sink.contents c.loop-violation.writer)
     (g.W.Sink.contents c.say_framed.new.writer) c.loop-violation.text.items c.say_framed.new.text.items said.1
-    (λ parts is. first_with setting.form setting.format setting.columns setting.profile (reported_view line)
-    c.args.is_first mended
-    violations i said.0 one c.loop-violation.is_first (lent_if_mended told) parts said.2 with_one is)
-    (rw c.diagnostic_in-found.ensures at c.in-Err.ensures.fault)
+    (λ parts begun. first_with line setting c.args.is_first c.args.mended.now violations i said.2.0 message said.0 one
+    c.loop-violation.is_first told parts said.2.1 said.2.2 told_next with_one begun)
+    (rw is at c.in-Err.ensures.fault)
 
 pub returns-in-Err-clause-failed : goal.returns-in-Err-clause-failed
 returns-in-Err-clause-failed g c =
@@ -117,18 +166,22 @@ returns-in-Err-clause-failed g c =
 pub returns-clause-text : goal.returns-clause-text
 returns-clause-text g c =
     let line = c.args.self.now in
+    let reported = reported_view line in
     let setting = c.args.setting in
     let violations = c.args.violations.now in
     let i = c.loop-violation.violation-index in
     let said = c.loop-violation.invariant.said in
-    let mended = mended_on setting.columns (reported_view line) (option_map mended_line_view c.args.mended.now) in
+    let fix = fix_on setting.columns reported (option_map mended_line_view c.args.mended.now) in
     let all : take i violations ≡ violations =
-    take_all i violations (let last = c.loop-violation-test.false in omega (arith, last)) in
-    subst (λ t. Passes (c.args.text.now.items ++ t) (g.W.Sink.contents c.args.writer.now)
-    (g.W.Sink.contents c.loop-violation.writer) c.loop-violation.text.items)
-    (said_first setting.form setting.format setting.columns setting.profile (reported_view line)
-    c.args.is_first mended
-    (take i violations) said.0 c.loop-violation.is_first (lent_if_mended c.loop-violation.told) said.2
-    ∙ ap (λ vs. diagnostics_text setting.form setting.format setting.columns setting.profile (reported_view
-    line) c.args.is_first mended
-    vs) all) said.1
+    take_all i violations (let last = c.loop-violation-test.false in omega (arith, last)) in (
+      said.2.0,
+      subst (λ vs. AreMessages vs said.2.0) all said.2.1,
+      subst (λ t. Passes (c.args.text.now.items ++ t) (g.W.Sink.contents c.args.writer.now)
+          (g.W.Sink.contents c.loop-violation.writer) c.loop-violation.text.items)
+          (said_first setting.form setting.format setting.columns reported c.args.is_first fix (take i violations)
+          said.2.0 [] said.0 c.loop-violation.is_first (option_map fix_view c.loop-violation.fix) said.2.2
+          ∙ ap (λ ms. diagnostics_text setting.form setting.format setting.columns reported c.args.is_first fix
+          (take i violations) ms) (append-nil said.2.0)
+          ∙ ap (λ vs. diagnostics_text setting.form setting.format setting.columns reported c.args.is_first fix
+          vs said.2.0) all) said.1,
+    )

@@ -2,8 +2,10 @@
 -- text's places.
 use Rattle.std.proofs.Common.{◌≡◌, ◌++◌, ℕ, List, option_map, take}
 use Rattle.uv_lines.specs.Waiting.{Passes}
-use Rattle.uv_lint.specs.Report.{mended_on}
-use Rattle.uv_lint.specs.ReportedView.{lent_if_mended, mended_line_view, reported_view}
+use Rattle.uv_report.specs.Diagnostic.{fix_view}
+use Rattle.uv_lint.specs.Findings.{AreMessages}
+use Rattle.uv_lint.specs.Report.{fix_on}
+use Rattle.uv_lint.specs.ReportedView.{mended_line_view, reported_view}
 use Rattle.uv_lint.proofs.DiagnosticLemmas.{IsSaidBefore}
 use Rattle.uv_lint.proofs.reported_line.ReportedLine.push.Given as goal
 
@@ -11,10 +13,10 @@ abbrev pub invariant-loop-violation : goal.invariant-loop-violation
 invariant-loop-violation g l = record {
   said : (said : List ℕ) × Passes (l.initial.text.items ++ said) (g.W.Sink.contents l.initial.writer)
       (g.W.Sink.contents l.writer) l.text.items
-      × IsSaidBefore l.setting.form l.setting.format l.setting.columns l.setting.profile (reported_view l.self)
-      l.is_first-2
-      (mended_on l.setting.columns (reported_view l.self) (option_map mended_line_view l.mended))
-      (take l.violation-index l.violations) said l.is_first (lent_if_mended l.told);
+      × ((messages : List (List ℕ)) × AreMessages (take l.violation-index l.violations) messages
+      × IsSaidBefore l.setting.form l.setting.format l.setting.columns (reported_view l.self) l.is_first-2
+      (fix_on l.setting.columns (reported_view l.self) (option_map mended_line_view l.mended))
+      (take l.violation-index l.violations) messages said l.is_first (option_map fix_view l.fix));
   quiet : g.W.Sink.failed l.writer ≡ g.W.Sink.failed l.initial.writer;
   counter : l.counter ≡ record {
     columns = l.setting.columns;

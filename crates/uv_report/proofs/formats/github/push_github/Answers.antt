@@ -11,6 +11,5 @@ returns c =
       c.in_ok-command.ensures.ok,
       c.in_ok-file.ensures,
       c.in_ok-rule.ensures,
-      c.name.ensures,
       c.in_ok-message.ensures,
     )

@@ -19,6 +19,5 @@ returns c =
       c.in_ok-begin_object.ensures,
       c.as_str.ensures.value,
       c.in_ok-fingerprint.ensures,
-      c.name.ensures,
     )
     (simp append_assoc)

@@ -5,11 +5,7 @@ use Rattle.uv_report.proofs.formats.json_lines.write_mended.Goals as goal
 pub returns : goal.returns
 returns c =
     rw (
-      c.in_ok-end_object.ensures,
-      c.in_ok-text-6.ensures,
-      c.in_ok-text-5.ensures,
-      c.in_ok-boolean-2.ensures,
-      c.in_ok-text-4.ensures,
+      c.in_ok-write_offered.ensures,
       c.in_ok-text-3.ensures,
       c.in_ok-number-2.ensures,
       c.in_ok-text-2.ensures,
@@ -19,6 +15,5 @@ returns c =
       c.in_ok-begin_object.ensures,
       c.is_cut.ensures,
       c.name.ensures,
-      c.name-2.ensures,
     )
     (simp append_assoc)

@@ -15,6 +15,6 @@ returns c =
       c.in_ok-number.ensures,
       c.in_ok-begin_object.ensures,
       c.is_cut.ensures,
-      c.name.ensures,
+      c.requires,
     )
     (simp append_assoc)

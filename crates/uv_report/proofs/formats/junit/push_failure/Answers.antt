@@ -7,9 +7,11 @@ unfolding failure
 returns c =
     rw (
       c.in_ok-push_str.ensures.bytes,
-      c.as_str.ensures.value,
+      c.as_str-2.ensures.value,
       c.in_ok-failure.ensures.ok,
-      c.name-rule.ensures,
+      c.in_ok-rule.ensures,
       c.in_ok-message.ensures,
+      c.in_ok-carried-2.ensures,
+      c.as_str.ensures.value,
       c.in_ok-carried.ensures,
     )

@@ -10,4 +10,4 @@ returns c =
     rw (← c.column_kind.ensures)
     (six_pieces (string_bytes c.args.text.now) _ _ c.column_kind.result.now driver_begin all_rules _
     c.in_ok-push_str.ensures.bytes c.in_ok-push_str-2.ensures.bytes c.in_ok-push_str-3.ensures.bytes
-    c.in_ok-push_driver.ensures c.in_ok-push_rules.ensures c.in_ok-push_str-4.ensures.bytes)
+    c.in_ok-push_str-4.ensures.bytes c.in_ok-push_rules.ensures c.in_ok-push_str-5.ensures.bytes)

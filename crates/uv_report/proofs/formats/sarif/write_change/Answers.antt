@@ -6,16 +6,12 @@ pub returns : goal.returns
 returns c =
     rw (
       c.in_ok-end_array-2.ensures,
-      c.in_ok-end_object-2.ensures,
-      c.in_ok-end_array.ensures,
       c.in_ok-end_object.ensures,
-      c.in_ok-object_of-2.ensures,
-      c.in_ok-write_region.ensures,
-      c.in_ok-begin_object-2.ensures,
+      c.in_ok-end_array.ensures,
+      c.in_ok-write_replacement.ensures,
       c.in_ok-begin_array-2.ensures,
       c.in_ok-object_of.ensures,
       c.in_ok-begin_object.ensures,
       c.in_ok-begin_array.ensures,
-      c.requires,
     )
     (simp append_assoc)

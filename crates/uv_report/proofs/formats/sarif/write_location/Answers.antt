@@ -13,6 +13,5 @@ returns c =
       c.in_ok-begin_member.ensures,
       c.in_ok-begin_object.ensures,
       c.in_ok-begin_array.ensures,
-      c.requires,
     )
     (simp append_assoc)

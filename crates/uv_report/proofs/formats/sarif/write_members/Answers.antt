@@ -10,6 +10,8 @@ returns c =
       c.in_ok-object_of.ensures,
       c.in_ok-write_location.ensures,
       c.in_ok-text.ensures,
-      c.requires.fingerprint,
+      c.as_str.ensures.value,
+      c.in_ok-fingerprint.ensures,
+      c.requires,
     )
     (simp append_assoc)

@@ -1,14 +1,7 @@
--- The tokens, one after the other.
-use Rattle.std.proofs.Common.{append_assoc}
+-- What ends in another line.
+use Rattle.std.proofs.Common.{ne_eqb}
 use Rattle.uv_report.proofs.formats.sarif.write_region.Goals as goal
 
-pub returns : goal.returns
-returns c =
-    rw (
-      c.in_ok-end_object.ensures,
-      c.in_ok-number-3.ensures,
-      c.in_ok-number-2.ensures,
-      c.in_ok-number.ensures,
-      c.in_ok-begin_member.ensures,
-    )
-    (simp append_assoc)
+pub returns-else-region : goal.returns-else-region
+returns-else-region c =
+    rw (ne_eqb c.args.region.end_line c.args.region.line c.if-region.false) c.write_lines_region.ensures

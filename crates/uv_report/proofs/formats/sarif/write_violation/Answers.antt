@@ -7,15 +7,13 @@ pub returns : goal.returns
 unfolding violation_members
 returns c =
     rw (
-      c.in_ok-end_object-2.ensures,
-      c.in_ok-number.ensures,
+      c.in_ok-write_index.ensures,
       c.in_ok-text-2.ensures,
       c.in_ok-end_object.ensures,
       c.in_ok-text.ensures,
       c.in_ok-boolean.ensures,
       c.in_ok-begin_member.ensures,
       c.is_cut.ensures,
-      c.name.ensures,
-      c.index.ensures,
+      c.requires,
     )
     (simp append_assoc)

@@ -1,6 +1,0 @@
--- The rows of located lines.
-use Rattle.uv_lint.proofs.LocatedRowsLemmas.{located_report_rows}
-use Rattle.uv_lint.proofs.laws.located_report_rows.Goals as goal
-
-pub returns : goal.returns
-returns c = located_report_rows

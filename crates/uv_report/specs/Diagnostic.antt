@@ -1,0 +1,81 @@
+-- A diagnostic as data: where something is wrong in a file, by which rule, what is said of it, and what to write there.
+use Rattle.std.specs.Prelude.{◌≡◌, ℕ, ◌==◌, Bool, List, ◌++◌, codes, Option, Some, None, if◌then◌else◌, length}
+use Rattle.std.specs.Prelude.{option_map}
+use Rattle.uv_model.specs.declared.mend_kind.MendKind.{MendKind}
+use Rattle.uv_report.specs.declared.diagnostic.Diagnostic.{Diagnostic}
+use Rattle.uv_report.specs.declared.diagnostic.Fix.{Fix}
+use Rattle.uv_report.specs.declared.diagnostic.Region.{Region}
+use Rattle.uv_report.specs.Escaping.Escapes.{shown_text}
+use Rattle.uv_report.specs.Places.Window.{carried}
+
+-- what to write in place of a text: where that is, if a program may write there, how it is to that, and whether it is
+-- offered
+pub record FixView : Type 0 where
+  pub region : Option Region
+  pub text : List ℕ
+  pub kind : MendKind
+  pub is_offered : Bool
+
+-- what is wrong somewhere in a file: where, by which rule, which is told of there, what is said of it, within what it is,
+-- the text and the place in it, how many are the same before it, and what to write in place of the text
+pub record DiagnosticView : Type 0 where
+  pub file : List ℕ
+  pub region : Region
+  pub rule : List ℕ
+  pub uri : List ℕ
+  pub message : List ℕ
+  pub within : List ℕ
+  pub text : List ℕ
+  pub place : ℕ
+  pub repeat : ℕ
+  pub fix : Option FixView
+
+-- ---- as the code has them
+
+abbrev pub fix_view : Fix → FixView
+fix_view fix = record {
+  region = fix.region;
+  text = fix.text.now;
+  kind = fix.kind;
+  is_offered = fix.is_offered;
+}
+
+abbrev pub diagnostic_view : Diagnostic → DiagnosticView
+diagnostic_view diagnostic = record {
+  file = diagnostic.file.now;
+  region = diagnostic.region;
+  rule = diagnostic.rule.now;
+  uri = diagnostic.uri.now;
+  message = diagnostic.message.now;
+  within = diagnostic.within.now;
+  text = diagnostic.text.now;
+  place = diagnostic.place;
+  repeat = diagnostic.repeat;
+  fix = option_map fix_view diagnostic.fix;
+}
+
+abbrev pub edit_view : Region × Fix → Region × FixView
+edit_view edit = (edit.0, fix_view edit.1)
+
+-- ---- what is made of them
+
+-- a message: what a terminal may be shown of some text, so it is one line
+abbrev pub IsMessage : List ℕ → Type 0
+IsMessage message = (text : List ℕ) × (message ≡ shown_text text)
+
+-- a message, and after it within what that is
+abbrev pub told : List ℕ → List ℕ → List ℕ
+told message within = if length within == 0 then message else message ++ (codes ", in " ++ within)
+
+-- what a report carries of the text
+abbrev pub carried_text : DiagnosticView → List ℕ
+carried_text diagnostic = carried diagnostic.text diagnostic.place
+
+-- what to write, and where, if a program may write there
+abbrev pub edit_at : FixView → Option (Region × FixView)
+edit_at fix = option_map (λ region. (region, fix)) fix.region
+
+-- the same of what is offered
+abbrev pub edit_of : Option FixView → Option (Region × FixView)
+edit_of None = None
+edit_of (Some fix) = if fix.is_offered then edit_at fix else None
