@@ -1,5 +1,5 @@
 -- The fixed texts that a caller asks for by numbers.
-use Rattle.std.specs.Prelude.{◌≡◌, ℕ, ◌⊎◌, ◌==◌, ◌||◌, if◌then◌else◌, Bool, true, false, List, [], Option, Some, None}
+use Rattle.std.specs.Prelude.{◌≡◌, ℕ, ◌==◌, ◌||◌, if◌then◌else◌, Bool, true, false, List, [], Option, Some, None}
 use Rattle.std.specs.Prelude.{unwrap_or}
 use Rattle.uv_model.specs.declared.rule.Rule.{Rule}
 use Rattle.uv_report.specs.declared.format.Format.{Format}
@@ -7,10 +7,9 @@ use Rattle.uv_report.specs.declared.line_violation.LineViolation.{LineViolation}
 use Rattle.uv_report.specs.declared.line_violation.LineViolation.TheVariants.{Refused}
 use Rattle.uv_report.specs.declared.places.column.Columns.{Columns}
 use Rattle.uv_report.specs.Format.{format_name}
-use Rattle.uv_report.specs.LineViolation.{violation_name}
+use Rattle.uv_report.specs.LineViolation.{violation_address, violation_name}
 use Rattle.uv_report.specs.Places.Column.{columns_name}
 use Rattle.uv_report.specs.Rules.Explanation.{rule_base, rule_mended, rule_place, rule_wrong}
-use Rattle.uv_report.specs.Rules.Page.{rule_page}
 use Rattle.urlcheck_c.specs.Buffer.{IsWritten}
 use Rattle.urlcheck_c.specs.Names.{rule_with_number}
 use Rattle.urlcheck_c.specs.ReportNumbers.{format_of, unit_of, violation_of}
@@ -28,11 +27,11 @@ abbrev pub violation_example : ℕ → LineViolation → List ℕ
 violation_example what (Refused refusal) = example_text what refusal.rule
 violation_example what violation = []
 
--- of what is wrong with a text or a line: the name, the address of the page, or the example
+-- of what is wrong with a text or a line: the name, where it is in the Standard, or the example
 abbrev pub violation_text : ℕ → LineViolation → List ℕ
 violation_text what violation =
     if what == 0 then violation_name violation
-    else (if what == 2 then rule_page violation else violation_example what violation)
+    else (if what == 2 then violation_address violation else violation_example what violation)
 
 -- the same where something is wrong
 abbrev pub violation_text_or_none : ℕ → Option LineViolation → List ℕ
@@ -68,12 +67,10 @@ IsFixedText what number text =
     (is_sentence what ≡ false → text ≡ known_text what number) × (violation_of number 0 ≡ None
     → is_sentence what ≡ true → text ≡ [])
 
--- The text is at the start of the buffer where it fits, and its length is given; or memory ran out for the address of a
--- page, and nothing was written.
+-- the text is at the start of the buffer where it fits, and its length is given
 abbrev pub IsTextAnswer : ℕ → ℕ → List ℕ → List ℕ → ℕ → Type 0
 IsTextAnswer what number old new answer =
-    ((text : List ℕ) × IsFixedText what number text × IsWritten text old new answer)
-    ⊎ ((what ≡ 2) × (answer ≡ 0) × (new ≡ old))
+    (text : List ℕ) × IsFixedText what number text × IsWritten text old new answer
 
 -- ---- the place of an example
 

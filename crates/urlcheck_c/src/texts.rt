@@ -1,5 +1,5 @@
 //! The fixed texts that a caller asks for by numbers.
-ghost use Rattle.std.specs.Prelude.{◌≡◌, ◌≢◌, IfOk, false, string_bytes};
+ghost use Rattle.std.specs.Prelude.{◌≡◌, ◌≢◌, false};
 ghost use Rattle.urlcheck_c.specs.FixedText.{IsFixedText, IsTextAnswer, example_place, example_text};
 ghost use Rattle.urlcheck_c.specs.FixedText.{format_name_or_none, is_sentence, known_text, unit_name_or_none};
 ghost use Rattle.urlcheck_c.specs.FixedText.{violation_example, violation_text};
@@ -8,26 +8,18 @@ ghost use Rattle.urlcheck_c.specs.ReportNumbers as spec;
 use crate::buffers::write_prefix;
 use crate::names::rule_of;
 use crate::reports::report_numbers::{format_of, unit_of, violation_of};
-use std::alloc::{AllocError, Global};
 use uv_model::Rule;
-use uv_report::{LineViolation, explain, rule_page};
+use uv_report::{LineViolation, explain};
 
 /// Writes a fixed text to the start of `out` where it fits, and gives its length: 0 where there is none. It is told by
-/// what is asked for and by the number of what it is about. Of a rule of texts or of lines: 0 its name, 1 its sentence,
-/// 2 the address of its page and 3 what it requires. Of a rule of texts: 4 its section, 5 the base of its example,
-/// 6 the example and 7 a valid text that may have been meant. 8 the name of a format, and 9 that of a unit. Where memory
-/// runs out for the address of a page, none is given.
+/// what is asked for and by the number of what it is about. Of a rule of texts or of lines: 0 its name, 1 its sentence
+/// and 3 what it requires. Of a rule of texts: 2 where it is in the URL Standard, 4 its section there, 5 the base of its
+/// example, 6 the example and 7 a valid text that may have been meant. 8 the name of a format, and 9 that of a unit.
 #[unsafe(no_mangle)]
-pub extern "C" fn urlcheck_text(alloc: Global, what: u32, number: u32, out: &mut [u8]) -> usize
+pub extern "C" fn urlcheck_text(what: u32, number: u32, out: &mut [u8]) -> usize
     ensures { IsTextAnswer what number out.old out.new result }
 {
-    if what != 2 {
-        return write_prefix(fixed_text(what, number).as_bytes(), out);
-    }
-    match page(alloc, number) {
-        Ok(page) => write_prefix(page.as_bytes(), out),
-        Err(AllocError) => 0,
-    }
+    write_prefix(fixed_text(what, number).as_bytes(), out)
 }
 
 /// The place at which the example of the rule with this number is refused, in code points, or 0 without such a rule.
@@ -41,19 +33,8 @@ pub extern "C" fn urlcheck_example_place(rule: u32) -> usize
     }
 }
 
-// The address of the page on what is wrong with a text or a line, by its number, or no text.
-fn page(alloc: Global, number: u32) -> Result<String, AllocError>
-    ensures { IfOk result (λ page. string_bytes page ≡ known_text 2 number) }
-{
-    match violation_of(number, 0) {
-        Some(violation) => rule_page(alloc, violation),
-        None => Ok(String::new(alloc)),
-    }
-}
-
-// The text that is asked for, but for the address of a page.
+// The text that is asked for, or no text.
 fn fixed_text(what: u32, number: u32) -> &'static str
-    requires { what ≢ 2 }
     ensures { IsFixedText what number result.now }
 {
     match what {
@@ -85,7 +66,6 @@ fn unit_name(number: u32) -> &'static str
 
 // A text of the rule with this number, or no text.
 fn rule_text(what: u32, number: u32) -> &'static str
-    requires page { what ≢ 2 }
     requires format { what ≢ 8 }
     requires unit { what ≢ 9 }
     ensures { IsFixedText what number result.now }
@@ -98,12 +78,12 @@ fn rule_text(what: u32, number: u32) -> &'static str
 
 // A text of what is wrong with a text or a line.
 fn violation_text(what: u32, violation: LineViolation) -> &'static str
-    requires { what ≢ 2 }
     ensures { is_sentence what ≡ false → result.now ≡ violation_text what violation }
 {
     match what {
         0 => violation.name(),
         1 => violation.sentence(),
+        2 => violation.address(),
         3 => violation.help(),
         _ => explanation_text(what, violation),
     }
