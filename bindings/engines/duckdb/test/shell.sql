@@ -16,7 +16,7 @@ SELECT id, unnest(url_faults(u, 'http://b/'), recursive := true) FROM (VALUES (1
 SELECT sum(len(url_faults('http://h/' || repeat(' ', range::INT % 300)))), sum(len(url_faults('a:' || range))) FROM range(1000);
 SELECT url_is_valid(u), length(url_resolve(u)), url_place(u || ' '), url_faults(u || ' ')[1].place FROM (SELECT 'http://h/' || repeat('a', 100000000) AS u);
 SELECT url_mend('http://h/a b'), url_mend_kind('http://h/a b'), url_mend('http://h/'), url_mend_kind('http://h/'), url_mend('//');
-SELECT url_mend_offered('http://h/a b'), url_mend_offered('http://192.168.010.1/'), url_mend_offered('https://h/%s'), url_mend_offered('http://h/'), url_mend_offered('//');
+SELECT url_mend_offered('http://h/a b'), url_mend_offered('https://h//a'), url_mend_offered('https://h/%s'), url_mend_offered('http://h/'), url_mend_offered('//');
 CREATE TABLE link (url TEXT CHECK (url_is_valid(url)));
 INSERT INTO link VALUES ('http://h/'), (NULL);
 INSERT INTO link VALUES ('http://h/b c');

@@ -10,7 +10,7 @@ FROM (VALUES ('http://h/a b'), ('http://h/ü b'), ('http://h/'), ('//'), ('http:
 SELECT url_mend('a b', 'http://h/'), url_mend_kind('a b', 'http://h/');
 -- whether reports offer it
 SELECT u, url_mend(u), url_mend_kind(u), url_mend_offered(u)
-FROM (VALUES ('http://h/a b'), ('http://192.168.010.1/'), ('https://h/%s'), ('http://h/'), ('//')) v(u);
+FROM (VALUES ('http://h/a b'), ('https://h//a'), ('https://h/%s'), ('http://h/'), ('//')) v(u);
 SELECT url_mend('http://h/' || repeat(' ', 400) || 'x') = 'http://h/' || repeat('%20', 400) || 'x' AS long_text;
 -- the faults
 SELECT * FROM url_faults('http://h/a b|c%zz');
