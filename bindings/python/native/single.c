@@ -87,45 +87,39 @@ static PyObject *valid(state *state, const request *request, const urlcheck_span
     return made(state->valid, state, fields);
 }
 
-static urlcheck_answer checked(const request *request) {
-    return urlcheck_check(request->data, request->length, request->profile, request->base);
+/* What is found of a text, as an object, or whether it is valid. */
+static PyObject *check_answer(PyObject *module, PyObject *arguments[3], int is_whole) {
+    state *state = PyModule_GetState(module);
+    PyObject *object = NULL;
+    request request = {0};
+
+    if (read_request(state, arguments, &request)) {
+        PyThreadState *thread = unlocked(&request);
+        urlcheck_answer answer = urlcheck_check(request.data, request.length, request.profile, request.base);
+        locked(thread);
+        if (!is_checked(state, answer.found))
+            object = NULL;
+        else if (!is_whole)
+            object = PyBool_FromLong(answer.found.verdict == URLCHECK_VALID);
+        else if (answer.found.verdict == URLCHECK_REFUSED)
+            object = refused(state, answer.found);
+        else
+            object = valid(state, &request, &answer.parts);
+    }
+    drop_request(&request);
+    return object;
 }
 
 PyObject *native_check(PyObject *module, PyObject *args, PyObject *named) {
-    state *state = PyModule_GetState(module);
-    PyObject *arguments[3], *answer = NULL;
-    request request = {0};
+    PyObject *arguments[3];
 
-    if (!read_arguments(args, named, "O|OO:check", arguments)) return NULL;
-    if (read_request(state, arguments, &request)) {
-        PyThreadState *thread = unlocked(&request);
-        urlcheck_answer found = checked(&request);
-        locked(thread);
-        if (is_checked(state, found.found))
-            answer = found.found.verdict == URLCHECK_REFUSED ? refused(state, found.found)
-                                                             : valid(state, &request, &found.parts);
-    }
-    drop_request(&request);
-    return answer;
+    return read_arguments(args, named, "O|OO:check", arguments) ? check_answer(module, arguments, 1) : NULL;
 }
 
 PyObject *native_is_valid(PyObject *module, PyObject *args, PyObject *named) {
-    state *state = PyModule_GetState(module);
-    PyObject *arguments[3], *answer = NULL;
-    request request = {0};
+    PyObject *arguments[3];
 
-    if (!read_arguments(args, named, "O|OO:is_valid", arguments)) return NULL;
-    if (read_request(state, arguments, &request)) {
-        PyThreadState *thread = unlocked(&request);
-        urlcheck_finding found = {URLCHECK_VALID, 0, 0, 0};
-        /* (it says no also where there is no memory, which the check tells apart) */
-        if (!urlcheck_is_valid(request.data, request.length, request.profile, request.base))
-            found = checked(&request).found;
-        locked(thread);
-        if (is_checked(state, found)) answer = PyBool_FromLong(found.verdict == URLCHECK_VALID);
-    }
-    drop_request(&request);
-    return answer;
+    return read_arguments(args, named, "O|OO:is_valid", arguments) ? check_answer(module, arguments, 0) : NULL;
 }
 
 /* Writes a text into `most`, or where it is longer into memory of its own, which is to be freed: null where there is none. */
