@@ -222,7 +222,9 @@ class Sphinx(Built):
     def setUp(self):
         super().setUp()
         extensions = ["urlcheck.sphinx", "sphinx.ext.autodoc"] + ["myst_parser"] * HAS_MYST
-        self.files = {"index.rst": INDEX, "part.txt": PART, "raw.html": RAW, "mod.py": MODULE}
+        # (a document with one in its list that isn't there is read each time)
+        index = INDEX if HAS_MYST else INDEX.replace("   mst\n", "")
+        self.files = {"index.rst": index, "part.txt": PART, "raw.html": RAW, "mod.py": MODULE}
         if HAS_MYST:
             self.files["mst.md"] = MYST
         self.write(self.files)
