@@ -277,7 +277,7 @@ static void names(void) {
     is_fixed(URLCHECK_RULE_NAME, URLCHECK_PERCENT, "percent");
     is_fixed(URLCHECK_RULE_NAME, 0, "");
     is_fixed(URLCHECK_RULE_NAME, 15, "");
-    is_fixed(URLCHECK_RULE_SENTENCE, URLCHECK_PORT_DIGIT, "a port has digits only");
+    is_fixed(URLCHECK_RULE_SENTENCE, URLCHECK_CODE_POINT, "this code point is not allowed in a URL");
     is_fixed(URLCHECK_RULE_ADDRESS, URLCHECK_PORT_RANGE, "https://url.spec.whatwg.org/#url-port-string");
     is_fixed(URLCHECK_RULE_ADDRESS, URLCHECK_LINE_NO_UTF8, "");
     is_fixed(URLCHECK_RULE_ADDRESS, 15, "");
@@ -388,8 +388,8 @@ static void is_unmended(urlcheck_mended mended, uint32_t outcome, const char *wh
 static void mended_texts(void) {
     is_mended(mend("http://h/a b", NULL), URLCHECK_SAME, 1, "http://h/a%20b");
     is_mended(mend("x y", "http://h/a/b"), URLCHECK_SAME, 1, "x%20y");
-    /* (a template is mended, and not to be written so) */
-    is_mended(mend("http://h/{{a}}", NULL), URLCHECK_ESCAPED, 0, "http://h/%7B%7Ba%7D%7D");
+    /* (a template: a parser escapes it so too, and yet it isn't to be written so) */
+    is_mended(mend("http://h/{{a}}", NULL), URLCHECK_SAME, 0, "http://h/%7B%7Ba%7D%7D");
     is_unmended(mend("http://h/", NULL), URLCHECK_VALID, "a valid text is mended");
     is_unmended(mend("x", "http://h/"), URLCHECK_VALID, "a valid reference is mended");
     is_unmended(mend("a", NULL), URLCHECK_REFUSED, "a text without a scheme is mended");

@@ -134,9 +134,6 @@ static int find(asked *it, const uint8_t *text, size_t length, uint64_t line) {
     return 1;
 }
 
-/* How many lines before this one have the same text, and so the same rule and place: the file is read once more. */
-static uint64_t repeats(const uint8_t *text, size_t length);
-
 static void report(const uint8_t *text, size_t length, uint64_t line, int *is_first) {
     asked it;
     memset(&it, 0, sizeof it);
@@ -148,7 +145,6 @@ static void report(const uint8_t *text, size_t length, uint64_t line, int *is_fi
     if (it.rule < URLCHECK_LINE_NO_UTF8 && of->numbers.place < code_points(of->text, of->text_length))
         to = column(of->text, of->text_length, of->numbers.place + 1);
     of->numbers.region = region_in(line, from, to);
-    of->numbers.repeat = repeats(text, length);
     of->file = (const uint8_t *)name;
     of->file_length = strlen(name);
     of->rule = rule_text(URLCHECK_RULE_NAME, it.rule, &of->rule_length);
@@ -162,22 +158,6 @@ static void report(const uint8_t *text, size_t length, uint64_t line, int *is_fi
     free((void *)of->uri);
     free((void *)of->message);
     free((void *)of->fix);
-}
-
-/* The lines up to here, for what is repeated. */
-static const uint8_t *whole_file;
-static size_t before_line;
-
-static uint64_t repeats(const uint8_t *text, size_t length) {
-    uint64_t count = 0;
-    for (size_t at = 0; at < before_line;) {
-        const uint8_t *end = memchr(whole_file + at, '\n', before_line - at);
-        size_t whole = end ? (size_t)(end - (whole_file + at)) : before_line - at;
-        size_t size = whole && whole_file[at + whole - 1] == '\r' ? whole - 1 : whole;
-        count += size == length && memcmp(whole_file + at, text, length) == 0;
-        at += whole + 1;
-    }
-    return count;
 }
 
 int main(int count, char **words) {
@@ -199,13 +179,11 @@ int main(int count, char **words) {
     say(&round);
     int is_first = 1;
     uint64_t line = 0;
-    whole_file = bytes;
     for (size_t at = 0; at < length;) {
         const uint8_t *end = memchr(bytes + at, '\n', length - at);
         size_t whole = end ? (size_t)(end - (bytes + at)) : length - at;
         size_t text = end && whole && bytes[at + whole - 1] == '\r' ? whole - 1 : whole;
         line++;
-        before_line = at;
         if (text) {
             /* (a copy of its own, so that a read beyond it is seen) */
             uint8_t *copy = taken(text);
