@@ -5,6 +5,7 @@ ghost use Rattle.std.specs.Prelude.{option_map, string_bytes};
 ghost use Rattle.uv_lines.specs.Fault.{failed_within};
 ghost use Rattle.uv_lines.specs.Waiting.{LeavesParts, Passes};
 ghost use Rattle.uv_report.specs.Diagnostic.{IsMessage, diagnostic_view, fix_view};
+ghost use Rattle.uv_report.specs.Escaping.Escapes.{shown_text};
 ghost use Rattle.uv_lint.specs.LocatedViews.{link_view};
 ghost use Rattle.uv_lint.specs.Findings.{AreMessages, IsUtf8WhereRefused, bytes_by, is_refused, shown};
 ghost use Rattle.uv_lint.specs.Report.{diagnostic_in, one_text, region_in, reported_by};
@@ -183,8 +184,16 @@ fn message_of(
     ensures { IfOk result (λ text. IsMessage (string_bytes text)) }
 {
     let sentence = message(alloc, setting.profile, seen, violation)?;
+    let text = shown_of(alloc, sentence.as_str())?;
+    Ok(text)
+}
+
+// A sentence as a terminal may show it.
+fn shown_of(alloc: Global, sentence: &str) -> Result<String, AllocError>
+    ensures { IfOk result (λ text. string_bytes text ≡ shown_text sentence.now) }
+{
     let mut text = String::with_capacity(alloc, sentence.len())?;
-    push_shown(&mut text, sentence.as_str())?;
+    push_shown(&mut text, sentence)?;
     Ok(text)
 }
 
