@@ -84,7 +84,7 @@ pub extern "C" fn urlcheck_diagnostic(
         text,
         fix,
     };
-    written(alloc, format, is_first != 0, numbers, &texts, out)
+    written(alloc, format, is_first != 0, numbers, texts, out)
 }
 
 // Writes the diagnostic that the numbers and the texts say, or gives why they say none.
@@ -93,10 +93,10 @@ fn written(
     format: Format,
     is_first: bool,
     numbers: &ReportedNumbers,
-    texts: &ReportedTexts<'_>,
+    texts: ReportedTexts<'_>,
     out: &mut [u8],
 ) -> Written
-    ensures { spec.IsReportedAnswer format is_first numbers.now (texts_view texts.now) out.old out.new result }
+    ensures { spec.IsReportedAnswer format is_first numbers.now (texts_view texts.entry) out.old out.new result }
 {
     let text = match text_found(texts.text, numbers.place) {
         Ok(text) => text,
@@ -138,10 +138,10 @@ fn text_found<'t>(bytes: &'t [u8], place: usize) -> Result<&'t str, Finding>
 // The diagnostic on this text, or why the others say none.
 fn diagnostic_read<'t>(
     numbers: &ReportedNumbers,
-    texts: &ReportedTexts<'t>,
+    texts: ReportedTexts<'t>,
     text: &'t SeenText<'t>,
 ) -> Result<Diagnostic<'t>, Finding>
-    ensures { IsDiagnosticRead numbers.now (texts_view texts.now) text.now result }
+    ensures { IsDiagnosticRead numbers.now (texts_view texts.entry) text.now result }
 {
     let file = text_of(texts.file, CallOutcome::FileNoUtf8)?;
     let rule = text_of(texts.rule, CallOutcome::ReportedNoUtf8)?;
