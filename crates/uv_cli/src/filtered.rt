@@ -37,18 +37,6 @@ impl Filtered {
         }
     }
 
-    /// Before the first file.
-    pub(crate) fn nothing(is_quiet: bool) -> Filtered
-        ensures { result.is_quiet ≡ is_quiet }
-    {
-        Filtered {
-            counts: FilterCounts::none(),
-            stopped: None,
-            is_quiet,
-            is_file_left: false,
-        }
-    }
-
     /// The same after a further file of which this was counted.
     pub(crate) fn with_counts(self, counts: FilterCounts) -> Filtered
         ensures { result ≡ spec.with_counts self counts }

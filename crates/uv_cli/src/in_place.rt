@@ -84,7 +84,7 @@ fn mend_each<R: Files + Eprint + AllocGlobal>(
 ) -> Filtered
     ensures { result.is_quiet ≡ is_quiet }
 {
-    let mut filtered = Filtered::nothing(is_quiet);
+    let mut filtered = Filtered::new(FilterCounts::none(), Ok(()), is_quiet);
     for file in files {
         if filtered.stopped.is_none() {
             filtered = mend_next(rt, file.as_str(), setting, filtered);

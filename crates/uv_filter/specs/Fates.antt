@@ -48,7 +48,7 @@ takes (Some wanted) found = is_kind wanted found
 
 -- a mended text of this kind is written in place of a text: it is of the kind that is asked for, and it is offered (see
 -- uv_report), where not all are written
-abbrev pub writes : Mender → List ℕ → List ℕ → MendKind → Bool
+unfoldable pub writes : Mender → List ℕ → List ℕ → MendKind → Bool
 writes mender text mended found = takes mender.only found && (mender.all || is_offered text mended)
 
 -- the text has no mended one, or one that isn't written

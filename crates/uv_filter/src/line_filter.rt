@@ -149,6 +149,7 @@ impl<'b> LineFilter<'b> {
 
 // Whether a mended text of this kind is written in place of a text: it is of the kind that is asked for, and reports
 // offer it, where not all are written.
+#[tactic(auto, unfolding(crate::specs::Fates::writes))]
 fn writes(setting: FilterSetting<'_>, text: &str, mended: &str, kind: MendKind) -> bool
     ensures { result ≡ spec.writes (mender_of setting.entry) text.now mended.now kind }
 {

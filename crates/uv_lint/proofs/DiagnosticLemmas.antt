@@ -2,6 +2,7 @@
 use Rattle.std.proofs.Common.{◌≡◌, ℕ, Bool, false, List, [], ◌∷◌, ◌++◌, Option, Some, None, refl}
 use Rattle.std.proofs.Common.{sym, ap, subst, ◌∙◌}
 use Rattle.std.proofs.Common.{◌+◌, ◌<◌, append_assoc, append-nil, drop, get_or, inl, inr, length, option_map, take}
+use Rattle.std.specs.Str.{chars}
 use Rattle.std.proofs.lemmas.List.{take-append-drop, take_more}
 use Rattle.uv_report.specs.declared.places.column.Columns.{Columns}
 use Rattle.uv_report.specs.declared.line_violation.LineViolation.{LineViolation}
@@ -43,7 +44,7 @@ blanks [] = []
 blanks (violation ∷ rest) = [] ∷ blanks rest
 
 are_blanks : (rest : List LineViolation) → AreMessages rest (blanks rest)
-unfolding escaped
+unfolding escaped chars
 are_blanks [] = tt {0}
 are_blanks (violation ∷ rest) = (([], refl), are_blanks rest)
 
@@ -146,11 +147,13 @@ first_with line setting is_first mended violations i messages message said one n
     let others = blanks (drop i violations) in (
       messages ++ others,
       are_all violations i messages are,
-      i,
-      ap (λ t. said ++ t) none ∙ append-nil said
-          ∙ said_first setting.form setting.format setting.columns (reported_view line) is_first
-          (fix_on setting.columns (reported_view line) (option_map mended_line_view mended)) (take i violations)
-          messages others said now_first told is,
+      (
+        i,
+        ap (λ t. said ++ t) none ∙ append-nil said
+            ∙ said_first setting.form setting.format setting.columns (reported_view line) is_first
+            (fix_on setting.columns (reported_view line) (option_map mended_line_view mended)) (take i violations)
+            messages others said now_first told is,
+      ),
     )
 first_with line setting is_first mended violations i messages message said one now_first told parts are is are_one
     with_one
@@ -158,9 +161,11 @@ first_with line setting is_first mended violations i messages message said one n
     let others = blanks (drop (i + 1) violations) in (
       (messages ++ message ∷ []) ++ others,
       are_all violations (i + 1) (messages ++ message ∷ []) are_one,
-      i + 1,
-      ap (λ t. said ++ t) more
-          ∙ said_first setting.form setting.format setting.columns (reported_view line) is_first
-          (fix_on setting.columns (reported_view line) (option_map mended_line_view mended))
-          (take (i + 1) violations) (messages ++ message ∷ []) others (said ++ one) false None with_one,
+      (
+        i + 1,
+        ap (λ t. said ++ t) more
+            ∙ said_first setting.form setting.format setting.columns (reported_view line) is_first
+            (fix_on setting.columns (reported_view line) (option_map mended_line_view mended))
+            (take (i + 1) violations) (messages ++ message ∷ []) others (said ++ one) false None with_one,
+      ),
     )

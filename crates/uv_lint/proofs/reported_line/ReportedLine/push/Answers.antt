@@ -26,11 +26,13 @@ loop-violation-init g c =
       said = (
         [],
         rw (append-nil waited) (passes_none waited (g.W.Sink.contents c.args.writer.now)),
-        [],
-        tt {0},
-        subst (λ told. IsSaidBefore setting.form setting.format setting.columns (reported_view line) c.args.is_first
-            fix [] [] [] c.args.is_first told) (sym c.fix_in_place-fix.ensures)
-            (said_none setting.form setting.format setting.columns (reported_view line) c.args.is_first fix),
+        (
+          [],
+          tt {0},
+          subst (λ told. IsSaidBefore setting.form setting.format setting.columns (reported_view line) c.args.is_first
+              fix [] [] [] c.args.is_first told) (sym c.fix_in_place-fix.ensures)
+              (said_none setting.form setting.format setting.columns (reported_view line) c.args.is_first fix),
+        ),
       );
       quiet = refl;
       counter = c.new-counter.ensures;
@@ -83,13 +85,15 @@ loop-violation-preserved g c =
             (subst (λ found. Passes (c.loop-violation.text.items
             ++ one_text setting.form setting.format c.loop-violation.is_first found)
             (g.W.Sink.contents c.loop-violation.writer) new c.say_violation.new.text.items) is
-            c.in_default.ensures.text)),
-        said.2.0 ++ message ∷ [],
-        are_next violations i none said.2.0 message c.loop-violation-test.true said.2.1 c.in-Ok.ensures,
-        said_next setting.form setting.format setting.columns reported c.args.is_first c.loop-violation.is_first fix
-            told violations i none said.2.0 message said.0 c.loop-violation-test.true said.2.2,
+            c.in_default-say_violation.ensures.text)),
+        (
+          said.2.0 ++ message ∷ [],
+          are_next violations i none said.2.0 message c.loop-violation-test.true said.2.1 c.in-Ok.ensures,
+          said_next setting.form setting.format setting.columns reported c.args.is_first c.loop-violation.is_first fix
+              told violations i none said.2.0 message said.0 c.loop-violation-test.true said.2.2,
+        ),
       );
-      quiet = c.in_default.ensures.quiet ∙ invariant.quiet;
+      quiet = c.in_default-say_violation.ensures.quiet ∙ invariant.quiet;
       counter = c.column-column.ensures.same ∙ invariant.counter;
       seen = c.go_to.ensures ∙ invariant.seen;
     }
@@ -109,9 +113,11 @@ returns-in_default-clause-fault g c =
       (
         said.2.0 ++ others,
         are_all violations i said.2.0 said.2.1,
-        i,
-        said_first setting.form setting.format setting.columns reported c.args.is_first fix (take i violations)
-            said.2.0 others said.0 c.loop-violation.is_first (option_map fix_view c.loop-violation.fix) said.2.2,
+        (
+          i,
+          said_first setting.form setting.format setting.columns reported c.args.is_first fix (take i violations)
+              said.2.0 others said.0 c.loop-violation.is_first (option_map fix_view c.loop-violation.fix) said.2.2,
+        ),
       ),
       said.1,
     )
