@@ -5,13 +5,14 @@ use Rattle.uv_model.specs.declared.profile.Profile.{Profile}
 use Rattle.uv_report.specs.declared.line_violation.LineViolation.{LineViolation}
 use Rattle.uv_report.specs.Diagnostic.{IsMessage}
 use Rattle.urlcheck_c.specs.declared.finding.Finding.{Finding}
-use Rattle.urlcheck_c.specs.declared.finding.CallOutcome.TheVariants.{NoProfile, NoUtf8, NoRule, NoPlace, NoWording}
+use Rattle.urlcheck_c.specs.declared.finding.CallOutcome.TheVariants.{Memory, NoProfile, NoUtf8, NoRule, NoPlace}
+use Rattle.urlcheck_c.specs.declared.finding.CallOutcome.TheVariants.{NoWording}
 use Rattle.urlcheck_c.specs.declared.reports.messages.FoundViolation.{FoundViolation}
 use Rattle.urlcheck_c.specs.declared.written.Written.{Written}
 use Rattle.urlcheck_c.specs.Finding.{plain_finding, profile_of}
 use Rattle.urlcheck_c.specs.ReportNumbers.{violation_of}
 use Rattle.urlcheck_c.specs.Request.{IsNoText}
-use Rattle.urlcheck_c.specs.Written.{IsGiven, IsRefusedFor, IsUnwritten}
+use Rattle.urlcheck_c.specs.Written.{IsRefusedFor, IsTextGiven, IsUnwritten}
 
 -- The numbers say a profile and what is wrong with the text at the place, which is not after its end.
 pub record IsViolation (number rule place : ℕ) (bytes : List ℕ) (profile : Profile)
@@ -35,12 +36,17 @@ IsViolationRead number rule place bytes (Ok found) =
     (found.text.now ≡ bytes) × IsViolation number rule place bytes found.profile found.violation
 IsViolationRead number rule place bytes (Err finding) = IsNoViolation number rule place bytes finding
 
+-- a message is given, or memory ran out and nothing was written
+abbrev pub IsMessageGiven : List ℕ → List ℕ → Written → Type 0
+IsMessageGiven old new answer =
+    ((said : List ℕ) × IsMessage said × IsTextGiven said old new answer) ⊎ IsRefusedFor Memory old new answer
+
 -- nothing is said, and nothing was written; or what is reported of the text is given
 abbrev pub IsSentenceGiven : ℕ → ℕ → ℕ → List ℕ → List ℕ → List ℕ → Written → Type 0
 IsSentenceGiven number rule place bytes old new answer =
     ((finding : Finding) × IsNoViolation number rule place bytes finding × IsUnwritten finding old new answer)
     ⊎ ((profile : Profile) × (violation : LineViolation) × IsViolation number rule place bytes profile violation
-    × ((said : List ℕ) × IsMessage said × IsGiven said old new answer))
+    × IsMessageGiven old new answer)
 
 -- no wording has the number, and nothing was written; else the sentence is given, or it is told why there is none
 abbrev pub IsMessageAnswer : ℕ → ℕ → ℕ → ℕ → List ℕ → List ℕ → List ℕ → Written → Type 0

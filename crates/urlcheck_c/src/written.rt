@@ -1,7 +1,7 @@
 //! Texts that are written into the caller's buffer, or why there is none.
 ghost use Rattle.std.specs.Prelude.{◌≡◌, ℕ, IfOk, List, string_bytes};
 ghost use Rattle.urlcheck_c.specs.Finding.{plain_finding};
-ghost use Rattle.urlcheck_c.specs.Written.{IsGiven, unwritten};
+ghost use Rattle.urlcheck_c.specs.Written.{IsGiven, IsTextGiven, unwritten};
 
 use crate::buffers::write_prefix;
 use crate::finding::{CallOutcome, Finding};
@@ -38,10 +38,17 @@ pub(crate) fn given(text: &Result<String, AllocError>, out: &mut [u8]) -> Writte
     ensures { (bytes : List ℕ) → IfOk text.now (λ t. string_bytes t ≡ bytes) → IsGiven bytes out.old out.new result }
 {
     match text {
-        Ok(text) => Written {
-            found: Finding::plain(CallOutcome::Done),
-            length: write_prefix(text.as_bytes(), out),
-        },
+        Ok(text) => text_given(text.as_str(), out),
         Err(AllocError) => Written::refused(CallOutcome::Memory),
+    }
+}
+
+/// The same of a text that is there.
+pub(crate) fn text_given(text: &str, out: &mut [u8]) -> Written
+    ensures { IsTextGiven text.now out.old out.new result }
+{
+    Written {
+        found: Finding::plain(CallOutcome::Done),
+        length: write_prefix(text.as_bytes(), out),
     }
 }

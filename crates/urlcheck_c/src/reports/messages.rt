@@ -2,12 +2,12 @@
 ghost use Rattle.std.specs.Prelude.{◌≡◌, ◌↔◌, ◌≤◌, IfOk, IsTrue, length, string_bytes};
 ghost use Rattle.std.specs.Str.{chars};
 ghost use Rattle.uv_report.specs.Diagnostic.{IsMessage};
-ghost use Rattle.urlcheck_c.specs.Violation.{IsMessageAnswer, IsViolationRead};
+ghost use Rattle.urlcheck_c.specs.Violation.{IsMessageAnswer, IsMessageGiven, IsViolationRead};
 
 use crate::finding::{CallOutcome, Finding};
 use crate::reports::report_numbers::violation_of;
 use crate::request::{profile_of, text_of};
-use crate::written::{Written, given};
+use crate::written::{Written, text_given};
 use std::alloc::{AllocError, Global};
 use uv_grammar::wider_profile;
 use uv_model::Profile;
@@ -43,7 +43,7 @@ pub extern "C" fn urlcheck_message(
         return Written::refused(CallOutcome::NoWording);
     }
     match violation_read(text, profile, rule, place) {
-        Ok(found) => given(&sentence(alloc, &found, wording_of(wording)), out),
+        Ok(found) => said(alloc, &found, wording_of(wording), out),
         Err(found) => Written::none(found),
     }
 }
@@ -83,6 +83,16 @@ pub(crate) fn violation_read<'t>(
         profile,
         violation,
     })
+}
+
+// Writes the sentence by this wording.
+fn said(alloc: Global, found: &FoundViolation<'_>, wording: Wording, out: &mut [u8]) -> Written
+    ensures { IsMessageGiven out.old out.new result }
+{
+    match sentence(alloc, found, wording) {
+        Ok(text) => text_given(text.as_str(), out),
+        Err(AllocError) => Written::refused(CallOutcome::Memory),
+    }
 }
 
 // The sentence, by this wording.
