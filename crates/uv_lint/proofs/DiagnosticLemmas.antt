@@ -1,5 +1,5 @@
 -- The diagnostics on a text, said one after the other.
-use Rattle.std.proofs.Common.{◌≡◌, ℕ, Bool, false, List, [], ◌∷◌, ◌++◌, Option, Some, None, refl}
+use Rattle.std.proofs.Common.{◌≡◌, ℕ, Bool, false, List, [], ◌∷◌, ◌++◌, Option, None, refl}
 use Rattle.std.proofs.Common.{sym, ap, subst, ◌∙◌}
 use Rattle.std.proofs.Common.{◌+◌, ◌<◌, append_assoc, append-nil, drop, get_or, inl, inr, length, option_map, take}
 use Rattle.std.specs.Str.{chars}

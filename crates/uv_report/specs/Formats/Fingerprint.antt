@@ -5,7 +5,6 @@ use Rattle.json.specs.Json.{string}
 use Rattle.sha2.specs.Sha256.{sha256}
 use Rattle.uv_report.specs.Diagnostic.{DiagnosticView, carried_text}
 use Rattle.uv_report.specs.Json.{json_text}
-use Rattle.uv_report.specs.LineViolation.{violation_name, violation_place}
 
 -- the digest of a text (SHA-256 of FIPS 180-4), in hexadecimal digits
 abbrev pub digest : List ℕ → List ℕ

@@ -165,10 +165,11 @@ fix_sentence Same = codes "write the same URL as a valid URL string"
 fix_sentence Escaped = codes "percent-encode what is not allowed in a URL string"
 fix_sentence Changed = codes "write a valid URL string, which may be another URL"
 
--- a text in place of what is in this region
+-- the text that is written, as the last member
 unfoldable pub inserted_members : List ℕ → Members
 inserted_members text = member (codes "insertedContent") (message text) no_members
 
+-- a text in place of what is in this region
 unfoldable pub replacement_value : Region → List ℕ → Json
 replacement_value region text =
     object (member (codes "deletedRegion") (region_value region) (inserted_members text))

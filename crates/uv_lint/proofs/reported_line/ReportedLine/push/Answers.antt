@@ -1,6 +1,6 @@
 -- A diagnostic more, and at the end no violation is left.
 use Rattle.std.proofs.Common.{◌≡◌, ◌+◌, ◌++◌, ◌∷◌, ◌∙◌, [], arith, drop, get_or, option_map, take, take_all, refl}
-use Rattle.std.proofs.Common.{inl, inr, sym, ap, subst, string_bytes, append-nil, append_assoc}
+use Rattle.std.proofs.Common.{sym, ap, subst, string_bytes, append-nil, append_assoc}
 use Rattle.uv_model.specs.declared.rule.Rule.TheVariants.{NoScheme}
 use Rattle.uv_report.specs.declared.line_violation.LineViolation.{LineViolation}
 use Rattle.uv_report.specs.declared.line_violation.LineViolation.TheVariants.{Refused}
