@@ -5,7 +5,6 @@ ghost use Rattle.std.specs.Prelude.{option_map, string_bytes};
 ghost use Rattle.uv_lines.specs.Fault.{failed_within};
 ghost use Rattle.uv_lines.specs.Waiting.{LeavesParts, Passes};
 ghost use Rattle.uv_report.specs.Diagnostic.{IsMessage, diagnostic_view, fix_view};
-ghost use Rattle.uv_report.specs.Escaping.Escapes.{shown_text};
 ghost use Rattle.uv_lint.specs.LocatedViews.{link_view};
 ghost use Rattle.uv_lint.specs.Findings.{AreMessages, IsUtf8WhereRefused, bytes_by, is_refused, shown};
 ghost use Rattle.uv_lint.specs.Report.{diagnostic_in, one_text, region_in, reported_by};
