@@ -7,7 +7,7 @@ import re
 import subprocess
 import sys
 import tempfile
-from typing import Dict, List
+from typing import Any, Dict
 
 import yaml
 
@@ -28,22 +28,17 @@ def released(package: str, folder: str) -> str:
     return "file://" + folder
 
 
-def ran(action: Dict[str, object], inputs: Dict[str, str], folder: str, room: str) -> "List[subprocess.CompletedProcess[str]]":
-    """The steps of the action in a folder, up to the first one that fails."""
-    found: "List[subprocess.CompletedProcess[str]]" = []
-    for step in action["runs"]["steps"]:  # type: ignore[index]
-        assert step["shell"] == "bash" and "${{" not in step["run"], step
-        given = {name: _INPUT.sub(lambda it: inputs[it[1]], value) for name, value in step["env"].items()}
-        script = os.path.join(room, "step.sh")
-        with open(script, "w", encoding="utf-8") as file:
-            file.write(step["run"])
-        words = ["bash", "--noprofile", "--norc", "-eo", "pipefail", script]
-        environment = {**os.environ, **given, "RUNNER_TEMP": room}
-        environment.pop("PYTHONPATH", None)
-        found.append(subprocess.run(words, cwd=folder, env=environment, capture_output=True, text=True, check=False))
-        if found[-1].returncode:
-            break
-    return found
+def ran(step: Dict[str, Any], inputs: Dict[str, str], folder: str, room: str) -> "subprocess.CompletedProcess[str]":
+    """A step of the action, by the shell of a runner in a folder."""
+    assert step["shell"] == "bash" and "${{" not in step["run"], step
+    given = {name: _INPUT.sub(lambda it: inputs[it[1]], value) for name, value in step["env"].items()}
+    script = os.path.join(room, "step.sh")
+    with open(script, "w", encoding="utf-8") as file:
+        file.write(step["run"])
+    words = ["bash", "--noprofile", "--norc", "-eo", "pipefail", script]
+    environment = {**os.environ, **given, "RUNNER_TEMP": room}
+    environment.pop("PYTHONPATH", None)
+    return subprocess.run(words, cwd=folder, env=environment, capture_output=True, text=True, check=False)
 
 
 def main() -> None:
@@ -62,22 +57,26 @@ def main() -> None:
         # (what reads further kinds of documents would be fetched)
         inputs = {**defaults, "release": release, "extras": ""}
         error = "::error file=site/a.html,line=1,col=11,title=code-point::U+0020 SPACE is not allowed in a URL"
+        get, check = action["runs"]["steps"]
+        got = ran(get, inputs, room, room)
+        if got.returncode:
+            sys.exit("FAILED: action.yml gets no program: {}".format(got))
         for link, files, options, wanted, said in (
-            ("x", ".", "--gfm", [0, 0], ""), ("x y", ".", "--gfm", [0, 1], error), ("x y", "site\nno", "", [0, 2], error),
-            ("x y", " site ", "--ignore\ncode-point --no-config", [0, 0], ""),
+            ("x", ".", "--gfm", 0, ""), ("x y", ".", "--gfm", 1, error), ("x y", "site\nno", "", 2, error),
+            ("x y", " site ", "--ignore\ncode-point --no-config", 0, ""),
         ):
             with open(page, "w", encoding="utf-8") as file:
                 file.write("<a href='{}'>".format(link))
-            steps = ran(action, {**inputs, "files": files, "options": options}, os.path.join(room, "my"), room)
-            if [it.returncode for it in steps] != wanted or steps[-1].stdout.strip() != said:
-                sys.exit("FAILED: action.yml on {} with {}: {}".format(files.split(), options.split(), steps))
+            checked = ran(check, {**inputs, "files": files, "options": options}, os.path.join(room, "my"), room)
+            if checked.returncode != wanted or error in checked.stdout and not said or said not in checked.stdout:
+                sys.exit("FAILED: action.yml on {} with {}: {}".format(files.split(), options.split(), checked))
         with open(os.path.join(room, "release", "SHA256SUMS"), "r+", encoding="utf-8") as file:
             sums = file.read()
             file.seek(0)
             file.write(("1" if sums[0] == "0" else "0") + sums[1:])
-        steps = ran(action, inputs, os.path.join(room, "my"), room)
-        if [it.returncode for it in steps] != [1] or "FAILED" not in steps[0].stdout:
-            sys.exit("FAILED: action.yml takes a wheel that isn't that of the release: {}".format(steps))
+        got = ran(get, inputs, room, room)
+        if got.returncode != 1 or "FAILED" not in got.stdout:
+            sys.exit("FAILED: action.yml takes a wheel that isn't that of the release: {}".format(got))
     print("authors: the steps of action.yml, on 4 folders and with a wheel of another release")
 
 
