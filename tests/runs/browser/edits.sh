@@ -73,7 +73,7 @@ script 'a base that stays in its room where another is given' vectors memory.js 
 script 'a name of a file taken for the base' calls memory.js "/this.base.set(part, at)/,/^  }/s/this.baseText = ''/this.baseText += ''/"
 script 'a base that is checked by another profile' calls options.js 's/=== undefined || profile === number/!== null/'
 script 'a refused base that is held' calls urlcheck.js 's/if (!this.#room.hold(base, profile)) this.#isRefused(base)/this.#room.hold(base, profile)/'
-script 'no memory taken for a refusal' calls urlcheck.js 's/known === 1 || this.check(text, options).valid/known === 1/'
+script 'no memory taken for a refusal' calls urlcheck.js 's/ === 1 || this.check(text, options).valid/ === 1/'
 script 'a wrong place of the length of a text' vectors layout.js 's/^export const LENGTH = 4$/export const LENGTH = 3/'
 script 'a mended text of the next kind' vectors urlcheck.js 's/MEND_KINDS\[answer\[MEND_KIND\] - 1\]/MEND_KINDS[answer[MEND_KIND]]/'
 script 'a URL taken for the text' vectors urlcheck.js 's/answer\[IS_SAME\] === 1 ? text/answer[IS_SAME] < 2 ? text/'
