@@ -64,7 +64,7 @@ many.c|s/memset(piece->present, 0, sizeof piece->present);//
 many.c|s/if (from < 0 || to < from .*/(void)no_offsets;/
 many.c|s/request->base, out.verdicts/NULL, out.verdicts/
 arrow.c|s/texts.first = (size_t)array->offset;/texts.first = 0;/
-arrow.c|s/wide\[at\] = offsets\[at\]/wide[at] = (uint32_t)offsets[at]/
+arrow.c|s/wide\[at\] = offsets\[at\]/wide[at] = (int16_t)offsets[at]/
 arrow.c|s/\&\& !texts->data//
 arrow.c|s/array->null_count == 0/array->null_count <= 0/
 many.c|s/return batch.row;/return 0;/
