@@ -123,9 +123,7 @@ impl Rule {
             Rule::PortDigit => "this code point is not allowed in a port",
             Rule::PortRange => "the port that begins here is above 65535",
             Rule::FirstSegmentEmpty => "the path begins with //",
-            Rule::DriveAfterHost => {
-                "the path after this host begins with a drive letter"
-            }
+            Rule::DriveAfterHost => { "the path after this host begins with a drive letter" }
             Rule::CodePoint => "this code point is not allowed in a URL",
             Rule::Percent => "two hex digits have to follow this %",
         }
