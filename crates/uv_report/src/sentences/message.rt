@@ -55,7 +55,10 @@ fn violation_sentence(
             }
             Ok(said)
         }
-        _ => String::from_str(alloc, violation.sentence()),
+        LineViolation::NotLocated(fault) => String::from_str(alloc, fault.sentence()),
+        LineViolation::NotUtf8(_) | LineViolation::TooLong => {
+            String::from_str(alloc, violation.sentence())
+        }
     }
 }
 
