@@ -1,3 +1,2 @@
--- What is said of each rule: what it asks, its page, and its texts in JSON and SARIF.
+-- What is said of each rule: what it asks, with an example, and its texts in JSON and SARIF.
 pub mod Explanation
-pub mod Page

@@ -27,7 +27,6 @@ pub use places::column_counter::ColumnCounter;
 pub use places::seen_text::SeenText;
 pub use report::{end_of, push, push_begin, push_file_begin, push_file_end};
 pub use rules::explanation::{Explanation, explain};
-pub use rules::page::rule_page;
 pub use sentences::intention::{Intention, intention_of, is_offered};
 pub use sentences::message::message;
 pub use sentences::wording::{Checked, Wording};

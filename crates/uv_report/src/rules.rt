@@ -1,3 +1,2 @@
-//! What is said of each rule: what it asks, and its page.
+//! What is said of each rule: what it asks, with an example.
 pub(crate) mod explanation;
-pub(crate) mod page;
