@@ -367,7 +367,7 @@ def mended_rows():
 def is_mended(program, room):
     """Whether each of them is mended so, as a line, and with a line feed in place of a tab as one text."""
     rows = list(mended_rows())
-    found = answered(program, ["mend", "--quiet"], room, [Case(text, None, None, NOTHING) for text, _ in rows])
+    found = answered(program, ["mend", "--quiet", "--all-mended"], room, [Case(text, None, None, NOTHING) for text, _ in rows])
     wrong = [row for row, line in zip(rows, found) if line != row[1]]
     for text, written in rows:
         if "\t" in text:

@@ -366,7 +366,7 @@ fi
 # path through a file, one whose first read fails, and one that may not be read.
 expect 2 "$other" "urlcheck: missing: can't be read: there is no such file\\nurlcheck: 1 line, 1 refused\\n" \
     lint missing other.txt
-of_folders='urlcheck: lint reads files, not folders; urlcheck-documents --check FOLDER checks the documents in it\n'
+of_folders='urlcheck: lint reads files, not folders; urlcheck-documents FOLDER checks the documents in it\n'
 expect 2 "$other" "urlcheck: .: can't be read: it is a folder\\n${of_folders}urlcheck: '': can't be read: there is no such file\\n\
 urlcheck: 1 line, 1 refused\\n" lint . '' other.txt
 if has posix_paths 2; then
@@ -420,7 +420,7 @@ expect 2 '' "urlcheck: no profile is named 'n'\\nurlcheck: the profiles: standar
     lint --stdin-name n --profile n other.txt
 
 # A hint where a line is refused of a file with the name of a document, and counts are wanted.
-of_documents='urlcheck: lint reads one link a line; urlcheck-documents --check FILE checks the links of a document\n'
+of_documents='urlcheck: lint reads one link a line; urlcheck-documents FILE checks the links of a document\n'
 for end in html htm xhtml xht xml rss atom rdf svg md markdown MD; do
     printf '<a href="b">\n' >"$room/page.$end"
     expect 1 "page.$end:1:1: error: there is no scheme and no base [no-scheme]\n" \

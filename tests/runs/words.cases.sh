@@ -100,13 +100,15 @@ done
 has_values() {
     local names
     count=$((count + 1))
-    names=$("$program" $1 --$2 none x 2>&1 </dev/null | sed -n "s/^urlcheck: the $3s: //p")
+    local last=x
+    [ $1 != links ] || last=
+    names=$("$program" $1 --$2 none $last 2>&1 </dev/null | sed -n "s/^urlcheck: the $3s: //p")
     [ -n "$names" ] || fail "$1 --$2: none is named"
-    [ "$("$program" $1 -h | tr -s '\n ' ' ' | sed -n "s/.*--$2 [^[]*\(\[default: [^]]*\] \)\?\[possible values: \([^]]*\)\].*/\2/p")" = "${names// /, }" ] ||
+    [ "$("$program" $1 -h | tr -s '\n ' ' ' | sed -n "s/.*--$2 <[^[]*\(\[default: [^]]*\] \)\?\[possible values: \([^]]*\)\].*/\2/p")" = "${names// /, }" ] ||
         fail "$1 -h: --$2 doesn't have the values $names"
     [ "$("$program" $1 --help | sed -n "/--$2 /,/^\$/s/^ *- \([a-z0-9-]*\):.*/\1/p" | tr '\n' ' ')" = "$names " ] ||
         fail "$1 --help: --$2 doesn't have the values $names"
-    "$program" $1 -h | tr -s '\n ' ' ' | grep -q -e "--$2 [^[]*\[default: ${names%% *}\]" || [ $2 = only ] ||
+    "$program" $1 -h | tr -s '\n ' ' ' | grep -q -e "--$2 <[^[]*\[default: ${names%% *}\]" || [ $2 = only ] ||
         fail "$1 -h: --$2 has no default"
 }
 for command in check lint links mend; do has_values $command profile profile; done
@@ -124,7 +126,7 @@ shows "  1  a line isn't ok" help links
 shows '  1  a case fails' vectors --help
 shows '  2  the arguments are refused, or no rule has the name' explain --help
 shows '      --profile <PROFILE>  What to accept [default: standard]' links -h
-shows '  -q, --quiet              Leave out the counts on standard error' lint -h
+shows '  -q, --quiet            Leave out the counts on standard error' lint -h
 shows '      --stdin-name <NAME>  Report on - under this name [default: -]' lint -h
 # (a file that can't be read is 2 for lint, which goes on with the others, and 3 for vectors)
 shows "  2  the arguments or the base are refused, or a file can't be read; the others" help lint
@@ -173,7 +175,7 @@ expect 2 '' "$(no_base 0 no-scheme 'it has no scheme')" check --base - -
 # ends in a dot and what lists and documents end in, in any case. Whether there is such a file doesn't matter.
 list_of_check='is the text here; lint FILE checks the lines of a file\n'
 list_of_mend='is the text here; mend <FILE mends the lines of a file\n'
-document='is the text here; urlcheck-documents --check FILE checks the links of a document\n'
+document='is the text here; urlcheck-documents FILE checks the links of a document\n'
 for end in txt csv tsv json links; do
     expect 1 'refused 0 no-scheme\n' "urlcheck: links.$end $list_of_check" check links.$end
     expect 1 'none\nrefused 0 no-scheme\n' "urlcheck: .${end^^} $list_of_mend" mend .${end^^}
@@ -389,7 +391,7 @@ instead 'lint --format json writes an object a line' lint --json
 instead 'lint --format sarif writes SARIF' lint --sarif
 instead "lint reports every rule: grep -v '\\[percent\\]$' leaves out the lines of one" lint --select --ignore=percent --disable
 instead 'lint reads the FILEs that it is given, and each of their lines: leave some out before' lint --exclude --include --skip
-instead 'lint reads lists; urlcheck-documents --check FOLDER checks the documents of a folder' lint --recursive -r
+instead 'lint reads lists; urlcheck-documents FOLDER checks the documents of a folder' lint --recursive -r
 instead 'lint --format caret shows each line; explain RULE explains a rule' lint --verbose -v --debug
 instead 'lint --quiet leaves out the counts' lint --silent -s
 instead '>FILE writes what is printed to a file' lint --output -o --output-file=x

@@ -42,5 +42,5 @@ complete -c urlcheck -n '__fish_seen_subcommand_from vectors' -F
 complete -c urlcheck -n '__fish_seen_subcommand_from vectors' -s h -l help -d 'Print help (see a summary with \'-h\')'
 complete -c urlcheck -n '__fish_seen_subcommand_from explain' -a 'no-scheme opaque-base two-slashes host-missing host-domain host-number host-ipv6 host-code-point port-digit port-range first-segment-empty drive-after-host code-point percent not-utf8 line-too-long not-located empty no-link'
 complete -c urlcheck -n '__fish_seen_subcommand_from explain' -s h -l help -d 'Print help (see a summary with \'-h\')'
-complete -c urlcheck -n '__fish_seen_subcommand_from explain' -l url -d 'Print only the address of the page about each rule'
+complete -c urlcheck -n '__fish_seen_subcommand_from explain' -l url -d 'Print only the address of each rule\'s section of the standard'
 complete -c urlcheck -n '__fish_seen_subcommand_from help' -a 'check lint links mend vectors explain help'
