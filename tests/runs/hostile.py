@@ -94,9 +94,11 @@ def ran(program, words, room, listed):
         out.writelines(text + "\n" for text in listed)
     with open(os.path.join(room, "list"), "rb") as given:
         ended = subprocess.run([program, *words], cwd=room, stdin=given, capture_output=True, timeout=120)
-    # (of a refused text standard error says what is wrong at each place)
-    told = [line for line in ended.stderr.splitlines() if not line.startswith((b"urlcheck: at place ", b"urlcheck: write "))]
-    if ended.returncode not in (0, 1) or told or (ended.stderr and not ended.returncode):
+    said = ended.stderr.splitlines()
+    if words[0] == "check":
+        # (which says in sentences what is wrong)
+        said = [line for line in said if not line.startswith((b"urlcheck: at place ", b"urlcheck: write "))]
+    if ended.returncode not in (0, 1) or said:
         raise SystemExit("FAILED: {}: status {}: {}".format(words, ended.returncode, ended.stderr[:100]))
     return ended.stdout.decode().splitlines()
 
