@@ -46,7 +46,7 @@ expect 1 'faults.txt:1:8: error: U+0020 SPACE is not allowed in a domain [host-d
     'urlcheck: 1 line, 1 refused\n' lint faults.txt
 "$program" lint --all "$room/faults.txt" >"$room/out" 2>"$room/err"
 ends_with 1 $? 'urlcheck: 1 line, 1 refused\n' 'lint --all'
-places=$("$program" check --all 'http://a b:x/ %' | awk '{ print "1:" $2 + 1 " [" $3 "]" }')
+places=$("$program" check --all 'http://a b:x/ %' 2>/dev/null | awk '{ print "1:" $2 + 1 " [" $3 "]" }')
 [ "$(sed 's/.*txt:\([0-9]*:[0-9]*\): .* \(\[[a-z-]*\]\)$/\1 \2/' "$room/out")" = "$places" ] ||
     fail "lint --all: it wrote $(cat "$room/out")"
 [ "$(wc -l <"$room/out")" -gt 2 ] || fail "lint --all: it wrote $(cat "$room/out")"

@@ -352,8 +352,10 @@ for said, one, text, it in zip(document["diagnostics"], found, texts, mended):
     where = {"start": position(one[1], text, place), "end": position(one[1], text, end_place(one, text))}
     want(said["location"] == {"path": one[0], "range": where}, f"rdjson: where line {one[1]} is wrong")
     want((said["message"], said["severity"], said["code"]["value"]) == (one[4], "ERROR", one[3]), "rdjson: other diagnostics")
-    want(said["code"]["url"].startswith("https://url.spec.whatwg.org/#"), "rdjson: the section of a rule")
-    want(said.get("suggestions") == (suggestions(one, text, it) if it else None), f"rdjson: the suggestion of line {one[1]}")
+    is_of_lines = one[3] in ("not-utf8", "line-too-long", "not-located")
+    sections = "" if is_of_lines else "https://url.spec.whatwg.org/#"
+    want(said["code"].get("url", "").startswith(sections) and ("url" in said["code"]) != is_of_lines, "rdjson: the section")
+    want(said.get("suggestions") == (suggestions(one, text, it) if it and it[2] else None), f"rdjson: the suggestion of line {one[1]}")
 want(len(document["diagnostics"]) == len(found), "rdjson: more diagnostics, or fewer")
 want(json.loads(read("none.rdjson"))["diagnostics"] == [], "rdjson: diagnostics without a fault")
 want(all(read(f"none.{kind}") == "" for kind in ("gnu", "caret", "json", "github")), "lines without a fault")
