@@ -131,7 +131,7 @@ class Registers(unittest.TestCase):
         self.assertEqual(self.one("SELECT url_message('http://a_b/'), url_message('http://a_b/', NULL, 'wide')"),
                          ("U+005F LOW LINE is not allowed in a domain; profile 'wide' allows it", None))
         self.assertEqual(self.one("SELECT url_message('http://a..b/'), url_message('www.example.com')"),
-                         ("a label of this domain is empty; profile 'parser' allows it",
+                         ("a label of this domain is empty",
                           "there is no scheme and no base; write https:// before a host, or name its base (base)"))
         self.assertEqual(self.one("SELECT url_message('http://u@h/', 'http://h/')"),
                          "a URL string has no credentials: no user name, password or @ before its host; leave them out")
