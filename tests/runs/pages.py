@@ -205,8 +205,8 @@ def check_header(top, text, wrong):
     header = re.sub(r"/\*.*?\*/", "", (top / "bindings/c/include/urlcheck.h").read_text(encoding="utf-8"), flags=re.S)
     for name in dict.fromkeys(re.findall(r"\b(urlcheck_\w+)\(", header)):
         # (the page says once how the calls that end with `_to` are to the others)
-        own = name[: -len("_to")] if name.endswith("_to") else name
-        if "`{}`".format(own) not in text and not re.search(r"\b{}\(".format(own), text):
+        plain = name[: -len("_to")] if name.endswith("_to") else name
+        if "`{}`".format(plain) not in text and not re.search(r"\b{}\(".format(plain), text):
             wrong.append("{}: no word on `{}`".format(LIBRARY, name))
     for name, number in re.findall(r"(\w+) = (\d+)", header.partition("enum urlcheck_outcome {")[2].partition("}")[0]):
         if "| `{}` | {} |".format(name, number) not in text:

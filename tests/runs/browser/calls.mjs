@@ -244,9 +244,9 @@ const tests = {
     // A call after it changes nothing of it, and what is written as its URL is stays the caller's text.
     urlcheck.resolve('urn:other')
     assert.deepEqual(resolved.record, record)
-    for (const own of ['http://h/a?b#c', 'urn:a', 'file:///x', 'http://[::1]:8080/', 'web+x:/.//a']) {
-      assert.equal(urlcheck.resolve(own).text, own)
-      assert.equal(new URL(own).href, own)
+    for (const same of ['http://h/a?b#c', 'urn:a', 'file:///x', 'http://[::1]:8080/', 'web+x:/.//a']) {
+      assert.equal(urlcheck.resolve(same).text, same)
+      assert.equal(new URL(same).href, same)
     }
     assert.deepEqual(urlcheck.resolve('web+x:/.//a').record.segments, ['', 'a'])
     assert.equal(urlcheck.resolve('http://h').text, 'http://h/')

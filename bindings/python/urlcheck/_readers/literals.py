@@ -152,9 +152,9 @@ def _places(source: Source, text: str, begin: int) -> Callable[[int], int]:
 
     def place_of(at: int) -> int:
         number, column = lines.position(at)
-        own, other = lines.line(number), source.line(line + number)
+        inner, other = lines.line(number), source.line(line + number)
         start = begin - source.offset(line + first, 0) if number == first else len(other) - len(other.lstrip())
-        shift = start - len(own) + len(own.lstrip())
+        shift = start - len(inner) + len(inner.lstrip())
         return min(source.offset(line + number, max(shift + column - 1, 0)), len(source.text))
 
     return place_of
