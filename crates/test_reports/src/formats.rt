@@ -8,7 +8,8 @@ use std::process::Abort;
 use std::test::Fail;
 use uv_model::{MendKind, Profile, Refusal, Rule};
 use uv_report::{
-    Completion, Diagnostic, Fix, Format, LineViolation, Region, SeenText, end_of, message,
+    Checked, Completion, Diagnostic, Fix, Format, LineViolation, Region, SeenText, Wording, end_of,
+    message,
 };
 
 // Where no text is carried there is no line to show and no place below it.
@@ -138,8 +139,13 @@ fn says_no_more_of_a_domain_with_nothing_wrong(rt: HostRuntime) -> Result<(), Fa
         place: 7,
         rule: Rule::HostDomain,
     });
-    let text = message(rt.alloc(), Profile::Wide, &link, violation)?;
-    assert!(rt; text.as_str() == "the host that begins here is no valid domain");
+    let checked = Checked {
+        profile: Profile::Wide,
+        accepted_by: None,
+        wording: Wording::Options,
+    };
+    let text = message(rt.alloc(), checked, &link, violation)?;
+    assert!(rt; text.as_str() == "the host that begins here is not a valid domain");
     Ok(())
 }
 
