@@ -145,7 +145,7 @@ expect 0 "rule not-utf8\nmeans this line isn't UTF-8\nasks A line is a text in U
 for name in empty no-link; do
     sentence=$(python3 - "$top" $name <<'END'
 import ast, sys
-tree = ast.parse(open(sys.argv[1] + "/bindings/python/urlcheck/_rules.py", encoding="utf-8").read())
+tree = ast.parse(open(sys.argv[1] + "/bindings/python/urlcheck/_reports/rules.py", encoding="utf-8").read())
 name = sys.argv[2].upper().replace("-", "_")
 calls = [it for it in ast.walk(tree) if isinstance(it, ast.Call) and it.args and getattr(it.args[0], "id", "") == name]
 print("means %s\nasks %s" % tuple(it.value for it in calls[0].args[1:3]))

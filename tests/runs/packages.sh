@@ -36,7 +36,7 @@ python=$(cd "$at/lib" && ls -d python*/*-packages)
     sed -e "s|PYTHON|$python|" -e "s|VERSION|$version|" tests/runs/packages/files
     printf 'share/doc/urlcheck/%s\n' docs/*.md docs/guides/*.md docs/rules/*.md docs/*.svg docs/*.png
     (cd tests && printf 'share/doc/urlcheck/%s\n' vectors/*)
-    (cd bindings/python && printf "lib/$python/%s\n" urlcheck/{*.py,*.pyi,py.typed,_native.abi3.so})
+    (cd bindings/python && printf "lib/$python/%s\n" urlcheck/{*.py,*/*.py,*.pyi,py.typed,_native.abi3.so})
 } | sort >"$room/wanted"
 (cd "$at" && find . ! -type d -printf '%P\n' | sort) >"$room/found"
 diff "$room/wanted" "$room/found" ||

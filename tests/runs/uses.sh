@@ -81,6 +81,20 @@ c cpp tests/runs/library/programs.py
 c sh tests/runs/library.sh
 c cmake tests/runs/packages.sh
 rattle rust tests/runs/library/programs.py
+forms python tests/runs/library/forms.py
+rust toml tests/runs/languages.sh
+rust rust tests/runs/languages.sh
+rust sh tests/runs/languages.sh
+go text tests/runs/languages.sh
+go go tests/runs/languages.sh
+go sh tests/runs/languages.sh
+java java tests/runs/languages.sh
+java sh tests/runs/languages.sh
+other-languages ruby tests/runs/languages/others.sh
+other-languages php tests/runs/languages/others.sh
+other-languages csharp tests/runs/languages/others.sh
+other-languages lua tests/runs/languages/others.sh
+other-languages perl tests/runs/languages/others.sh
 javascript js tests/runs/browser.sh
 sphinx python -
 mkdocs yaml -
@@ -219,27 +233,6 @@ hard_names() {
     echo $right >'two words.links'
     ends 0 "$what of right lists" "$@"
 }
-
-# Lists mended in place: one that can be, one with a line that can't, and one that can't be read.
-in_folder mended
-recipe mend sh >../mend.sh
-printf 'http://h/a b\r\nhttp://h/a|b' >'two words.links'
-ends 1 'lists mended' sh ../mend.sh 'two words.links'
-printf 'http://h/a%%20b\r\nhttp://h/a|b' | cmp -s - 'two words.links' ||
-    { echo "FAILED: lists mended: it is $(cat 'two words.links')"; failed=1; }
-printf 'http://h/a b\n' >right.links
-ends 0 'a list mended' sh ../mend.sh right.links
-printf 'http://h/a%%20b\n' | cmp -s - right.links || { echo "FAILED: a list mended: it is $(cat right.links)"; failed=1; }
-mkdir a.links
-ends 2 'a folder mended' sh ../mend.sh a.links right.links
-[ ! -e a.links.new ] || { echo 'FAILED: a folder mended: it left a.links.new'; failed=1; }
-# (bash ends a command whose input is missing with 1, and dash with 2)
-for shell in bash sh; do
-    echo 'what an earlier run left' >missing.links.new
-    ends 2 "a list that is missing, by $shell" $shell ../mend.sh missing.links 'two words.links'
-    [ ! -e missing.links ] && [ ! -e missing.links.new ] ||
-        { echo "FAILED: a list that is missing, by $shell: there is one"; failed=1; }
-done
 
 # What is new beside the known faults: none known yet, all known, one moved, one more, the same once more, no list.
 in_folder known

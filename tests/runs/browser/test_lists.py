@@ -148,7 +148,7 @@ class Lists(PageCase):
         package = types.ModuleType("urlcheck")
         package.__path__ = [os.path.join(TOP, "bindings", "python", "urlcheck")]
         sys.modules["urlcheck"] = package
-        reader, source = (importlib.import_module("urlcheck." + it) for it in ("_html_links", "_source"))
+        reader, source = (importlib.import_module("urlcheck." + it) for it in ("_readers.html_links", "_readers.source"))
         wanted = [link.text for link in reader.links_of(source.Source(html))[0]]
         self.assertEqual(links, wanted)
         self.assertGreater(len(wanted), 30)
