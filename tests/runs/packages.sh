@@ -34,7 +34,7 @@ ENGINES='' quietly ./install $prefix
 python=$(cd "$at/lib" && ls -d python*/*-packages)
 {
     sed -e "s|PYTHON|$python|" -e "s|VERSION|$version|" tests/runs/packages/files
-    printf 'share/doc/urlcheck/%s\n' docs/*.md docs/guides/*.md docs/rules/*.md docs/*.svg docs/*.png
+    printf 'share/doc/urlcheck/%s\n' docs/*.md docs/guides/*.md docs/rules/*.md docs/schemas/*.json docs/*.svg docs/*.png
     (cd tests && printf 'share/doc/urlcheck/%s\n' vectors/*)
     (cd bindings/python && printf "lib/$python/%s\n" urlcheck/{*.py,*/*.py,*.pyi,py.typed,_native.abi3.so})
 } | sort >"$room/wanted"
