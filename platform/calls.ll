@@ -127,3 +127,18 @@ define internal i32 @fsync(i32 %file) alwaysinline nounwind {
   call void @platform_set_errno(i64 38)
   ret i32 -1
 }
+
+define internal i32 @ftruncate(i32 %file, i64 %length) alwaysinline nounwind {
+  call void @platform_set_errno(i64 38)
+  ret i32 -1
+}
+
+define internal i32 @fdatasync(i32 %file) alwaysinline nounwind {
+  call void @platform_set_errno(i64 38)
+  ret i32 -1
+}
+
+define internal i32 @flock(i32 %file, i32 %operation) alwaysinline nounwind {
+  call void @platform_set_errno(i64 38)
+  ret i32 -1
+}
