@@ -36,7 +36,8 @@ def run(program: str, command: list[str], text: str, base: str | None, profile: 
     words = [program, *command, "--profile", profile]
     words += ([] if base is None else ["--base=" + base]) + ["--", text]
     ended = subprocess.run(words, capture_output=True, timeout=60)
-    last = "".join(ended.stderr.decode().splitlines(True)[-1:])
+    # (of a refused text standard error says only sentences, and no word)
+    last = "".join(ended.stderr.decode().splitlines(True)[-1:]) if ended.returncode > 1 else ""
     return {"status": ended.returncode, "out": ended.stdout.decode(), "error": last}
 
 
