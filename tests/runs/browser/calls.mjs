@@ -388,7 +388,7 @@ const tests = {
     // A comma is before each result of SARIF but the first, and a long text is written whole.
     const sarif = urlcheck.report('sarif')
     const text = `${'\u00e9'.repeat(5000)} `
-    const pieces = [1, 2].map(() => sarif.diagnostic({ ...told, text, mended: { text: 'a'.repeat(9000), kind: 'changed' } }))
+    const pieces = [1, 2].map(() => sarif.diagnostic({ ...told, text, mended: { text: 'a'.repeat(9000), kind: 'changed', isOffered: true } }))
     assert.deepEqual(pieces.map(it => it.startsWith(',')), [false, true])
     assert.ok(pieces[0].includes('a'.repeat(9000)))
     assert.equal(JSON.parse(sarif.begin() + pieces.join('') + sarif.end('stopped')).runs[0].invocations[0].executionSuccessful, false)

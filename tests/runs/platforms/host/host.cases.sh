@@ -13,7 +13,7 @@ fi
 expect 2 '' "urlcheck: missing: can't be read: there is no such file\nurlcheck: 0 lines, 0 refused\n" lint missing
 mkdir "$room/folder"
 expect 2 '' "urlcheck: folder: can't be read: it is a folder
-urlcheck: lint reads files, not folders; urlcheck-documents --check FOLDER checks the documents in it
+urlcheck: lint reads files, not folders; urlcheck-documents FOLDER checks the documents in it
 urlcheck: 0 lines, 0 refused\n" lint folder
 
 # A file and standard input are read to the last byte, in lines of any length.
