@@ -124,6 +124,14 @@ const tests = {
   async 'a base that is checked once'() {
     const { urlcheck, memory } = await withMemory(bytes)
     const [plain, file, opaque] = ['http://h/a/b?q', 'file:///C:/x', 'urn:a'].map(text => urlcheck.base(text))
+    // Another base takes the place of the one that is held, and so does a name that is written where its text was.
+    for (const [base, valid] of [['http://h/', true], ['urn:a', false], ['http://h/', true]]) {
+      assert.equal(urlcheck.check('x', { base }).valid, valid)
+    }
+    for (const step of [() => '', () => urlcheck.report('checkstyle').fileBegin('http://other/c/')]) {
+      step()
+      assert.equal(urlcheck.resolve('x', { base: 'http://h/a/b' }).text, 'http://h/a/x')
+    }
     const wide = urlcheck.base('http://a_b/', { profile: 'wide' })
     assert.deepEqual({ ...plain }, { text: 'http://h/a/b?q', profile: 'standard' })
     assert.deepEqual({ ...wide }, { text: 'http://a_b/', profile: 'wide' })

@@ -62,11 +62,10 @@ script 'a wrong offset of a fault' vectors layout.js \
     's/^export const FAULT_BYTE_PLACE = 4$/export const FAULT_BYTE_PLACE = 2/'
 script 'a wrong size of a fault' vectors layout.js 's/^export const FAULT_WORDS = 6$/export const FAULT_WORDS = 4/'
 script 'a base that is held and ignored by check' vectors urlcheck.js '/room.check(/s/this.#hold(base, profile)/0/'
-script 'a base that is held and ignored by isValid' vectors urlcheck.js '/isValid(length/s/this.#hold(base, profile)/0/'
 script 'a base that is held and ignored by faults' vectors urlcheck.js '/exports.faults(/s/this.#hold(base, profile)/0/'
 script 'a base that is ignored by resolve' vectors urlcheck.js '/room.resolve(/s/room.putBase(base)/-1/'
 script 'a base that is ignored by mend' vectors urlcheck.js '/exports.mend(/s/room.putBase(base)/-1/'
-script 'a base that stays held where another is given' vectors memory.js \
+script 'a base that stays held where another is given' calls memory.js \
     's/if (base === this.heldText \&\& /if (this.heldText \&\& /'
 script 'a base that stays held by another profile' vectors memory.js 's/ \&\& profile === this.heldProfile) return true/) return true/'
 script 'a base that stays in its room where another is given' vectors memory.js 's/^    if (base !== this.baseText) {$/    if (!this.baseText) {/'
