@@ -6,6 +6,7 @@ that it has a word for, of links alone and against a base.
 """
 
 import itertools
+import json
 import re
 import subprocess
 import sys
@@ -67,6 +68,23 @@ def wanted(program, path, *words):
     return None if ran.returncode == 2 else ran.stdout
 
 
+# What names another profile: a message of the package looks at the text without its base, and that of `lint` with it.
+NAMED = re.compile(rb"; --profile \w+ allows it|, or use --profile \w+")
+
+
+def is_same(form, found, written):
+    """Whether a report is that of `lint`. GitLab's fingerprints of equal faults of one file are told apart by the package,
+    which counts them, and not by `lint`."""
+    if form != "gitlab" or found is None or written is None:
+        return found == written
+    issues, others, seen = json.loads(found), json.loads(written), set()
+    for issue, other in zip(issues, others):
+        if other["fingerprint"] in seen and issue["fingerprint"] != other["fingerprint"]:
+            issue["fingerprint"] = other["fingerprint"]
+        seen.add(other["fingerprint"])
+    return issues == others
+
+
 def compared(program, path, links, base, name):
     """How many reports on these links are those of `lint`, and how many links they report."""
     profile, words = urlcheck.Profile[name.upper()], ("--profile", name, *(("--base", base) if base else ()))
@@ -76,7 +94,10 @@ def compared(program, path, links, base, name):
         diagnostics = list(diagnostics_on(links, unit, held, profile))
         for form in urlcheck.FORMATS:
             found = reported(diagnostics, form, unit)
-            if found != wanted(program, path, *words, "--format", form, "--columns", unit):
+            written = wanted(program, path, *words, "--format", form, "--columns", unit)
+            if base is not None and written is not None:
+                found, written = NAMED.sub(b"", found), NAMED.sub(b"", written)
+            if not is_same(form, found, written):
                 sys.exit("FAILED: the package writes another report than lint {} --format {} --columns {}".format(
                     " ".join(words), form, unit))
             reports += found is not None
