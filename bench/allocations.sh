@@ -1,7 +1,7 @@
 #!/usr/bin/env bash
 # Counts the blocks of memory that a check takes, by valgrind: none for links with a plain name, in plain links and in
 # others, and some for a name of which a form is made, so that the count is seen to count. The reading of the same lines
-# is taken off. It fails where a count is missing or an answer isn't the wanted one. It needs valgrind.
+# is taken off. It fails when a count is missing or an answer isn't the wanted one. It needs valgrind.
 # Usage: bench/allocations.sh [DRIVER [COUNT]]
 set -euo pipefail
 top=$(dirname "$(dirname "$(realpath "$0")")")

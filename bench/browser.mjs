@@ -1,6 +1,6 @@
 // What calls from JavaScript cost beside the engine's own URL, in one run: the least of so many rounds, each of them some
 // passes over the links of standard input, one a line, and over what is after their authorities, which is checked
-// against a base. It fails where a call takes more than so many times what another one takes, or where a valid text
+// against a base. It fails when a call takes more than so many times what another one takes, or where a valid text
 // doesn't parse. See bench/browser.sh. Usage: node bench/browser.mjs FOLDER ROUNDS <LINKS, FOLDER being one that
 // tools/build-page has made.
 import { readFileSync } from 'node:fs'
@@ -14,7 +14,7 @@ const links = readFileSync(0, 'utf8').split('\n').filter(link => link !== '')
 const references = links.map(link => link.replace(/^[^:]*:\/\/[^/?#]*/, '')).filter(reference => reference !== '')
 const base = 'https://example.com/guide/index.html'
 const held = urlcheck.base(base)
-// A pass is short, so that other work of the machine comes between as seldom as can be.
+// A pass is short, so that other work of the machine comes between as rarely as can be.
 const PASSES = Math.max(1, Math.round(1_000 / links.length))
 const WARMING = 100
 

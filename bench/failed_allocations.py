@@ -1,7 +1,7 @@
 #!/usr/bin/env python3
 """Has each allocation of each call refused in turn, and compares what it finds with bench/failed_allocations.tsv.
 
-    bench/failed_allocations.py            compares the record, and fails where it differs
+    bench/failed_allocations.py            compares the record, and fails when it differs
     bench/failed_allocations.py --write    writes it
 
 It runs the crate `failed_allocations` by `rt try --fail-alloc 200 --cases`, once for each call, each profile, each text and each n

@@ -5,7 +5,7 @@
 # that it may have, all else at 10 thousand, 100 thousand and a million code points. Eleven is also the bound of the
 # bytes that `lint --all` writes of a line in which each code point is wrong, in each format, and of what it takes of a
 # line in which every second one is wrong and the others are beyond ASCII, in each format and each unit of columns. It
-# fails where a figure is missing or below one instruction for 32 bytes, and where an answer isn't the wanted one. It
+# fails when a figure is missing or below one instruction for 32 bytes, and where an answer isn't the wanted one. It
 # needs valgrind.
 # Usage: bench/growth.sh [--only check|faults|mend|links|lint|written] [COUNT..]
 set -euo pipefail

@@ -6,7 +6,7 @@
 # 10 %, and that its memory is the same on both, within 256 KiB, and below 10 MB. With --registry FOLDER also the time of
 # Rust's crate `url` with its validation errors counted, which reports on each line alike: `urlcheck links` is to cost at
 # most 0.75 of that. FOLDER has the sources of 2.5 or newer, as Debian's librust-url-dev has them. Against a base, on as
-# many references, `urlcheck links` is to cost at most 2.5 times the second parser alone. It fails where a program is
+# many references, `urlcheck links` is to cost at most 2.5 times the second parser alone. It fails when a program is
 # missing, a figure is empty, an answer isn't the wanted one, or a bound is broken.
 # Usage: bench/links.sh [--seed SEED] [--count COUNT] [--rounds ROUNDS] [--program FILE] [--second FILE]
 #        [--registry FOLDER]

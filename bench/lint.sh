@@ -2,7 +2,7 @@
 # `urlcheck lint` on a list of a million mixed links, the whole process, beside a C++ program that reads lines and calls
 # Ada's can_parse: processor time, the least of so many rounds with a run of each in turn, or instructions by callgrind;
 # and the peak of resident memory of `urlcheck lint` on 10,000 lines and on all. It wants at most 0.5 times the cost of
-# the other, and memory that is the same on both lists, within 256 KiB, and below 10 MB. It fails where a program is
+# the other, and memory that is the same on both lists, within 256 KiB, and below 10 MB. It fails when a program is
 # missing, a figure is empty, the counts aren't those that the list was made with, or a bound is broken. Last come
 # bench/refused_lines.sh, what a refused line takes beside a valid one, and bench/wrong_line.sh, what `lint --all` writes
 # and takes of the worst line.

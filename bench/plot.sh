@@ -5,7 +5,7 @@
 #   bench/plot.sh                     draws docs/speed.svg from the stored outputs, on standard output
 #   bench/plot.sh --measure [FOLDER]  makes the outputs anew first, by Ada in FOLDER, else beside what Ada took when it
 #                                     was measured (bench/verdicts/ada.stored); it takes some minutes
-# It fails where an output is missing, lacks a figure, or says that something failed.
+# It fails when an output is missing, lacks a figure, or says that something failed.
 set -euo pipefail
 top=$(dirname "$(dirname "$(realpath "$0")")")
 stored=$top/bench/verdicts

@@ -5,9 +5,9 @@
 # and `resolve` with its record's text (record) beside Ada's parse with its href. Both sides keep the base, or read each
 # text's own. It prints the instructions a text by callgrind, or the least processor time of so many rounds with a run of
 # each in turn, reading taken off, and the ratios to Ada.
-# It fails where a figure is missing or below the floor, and where an answer isn't the wanted one: so many texts are
-# valid, Ada parses each, and writes each URL as this checker does. By instructions it also fails where a call passes
-# the kind's bound by more than the slack, and where plain links cost more by the parser's profile than by the standard
+# It fails when a figure is missing or below the floor, and where an answer isn't the wanted one: so many texts are
+# valid, Ada parses each, and writes each URL as this checker does. By instructions it also fails when a call passes
+# the kind's bound by more than the slack, and where plain links cost more under the parser's profile than by the standard
 # one.
 # Usage: bench/verdicts.sh [--ada FOLDER] [--kind KIND|all] [--by instructions|time] [--rounds ROUNDS] [--count COUNT]
 #        [--seed SEED] [--links FILE] [--store FOLDER] [--jobs JOBS]

@@ -1,6 +1,6 @@
 #!/usr/bin/env bash
 # `urlcheck lint --all` on one line of 65,536 bytes of which each code point is wrong, in each format: what is written
-# has at most 100 MB, and the peak of resident memory is below 10 MB. It fails where a bound is broken, a status isn't
+# has at most 100 MB, and the peak of resident memory is below 10 MB. It fails when a bound is broken, a status isn't
 # that of a refused line, a diagnostic is missing or no figure was taken.
 # Usage: bench/wrong_line.sh [--program FILE]
 set -euo pipefail

@@ -11,13 +11,16 @@ void keep_arguments(int count, char **words) {
     kept_words = words;
 }
 
-int64_t platform_arg(uint64_t number, uint8_t *buffer, uint64_t room) {
-    if (number >= kept_count) return -1;
-    const char *word = kept_words[number];
+int64_t copy_word(const char *word, uint8_t *buffer, uint64_t room) {
+    if (word == NULL) return -1;
     uint64_t length = 0;
     for (; word[length] != 0; length++) {
         if (length == room) return -2;
         buffer[length] = (uint8_t)word[length];
     }
     return (int64_t)length;
+}
+
+int64_t platform_arg(uint64_t number, uint8_t *buffer, uint64_t room) {
+    return copy_word(number < kept_count ? kept_words[number] : NULL, buffer, room);
 }

@@ -25,13 +25,19 @@ define internal void @rattle_dealloc(ptr %block) alwaysinline nounwind {
   ret void
 }
 
-; Arguments and errors.
+; Arguments, the environment and errors.
 declare i64 @platform_arg(i64, ptr, i64)
+declare i64 @platform_env(ptr, ptr, i64)
 declare i64 @platform_errno()
 declare void @platform_set_errno(i64)
 
 define internal i64 @rattle_arg(i64 %number, ptr %buffer, i64 %room) alwaysinline nounwind {
   %length = call i64 @platform_arg(i64 %number, ptr %buffer, i64 %room)
+  ret i64 %length
+}
+
+define internal i64 @rattle_env(ptr %name, ptr %buffer, i64 %room) alwaysinline nounwind {
+  %length = call i64 @platform_env(ptr %name, ptr %buffer, i64 %room)
   ret i64 %length
 }
 
@@ -61,6 +67,7 @@ declare i64 @platform_close(i64)
 declare i64 @platform_read(i64, ptr, i64)
 declare i64 @platform_write(i64, ptr, i64)
 declare i64 @platform_lseek(i64, i64, i64)
+declare i64 @platform_is_terminal(i64)
 
 define internal i32 @open(ptr %path, i32 %flags, i32 %mode) alwaysinline nounwind {
   %flags.wide = sext i32 %flags to i64
@@ -141,4 +148,11 @@ define internal i32 @fdatasync(i32 %file) alwaysinline nounwind {
 define internal i32 @flock(i32 %file, i32 %operation) alwaysinline nounwind {
   call void @platform_set_errno(i64 38)
   ret i32 -1
+}
+
+define internal i32 @isatty(i32 %file) alwaysinline nounwind {
+  %file.wide = sext i32 %file to i64
+  %answer = call i64 @platform_is_terminal(i64 %file.wide)
+  %low = trunc i64 %answer to i32
+  ret i32 %low
 }

@@ -1,8 +1,8 @@
 /*
  * What the proved program asks of a system for which the toolchain has no archives, and what is assumed of each. A shim
  * gives these functions: posix.c with heap.c, windows.c and windows_words.c with it, or wasi.c with wasi_heap.c, and beside
- * each arguments.c. For Linux on ARM the toolchain compiles the program itself, and asks for the allocator and the
- * arguments alone.
+ * each arguments.c. For Linux on ARM the toolchain compiles the program itself, and asks for the allocator, the
+ * arguments and the environment alone.
  *
  * The proofs assume of them what the toolchain's contracts say of C's functions of these names on Linux. Flags and errors
  * have Linux's numbers. Each number is 64 bits wide, so that no calling convention has a word in how it is extended.
@@ -13,7 +13,7 @@
 #include <stddef.h>
 #include <stdint.h>
 
-/* Whether there is a block, 1 or 0, and where it begins. Where there is none, the address is not 0 and is never read. */
+/* Whether there is a block, 1 or 0, and where it begins. If there is none, the address is not 0 and is never read. */
 typedef struct {
     uint64_t is_given;
     uint64_t block;
@@ -22,17 +22,20 @@ typedef struct {
 /* A block of so many bytes at a multiple of `alignment`, which is at most 16. No byte of it is in another block. */
 void platform_alloc(attempt *answer, uint64_t size, uint64_t alignment);
 
-/* The block with its first `kept` bytes, and `size` bytes long; it may have moved. Where there is none, it is as it was. */
+/* The block with its first `kept` bytes, and `size` bytes long; it may have moved. If there is none, it is as it was. */
 void platform_realloc(attempt *answer, void *block, uint64_t kept, uint64_t size, uint64_t alignment);
 
 /* Gives up a block. */
 void platform_dealloc(void *block);
 
 /*
- * Writes argument `number`, from 0 for the program's name, into the buffer: its length in bytes, -1 where there is none, or
- * -2 where it has no room. The bytes are those that the caller gave, also where they are no UTF-8.
+ * Writes argument `number`, from 0 for the program's name, into the buffer: its length in bytes, -1 if there is none, or
+ * -2 if it has no room. The bytes are those that the caller gave, even if they aren't UTF-8.
  */
 int64_t platform_arg(uint64_t number, uint8_t *buffer, uint64_t room);
+
+/* Writes the value of a variable of the environment, which has an ASCII name, into the buffer: as platform_arg does. */
+int64_t platform_env(const char *name, uint8_t *buffer, uint64_t room);
 
 /* The error of the last call that gave -1, and another in its place. */
 int64_t platform_errno(void);
@@ -55,6 +58,9 @@ int64_t platform_write(int64_t file, const uint8_t *bytes, uint64_t count);
 
 /* The new place in the file, from its start (0), the place (1) or its end (2) on; or -1. */
 int64_t platform_lseek(int64_t file, int64_t offset, int64_t from);
+
+/* 1 where the file is a terminal that shows colours, otherwise 0. */
+int64_t platform_is_terminal(int64_t file);
 
 /* The program: its status. */
 int32_t platform_main(void);

@@ -3,6 +3,7 @@
 #include <errno.h>
 #include <fcntl.h>
 #include <signal.h>
+#include <stdlib.h>
 #include <unistd.h>
 
 #include "arguments.h"
@@ -87,6 +88,10 @@ int64_t platform_write(int64_t file, const uint8_t *bytes, uint64_t count) {
 int64_t platform_lseek(int64_t file, int64_t offset, int64_t from) {
     return answered(lseek((int)file, offset, (int)from));
 }
+
+int64_t platform_env(const char *name, uint8_t *buffer, uint64_t room) { return copy_word(getenv(name), buffer, room); }
+
+int64_t platform_is_terminal(int64_t file) { return isatty((int)file); }
 
 int main(int count, char **words) {
     keep_arguments(count, words);

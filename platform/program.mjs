@@ -34,8 +34,8 @@ function ownArguments() {
 }
 
 /**
- * The arguments in bytes. Node has put U+FFFD in the place of bytes that are no UTF-8, and that is valid in a URL: another
- * text than the caller's would be checked. So where it is there the system is asked for the bytes, and where that doesn't tell
+ * The arguments in bytes. Node has put U+FFFD in place of bytes that aren't UTF-8, and that is valid in a URL: another
+ * text than the caller's would be checked. So if it is there the system is asked for the bytes, and where that doesn't tell
  * them it becomes a byte that no UTF-8 has, which the program refuses.
  */
 function givenArguments() {

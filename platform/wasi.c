@@ -58,7 +58,7 @@ static uint64_t length_of(const char *text) {
     return length;
 }
 
-/* Where a path begins below a folder of that name: after the name and its slashes; or 0 where it isn't there. */
+/* Where a path begins below a folder of that name: after the name and its slashes; or 0 if it isn't there. */
 static uint64_t start_below(const char *path, const char *folder, uint64_t length) {
     uint64_t same = 0;
     while (same < length && path[same] == folder[same]) same++;
@@ -146,7 +146,18 @@ int64_t platform_lseek(int64_t file, int64_t offset, int64_t from) {
     return answered(ended, (int64_t)place);
 }
 
-/* Takes the arguments from the host: false where there is no memory for them, or it gives none. */
+/* The program asks this for colours alone, which it has on the host by --color always. */
+int64_t platform_env(const char *name, uint8_t *buffer, uint64_t room) {
+    (void)name, (void)buffer, (void)room;
+    return -1;
+}
+
+int64_t platform_is_terminal(int64_t file) {
+    (void)file;
+    return 0;
+}
+
+/* Takes the arguments from the host: false if there is no memory for them, or it gives none. */
 static _Bool takes_arguments(void) {
     uint32_t count = 0, bytes = 0;
     if (wasi_args_sizes_get(address_of(&count), address_of(&bytes)) != 0) return 0;

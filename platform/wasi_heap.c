@@ -1,5 +1,5 @@
 /*
- * The allocator of platform.h in the memory of a WebAssembly module, where there is no C library. A block is of a power of
+ * The allocator of platform.h in the memory of a WebAssembly module, if there is no C library. A block is of a power of
  * two of bytes, and has its power in the 16 bytes before it. Blocks that were given up wait in a list for each power.
  */
 #include "wasi_heap.h"

@@ -7,6 +7,7 @@
 #include <windows.h>
 
 #undef ERROR_BUSY /* Windows has another number by this name */
+#include "arguments.h"
 #include "platform.h"
 #include "windows_words.h"
 
@@ -172,6 +173,37 @@ int64_t platform_lseek(int64_t file, int64_t offset, int64_t from) {
     return SetFilePointerEx(handle, by, &place, (DWORD)from) ? place.QuadPart : failed(GetLastError());
 }
 
+/* ---- the environment, and the terminal */
+
+enum { MOST_UNITS = 1024 };
+
+int64_t platform_env(const char *name, uint8_t *buffer, uint64_t room) {
+    static char value[3 * MOST_UNITS + 1];
+    wchar_t units[MOST_UNITS];
+    wchar_t *wide = windows_name(name);
+    if (wide == NULL) return -1;
+    SetLastError(0);
+    DWORD count = GetEnvironmentVariableW(wide, units, MOST_UNITS);
+    DWORD error = GetLastError();
+    free(wide);
+    if (count == 0 && error != 0) return -1;
+    if (count >= MOST_UNITS) return -2;
+    value[put_units(value, units, count)] = 0;
+    return copy_word(value, buffer, room);
+}
+
+/* The console's mode before the program, and its handle while the program shows colours there. */
+static DWORD console_mode;
+static HANDLE coloured;
+
+int64_t platform_is_terminal(int64_t file) {
+    HANDLE handle = handle_of(file);
+    if (!GetConsoleMode(handle, &console_mode)) return 0;
+    if (!SetConsoleMode(handle, console_mode | ENABLE_VIRTUAL_TERMINAL_PROCESSING)) return 0;
+    coloured = handle;
+    return 1;
+}
+
 /* ---- the program */
 
 enum { FAILED = 3 };
@@ -179,9 +211,14 @@ enum { FAILED = 3 };
 /* The console's code page before the program, in which other programs write there; 0 without a console. */
 static UINT code_page;
 
+static void give_back(void) {
+    if (code_page != 0) SetConsoleOutputCP(code_page);
+    if (coloured != NULL) SetConsoleMode(coloured, console_mode);
+}
+
 static BOOL WINAPI gives_back_console(DWORD event) {
     (void)event;
-    if (code_page != 0) SetConsoleOutputCP(code_page);
+    give_back();
     return FALSE; /* what comes of the event is as ever */
 }
 
@@ -199,6 +236,6 @@ int main(void) {
     } else {
         (void)platform_write(2, said, sizeof said - 1);
     }
-    if (code_page != 0) SetConsoleOutputCP(code_page);
+    give_back();
     return status;
 }

@@ -75,7 +75,7 @@ typedef struct {
     size_t count, room;
 } word_list;
 
-/* Appends a word, which it takes over: 1, or 0 where there is none, or no memory. */
+/* Appends a word, which it takes over: 1, or 0 if there is none, or no memory. */
 static int append(word_list *list, char *word) {
     if (word == NULL) return 0;
     if (list->count == list->room) {
@@ -118,7 +118,7 @@ static wchar_t *within(const wchar_t *pattern, size_t start, const wchar_t *name
     return whole;
 }
 
-/* Appends the names of the files that a pattern stands for, in the order of their bytes; itself where there is none. */
+/* Appends the names of the files that a pattern stands for, in the order of their bytes; itself if there is none. */
 static int append_files(word_list *list, const wchar_t *pattern) {
     size_t start = last_part(pattern), before = list->count;
     WIN32_FIND_DATAW found;

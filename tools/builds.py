@@ -2,9 +2,9 @@
 
 It is called at the top of the repository, by tools/build-program and tools/build-crate.
 
-A crate is built in one of two ways. Each proves it. The first way is for whoever wants the program or a library: it
+A crate is built in one of two ways. Each proves it. The first way is for anyone who wants the program or a library: it
 leaves of each library its statements, which is what the crates above it cite, so these don't load its proofs. The
-second is for whoever works on the crates: `rt` takes from their folders out/ what earlier checks kept, and keeps there
+second is for anyone who works on the crates: `rt` takes from their folders out/ what earlier checks kept, and keeps there
 what it proves. It is taken where a check has kept anything.
 """
 

@@ -1,6 +1,6 @@
 """How far a build of the crates is: the functions and the crates that are proved of all, and the time that is likely left.
 
-At a terminal that is one line, which is written anew each second; elsewhere it is a line each half minute.
+At a terminal that is one line, which is written again each second; elsewhere it is a line each half minute.
 """
 
 from __future__ import annotations

@@ -71,7 +71,7 @@ static void put_verdicts(const struct line *lines, size_t count, const struct se
     putchar('\n');
 }
 
-/* The setting that a base's text makes; an empty one is none. */
+/* The setting that a base's text makes; an empty one counts as none. */
 static struct setting setting_of(const char *base) {
     struct setting setting = {.against = *base ? KEPT : ALONE};
     if (strcmp(base, "own") == 0) {

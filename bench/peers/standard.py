@@ -169,7 +169,7 @@ def host_parser(text, is_special, ask):
 
 
 class Url:
-    """A URL's record; the path is a text where it is opaque, else a list."""
+    """A URL's record; the path is a text where it is opaque, otherwise a list."""
 
     def __init__(self):
         self.scheme, self.host, self.port, self.path, self.query, self.fragment = "", None, None, [], None, None
@@ -439,5 +439,5 @@ class Parser:
 
 
 def parse(text, base, ask):
-    """The URL of a text on which the parser is silent, alone or against a base; else it raises `Stop`."""
+    """The URL of a text on which the parser is silent, alone or against a base; otherwise it raises `Stop`."""
     return Parser(text, base, ask).run()

@@ -6,7 +6,7 @@ use url::{SyntaxViolation, Url};
 
 const PIECE_BYTES: usize = 65_536;
 
-// The text of the URL, where the line has one and no validation error was reported; else how many were.
+// The text of the URL, where the line has one and no validation error was reported; otherwise how many were.
 fn read(line: &[u8], base: Option<&Url>) -> Result<Url, u64> {
     let Ok(text) = std::str::from_utf8(line) else {
         return Err(0);

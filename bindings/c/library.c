@@ -87,7 +87,7 @@ static __attribute__((constructor)) void ask(void) {
 
 #endif
 
-/* What is pointed to in the place of null: of length 0, so it is neither read nor written. */
+/* What is pointed to in place of null: of length 0, so it is neither read nor written. */
 static uint8_t no_bytes[1];
 static uint64_t no_numbers[1];
 static urlcheck_fault no_faults[1];

@@ -67,7 +67,7 @@ inline bool operator!=(const violation &one, const violation &other) noexcept { 
 // Why there is no answer.
 enum class reason : std::uint32_t {
     refused = URLCHECK_REFUSED,       // the text, or the base that was to be made, violates a rule
-    no_utf8 = URLCHECK_NO_UTF8,       // it is no UTF-8
+    no_utf8 = URLCHECK_NO_UTF8,       // it isn't UTF-8
     no_memory = URLCHECK_MEMORY,      // no memory was left; nothing is said of the text
     no_profile = URLCHECK_NO_PROFILE, // no profile has the number
     no_place = URLCHECK_NO_PLACE      // the place of a violation is after the end of the text
@@ -76,7 +76,7 @@ enum class reason : std::uint32_t {
 // Why there is no answer, and where the text is wrong.
 struct error {
     urlcheck::reason reason;
-    std::size_t place;      // in code points: of a refusal its place, of bytes that are no UTF-8 where these begin
+    std::size_t place;      // in code points: of a refusal its place, of bytes that aren't UTF-8 where these begin
     std::size_t byte_place; // the same place in bytes
     std::uint32_t number;   // of a refusal the number of its rule, else 0
 
@@ -87,7 +87,7 @@ struct error {
     }
 };
 
-// A value, or the error in its place: true where there is the value.
+// A value, or the error in its place: true if there is the value.
 template <class T> class [[nodiscard]] result {
 public:
     explicit result(T value) noexcept : value_(std::move(value)), error_() {}
@@ -101,11 +101,11 @@ public:
     T &&operator*() && noexcept { return *std::move(value_); }
     const T *operator->() const noexcept { return &*value_; }
 
-    // The value, where it is there.
+    // The value, if it is there.
     [[nodiscard]] const std::optional<T> &value() const & noexcept { return value_; }
     [[nodiscard]] std::optional<T> &&value() && noexcept { return std::move(value_); }
 
-    // The error, where there is no value.
+    // The error, if there is no value.
     [[nodiscard]] const urlcheck::error &error() const noexcept { return error_; }
 
 private:
@@ -121,7 +121,7 @@ inline const std::uint8_t *bytes(std::string_view text) noexcept {
 
 inline std::uint32_t number(profile by) noexcept { return static_cast<std::uint32_t>(by); }
 
-// The reason of a verdict; that of a base is as that of a text.
+// The reason of a verdict; the text of a base is as the form of a text.
 inline reason reason_of(std::uint32_t verdict) noexcept {
     if (verdict == URLCHECK_BASE_REFUSED) return reason::refused;
     if (verdict == URLCHECK_BASE_NO_UTF8) return reason::no_utf8;
@@ -138,7 +138,7 @@ inline urlcheck::error no_memory() noexcept { return {reason::no_memory, 0, 0, 0
 constexpr std::size_t usual_fixed_text = 96;
 constexpr std::size_t usual_message = 128;
 
-// An array on the heap: of no memory where there was none, and where none was asked for.
+// An array on the heap: of no memory if there was none, and where none was asked for.
 template <class T> class array {
 public:
     array() noexcept = default;
@@ -174,7 +174,7 @@ public:
     operator std::string_view() const noexcept { return view(); }
 
     // Asks `write` for a text: it is handed a buffer, and gives an answer and the length of the text. Where the buffer
-    // is too short, it is called once more. The answer is the last one, or none where no memory was left.
+    // is too short, it is called once more. The answer is the last one, or none if no memory was left.
     template <class Write> static auto written(std::size_t room, Write write, text &out) noexcept {
         using answer = decltype(write(nullptr, room).first);
         for (;;) {
@@ -262,7 +262,7 @@ constexpr std::string_view name(mend_kind of) noexcept {
 struct mended {
     urlcheck::text text;
     mend_kind kind;
-    bool is_offered; // whether reports offer it: where not, its author seems to have meant another link
+    bool is_offered; // whether reports offer it: if not, its author seems to have meant another link
 };
 
 // All that is wrong with a text, by place and at one place by rule.
@@ -333,7 +333,7 @@ struct setting {
     setting(const urlcheck::base &against) noexcept
         : profile(number(against.profile())), prepared(&against.prepared()), base(against.text()) {}
 
-    // A base's bytes, or null where there is none. (That of a base is never null, since it is valid and so not empty.)
+    // A base's bytes, or null if there is none. (That of a base is never null, since it is valid and so not empty.)
     [[nodiscard]] const std::uint8_t *base_bytes() const noexcept {
         return prepared == nullptr ? nullptr : bytes(base);
     }
@@ -413,7 +413,7 @@ inline result<url> check(std::string_view text, profile by = profile::standard) 
 }
 inline result<url> check(std::string_view text, const base &against) noexcept { return detail::check(text, against); }
 
-// Whether the text is valid: the fastest call. It is also false where no memory was left for a domain that isn't ASCII,
+// Whether the text is valid: the fastest call. It is also false if no memory was left for a domain that isn't ASCII,
 // and where no profile has the number; `check` tells these apart.
 inline bool is_valid(std::string_view text, profile by = profile::standard) noexcept {
     return detail::is_valid(text, by);
@@ -428,7 +428,7 @@ inline result<record> resolve(std::string_view text, const base &against) noexce
     return detail::resolve(text, against);
 }
 
-// The valid text to write in place of a refused one; nothing where the text is valid; its error where the edits make no
+// The valid text to write in place of a refused one; nothing if the text is valid; its error where the edits make no
 // valid text of it.
 inline result<std::optional<mended>> mend(std::string_view text, profile by = profile::standard) noexcept {
     return detail::mend(text, by);
@@ -437,7 +437,7 @@ inline result<std::optional<mended>> mend(std::string_view text, const base &aga
     return detail::mend(text, against);
 }
 
-// All that is wrong with the text; nothing where it is valid.
+// All that is wrong with the text; nothing if it is valid.
 inline result<violations> violations_of(std::string_view text, profile by = profile::standard) noexcept {
     return detail::all(text, by);
 }
@@ -445,7 +445,7 @@ inline result<violations> violations_of(std::string_view text, const base &again
     return detail::all(text, against);
 }
 
-// The rule's name, such as `host-domain`. It is empty where no memory was left, as are those below.
+// The rule's name, such as `host-domain`. It is empty if no memory was left, as are those below.
 inline text name(rule of) noexcept { return detail::fixed_text(URLCHECK_RULE_NAME, of); }
 // What is wrong at the place of a violation, without the code point that is there: `message` names it.
 inline text sentence(rule of) noexcept { return detail::fixed_text(URLCHECK_RULE_SENTENCE, of); }

@@ -35,7 +35,7 @@ func bytesOf(text string) (*C.uint8_t, C.size_t) {
 	return *(**C.uint8_t)(unsafe.Pointer(&text)), C.size_t(len(text))
 }
 
-// baseBytes gives the bytes of the base, or a null pointer where there is none.
+// baseBytes gives the bytes of the base, or a null pointer if there is none.
 func (c Checker) baseBytes() (*C.uint8_t, C.size_t) {
 	if c.base == nil {
 		return nil, 0
@@ -95,7 +95,7 @@ func (c Checker) isValid(text string) bool {
 }
 
 // written gives the text that a call writes. The call is handed a buffer of so many bytes, of one at least, and gives
-// the length of its text; where that is longer, it is called once more.
+// the length of its text; if that is longer, it is called once more.
 func written(room int, write func(out *C.uint8_t, room C.size_t) C.size_t) string {
 	for {
 		buffer := make([]byte, room)
@@ -164,7 +164,7 @@ func violationsOf(faults []C.urlcheck_fault) []Violation {
 	return found
 }
 
-// message gives the sentence on a violation of a text, or nothing where its place is after the end of the text.
+// message gives the sentence on a violation of a text, or nothing if its place is after the end of the text.
 func message(text string, profile Profile, violation Violation) string {
 	start, length := bytesOf(text)
 	return written(128, func(out *C.uint8_t, room C.size_t) C.size_t {
@@ -188,7 +188,7 @@ var fixedTexts [5][Percent + 1]struct {
 	text string
 }
 
-// fixedText gives a text of a rule, or the empty one where no rule has the number.
+// fixedText gives a text of a rule, or the empty one if no rule has the number.
 func fixedText(what uint32, rule Rule) string {
 	if rule > Percent {
 		return ""

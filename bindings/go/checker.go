@@ -20,7 +20,7 @@ func Against(text string, profile Profile) (Checker, error) {
 // Profile gives the profile.
 func (c Checker) Profile() Profile { return c.profile }
 
-// Base gives the text of the base, where texts are checked against one.
+// Base gives the text of the base, if texts are checked against one.
 func (c Checker) Base() (string, bool) {
 	if c.base == nil {
 		return "", false
@@ -31,18 +31,18 @@ func (c Checker) Base() (string, bool) {
 // Check gives a valid text with its parts. It allocates nothing, but for a refusal.
 func (c Checker) Check(text string) (URL, error) { return c.check(text) }
 
-// IsValid says whether the text is valid: the fastest call. It is also false where no profile has the Checker's number,
+// IsValid says whether the text is valid: the fastest call. It is also false if no profile has the Checker's number,
 // and where no memory was left for a domain that isn't ASCII. Check tells these apart.
 func (c Checker) IsValid(text string) bool { return c.isValid(text) }
 
-// Resolve gives the URL that the text denotes, against the base where there is one.
+// Resolve gives the URL that the text denotes, against the base if there is one.
 func (c Checker) Resolve(text string) (Record, error) { return c.resolve(text) }
 
 // Mend gives the valid text to write in place of a refused one. Of a valid text it gives the text itself, and its kind
-// is Unchanged. Where the edits make no valid text, the error is the *Refusal of the text.
+// is Unchanged. If the edits make no valid text, the error is the *Refusal of the text.
 func (c Checker) Mend(text string) (Mended, error) { return c.mend(text) }
 
-// Violations gives all that is wrong with the text, by place and at one place by rule; nothing where it is valid.
+// Violations gives all that is wrong with the text, by place and at one place by rule; nothing if it is valid.
 func (c Checker) Violations(text string) ([]Violation, error) { return c.violations(text) }
 
 // CheckMany checks texts by one call of the library: of each text it gives the error that Check gives, or nil.

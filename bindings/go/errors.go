@@ -22,7 +22,7 @@ type Violation struct {
 }
 
 // Message is the sentence on this violation of the text, which was checked by the profile. It names the code point at
-// the place, where there is one. Where the place is after the end of the text, it is the rule's own sentence.
+// the place, if there is one. If the place is after the end of the text, it is the rule's own sentence.
 func (v Violation) Message(text string, profile Profile) string {
 	if said := message(text, profile, v); said != "" {
 		return said

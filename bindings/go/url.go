@@ -101,7 +101,7 @@ type Mended struct {
 	// Text is the valid text; of a text that was valid, that text.
 	Text string
 	Kind Kind
-	// IsOffered says whether reports offer it as what to write. Where not, its author seems to have meant another
+	// IsOffered says whether reports offer it as what to write. If not, its author seems to have meant another
 	// link, or the text was valid.
 	IsOffered bool
 }

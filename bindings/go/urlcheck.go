@@ -5,23 +5,23 @@
 // The checker itself is a library for C, of which each answer is proved: cgo finds it by pkg-config. Texts are handed
 // over without a copy. There is no state, nothing has to be closed, and any goroutine may call.
 //
-// An error is a *Refusal, where the text violates a rule; an *EncodingError, where it isn't UTF-8; ErrProfile; or
+// An error is a *Refusal, where the text violates a rule; an *EncodingError, if it isn't UTF-8; ErrProfile; or
 // ErrMemory.
 package urlcheck
 
-// Check gives a valid text with its parts, by the standard profile. It allocates nothing, but for a refusal.
+// Check gives a valid text with its parts, under the standard profile. It allocates nothing, but for a refusal.
 func Check(text string) (URL, error) { return Checker{}.Check(text) }
 
-// IsValid says whether the text is valid by the standard profile.
+// IsValid says whether the text is valid under the standard profile.
 func IsValid(text string) bool { return Checker{}.IsValid(text) }
 
-// Resolve gives the URL that the text denotes, by the standard profile.
+// Resolve gives the URL that the text denotes, under the standard profile.
 func Resolve(text string) (Record, error) { return Checker{}.Resolve(text) }
 
-// Mend gives the valid text to write in place of a refused one, by the standard profile. See Checker.Mend.
+// Mend gives the valid text to write in place of a refused one, under the standard profile. See Checker.Mend.
 func Mend(text string) (Mended, error) { return Checker{}.Mend(text) }
 
-// Violations gives all that is wrong with the text by the standard profile.
+// Violations gives all that is wrong with the text under the standard profile.
 func Violations(text string) ([]Violation, error) { return Checker{}.Violations(text) }
 
 // Profile says which texts are valid. Each profile accepts what the one before it accepts.

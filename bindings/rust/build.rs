@@ -12,7 +12,7 @@ fn main() {
     println!("cargo:rerun-if-changed=build.rs");
     println!("cargo:rerun-if-env-changed=URLCHECK_LIB_DIR");
     println!("cargo:rerun-if-env-changed=PKG_CONFIG_PATH");
-    // (pages of documentation are made where the library can't be installed)
+    // (pages of documentation are made if the library can't be installed)
     if env::var_os("DOCS_RS").is_some() {
         return;
     }
@@ -26,7 +26,7 @@ fn main() {
     }
 }
 
-/// Links the archive of a folder, or the shared library where it has no archive.
+/// Links the archive of a folder, or the shared library if it has no archive.
 fn link_folder(folder: &Path) -> Result<(), String> {
     let is_there = |name: &str| folder.join(name).exists();
     let kind = if is_there("liburlcheck.a") {

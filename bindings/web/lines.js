@@ -57,7 +57,7 @@ function add(many, room, names, start) {
  * @param {number} profile
  * @param {number} isHeld 1, or 0 where each line is checked alone
  * @returns {Many}
- * @throws {RangeError} where there is no memory for a line
+ * @throws {RangeError} if there is no memory for a line
  */
 export function checkedLines(room, names, bytes, profile, isHeld) {
   /** @type {Many} */

@@ -3,7 +3,7 @@ import { ANSWER_WORDS, DONE, LENGTH, MEMORY, NO_COLUMN, NO_PLACE, VERDICT } from
 
 /**
  * What the module exports. A base is held where `prepare` has checked it last; the base of `resolve` and `mend` is the
- * text in its room, or none where its length is below 0.
+ * text in its room, or none if its length is below 0.
  * @typedef {object} Exports
  * @property {WebAssembly.Memory} memory
  * @property {(textBytes: number, baseBytes: number) => number} make_rooms
@@ -39,14 +39,14 @@ const SMALL_ROOM = 3 * SHORT
 const LARGE_ROOM = 1 << 20
 
 const encoder = new TextEncoder()
-// A mended text may begin with U+FEFF, which is no mark of an order of bytes then.
+// A mended text may begin with U+FEFF, which isn't a mark of an order of bytes then.
 const decoder = new TextDecoder('utf-8', { ignoreBOM: true })
 const LONE_SURROGATE = /\p{Cs}/u
 
 /**
  * @param {string} text
  * @param {string} name what the text is called in a refusal
- * @throws {TypeError} where the text has a lone surrogate
+ * @throws {TypeError} if the text has a lone surrogate
  */
 function stopAtLoneSurrogate(text, name) {
   const at = text.search(LONE_SURROGATE)
@@ -58,7 +58,7 @@ function stopAtLoneSurrogate(text, name) {
  * @param {string} text
  * @param {string} name what the text is called in a refusal
  * @returns {Uint8Array}
- * @throws {TypeError} where it is no string, or has a lone surrogate
+ * @throws {TypeError} if it isn't a string, or has a lone surrogate
  */
 export function encoded(text, name) {
   if (typeof text !== 'string') throw new TypeError(`the ${name} is no string`)
@@ -91,7 +91,7 @@ export class Room {
     this.layOut(SMALL_ROOM, SMALL_ROOM)
   }
 
-  /** Sees the memory anew where it has grown: what was seen of it has then no elements. */
+  /** Sees the memory again if it has grown: what was seen of it has then no elements. */
   look() {
     if (this.answer.length !== 0) return
     const { memory, text_at, base_at, answer_at } = this.exports
@@ -153,7 +153,7 @@ export class Room {
   /**
    * Puts a base into its room, unless it is there.
    * @param {string | undefined} base
-   * @returns {number} the length of its UTF-8, or -1 where there is none
+   * @returns {number} the length of its UTF-8, or -1 if there is none
    */
   putBase(base) {
     if (base === undefined) return -1
@@ -185,7 +185,7 @@ export class Room {
    * Has the module hold a base, which is checked unless it is held.
    * @param {string} base
    * @param {number} profile
-   * @returns {boolean} whether it is held; else the answer says why not
+   * @returns {boolean} whether it is held; otherwise the answer says why not
    */
   hold(base, profile) {
     if (base === this.heldText && profile === this.heldProfile) return true
@@ -210,7 +210,7 @@ export class Room {
 
   /**
    * Stops where a call has written no text.
-   * @throws {RangeError} where there is no memory for it
+   * @throws {RangeError} if there is no memory for it
    */
   stopUnlessWritten() {
     this.look()

@@ -4,7 +4,7 @@
 /** @typedef {import('./urlcheck.js').Profile} Profile */
 /** @typedef {import('./urlcheck.js').Wording} Wording */
 
-/** A base that was checked, and is valid: the calls of a checker take it in the place of its text. */
+/** A base that was checked, and is valid: the calls of a checker take it in place of its text. */
 export class CheckedBase {
   #isChecked = true
 
@@ -57,7 +57,7 @@ export function wordingNumber(wording = 'arguments') {
 }
 
 /**
- * Stops where a string, say, or a base is in the place of the options: what it says would be passed over.
+ * Stops where a string, say, or a base is in place of the options: what it says would be passed over.
  * @param {unknown} options
  */
 export function stopUnlessOptions(options) {
@@ -67,7 +67,7 @@ export function stopUnlessOptions(options) {
 }
 
 /**
- * @param {unknown} base which is no string
+ * @param {unknown} base which isn't a string
  * @returns {never}
  */
 export function stopForBase(base) {
@@ -79,7 +79,7 @@ export function stopForBase(base) {
 /**
  * How a text is checked.
  * @typedef {object} Reading
- * @property {string | undefined} base the text of the base, where there is one
+ * @property {string | undefined} base the text of the base, if there is one
  * @property {number} profile its number
  */
 

@@ -45,7 +45,7 @@ export class UnitWalker {
 
 /**
  * A valid text, whose parts are cut out of it when they are asked for: most callers ask for few of them. The ends are
- * indices, and below 0 where the text lacks the part.
+ * indices, and below 0 if the text lacks the part.
  */
 export class ValidText {
   #text

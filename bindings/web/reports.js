@@ -71,7 +71,7 @@ export class Report {
    * What is written before the diagnostics of a file.
    * @param {string} file its name
    * @returns {string}
-   * @throws {TypeError} where the name has a lone surrogate
+   * @throws {TypeError} if the name has a lone surrogate
    */
   fileBegin(file) {
     const name = encoded(file, 'name of the file')
@@ -85,7 +85,7 @@ export class Report {
    * @param {Diagnostic} told
    * @returns {string}
    * @throws {TypeError} where a text has a lone surrogate, or no rule, kind or profile has the name
-   * @throws {RangeError} where the place is after the end of the text, or the line or a column isn't from 1 to
+   * @throws {RangeError} if the place is after the end of the text, or the line or a column isn't from 1 to
    *   4294967295; or there is no memory for it
    */
   diagnostic({ file, line, column = 1, text, rule, place, profile, mended }) {
@@ -120,7 +120,7 @@ export class Report {
    * What is written after all else.
    * @param {Completion} [completion] how the run over the files has ended
    * @returns {string}
-   * @throws {TypeError} where no completion has the name
+   * @throws {TypeError} if no completion has the name
    */
   end(completion = 'whole') {
     const number = COMPLETIONS.indexOf(completion)

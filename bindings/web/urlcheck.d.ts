@@ -1,12 +1,12 @@
 /**
  * The checker of valid URL strings (WHATWG URL Standard, sections 3.4 and 4.3), alone or against a base.
  *
- * An index counts UTF-16 units of the caller's string, from 0, and a place code points. A range is two indices, the
- * second after the part's end, as `slice` takes them.
+ * An index counts UTF-16 units of the caller's string, from 0, and a place counts code points. A range is two indices,
+ * the second after the part's end, as for `slice`.
  */
 
 /**
- * Loads the module and gives a checker. Without a source it is the `urlcheck.wasm` beside `urlcheck.js`.
+ * Loads the module and returns a checker. The default source is the `urlcheck.wasm` next to `urlcheck.js`.
  * @param source the module, its bytes, a response that has them, or its address, which may be relative to `urlcheck.js`
  */
 export function load(source?: Source): Promise<Checker>
@@ -17,28 +17,28 @@ export type Source = string | URL | BufferSource | Response | WebAssembly.Module
 /** A checker: one instance of the module. Several may exist side by side, each with its own memory. */
 export interface Checker {
   /**
-   * Whether a text is a valid URL string, alone or against a base, which is checked alone by the same profile.
-   * @throws {BaseRefused} where the base isn't valid alone
-   * @throws {TypeError} where a text is no string or has a lone surrogate, the options are no object, or no profile has
-   *   the name
-   * @throws {RangeError} where there is no memory for the text; the next call works
+   * Whether a text is a valid URL string, alone or against a base, which is checked under the same profile.
+   * @throws {BaseRefused} if the base isn't valid
+   * @throws {TypeError} if a text isn't a string or has a lone surrogate, the options aren't an object, or no profile
+   *   has the name
+   * @throws {RangeError} if there is no memory for the text; the next call works
    */
   check(text: string, options?: Options): Valid | Refused
 
   /**
-   * Whether a text is a valid URL string, without its parts and what is wrong with it: the fastest call.
+   * Whether a text is a valid URL string: the fastest call.
    * @throws what `check` throws
    */
   isValid(text: string, options?: Options): boolean
 
   /**
-   * A base that is checked, for many texts: the other calls take it in the place of its text, and check by its profile.
-   * @throws what `check` throws of its base
+   * A base that is checked once, for many texts: the other calls accept it in place of its text, and use its profile.
+   * @throws what `check` throws about its base
    */
   base(text: string, options?: BaseOptions): Base
 
   /**
-   * All that is wrong with a text, by place and at one place by the rule's number; nothing where it is valid.
+   * All violations of a text, by place and at one place by the rule's number; none if it is valid.
    * @throws what `check` throws
    */
   faults(text: string, options?: Options): Fault[]
@@ -50,43 +50,42 @@ export interface Checker {
   resolve(text: string, options?: Options): Resolved | Refused
 
   /**
-   * What to write in place of a refused text: a valid one made of it by local edits, which keep all else. It is null
-   * where the text is valid, and the text's refusal where the edits give no valid text: `'text' in answer` says which.
+   * What to write in place of a refused text: a valid text, from which it differs by local edits. It is null if the
+   * text is valid, and the text's refusal if there is no such text: `'text' in answer` tells them apart.
    * @throws what `check` throws
    */
   mend(text: string, options?: Options): Mended | Refused | null
 
   /**
-   * What a rule says and asks, where the URL Standard says it, and an example.
-   * @throws {TypeError} where no rule has the name
+   * The sentence of a rule, what it requires, its section of the URL Standard, and an example.
+   * @throws {TypeError} if no rule has the name
    */
   explain(rule: RuleName): Explanation
 
   /**
-   * Checks the lines of bytes by one call of the module for each mebibyte. A line ends with LF, and one CR before that
-   * is no part of it. An empty line is passed over, as `urlcheck lint` does.
+   * Checks lines, with one call of the module for each mebibyte. A line ends with LF, and one CR before that isn't part
+   * of it. An empty line is skipped, as by `urlcheck lint`.
    * @param lines the bytes, in UTF-8; a line that isn't UTF-8 is refused
-   * @throws {TypeError} where the lines are no `Uint8Array`, and what else `check` throws of its options
-   * @throws {RangeError} where there is no memory for a line; the next call works
+   * @throws {TypeError} if the lines aren't a `Uint8Array`, and what `check` throws about its options
+   * @throws {RangeError} if there is no memory for a line; the next call works
    */
   checkMany(lines: Uint8Array, options?: Options): Many
 
   /**
-   * The sentence on a violation of a text, without its end: what `urlcheck lint` writes after `error: `, in the words
-   * of the caller's choice.
+   * The sentence on a violation of a text, as `urlcheck lint` writes it after `error: `, in a wording of your choice.
    * @param violation such as a fault or a refusal
-   * @param options by whose profile the text was checked
-   * @throws {TypeError} where a text is no string or has a lone surrogate, or no rule, profile or wording has the name
-   * @throws {RangeError} where the place is after the end of the text, or there is no memory
+   * @param options the profile under which the text was checked, and the wording
+   * @throws {TypeError} if a text isn't a string or has a lone surrogate, or no rule, profile or wording has the name
+   * @throws {RangeError} if the place is after the end of the text, or there is no memory
    */
   message(text: string, violation: Violation, options?: MessageOptions): string
 
   /**
    * A report in pieces, as `urlcheck lint` writes it: `begin`, for each file `fileBegin`, its diagnostics and
    * `fileEnd`, and then `end`.
-   * @param unit what its columns count; without one code points, and in `rdjson` bytes
-   * @param wording how its sentences name a profile and a base; `'options'` are those of `urlcheck lint`
-   * @throws {TypeError} where no format, unit or wording has the name, or the format has no word for the unit
+   * @param unit what its columns count; by default code points, and in `rdjson` bytes
+   * @param wording how its sentences name a profile and a base; `'options'` as by `urlcheck lint`
+   * @throws {TypeError} if no format, unit or wording has the name, or the format can't count the unit
    */
   report(format: ReportFormat, unit?: ColumnUnit, wording?: Wording): Report
 
@@ -105,18 +104,18 @@ export interface Checker {
 
 /** How a text is checked. */
 export interface Options {
-  /** The base, as its text or checked before, or none. */
+  /** The base: its text, or a base that was checked before, or none. */
   base?: string | Base | null | undefined
   /**
-   * By which profile the text and the base are checked; without one by that of a base that was checked before, else by
-   * the standard one. Another one than that of such a base is a `TypeError`.
+   * The profile under which the text and the base are checked. The default is the profile of a base that was checked
+   * before, or otherwise the standard one. A profile other than such a base's causes a `TypeError`.
    */
   profile?: Profile | undefined
 }
 
 /** How a text was checked, and how a sentence on it is worded. */
 export interface MessageOptions extends Options {
-  /** How the sentence names a profile and a base; without one `'arguments'`. */
+  /** How the sentence names a profile and a base; by default `'arguments'`. */
   wording?: Wording | undefined
 }
 
@@ -128,27 +127,27 @@ export type Wording = 'arguments' | 'options' | 'sql' | 'none'
 
 /** How a base is checked. */
 export interface BaseOptions {
-  /** By which profile; without one by the standard one. */
+  /** The profile; by default the standard one. */
   profile?: Profile | undefined
 }
 
 /**
- * A base that was checked, and is valid; `base` of a checker makes it. It is a value like a string: it keeps nothing in
+ * A base that was checked and is valid, made by `base` of a checker. It is a value like a string: it keeps nothing in
  * the memory of the module, so there is nothing to free, it never changes, and any checker of its thread accepts it. A
- * copy of it, as a worker gets one, isn't one: send its text and its profile. A checker holds the base that it was given
- * last, as its text too, and checks it again only after another one.
+ * copy of it isn't a base, so send a worker its text and its profile. A checker keeps the last base, even one that was
+ * given as text, and checks it again only after another one.
  */
 export interface Base {
   /** The base's text. */
   readonly text: string
-  /** By which the base was checked, and by which texts are checked against it. */
+  /** The profile under which the base was checked, and texts are checked against it. */
   readonly profile: Profile
 }
 
 /**
  * `standard`: the URL Standard's valid URL strings. `wide`: also `_` and hyphens anywhere in domains, and any segments
  * after an authority. `parser`: each text that the Standard's parser accepts without a validation error, and no other.
- * Each accepts what the one before it accepts.
+ * Each accepts whatever the one before it accepts.
  */
 export type Profile = 'standard' | 'wide' | 'parser'
 
@@ -169,16 +168,16 @@ export type RuleName =
   | 'code-point'
   | 'percent'
 
-/** The rules of lines that aren't checked: one that is no UTF-8, and one of more bytes than `urlcheck lint` reads. */
+/** The rules of lines that aren't checked: one that isn't UTF-8, and one with more bytes than `urlcheck lint` reads. */
 export type LineRule = 'not-utf8' | 'line-too-long'
 
-/** What the lines of bytes are. */
+/** The answer of `checkMany`. */
 export interface Many {
-  /** How many lines there are, also the empty ones. */
+  /** How many lines there are, with the empty ones. */
   lines: number
   /** How many of them were checked: those that aren't empty. */
   judged: number
-  /** The checked ones that aren't valid, in their order. */
+  /** The lines that aren't valid, in their order. */
   refused: RefusedLine[]
 }
 
@@ -186,12 +185,12 @@ export interface Many {
 export interface RefusedLine {
   /** Its number, from 1. */
   line: number
-  /** Where its text begins, in bytes, so that `lines.subarray(start, end)` is it. */
+  /** Where its text begins, in bytes: `lines.subarray(start, end)` is the text. */
   start: number
   /** Where its text ends, in bytes. */
   end: number
   rule: RuleName | 'not-utf8'
-  /** The first wrong place, in code points of the line's text: of what is no UTF-8 where that begins. */
+  /** The first wrong place, in code points of the line's text; if it isn't UTF-8, the first wrong byte's place. */
   place: number
   /** The same place, in bytes of the line's text. */
   byte: number
@@ -210,33 +209,33 @@ export type ReportFormat = 'gnu' | 'caret' | 'json' | 'github' | 'sarif' | 'chec
 /** What columns count, as `urlcheck lint --columns` names it. */
 export type ColumnUnit = 'code-points' | 'bytes' | 'utf16' | 'screen'
 
-/** How a run over files has ended: whole, with a file that wasn't read to its end, or before the last one's end. */
+/** How a run over files ended: whole, with a file that wasn't read to its end, or before the last one's end. */
 export type Completion = 'whole' | 'unread' | 'stopped'
 
-/** A report, piece by piece; each call gives a piece of its text, which may be empty. */
+/** A report, piece by piece; each call returns a piece of its text, which may be empty. */
 export interface Report {
   /** Whether its diagnostics say what to write in place of a text. */
   readonly showsMended: boolean
-  /** What is written before all else. */
+  /** The beginning of the report. */
   begin(): string
   /**
-   * What is written before the diagnostics of a file.
+   * The text before the diagnostics of a file.
    * @param file its name
-   * @throws {TypeError} where the name has a lone surrogate
+   * @throws {TypeError} if the name has a lone surrogate
    */
   fileBegin(file: string): string
   /**
-   * What is reported of a violation.
-   * @throws {TypeError} where a text has a lone surrogate, or no rule, kind or profile has the name
-   * @throws {RangeError} where the place is after the end of the text, the line or a column isn't from 1 to
+   * The report on a violation.
+   * @throws {TypeError} if a text has a lone surrogate, or no rule, kind or profile has the name
+   * @throws {RangeError} if the place is after the end of the text, the line or a column isn't from 1 to
    *   4294967295, or there is no memory
    */
   diagnostic(told: Diagnostic): string
-  /** What is written after the diagnostics of a file. */
+  /** The text after the diagnostics of a file. */
   fileEnd(): string
   /**
-   * What is written after all else.
-   * @throws {TypeError} where no completion has the name
+   * The end of the report.
+   * @throws {TypeError} if no completion has the name
    */
   end(completion?: Completion): string
 }
@@ -247,10 +246,10 @@ export interface Diagnostic extends Violation {
   file: string
   /** The line that has the text, from 1. */
   line: number
-  /** The column in which the text begins, from 1; without one 1. */
+  /** The column in which the text begins, from 1; by default 1. */
   column?: number | undefined
   text: string
-  /** By which profile the text was checked; without one by the standard one. */
+  /** The profile under which the text was checked; by default the standard one. */
   profile?: Profile | undefined
   /** What a program may write in place of the text, or nothing. */
   mended?: Mended | null | undefined
@@ -260,14 +259,14 @@ export interface Diagnostic extends Violation {
 export type Range = [start: number, end: number]
 
 /**
- * A valid URL string. Its parts are taken out of the text when they are asked for; `toJSON` gives them all as a plain
- * object, which can be sent to a worker or spread.
+ * A valid URL string. Its parts are taken out of the text when you ask for them. `toJSON` returns all of them as a
+ * plain object, which you can send to a worker or spread.
  */
 export interface Valid extends Parts {
   toJSON(): Parts
 }
 
-/** The parts of a valid text: slices of it without their delimiters, and null where absent. */
+/** The parts of a valid text: slices of it without their delimiters, or null if the text lacks the part. */
 export interface Parts {
   valid: true
   scheme: string | null
@@ -308,25 +307,24 @@ export interface Refused extends Fault {
 export interface Mended {
   text: string
   kind: MendKind
-  /** Whether a report says to write it: else its author may have meant another one. */
+  /** Whether reports offer it: if not, its author may have meant another one. */
   isOffered: boolean
 }
 
 /**
- * How a mended text differs from the refused one. `same`: a second parser reads both as the same URL. `escaped`: not
- * so; some code points of the refused text are percent-encoded, and nothing else. `changed`: neither; its author has
- * to look.
+ * How a mended text differs from the refused one. `same`: a second parser reads both as the same URL. `escaped`: it
+ * doesn't, but only some code points were percent-encoded. `changed`: neither; check that the text is what was meant.
  */
 export type MendKind = 'same' | 'escaped' | 'changed'
 
 /** The URL that a valid text denotes. */
 export interface Resolved {
   readonly valid: true
-  /** The record's text, as `href` of an engine's `URL` has it: only ASCII. */
+  /** The record's text, like `href` of an engine's `URL`: only ASCII. */
   readonly text: string
-  /** The record, which is made each time that it is asked for. */
+  /** The record, which is made each time that you ask for it. */
   readonly record: UrlRecord
-  /** All of it as a plain object, which can be sent to a worker. */
+  /** All of it as a plain object, which you can send to a worker. */
   toJSON(): { valid: true; text: string; record: UrlRecord }
 }
 
@@ -335,21 +333,21 @@ export interface UrlRecord {
   scheme: string
   host: { kind: 'domain' | 'ipv4' | 'ipv6' | 'opaque' | 'empty'; text: string } | null
   port: string | null
-  /** The path, or null where it is opaque. */
+  /** The path, or null if it is opaque. */
   segments: string[] | null
   opaquePath: string | null
   query: string | null
   fragment: string | null
 }
 
-/** What is known of a rule. */
+/** An explanation of a rule. */
 export interface Explanation {
   readonly rule: RuleName
   /** What is wrong at the place of a fault. */
   readonly sentence: string
-  /** What the rule asks. */
+  /** What the rule requires. */
   readonly asks: string
-  /** The section of the URL Standard that asks it. */
+  /** The section of the URL Standard that requires it. */
   readonly section: string
   /** A text that violates the rule, with the base that it is read against, the place, and a valid text that was meant. */
   readonly example: Example
@@ -363,7 +361,7 @@ export interface Example {
   readonly meant: string
 }
 
-/** The base, checked alone, violates a rule; nothing is said of the text. */
+/** The base violates a rule; the text wasn't checked. */
 export class BaseRefused extends Error {
   constructor(rule: RuleName, place: number, index: number, why: string)
   readonly rule: RuleName

@@ -95,13 +95,13 @@ class Checker {
   }
 
   /**
-   * Whether a text is a valid URL string, alone or against a base, which is checked alone by the same profile.
+   * Whether a text is a valid URL string, alone or against a base, which is checked alone under the same profile.
    * @param {string} text
    * @param {Options} [options]
    * @returns {Valid | Refused}
-   * @throws {BaseRefused} where the base isn't valid alone
-   * @throws {TypeError} where a text is no string or has a lone surrogate, or no profile has the name
-   * @throws {RangeError} where there is no memory for the text; the next call works
+   * @throws {BaseRefused} if the base isn't valid alone
+   * @throws {TypeError} where a text isn't a string or has a lone surrogate, or no profile has the name
+   * @throws {RangeError} if there is no memory for the text; the next call works
    */
   check(text, options) {
     const room = this.#room
@@ -122,12 +122,12 @@ class Checker {
   isValid(text, options) {
     const { base, profile } = readingOf(options)
     const length = this.#room.put(text)
-    // The module says no also where there is no memory, which the check tells apart.
+    // The module says no even if there is no memory, which the check tells apart.
     return this.#room.isValid(length, profile, this.#hold(base, profile)) === 1 || this.check(text, options).valid
   }
 
   /**
-   * A base that is checked once, for many texts: the other calls take it in the place of its text.
+   * A base that is checked once, for many texts: the other calls take it in place of its text.
    * @param {string} text
    * @param {BaseOptions} [options]
    * @returns {Base}
@@ -143,7 +143,7 @@ class Checker {
   }
 
   /**
-   * All that is wrong with a text, by place and at one place by the rule's number; nothing where it is valid.
+   * All that is wrong with a text, by place and at one place by the rule's number; nothing if it is valid.
    * @param {string} text
    * @param {Options} [options]
    * @returns {Fault[]}
@@ -179,7 +179,7 @@ class Checker {
    * What to write in place of a refused text: a valid one made of it by local edits, which keep all else.
    * @param {string} text
    * @param {Options} [options]
-   * @returns {Mended | Refused | null} nothing where the text is valid; its refusal where the edits give no valid text
+   * @returns {Mended | Refused | null} nothing if the text is valid; its refusal where the edits give no valid text
    * @throws what `check` throws
    */
   mend(text, options) {
@@ -198,7 +198,7 @@ class Checker {
    * What a rule says and asks, where the URL Standard says it, and an example.
    * @param {RuleName} rule
    * @returns {Explanation}
-   * @throws {TypeError} where no rule has the name
+   * @throws {TypeError} if no rule has the name
    */
   explain(rule) {
     const known = this.#explained.get(rule)
@@ -215,7 +215,7 @@ class Checker {
    * @param {MessageOptions} [options] by whose profile it was checked
    * @returns {string}
    * @throws {TypeError} where a text is no string or has a lone surrogate, or no rule, profile or wording has the name
-   * @throws {RangeError} where the place is after the end of the text, or there is no memory for the sentence
+   * @throws {RangeError} if the place is after the end of the text, or there is no memory for the sentence
    */
   message(text, { rule, place }, options) {
     const room = this.#room
@@ -232,7 +232,7 @@ class Checker {
    * @param {ColumnUnit} [unit] what its columns count; without one the first that the format takes
    * @param {Wording} [wording] how its sentences name a profile and a base
    * @returns {Report}
-   * @throws {TypeError} where no format, unit or wording has the name, or the format has no word for the unit
+   * @throws {TypeError} if no format, unit or wording has the name, or the format has no word for the unit
    */
   report(format, unit, wording) {
     const one = this.formats.indexOf(format)
@@ -251,8 +251,8 @@ class Checker {
    * @param {Uint8Array} lines in UTF-8
    * @param {Options} [options]
    * @returns {Many}
-   * @throws {TypeError} where the lines are no `Uint8Array`, and what else `check` throws of its options
-   * @throws {RangeError} where there is no memory for a line; the next call works
+   * @throws {TypeError} where the lines aren't `Uint8Array`, and what else `check` throws of its options
+   * @throws {RangeError} if there is no memory for a line; the next call works
    */
   checkMany(lines, options) {
     const { base, profile } = readingOf(options)
@@ -279,7 +279,7 @@ class Checker {
   #numberOfAny = rule => LINE_RULES.get(/** @type {LineRule} */ (rule)) ?? this.#numberOf(rule)
 
   /**
-   * Has the module hold the base, where there is one, and gives whether one is held.
+   * Has the module hold the base, if there is one, and gives whether one is held.
    * @param {string | undefined} base
    * @param {number} profile
    * @returns {number} 1 or 0

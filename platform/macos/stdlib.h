@@ -1,4 +1,4 @@
-/* The allocator of macOS's C library. */
+/* The allocator of macOS's C library, and the environment. */
 #ifndef URLCHECK_MACOS_STDLIB_H
 #define URLCHECK_MACOS_STDLIB_H
 
@@ -7,5 +7,6 @@
 void *malloc(size_t size);
 void *realloc(void *block, size_t size);
 void free(void *block);
+char *getenv(const char *name);
 
 #endif

@@ -13,5 +13,6 @@ int close(int file);
 ssize_t read(int file, void *buffer, size_t room);
 ssize_t write(int file, const void *bytes, size_t count);
 off_t lseek(int file, off_t offset, int from);
+int isatty(int file);
 
 #endif

@@ -1,11 +1,12 @@
 #!/usr/bin/env bash
 # Runs the program given as the first argument on the cases of this folder: its status, output and standard error. Words of
 # the environment, for the program on another system (tests/runs/platforms.sh): CASES has the names of the files of cases that are
-# run, else all are, and LACKS what the system lacks that some runs need (`has`, below).
+# run, otherwise all are, and LACKS what the system lacks that some runs need (`has`, below).
 set -uo pipefail
-for tool in awk cmp mkfifo prlimit python3 setpriv; do
+for tool in awk cmp mkfifo prlimit python3 script setpriv; do
     command -v "$tool" >/dev/null || { echo "runs: $tool is missing; CONTRIBUTING.md says what the gate needs"; exit 70; }
 done
+unset NO_COLOR FORCE_COLOR
 program=$(realpath "$1")
 here=${2:-$(dirname "$(realpath "$0")")}
 room=$(mktemp -d)

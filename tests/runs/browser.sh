@@ -2,9 +2,9 @@
 # Runs the checker for JavaScript, and the page, over every file of vectors, and compares with the program given as the
 # first argument; then what callers see, types, out of memory, and the page in each browser that is installed; and it
 # sees that spoiled copies are found. What isn't installed is left out, and a line says so. A folder that
-# tools/build-page has made may be given second; else one is made. Words of the environment: QUICK leaves out the
+# tools/build-page has made may be given second; otherwise one is made. Words of the environment: QUICK leaves out the
 # browsers and the spoiled copies, GLUE compiles and tries copies with a spoiled glue too, BROWSERS names those for the
-# page (chromium, firefox and webkit, else the first alone), ALL tries all in each of them (else all tests in Chromium,
+# page (chromium, firefox and webkit, otherwise the first alone), ALL tries all in each of them (else all tests in Chromium,
 # a sample in the others, and some of the spoiled copies), and PICTURE is a file for the picture of the page.
 . "$(dirname "$(realpath "$0")")/start.sh"
 here=$top/tests/runs/browser

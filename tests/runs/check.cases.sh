@@ -3,7 +3,7 @@
 # tests/runs/library.sh compares what `check` writes of them.
 
 # says WORD.. : a run of `check` with these words and the text of each row of standard input writes the lines of that row,
-# `TEXT => LINES`, and ends with 0 where the first of them is `valid`, and else with 1. Both are read with escapes.
+# `TEXT => LINES`, and ends with 0 where the first of them is `valid`, and otherwise with 1. Both are read with escapes.
 says() {
     local row lines status
     while IFS= read -r row; do
@@ -115,7 +115,7 @@ expect 2 '' "$(no_base 7 host-domain 'a URL string has no credentials: no user n
     check --base http://u@h/ x
 expect 2 '' "$(no_base 5 two-slashes '// has to follow this scheme')" check --all --base 'http:a b' 'x y'
 
-# All that is wrong with a text, alike by each profile, and where they differ.
+# All that is wrong with a text, alike under each profile, and where they differ.
 for profile in standard wide parser; do
     says --all --profile $profile <<'ROWS'
 http://u@h/a b?%4 => refused 7 host-domain\nrefused 12 code-point\nrefused 15 percent\n

@@ -1,5 +1,5 @@
 #!/usr/bin/env bash
-# constants.sh [DIR]: fails where a definition is the code's own number or set, in the repository at DIR (else in this one).
+# constants.sh [DIR]: fails when a definition is the code's own number or set, in the repository at DIR (else in this one).
 #
 # What a contract says of a number or a set is worth nothing where the definition takes both from the code: a wrong
 # constant is then its own definition. So of the modules `TheConstants` of the repository's own crates a file under
@@ -27,7 +27,7 @@ texts=$(grep -rhoE --include='*.rt' "const [A-Z0-9_]+: &('static )?str\b" "$root
 pattern="Rattle\.($(echo "$names" | paste -sd '|'))\.specs\.declared\.([A-Za-z0-9_]+\.)*TheConstants"
 used=$(grep -nE "$pattern" "${files[@]}" /dev/null)
 [ $? -le 1 ] || lacks "grep failed"
-# (what is used otherwise than by names in braces is no text)
+# (what is used otherwise than by names in braces isn't a text)
 found=$(printf '%s\n' "$used" | awk -v texts="$texts" '
     BEGIN { count = split(texts, list, "\n"); for (at = 1; at <= count; at++) is_text[list[at]] = 1 }
     !/TheConstants/ { next }

@@ -27,7 +27,7 @@ of_list 0 '' "$(counted 0 0)" '\n\n\r\n'
 of_list 1 'list:2:11: error: U+000D CARRIAGE RETURN is not allowed in a URL [code-point]\n' "$(counted 2 1)" \
     'http://h/\nhttp://h/a\r'
 
-# A byte order mark at the start is no part of the first line, alone too; before another line it is one of its code
+# A byte order mark at the start isn't a part of the first line, alone too; before another line it is one of its code
 # points.
 of_list 1 "list:1:10: $space\nlist:2:1: error: U+FEFF is before the scheme; leave it out [no-scheme]\n" "$(counted 2 2)" \
     '\xef\xbb\xbfhttp://h/ \n\xef\xbb\xbfurn:a\n'
@@ -136,7 +136,7 @@ of_list 1 "list:1:2: $utf8\n" "$(counted 1 1)" 'a\xff:1:2:x\n' --located
 # What to write in place of a refused link, by the base and the profile: at the first diagnostic of its line, and only
 # where the format says it.
 of_list 1 "list:1:6: $space\nurn:a b c\n     ^\nhelp: write urn:a%20b%20c\nlist:1:8: $space\nurn:a b c\n       ^
-list:2:8: $domain\nhttp://x_y/\n       ^\n" "$(counted 2 2)" 'urn:a b c\nhttp://x_y/\n' --all --format caret
+list:2:8: $domain\nhttp://x_y/\n        ^\n" "$(counted 2 2)" 'urn:a b c\nhttp://x_y/\n' --all --format caret
 of_list 1 "a:3:9: $slashes\nhttp:b\n     ^\nhelp: write http://b\n" "$(counted 1 1)" 'a:3:4:http:b\n' --all --format caret \
     --located
 of_list 1 '{"column":12,"cut":false,"file":"list","kind":"same","line":1,"mended":"http://x_y/%20c",'\
@@ -277,6 +277,23 @@ points 'e\xcc\x81 ' 'e\xcc\x81 ' ' ^' --base http://h/
 points '\x1b[31m\xe2\x80\xae x' '\xef\xbf\xbd[31m\xef\xbf\xbd x' '      ^' --base http://h/
 points 'f:3:1:' '' '^' --located
 
+# The caret below the code point that the sentence names, even if a host is refused for one that isn't its first:
+# after capitals, after wide code points, a tab, a space, the `:` of a file link, a `%`, and in the middle of a long host.
+# The same code point before the place is passed over, and below a host whose sentence names none it is at the place.
+points 'http://EXAMPLE_X.com/_' 'http://EXAMPLE_X.com/_' '              ^'
+points 'http://\xe6\x97\xa5\xe6\x9c\xac_c/' 'http://\xe6\x97\xa5\xe6\x9c\xac_c/' '           ^'
+points 'http://a\tb_c/' 'http://a\tb_c/' '        ^'
+points 'http://a b/' 'http://a b/' '        ^'
+points 'file://host:8/' 'file://host:8/' '           ^'
+points 'http://ab%2Dc/' 'http://ab%2Dc/' '         ^'
+points 'http://h/%41/%4' 'http://h/%41/%4' '             ^'
+points 'http://h-1:80a1/' 'http://h-1:80a1/' '             ^'
+points 'http://h/a_b c' 'http://h/a_b c' '            ^'
+points 'http://a..b_/' 'http://a..b_/' '           ^'
+points 'http://ab..c/' 'http://ab..c/' '       ^'
+tail_of=$(printf 'a%.0s' {1..150})
+points "http://${tail_of}_$tail_of/" "\xe2\x80\xa6${tail_of:0:99}_${tail_of:0:98}\xe2\x80\xa6" "$(printf ' %.0s' {0..99})^"
+
 # What is written in place of a text is shown as a line is: what turns its direction isn't shown as it is, and of a long
 # one there is a window.
 of_list 1 "list:1:11: $space\nurn:aaaaaa \xef\xbf\xbd\n          ^\nhelp: write urn:aaaaaa%20\xef\xbf\xbd\n" \
@@ -341,4 +358,4 @@ ends_at 10 '\t\t' 25
 ends_at 40 'a\t' 49
 ends_at 1 '\x1b\xe2\x80\xae' 3
 
-all_cases 111
+all_cases 123

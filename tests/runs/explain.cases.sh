@@ -82,6 +82,29 @@ done < <(cat "$room/explained" && echo)
 count=$((count + 1))
 [ "$(grep -c '^mended ' "$room/explained")" = 4 ] || fail 'explain: it tells another number of mended texts'
 
+# What each rule requires, and its example: RULE|REQUIRES|BASE|TEXT|PLACE|MEANT, from sections 3.4, 3.5 and 4.3 of the URL Standard.
+while IFS='|' read -r name asks base text place meant; do
+    printf '%s\n' "rule $name" "asks $asks" ${base:+"base $base"} "text $text" "refused $place $name" "meant $meant"
+done >"$room/wanted" <<'ROWS'
+no-scheme|A text that is read without a base begins with a scheme and a colon.||example.com/a|0|https://example.com/a
+opaque-base|Against a base whose path is opaque, a text without a scheme is # and a fragment, and nothing else.|urn:isbn:0451450523|x|0|#x
+two-slashes|The schemes ftp, http, https, ws, wss and file are followed by a colon and //.||http:/example.com/|6|http://example.com/
+host-missing|After //, ftp, http, https, ws and wss have a host, file a host or a path, and a port follows a host.||https:///a|8|https://example.com/a
+host-domain|A domain consists of letters, digits and inner hyphens, in labels of 1 to 63 that ToASCII of UTS 46 accepts.||http://a..b/|7|http://a.b/
+host-number|A host that ends in a number is an IPv4 address: four decimal numbers up to 255 without leading zeros.||http://256.0.0.1/|7|http://255.0.0.1/
+host-ipv6|A host in brackets is an IPv6 address: eight pieces of 1 to 4 hex digits, where :: stands for zeros.||http://[::1/|7|http://[::1]/
+host-code-point|Under a scheme that isn't special a host has URL units, but no forbidden host code points.||foo://u@h/|7|foo://u%40h/
+port-digit|A port consists of ASCII digits, and a URL string has no user name or password before its host.||http://h:8a/|10|http://h:80/
+port-range|A port is at most 65535.||http://h:65536/|9|http://h:65535/
+first-segment-empty|After an authority, a path whose first segment is empty has no other one: it doesn't begin with //.||https://example.com//a|20|https://example.com/a
+drive-after-host|After the host of a file URL, the path doesn't begin with /, a drive letter and /.||file://h/C:/x|8|file:///C:/x
+code-point|A path, query and fragment have URL code points and percent-escapes; all else is percent-encoded.||http://h/a b|10|http://h/a%20b
+percent|A % is followed by two hex digits. To stand for itself, it is written %25.||http://h/%4?a|9|http://h/%40?a
+ROWS
+count=$((count + 1))
+grep -Ev '^(means|section|mended) |^$' "$room/explained" | cmp -s "$room/wanted" - ||
+    fail "explain: $(grep -Ev '^(means|section|mended) |^$' "$room/explained" | diff "$room/wanted" -)"
+
 # A rule is explained by its name, and without one each is, in the order of the table, and an empty line is between
 # two.
 expect 0 'rule host-missing
@@ -156,7 +179,7 @@ END
 done
 
 # Several names: one explanation after the other with an empty line between, in the order of the names, also twice; and
-# nothing where one of them is no name, of which each is told once.
+# nothing where one of them isn't a name, of which each is told once.
 several='percent not-utf8 no-scheme percent'
 for name in $several; do "$program" explain "$name" >"$room/one.$name" 2>"$room/err"; done
 echo >"$room/empty"
@@ -179,13 +202,19 @@ expect 2 '' "urlcheck: no rule is named 'nothing'\\n$rules\\nwords\\n" explain n
 ends_with 0 $? '' 'explain --url'
 echo a >"$room/any.txt"
 "$program" lint --format sarif "$room/any.txt" >"$room/report" 2>/dev/null
-python3 - "$room/report" >"$room/help" <<'END'
+python3 - "$room/report" "$room/told" >"$room/help" <<'END'
 import json, sys
 rules = json.load(open(sys.argv[1], encoding="utf-8"))["runs"][0]["tool"]["driver"]["rules"]
 print("\n".join(rule["helpUri"] for rule in rules if "helpUri" in rule))
+with open(sys.argv[2], "w", encoding="utf-8") as file:
+    for rule in rules:
+        told = rule["id"], rule["shortDescription"]["text"], rule["help"]["text"], rule["fullDescription"]["text"]
+        print("rule %s\nmeans %s\nasks %s\nasks %s" % told, file=file)
 END
-count=$((count + 1))
+count=$((count + 2))
 cmp -s "$room/help" "$room/addresses" || fail "explain --url: it wrote $(cat "$room/addresses")"
+for name in not-utf8 line-too-long not-located; do "$program" explain "$name"; done | cat - "$room/explained" |
+    sed -n -e '/^rule /p' -e '/^means /p' -e '/^asks /{p;p}' | cmp -s - "$room/told" || fail "SARIF: it tells of its rules $(cat "$room/told")"
 [ "$(wc -l <"$room/addresses")" = 14 ] || fail "explain --url: a rule has no address"
 standard=https://url.spec.whatwg.org/
 expect 0 "$standard#valid-host-string\n" '' explain --url host-missing
@@ -200,4 +229,4 @@ for words in 'explain' 'explain percent' 'explain percent no-scheme' 'explain --
     "$program" $words >/dev/full 2>"$room/err"
     ends_with 3 $? "${no_space}write\\n" "$words to a full device"
 done
-all_cases 138
+all_cases 140

@@ -26,7 +26,7 @@ VECTORS = os.path.join(os.path.dirname(os.path.abspath(__file__)), "..", "vector
 
 # A fault of a unit so often repeated in a part: where the first one is, its rule, and the widest profile by which it is
 # one; and where there is one in each repetition, how many code points lie between two of them and how many of them each
-# has. `/` at the start of a host or of a reference leaves an empty host, by every profile.
+# has. `/` at the start of a host or of a reference leaves an empty host, under every profile.
 Fault = collections.namedtuple("Fault", "place rule widest step each", defaults=(0, 0))
 EMPTY, WIDE, EVERY = "standard", "wide", "parser"
 UNITS = ("/", "a/", "%41", "%", "\u00e9", "[", "@", ".", "xn--", "-")
@@ -58,7 +58,7 @@ PARTS = [
 ]
 MILLION = 1_000_000
 
-# Long texts and what each denotes, or where it is refused: the default port after many zeros is no port, and double
+# Long texts and what each denotes, or where it is refused: the default port after many zeros isn't a port, and double
 # dots leave an empty segment.
 LONG = [
     ("http://h:" + "0" * 1_000 + "80/", "http://h/"),
@@ -93,7 +93,8 @@ def ran(program, words, room, listed):
     with open(os.path.join(room, "list"), "w", encoding="utf-8", newline="\n") as out:
         out.writelines(text + "\n" for text in listed)
     with open(os.path.join(room, "list"), "rb") as given:
-        ended = subprocess.run([program, *words], cwd=room, stdin=given, capture_output=True, timeout=120)
+        # (in an emulator on a busy machine a list takes minutes)
+        ended = subprocess.run([program, *words], cwd=room, stdin=given, capture_output=True, timeout=900)
     said = ended.stderr.splitlines()
     if words[0] == "check":
         # (which says in sentences what is wrong)
@@ -183,7 +184,7 @@ def checks_long_lines(program, room, part, profile):
 
 def denoted(part, unit, count):
     """The URL that such a text denotes where it is valid (section 4.5): its host in lower case and decoded, its path
-    and query encoded. A port that is empty is none."""
+    and query encoded. A port that is empty isn't one."""
     base, before, after, _ = part
     if before == "http://":
         unit = unit.replace("%41", "a")
@@ -205,7 +206,7 @@ def checks_million(program, room, part, unit):
 
 
 def checks_long_texts(program, room):
-    """The long texts that are written out, by each profile."""
+    """The long texts that are written out, under each profile."""
     cases = []
     for (text, said), profile in itertools.product(LONG, PROFILES):
         wanted = {"text": said} if isinstance(said, str) else {"place": said[0], "rule": said[1]}
@@ -214,7 +215,7 @@ def checks_long_texts(program, room):
 
 
 def answers(program, room):
-    """Whether each list is checked as it should be, by each profile."""
+    """Whether each list is checked as it should be, under each profile."""
     for profile in PROFILES:
         for base, texts in texts_by_base().items():
             yield checks_variants(program, room, base, texts, profile)

@@ -23,7 +23,7 @@ does 2 "a:$scheme--all:$scheme" "urlcheck: '': can't be read: there is no such f
     lint a -- --all ''
 rm -f "$room/a" "$room/--all"
 
-# All options of a lint: the base and one of the links are valid by the wide profile alone.
+# All options of a lint: the base and one of the links are valid under the wide profile alone.
 printf 'http://x_y//a b\n' >"$room/a b"
 space='"message":"U+0020 SPACE is not allowed in a URL","offered":true,"rule":"code-point"'
 says='"message":"U+0025 PERCENT SIGN has to be followed by two hex digits"'

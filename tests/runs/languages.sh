@@ -13,6 +13,7 @@ library=${2:-$room/installed}
 [ $# -gt 1 ] || "$top/tools/build-library" "$library" >"$room/built" 2>&1 || { cat "$room/built"; exit 1; }
 library=$(realpath "$library")
 include=$library/include
+rooms=$room
 export PYTHONDONTWRITEBYTECODE=1 LC_ALL=C.UTF-8
 export PKG_CONFIG_PATH=$library/lib/pkgconfig LD_LIBRARY_PATH=$library/lib
 
@@ -37,7 +38,7 @@ fail() {
     exit 1
 }
 
-# here WHAT TOOL : whether a tool is installed, else says what is left out
+# here WHAT TOOL : whether a tool is installed, otherwise says what is left out
 here() {
     command -v "$2" >/dev/null || { echo "languages: $1 left out, since $2 is not installed"; return 1; }
 }
@@ -45,6 +46,19 @@ here() {
 # with WHAT PART COMMAND.. : whether a part of a tool is installed, which the command sees, else says what is left out
 with() {
     "${@:3}" >/dev/null 2>&1 || { echo "languages: $1 left out, since $2 is not installed"; return 1; }
+}
+
+# roomy WHAT GIGABYTES : waits until no other such part runs, and says whether so much memory is free, else what is left
+# out
+roomy() {
+    local free
+    exec {heavy}>"$rooms/heavy"
+    flock "$heavy"
+    free=$(awk '/^MemAvailable:/ { print int($2 / 1048576) }' /proc/meminfo)
+    [ "${free:-0}" -ge "$2" ] && return
+    echo "languages: $1 left out, since of $2 GB of memory ${free:-0} are free"
+    exec {heavy}>&-
+    return 1
 }
 
 # quiet WHAT COMMAND.. : runs a command whose output is shown where it fails

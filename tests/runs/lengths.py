@@ -184,7 +184,7 @@ def addresses():
     for first, last, (end, written) in itertools.product((1, 12, 123), (0, 45, 255, 256), ends.items()):
         host = "{0}.{0}.{1}.{1}".format(first, last)
         text = "http://" + host + end
-        # (after the root's full stop these are no four numbers, and "256a" is no number)
+        # (after the root's full stop these aren't four numbers, and "256a" isn't a number)
         name = end == "a"
         if name or (last < 256 and written):
             yield valid(text, None, text + "/" if name else "http://" + host + written)
@@ -225,7 +225,7 @@ def paths():
 
 
 def escapes():
-    """Letters and escapes of each number after an escape, and after them what is an escape and what is none."""
+    """Letters and escapes of each number after an escape, and after them what is an escape and what isn't one."""
     numbers = [(letters, more) for letters in range(98) for more in (0, 1)]
     numbers += [(letters, more) for letters in range(3) for more in range(2, 34)]
     for (letters, more), (end, fault) in itertools.product(numbers, ENDINGS.items()):
@@ -335,7 +335,7 @@ def is_as_wanted(program, room, base, listed):
 
 
 def with_letters(before, count, place, other, end):
-    """So many letters between two texts, of which this is in the place of one."""
+    """So many letters between two texts, of which this is in place of one."""
     return before + "".join(other if at == place else "a" for at in range(count)) + end
 
 

@@ -145,7 +145,7 @@ for python in python3 /usr/bin/python3; do
     [ -z "$(command -v "$python")" ] || "$python" forms.py || exit 1
 done
 python3 schemas.py "$program" || exit 1
-# Where the system copies no process, as Windows, documents are read by a Python that begins anew.
+# Where the system copies no process, as Windows, documents are read by a Python that begins again.
 WITHOUT_FORK=1 python3 documents.py Documents.test_{html,xml,bases,messages} >"$room/tests" 2>&1 ||
     { cat "$room/tests"; exit 1; }
 # The attributes of made-up documents of HTML, as another reader of it has them.
@@ -186,8 +186,8 @@ done
 if [ -n "$types" ]; then
     # (markdown-it-py may be missing beside it)
     for system in linux win32; do
-        $types --strict --ignore-missing-imports --platform $system -p urlcheck >"$room/types" 2>&1 ||
-            { cat "$room/types"; exit 1; }
+        $types --strict --ignore-missing-imports --platform $system --cache-dir "$room/mypy" -p urlcheck \
+            >"$room/types" 2>&1 || { cat "$room/types"; exit 1; }
     done
 else
     echo "library: the package's types left out, since mypy isn't installed"

@@ -15,7 +15,7 @@ reports 2 '' "$(no_base 7 host-missing 'a host is missing here')" --base http://
 
 # An accepted line has the text that the second parser gives too. Each is worked out by hand from the URL Standard's
 # sections 4.3 to 4.5 or is in tests/vectors/standard.json.
-# gives PROFILE BASE NUMBER LINE.. : by the profile so many lines `LINK => TEXT` are ok, against the base, if there is one
+# gives PROFILE BASE NUMBER LINE.. : under the profile so many lines `LINK => TEXT` are ok, against the base, if there is one
 gives() {
     local profile=$1 base=$2 wanted=$3 lines
     shift 3
@@ -58,7 +58,7 @@ gives standard file://h/a 1 '/b => file://h/b'
 # What the wide profile takes.
 gives wide '' 3 'http://a_b/ => http://a_b/' 'http://h//a => http://h//a' 'http://-A_b-:80//x => http://-a_b-//x'
 gives wide http://a_b//x 2 '//c_d => http://c_d/' 'y => http://a_b//y'
-# By the parser's profile hosts of every kind, files with and without a host, opaque paths with spaces, and what the
+# Under the parser's profile hosts of every kind, files with and without a host, opaque paths with spaces, and what the
 # narrower profiles take.
 gives parser '' 10 \
     'http://a%2Db/ => http://a-b/' 'http://A+b..c/ => http://a+b..c/' 'http://b%C3%BCcher/ => http://xn--bcher-kva/' \

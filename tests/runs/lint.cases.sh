@@ -10,7 +10,7 @@ bytes="links.txt:5:1: error: this line isn't UTF-8 [not-utf8]\\n"
 last='links.txt:6:1: error: there is no scheme and no base [no-scheme]\n'
 other='other.txt:1:9: error: a host is missing here [host-missing]\n'
 
-# Statuses, counts, files in their order, each read anew; without a FILE there is nothing to do.
+# Statuses, counts, files in their order, each read again; without a FILE there is nothing to do.
 expect 0 '' 'urlcheck: 2 lines, 0 refused\n' lint right.txt
 expect 1 "$other" 'urlcheck: 1 line, 1 refused\n' lint other.txt
 expect 1 "$first$underscore$bytes$last" 'urlcheck: 5 lines, 4 refused\n' lint links.txt
@@ -128,7 +128,7 @@ points.txt:2:5: error: U+FDD0 <noncharacter> is not allowed in a URL [code-point
 ' 'urlcheck: 2 lines, 2 refused\n' lint points.txt
 
 # Credentials: the place and the rule are those of a host or a port, and the sentence says what is wrong. An `@` after
-# the authority's end is none.
+# the authority's end isn't one.
 printf 'http://user:pw@h/\nhttp://u@h/\nfoo://u@h/\nhttp://x_y/@\nfoo://a^b?@\nhttp://h:8x#@\n' >"$room/credentials.txt"
 sentence='a URL string has no credentials: no user name, password or @ before its host; leave them out'
 expect 1 "credentials.txt:1:13: error: $sentence [port-digit]
@@ -186,7 +186,7 @@ http://h/a b %
              ^
 mended.txt:2:8: error: U+005F LOW LINE is not allowed in a domain; --profile wide allows it [host-domain]
 http://x_y/
-       ^
+        ^
 mended.txt:3:13: error: $percent
 http://h/100%
             ^
@@ -344,7 +344,7 @@ of_input 1 "$other"'-:1:1: error: there is no scheme and no base [no-scheme]\n' 
 of_input 0 '' 'urlcheck: 0 lines, 0 refused\n' '' -
 of_input 0 '' 'urlcheck: 0 lines, 0 refused\n' '\n\r\n\n' -
 
-# A byte order mark at a file's start is no part of its first line; on another line it is.
+# A byte order mark at a file's start isn't a part of its first line; on another line it is.
 of_input 1 '-:1:10: error: U+0020 SPACE is not allowed in a URL [code-point]\n' 'urlcheck: 2 lines, 1 refused\n' \
     '\xef\xbb\xbfhttp://h/ \nurn:a\n' -
 of_input 0 '' 'urlcheck: 0 lines, 0 refused\n' '\xef\xbb\xbf\n' -
@@ -421,11 +421,12 @@ expect 2 '' "urlcheck: no profile is named 'n'\\nurlcheck: the profiles: standar
 
 # A hint where a line is refused of a file with the name of a document, and counts are wanted.
 of_documents='urlcheck: lint reads one link a line; urlcheck-documents FILE checks the links of a document\n'
+html='; this looks like HTML: check the links in it'
 for end in html htm xhtml xht xml rss atom rdf svg md markdown MD; do
     printf '<a href="b">\n' >"$room/page.$end"
-    expect 1 "page.$end:1:1: error: there is no scheme and no base [no-scheme]\n" \
+    expect 1 "page.$end:1:1: error: there is no scheme and no base$html [no-scheme]\n" \
         "${of_documents}urlcheck: 1 line, 1 refused\n" lint page.$end
-    expect 1 "page.$end:1:1: error: there is no scheme and no base [no-scheme]\n" '' lint --quiet page.$end
+    expect 1 "page.$end:1:1: error: there is no scheme and no base$html [no-scheme]\n" '' lint --quiet page.$end
 done
 expect 2 "$other${bytes//links.txt:5/other.html:1}" "urlcheck: missing.md: can't be read: there is no such file\\n\
 ${of_documents}urlcheck: 4 lines, 2 refused\\n" lint other.txt missing.md right.txt other.html
@@ -521,7 +522,7 @@ ends_with 3 "$(cat "$room/status")" '' 'lint to a pipe closed after one line'
     fail "a pipe closed after one line: it wrote $(cat "$room/out")"
 rm -f "$room/long"
 
-# An output that takes nothing stops the lint: no further file is opened. So it is in each format, also where nothing is
+# An output that takes nothing stops the lint: no further file is opened. So it is in each format, even if nothing is
 # found and a document alone would be written.
 for format in gnu caret json github sarif checkstyle junit gitlab rdjson; do
     (cd "$room" && "$program" lint --quiet --format $format links.txt missing) >/dev/full 2>"$room/err"
@@ -605,7 +606,7 @@ of_input 1 "a:4294967295:4294967295: $scheme\n-:2:1: $line_range\n" 'urlcheck: 2
     'a:4294967295:4294967295:x\na:4294967296:1:x\n' --located -
 of_input 0 '' 'urlcheck: 2 lines, 0 refused\n' '\xef\xbb\xbfa:1:2:\na:1:2:x\n' --located --base http://h/ -
 of_input 1 "-:1:1: $scheme\n" 'urlcheck: 1 line, 1 refused\n' '1:2:3:4:x' -
-# LINE is the first number that is between two colons, or between one and the end: a port before a path is none.
+# LINE is the first number that is between two colons, or between one and the end: a port before a path isn't one.
 of_input 1 "-:1:1: $(form_of 'LINE is missing')\n-:2:1: $no_column\n-:3:1: $no_column\n-:4:1: $(form_of 'LINK is missing')\n" \
     'urlcheck: 4 lines, 4 refused\n' 'http://h:80/\na:1\na:1:b:2:3\na:1:2\n' --located -
 printf 'a:1:2:b\n' >"$room/located"

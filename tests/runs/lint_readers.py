@@ -76,14 +76,15 @@ def names_point(sentence, c):
 TEMPLATE = "; this looks like a template: check what it makes"
 WINDOWS = "; this looks like a path of Windows, whose URL begins with file:///"
 TWICE = "; this has two schemes: write one of them"
-LINKS = "; these are two links: write each by itself"
+LATER = "; a link begins after a space: write it by itself"
+HTML = "; this looks like HTML: check the links in it"
 ESCAPE = "; %u isn't an escape of URLs: write those of UTF-8"
 JOINED = ("; write one slash", "; write one slash, or use --profile wide")
 SCHEME = "(?:https?|ftp|wss?|file)"
 
 
-# What is in a template; variables of Windows only where there are two percent signs.
-MARK = re.compile(r"%(?:[s(]|d(?![A-Za-z0-9]))|\$[A-Z]|<(?:%|[A-Za-z][A-Za-z0-9_-]*>)|\[[A-Z][A-Z0-9_]*\]"
+# What is in a template; variables of Windows only when there are two percent signs.
+MARK = re.compile(r"%(?:[s(]|d(?![A-Za-z0-9]))|\$[A-Z]|<(?:%|[A-Za-z][A-Za-z0-9_-]*>(?![A-Za-z0-9]))|\[[A-Z][A-Z0-9_]*\]"
                   r"|\A[^/]*/[^/]*/[^/?#:]*:[Pp][Oo][Rr][Tt](?=[/?#]|\Z)")
 VARIABLE = re.compile(r"%(?![0-9A-Fa-f]{2})[A-Z][A-Z0-9_]*(?=%|\Z)")
 # The schemes whose paths have rules of their own.
@@ -97,14 +98,16 @@ def is_template(text):
 
 
 def meant(text):
+    if re.match("<(?:[A-Za-z0-9_-]* |.*</|/)", text):
+        return HTML
     if is_template(text):
         return TEMPLATE
     if re.match(r"[A-Za-z]:[\\/]|\\\\(?s:.)", text):
         return WINDOWS
     if re.match(f"{SCHEME}:/{{0,2}}{SCHEME}:?//", text, re.A | re.I):
         return TWICE
-    if re.search(" https?://", text.partition(":")[2]):
-        return LINKS
+    if re.search(r"\A[^ ].* (?:https?://|www\.)", text, re.S):
+        return LATER
     return ESCAPE if re.search("%u[0-9A-Fa-f]", text) else ""
 
 
@@ -180,7 +183,13 @@ want(all(entries), "gnu: a line has another form")
 want([(m[1], int(m[2]), int(m[3]), m[5], m[4]) for m in entries if m]
      == [(shown(one[0]),) + one[1:] for one in found], "gnu: other diagnostics")
 
-# The caret is below the place: as many columns before it as the code points before the place are wide.
+def named_place(sentence, text, place):
+    """The first place from there on with the ASCII code point that the sentence names, or the place itself."""
+    m = re.match(r"U\+00([0-7][0-9A-F]) ", sentence)
+    return max(place, text.find(chr(int(m[1], 16)), place)) if m else place
+
+
+# The caret is below what the sentence names: as many columns before it as the code points before that are wide.
 def width(c):
     if c == "\t":
         return c
@@ -197,7 +206,7 @@ for one, text, it, head in zip(found, texts, mended, read("hostile.gnu").split("
     if one[3] == "line-too-long":
         continue
     line, caret = next(rows, ""), next(rows, "")
-    part, place = window(text, one[2] - 1)
+    part, place = window(text, named_place(one[4], text, one[2] - 1))
     want(len(part) <= 200 and line == shown(part), f"caret: {one}: {line[:40]!r} is shown")
     padding = "".join(width(c) for c in line[:place])
     want(caret == padding + "^", f"caret: {one} below {line[:40]!r} stands {caret[:40]!r}")

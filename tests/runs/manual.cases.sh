@@ -53,10 +53,10 @@ reads() {
     "$@" >"$room/out" 2>"$room/err" || fail "$*: status $?"
     [ ! -s "$room/err" ] || fail "$*: $(cat "$room/err")"
 }
-reads groff -ww -man -Tutf8 "$share/man/urlcheck.1"
-reads mandoc -T lint -W style "$share/man/urlcheck.1"
-reads mandoc -T lint -W style "$share/man/urlcheck-documents.1"
-reads groff -ww -man -Tutf8 "$share/man/urlcheck-documents.1"
+for name in urlcheck urlcheck-documents urlcheck-language-server; do
+    reads groff -ww -man -Tutf8 "$share/man/$name.1"
+    reads mandoc -T lint -W style "$share/man/$name.1"
+done
 for name in urlcheck urlcheck-documents; do
     reads bash -n "$share/completions/$name.bash"
     reads zsh -n "$share/completions/_$name"
@@ -144,4 +144,4 @@ completes 'screen' --columns s
 completes '--type=xml' --type=x
 completes 'auto always never' --color =
 completes 'made' --baseline ma
-all_cases 67
+all_cases 69

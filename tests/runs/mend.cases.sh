@@ -129,7 +129,7 @@ mends_list 'http://%68/\n' 'http://%68/\n' '1 0 0 0 0' --profile parser
 mends_list 'http://0x1/\n' 'http://0x1/\n' '1 0 0 0 1' --profile parser
 mends_list 'http://0x1/\n' 'http://0.0.0.1/\n' '1 1 0 0 0' --profile parser --all-mended
 mends_list '\0001http://h/a\0' 'http://h/a' '1 1 0 0 0'
-# No line, empty ones, a byte order mark at the start and elsewhere, and CR that is no part of an end.
+# No line, empty ones, a byte order mark at the start and elsewhere, and CR that isn't a part of an end.
 mends_list '' '' '0 0 0 0 0'
 mends_list '\n\r\n' '\n\r\n' '0 0 0 0 0'
 mends_list '\xef\xbb\xbf' '\xef\xbb\xbf' '0 0 0 0 0'

@@ -44,7 +44,7 @@ diff "$room/wanted" "$room/found" ||
 python3 - "$at/share/doc/urlcheck" <<'PYTHON' || fail "a link of the documents that are installed leads nowhere"
 import pathlib, re, sys
 pages = list(pathlib.Path(sys.argv[1]).rglob("*.md"))
-# (what is in a block of code is no link)
+# (what is in a block of code isn't a link)
 texts = [(page, re.sub(r"^```.*?^```$", "", page.read_text("utf-8"), flags=re.M | re.S)) for page in pages]
 links = [(page, link) for page, text in texts for link in re.findall(r"\]\(([^)\s#]+)[^)\s]*\)", text)]
 lost = [(page.name, link) for page, link in links if ":" not in link and not (page.parent / link).exists()]
@@ -71,10 +71,8 @@ for page in urlcheck.1 urlcheck-documents.1 urlcheck-language-server.1; do
 done
 [ "$(grep -cF "rev: v$version " docs/guides/hook.md)" = 2 ] || fail "docs/guides/hook.md names another tag than VERSION"
 grep -qF "urlcheck@v$version " docs/guides/github.md || fail "docs/guides/github.md names another tag than VERSION"
-for page in github gitlab; do
-    found=$(grep -oE '(/v|urlcheck-)[0-9]+[.][0-9]+[.][0-9]+' docs/guides/$page.md | sort -u | xargs)
-    [ "$found" = "/v$version urlcheck-$version" ] || fail "docs/guides/$page.md fetches another release than that of VERSION"
-done
+found=$(grep -oE '(/v|urlcheck-)[0-9]+[.][0-9]+[.][0-9]+' docs/guides/github.md | sort -u | xargs)
+[ "$found" = "/v$version urlcheck-$version" ] || fail "docs/guides/github.md fetches another release than that of VERSION"
 grep -qE "^## $version - [0-9]{4}-[0-9]{2}-[0-9]{2}$" CHANGELOG.md ||
     fail "CHANGELOG.md has no '## $version - ' with its day"
 

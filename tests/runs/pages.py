@@ -12,8 +12,10 @@ import re
 import subprocess
 import sys
 import tempfile
+import textwrap
 
-README_LINES = 98
+# Two screens of a terminal, whose lines wrap at 80 columns.
+README_ROWS = 100
 FIRST_SCREEN = 32
 HEADLINE = (
     "where the checker says yes to a string, alone or against a base, the Standard's parser started on it runs to its"
@@ -236,12 +238,12 @@ def check_words(top, texts, wrong):
     """Each word that a page gives as code, and that has the form of a name or of its beginning, is somewhere. What was
     renamed may be named by the page that says so, and by what tells of earlier versions."""
     known = words_of_code(top)
-    before = names_before(texts.get(LIBRARY, ""))
+    before = names_before(texts.get(HISTORY, ""))
     for page, text in texts.items():
         for code in re.findall(r"`([A-Za-z][\w:]*)`", "\n".join(prose_of(text))):
             name = code.split("::")[-1]
             stands = name in known or (name.endswith("_") and any(word.startswith(name) for word in known))
-            stands = stands or (name in before and page in (LIBRARY, HISTORY))
+            stands = stands or (name in before and page == HISTORY)
             if re.search(r"_|[a-z][A-Z]|::", code) and not stands:
                 wrong.append("{}: `{}` is the name of nothing here".format(page, code))
 
@@ -259,8 +261,9 @@ def check_notice(top, wrong):
 
 def check_readme(top, text, wrong):
     lines = text.rstrip("\n").split("\n")
-    if len(lines) > README_LINES:
-        wrong.append("README.md: {} lines, and at most {} are wanted".format(len(lines), README_LINES))
+    rows = sum(max(1, len(textwrap.wrap(line, 80, break_on_hyphens=False))) for line in lines)
+    if rows > README_ROWS:
+        wrong.append("README.md: {} rows of 80 columns, and at most {} are wanted".format(rows, README_ROWS))
     version = (top / "VERSION").read_text(encoding="utf-8").strip()
     if "Version {},".format(version) not in text:
         wrong.append("README.md: it doesn't name the version of VERSION, {}".format(version))

@@ -69,7 +69,7 @@ spoiled() {
     fi
 }
 spoiled 'another output' 'urlcheck check ' "$commands" docs/PROFILES.md 's/^refused 22 percent$/refused 21 percent/'
-spoiled 'a long README' 'lines, and at most' "$texts" README.md '$a \\nA line more.'
+spoiled 'a long README' 'rows of 80 columns, and at most' "$texts" README.md '$a \\nA line more.'
 spoiled 'a link to nowhere' 'a link to docs/COMMAND.md' "$texts" README.md 's/(docs\/COMMANDS.md)/(docs\/COMMAND.md)/'
 spoiled 'an anchor to nowhere' 'no heading makes' "$texts" docs/COMMANDS.md 's/(#vectors)/(#vector)/'
 spoiled 'a path to nowhere' 'librarian' "$texts" docs/TRUST.md 's/runs\/library.sh`/runs\/librarian.sh`/'
@@ -86,16 +86,16 @@ spoiled 'no word on a function for C' 'no word on `urlcheck_next_refused`' "$tex
 spoiled 'another number of a verdict' 'no verdict `URLCHECK_DONE`' "$texts" docs/LIBRARY.md 's/`URLCHECK_DONE` | 9/`URLCHECK_DONE` | 8/'
 spoiled 'a link that is no URL string' 'a link of the pages' "$commands" docs/guides/hook.md \
     's/(https:\/\/pre-commit.com)/(https:\/pre-commit.com)/'
-spoiled 'a page that the navigation lacks' 'its navigation has no' "$texts" mkdocs.yml '/guides\/feed.md/d'
+spoiled 'a page that the navigation lacks' 'its navigation has no' "$texts" mkdocs.yml '/guides\/hook.md/d'
 spoiled 'a long sentence' 'a sentence of ' "$prose" docs/START.md \
     '$a A word and another one, '"$(printf 'and one more %.0s' {1..12})"'at the end.'
 spoiled 'an odd sentence' "'is no ..': write isn't a" "$prose" docs/guides/rattle.md '$a A page is no place for notes, as everyone knows.'
 spoiled 'a row of short sentences' 'sentences in a row of at most' "$prose" docs/guides/rattle.md \
     '$a A page is short. Its words are few. Nobody reads it.'
-spoiled 'a word that the glossary avoids' "the glossary avoids 'judges'" "$prose" docs/QUESTIONS.md 's/checks lists with a link/judges lists with a link/'
+spoiled 'a word that the pages avoid' "the pages avoid 'judges'" "$prose" docs/QUESTIONS.md 's/finds the links in HTML/judges the links in HTML/'
 spoiled 'a message with such a word' "a message has 'judges'" "$prose" crates/uv_messages/src/hints.rt 's/TEXT checks one text/TEXT judges one text/'
-spoiled 'a glossary without its table' 'the table of avoided words is missing' "$prose" docs/GLOSSARY.md '/^| `/d'
-spoiled 'no word on who needs a page' "doesn.t say who needs it" "$prose" docs/guides/feed.md 's/^For RSS, Atom/RSS, Atom/'
+spoiled 'no table of avoided words' 'the table of avoided words is missing' "$prose" CONTRIBUTING.md '/^| `/d'
+spoiled 'no word on who needs a page' "doesn.t say who needs it" "$prose" docs/guides/hook.md 's/^For a repository/A repository/'
 spoiled 'a long guide' 'a guide has at most' "$prose" docs/guides/mend.md 's/$/\n\n/'
 ! command -v codespell >/dev/null ||
     spoiled 'a slip of the pen' 'recieve ==> receive' "$prose" docs/INSTALL.md '$a You recieve it.'

@@ -11,7 +11,7 @@
 # counted and named, and what isn't installed here is left out, with a line.
 #
 # Words of the environment: BUILT is a folder that platform/build wrote, to be taken as it is; CASES has the names of
-# the files of cases that are run, else all are; and QUICK leaves out little memory and the spoiled copies.
+# the files of cases that are run, otherwise all are; and QUICK leaves out little memory and the spoiled copies.
 . "$(dirname "$(realpath "$0")")/start.sh"
 target=${2:?which system}
 here=$top/tests/runs/platforms
@@ -19,7 +19,7 @@ part="platforms: $target"
 limit=1800 # seconds for a file of cases
 
 # What runs a program of the target, and what it lacks that some runs need. Neither an emulator nor Node starts in so
-# little memory, and Node opens /dev/null in the place of a closed stream.
+# little memory, Node opens /dev/null in place of a closed stream, and gives the program no environment.
 case $target in
     aarch64)
         build=aarch64 runner='qemu-aarch64 -0 urlcheck' binary=urlcheck-static lacks=prlimit
@@ -31,13 +31,13 @@ case $target in
         ;;
     windows)
         build=windows runner=wine binary=urlcheck.exe tools=(wine wineserver x86_64-w64-mingw32-gcc)
-        lacks='prlimit byte_arguments posix_names posix_paths file_modes folder_input long_command_lines'
+        lacks='prlimit byte_arguments posix_names posix_paths file_modes folder_input long_command_lines terminals'
         ;;
     macos)
         build=macos runner="qemu-aarch64 -0 urlcheck $room/loader" binary=urlcheck lacks=prlimit
         tools=(qemu-aarch64 aarch64-linux-gnu-gcc python3)
         ;;
-    node) build=wasi runner=node binary=program.mjs lacks='prlimit closed_streams' tools=(node wasm-opt) ;;
+    node) build=wasi runner=node binary=program.mjs lacks='prlimit closed_streams terminals environment' tools=(node wasm-opt) ;;
     *) echo 'usage: tests/runs/platforms.sh PROGRAM TARGET' >&2; exit 2 ;;
 esac
 needs "$part" "${tools[@]}"

@@ -1,6 +1,6 @@
 #!/usr/bin/env python3
 """How the pages read: forms that a native writer would change, long sentences and rows of short ones, words that
-docs/GLOSSARY.md avoids, first lines, lengths, and spelling. The messages of the programs avoid these words too.
+CONTRIBUTING.md avoids, first lines, lengths, and spelling. The messages of the programs avoid these words too.
 
     tests/runs/prose.py [TOP]            sees that each page keeps to the limits below; 1 where one doesn't
     tests/runs/prose.py --table [TOP]    writes a row for each page: its words, its sentences, and what they are allowed
@@ -31,9 +31,23 @@ ODD = (
     (r"\b(that|those|the ones?|the same) of\b|\bthe (former|latter)\b", "a pronoun in place of a noun: repeat the noun"),
     (r"(?<!checked )(?<!string )(?<!host )(?<!text )(?<!is read )(?<!, )\balone\b(?! (or|and) against\b)", "'alone' for only"),
     (r"\b(Standard|rules?|scheme|format|contract|header) asks?\b", "'asks' of a thing: write requires, or needs"),
+    (r"\banew\b", "'anew': write again"),
+    (r"\balso (if|when|where)\b", "'also if': write even if"),
+    (r"[;,] (and |or )?else\b", "'else' at the start of a clause: write otherwise"),
+    (r"\bwhoever\b", "'whoever': write anyone who, or name them"),
+    (r"\bin the place of\b", "write in place of"),
+    (r"\bbeside\b", "'beside': write next to, besides, or compared with"),
+    (r"\bin silence\b", "'in silence': write silently, or without an error"),
+    (r"\bseldom\b", "'seldom': write rarely"),
+    (r"\bby (the|every|each|any|another|its own) ([a-z']+ )?profile\b", "'by' a profile: write under"),
+    (r"\bcounts (where|if)\b", "'counts': write applies"),
+    (r"\b(install\w*|buil[dt]\w*|measured|removed?|make|give \w+ \w+) (the \w+ )?by Code\b", "'by' a tool: write with"),
+    (r"\b(one|object|ns|µs|dozen) a (line|link|text|crate)\b", "'a' for per"),
+    (r"\bwithout it Code\b", "'without it' in a table of options: write by default"),
+    (r"\b(what|nothing|much) is (said|told)\b", "name who says it"),
 )
 GUIDE_LINES = 120
-GLOSSARY = pathlib.Path("docs/GLOSSARY.md")
+AVOIDED = pathlib.Path("CONTRIBUTING.md")
 # How the first line of a page begins, by its section in docs/README.md.
 FIRST_LINES = {"Start": "For ", "Guides": "For ", "Reference": "Reference for ", "Background": "For "}
 # What pages are allowed beyond this, and why: how many longer sentences, and how many avoided words.
@@ -46,11 +60,11 @@ SPELLED = ("crate", "ans", "nd", "fo", "te", "als", "ist", "oder")
 
 
 def avoided(top):
-    """The words that the glossary avoids, as a pattern; "stand for" is fine."""
-    text = (top / GLOSSARY).read_text(encoding="utf-8").partition("## Words that the pages avoid")[2]
+    """The words that the pages avoid, as a pattern; "stand for" is fine."""
+    text = (top / AVOIDED).read_text(encoding="utf-8").partition("## Words that the pages avoid")[2].partition("\n## ")[0]
     words = [word for line in text.splitlines() if line.startswith("| `") for word in re.findall(r"`([^`]+)`", line.split("|")[1])]
     if len(words) < 10:
-        sys.exit("FAILED: {}: the table of avoided words is missing".format(GLOSSARY))
+        sys.exit("FAILED: {}: the table of avoided words is missing".format(AVOIDED))
     # ("of these pages" is fine too)
     whole = [re.escape(word) + (r"(?=[.,;:|)])" if word == "of these" else "") for word in words]
     return re.compile(r"\b({})(?!\w| for\b)".format("|".join(whole)), re.I)
@@ -118,7 +132,7 @@ def check_messages(top, pattern, wrong):
         wrong.append("no source of a program is there")
     for file in files:
         for word in (it for message in messages_of(file) for it in pattern.findall(message)):
-            wrong.append("{}: a message has '{}', which the glossary avoids".format(file.relative_to(top), word))
+            wrong.append("{}: a message has '{}', which the pages avoid".format(file.relative_to(top), word))
 
 
 def allowed_of(page):
@@ -169,7 +183,7 @@ def check_page(page, text, pattern, wrong):
             wrong.append("{}:{}: a sentence of {} words: {} ..".format(page, line, words, sentence[:60]))
     found = avoided_in(text, pattern)
     if len(found) > words_allowed:
-        wrong += ["{}:{}: the glossary avoids '{}'".format(page, line, word) for line, word in found]
+        wrong += ["{}:{}: the pages avoid '{}'".format(page, line, word) for line, word in found]
     return mean, max((words for _, _, words in sentences), default=0), len(longer), len(found)
 
 

@@ -74,6 +74,7 @@ no-scheme|git\x40example.com:a/b.git|there is no scheme and no base; this looks 
 no-scheme|a_b.c/|there is no scheme and no base
 no-scheme|a b|there is no scheme and no base
 no-scheme|{{ page.url }}|there is no scheme and no base; this looks like a template: check what it makes
+no-scheme|{% url 'a' %}|there is no scheme and no base; this looks like a template: check what it makes
 no-scheme|\\\\server\\share|there is no scheme and no base; this looks like a path of Windows, whose URL begins with file:///
 ROWS
 
@@ -91,6 +92,9 @@ percent|https://h/@@%d/x|U+0025 PERCENT SIGN has to be followed by two hex digit
 percent|https://h/@@%s.html|U+0025 PERCENT SIGN has to be followed by two hex digits$template
 percent|https://h/@@%PUBLIC_URL%/x|U+0025 PERCENT SIGN has to be followed by two hex digits$template
 code-point|https://h/@@<id>|U+003C LESS-THAN SIGN $url$template
+code-point|https://h/v@@<id>/x|U+003C LESS-THAN SIGN $url$template
+code-point|https://h/@@<a>-<b>.html|U+003C LESS-THAN SIGN $url$template
+code-point|https://h/?q=@@<a>&b|U+003C LESS-THAN SIGN $url$template
 code-point|https://h/@@<%= id %>|U+003C LESS-THAN SIGN $url$template
 code-point|https://h/@@[ID]|U+005B LEFT SQUARE BRACKET $url$template
 code-point|https://h/\$VERSION/a@@ b|U+0020 SPACE $url$template
@@ -111,22 +115,45 @@ percent|https://h/5@@%OFF|U+0025 PERCENT SIGN has to be followed by two hex digi
 percent|https://h/100@@%discount|U+0025 PERCENT SIGN has to be followed by two hex digits
 code-point|https://h/?\$filter=a@@ b|U+0020 SPACE $url
 code-point|https://h/a@@<b c>|U+003C LESS-THAN SIGN $url
+code-point|https://h/a@@<b>c|U+003C LESS-THAN SIGN $url
+ROWS
+# Lines of HTML: a tag begins them, with an attribute or before the end of one. Against a base nothing else is wrong.
+html='; this looks like HTML: check the links in it'
+says <<ROWS
+no-scheme|<p>text</p>|there is no scheme and no base$html
+no-scheme|<a href="https://example.com/">|there is no scheme and no base$html
+no-scheme|<li><a href="a">b</a></li>|there is no scheme and no base$html
+no-scheme|</p>|there is no scheme and no base$html
+no-scheme|<https://h/a b>|U+003C LESS-THAN SIGN is before the scheme; leave it out
+no-scheme|<p|there is no scheme and no base
+ROWS
+says --base http://h/ <<ROWS
+code-point|@@<p>text</p>|U+003C LESS-THAN SIGN $url$html
+code-point|@@<p|U+003C LESS-THAN SIGN $url
 ROWS
 
-# Paths of Windows, drive letters, two schemes, two links, and escapes of JavaScript.
+# Paths of Windows, drive letters, two schemes, a link after a space, and escapes of JavaScript.
 windows='; this looks like a path of Windows, whose URL begins with file:///'
 schemes='; this has two schemes: write one of them'
+later='; a link begins after a space: write it by itself'
 says <<ROWS
 code-point|C:@@\\\\a|U+005C REVERSE SOLIDUS $url$windows
 code-point|D:/x@@ y/z.html|U+0020 SPACE $url$windows
 code-point|file:///C@@\\0174/x|U+007C VERTICAL LINE $url; a drive letter is written with :
+two-slashes|FILE:@@z\\0174?q|// has to follow this scheme; a drive letter is written with :
 code-point|file:///C@@\\0174x|U+007C VERTICAL LINE $url
 code-point|file:///x/C@@\\0174/|U+007C VERTICAL LINE $url
 code-point|http://h/@@\\0174/|U+007C VERTICAL LINE $url
 first-segment-empty|http://http:/@@/x|the path begins with //$schemes
 first-segment-empty|https://https/@@/example.com/|the path begins with //$schemes
-code-point|https://a/@@ https://b/|U+0020 SPACE $url; these are two links: write each by itself
-code-point|https://a/?u=@@ https://b/|U+0020 SPACE $url; these are two links: write each by itself
+two-slashes|HTTP:@@https://x|// has to follow this scheme$schemes
+code-point|https://a/@@ https://b/|U+0020 SPACE $url$later
+code-point|https://a/?u=@@ https://b/|U+0020 SPACE $url$later
+code-point|https://a/@@ www.example.com|U+0020 SPACE $url$later
+no-scheme|example.com https://b/|there is no scheme and no base$later
+no-scheme|see http://b/|there is no scheme and no base$later
+no-scheme| https://a/ https://b/|U+0020 SPACE is before the scheme; leave it out
+code-point|https://a/@@ wwwb|U+0020 SPACE $url
 percent|https://h/@@%u00e9|U+0025 PERCENT SIGN has to be followed by two hex digits; %u isn't an escape of URLs: write those of UTF-8
 ROWS
 
@@ -266,15 +293,21 @@ mailto:a@h?subject=a b
  mailto:a@h
 javascript:f({a})
 data:text/html,<p>x</p>
+https://h/a<b>c
 foo:a b
 http://https/a b
+http://http:80/a b
+file:///http://x y
+https://h/.//a b
+ab:\x
 ROWS
-# Not offered: templates, paths of Windows, two schemes or links, addresses that aren't in the text, paths by rules of a scheme.
+# Not offered: templates, paths of Windows, two schemes, a link after a space, addresses that aren't in the text, paths by rules of a scheme.
 offers False <<'ROWS'
 https://h/{id}
 https://h/%(id)s
 https://h/%d
 https://h/<id>
+https://h/v<id>/x
 https://h/[ID]
 https://h/$VAR/a b
 https://h/%PUBLIC_URL%/a
@@ -282,6 +315,7 @@ D:/x y
 C:\x
 https://http//x y/
 https://a/ https://b/
+https://a/ www.b.example/
 https://192.168.010.1/
 https://192.168.1/
 http://1/
@@ -295,4 +329,4 @@ https://h/%u00e9
 https://h//a
 ROWS
 
-all_cases 210
+all_cases 239

@@ -38,7 +38,7 @@ spoiled 'a link to nowhere' "which isn't there" index.html 's/"docs\/COMMANDS.ht
 spoiled 'an anchor to nowhere' 'no such anchor' docs/GLOSSARY.html 's/id="words"/id="word"/'
 spoiled 'a font from elsewhere' 'it loads https:' docs/ERRORS.html \
     's/<\/head>/<link rel="stylesheet" href="https:\/\/fonts.example\/a.css"><\/head>/'
-spoiled 'a backslash in a table' 'a table shows' index.html "s/'LINK' | urlcheck/'LINK' \\\\| urlcheck/"
+spoiled 'a backslash in a table' 'a table shows' docs/rules/code-point.html 's/<td><code>file:\/\/\/C|/<td><code>file:\/\/\/C\\|/'
 spoiled 'a name twice in its title' "says 'urlcheck' twice" index.html 's/<title>urlcheck</<title>urlcheck - urlcheck</'
 if [ -n "$browser" ]; then
     spoiled 'pale links' 'dark: little contrast' site.css 's/--md-typeset-a-color: #4db6ac/--md-typeset-a-color: #00796b/' index

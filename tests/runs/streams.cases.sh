@@ -15,7 +15,7 @@ for words in 'check urn:a' 'check x' 'links'; do
     ends_with 3 "$(cat "$room/status")" '' "$words to a closed pipe, SIGPIPE ignored"
 done
 
-# A file that may not get larger, where the signal that says so is ignored. (Standard error is no file then.)
+# A file that may not get larger, where the signal that says so is ignored. (Standard error isn't a file then.)
 if has prlimit 1; then
     (trap '' XFSZ; ulimit -f 0; exec "$program" check urn:a 2>&1 >"$room/written") | cat >"$room/err"
     ends_with 3 "${PIPESTATUS[0]}" "urlcheck: standard output: can't be written: the file may not get larger\\nwrite\\n" 'check to a file of no bytes'

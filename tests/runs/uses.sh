@@ -64,9 +64,8 @@ mend console tests/runs/pages.py
 mend shell-session tests/runs/authors/pages.py
 sphinx shell-session tests/runs/authors/pages.py
 mkdocs shell-session tests/runs/authors/pages.py
-markdown shell-session tests/runs/authors/pages.py
 other-documents shell-session tests/runs/authors/pages.py
-feed shell-session tests/runs/authors/pages.py
+site shell-session tests/runs/authors/pages.py
 editor lua tests/runs/authors/recipes.py
 editor elisp tests/runs/authors/recipes.py
 editor vim tests/runs/authors/recipes.py
@@ -74,7 +73,6 @@ editor toml tests/runs/authors/recipes.py
 editor json tests/runs/authors/recipes.py
 database sql tests/runs/registers/page.py
 database bash tests/runs/registers/duckdb.sh
-dataframe python tests/runs/registers/page.py
 python python tests/runs/library/programs.py
 c c tests/runs/library/programs.py
 c cpp tests/runs/library/programs.py
@@ -100,10 +98,9 @@ sphinx python -
 mkdocs yaml -
 database sh -
 cluster sh -
-cluster scala -
 javascript sh -'
 # (the lines for conf.py and mkdocs.yml are those that the commands of their guides write; the extension for DuckDB is built by its run;
-# the others need a cluster, Spark and npm)
+# the others need a cluster and npm)
 
 # Each block of the guides is taken, by a line of this file or by another run; a run that is named names the guides.
 while IFS=$'\t' read -r guide language number; do
@@ -129,14 +126,14 @@ if [ $# = 1 ] && has rg; then
     printf 'a\nsee <http://x_y/>, https://example.com/\n\303\251 http://x/\303\251^\n' >a.txt
     ends 1 'links in text files' bash -o pipefail ../text.sh
     says 'links in text files' \
-        './a.txt:2:13: error: U+005F LOW LINE is not allowed in a domain [host-domain]' \
+        './a.txt:2:13: error: U+005F LOW LINE is not allowed in a domain; --profile wide allows it [host-domain]' \
         './a.txt:3:15: error: U+005E CIRCUMFLEX ACCENT is not allowed in a URL [code-point]' 'urlcheck: 3 lines, 2 refused'
     printf 'see https://example.com/\n' >a.txt
     ends 0 'right links in text files' bash -o pipefail ../text.sh
     cd "$room" || exit 1
 fi
 
-# Links of tables and of JSON, in which a wrong one is named, and a file that is none isn't taken for a right one.
+# Links of tables and of JSON, in which a wrong one is named, and a file that isn't one isn't taken for a right one.
 if [ $# = 1 ]; then
     in_folder tables
     recipe text-files bash >../table.sh
@@ -168,7 +165,7 @@ if [ -n "${PACKAGE:-}" ]; then
     recipe site sh >../check.sh
     recipe site bash >../formats.sh
     recipe site yaml | sed -n 's/^ *run: //p' >../step.sh
-    recipe feed sh >../feeds.sh
+    recipe site sh 3 >../feeds.sh
     sentence='U+005F LOW LINE is not allowed in a domain; --profile wide allows it'
     # (a runner runs a step so)
     for recipe in 'check.sh' 'formats.sh' '-e step.sh'; do
@@ -186,6 +183,17 @@ if [ -n "${PACKAGE:-}" ]; then
         printf '<a>' >site/b.xml
         ends any "a document that isn't read, $recipe" bash $options "$script"
     done
+    # The job of GitLab for documents, but for its installation.
+    recipe github yaml 3 | sed -n 's/^ *- \(urlcheck-documents .*\)/\1/p' >../gitlab.sh
+    rm -rf docs
+    ends 2 'documents in no folder, GitLab' bash -eo pipefail ../gitlab.sh
+    mkdir docs
+    printf '<a href="b">b</a>\n' >docs/a.html
+    ends 0 'right links in documents, GitLab' bash -eo pipefail ../gitlab.sh
+    printf '<a href="http://x_y/">a</a>\n' >docs/b.html
+    ends 1 'wrong links in documents, GitLab' bash -eo pipefail ../gitlab.sh
+    file=$(sed -n 's/^ *codequality: \(documents.*\)/\1/p' "$guides/github.md")
+    grep -q '"docs/b.html"' "$file" || { echo "FAILED: the report for GitLab on documents: $(cat "$file")"; failed=1; }
     # Each line that builds a site ends with the check of what it built.
     recipe site sh 2 >../builds.sh
     while IFS= read -r line; do
@@ -193,14 +201,6 @@ if [ -n "${PACKAGE:-}" ]; then
         [ "${line##*&& }" = "urlcheck-documents $folder" ] || { echo "FAILED: docs/guides/site.md: $line"; failed=1; }
         count=$((count + 1))
     done <../builds.sh
-    words=$(sed -n 's/.*checks begins with `\(urlcheck-documents [^`]*\)`\.$/\1/p' "$guides/known-faults.md")
-    recipe known-faults sh | sed "s/^urlcheck lint --quiet --format json /${words:-no words} /" >../new-faults.sh
-    printf '<a href="b c">b</a>\n' >a.html
-    : >known.json
-    ends 1 'faults of a document of which none is known' sh ../new-faults.sh a.html
-    cp ../out known.json
-    ends 0 'known faults of a document' sh ../new-faults.sh a.html
-    ends 2 'known faults of a document that is missing' sh ../new-faults.sh missing.html
     printf '<urlset><loc>http://h/ b</loc></urlset>' | tee feed.xml | gzip >sitemap.xml.gz
     ends 1 'a feed and a sitemap' bash ../feeds.sh
     for place in feed.xml:1:23: -:1:23:; do
@@ -236,7 +236,7 @@ hard_names() {
 
 # What is new beside the known faults: none known yet, all known, one moved, one more, the same once more, no list.
 in_folder known
-recipe known-faults sh >../new-faults.sh
+recipe list sh 2 >../new-faults.sh
 printf 'http://h/a b\n%s\n' $right >a.links
 ends 2 'faults without a file of known ones' sh ../new-faults.sh a.links
 : >known.json
@@ -322,7 +322,7 @@ try_workflows() {
     in_folder jobs
     recipe github yaml >../workflow-1.yml
     recipe github yaml 2 >../workflow-2.yml
-    recipe gitlab yaml >../workflow-3.yml
+    recipe github yaml 3 >../workflow-3.yml
     cat >../steps.py <<'PYTHON'
 import sys, yaml
 count = 0
@@ -338,9 +338,9 @@ PYTHON
     rm -f ../step-[0-9]
     ends 0 'the workflows are YAML' python3 ../steps.py ../workflow-1.yml ../workflow-2.yml ../workflow-3.yml
     [ "$(printf '%s ' ../step-[0-9])" = '../step-1 ../step-2 ../step-3 ../step-4 ../step-5 ' ] ||
-        { echo "FAILED: docs/guides/github.md or gitlab.md has other steps: $(printf '%s ' ../step-*)"; failed=1; }
+        { echo "FAILED: docs/guides/github.md has other steps: $(printf '%s ' ../step-*)"; failed=1; }
     [ "$(grep -c 'PROGRAM: urlcheck' ../workflow-[13].yml | xargs)" = '../workflow-1.yml:1 ../workflow-3.yml:1' ] ||
-        { echo 'FAILED: docs/guides/github.md or gitlab.md names the program of a release otherwise'; failed=1; }
+        { echo 'FAILED: docs/guides/github.md names the program of a release otherwise'; failed=1; }
     try_fetching 1
     try_fetching 4
     for step in ../step-2 ../step-3 ../step-5; do
@@ -455,7 +455,7 @@ says 'the task of Visual Studio Code' 'two words.links|2|12|U+0020 SPACE is not 
 
 # Documents: each kind, a wrong link in each, a document that is cut, one without links, a link over two lines.
 in_folder documents
-recipe feed bash >recipe.sh
+recipe site bash 2 >recipe.sh
 # feed STATUS TEXT [LINE..] : the recipe over a document of this text ends so, and says this
 feed() {
     local wanted=$1
@@ -493,7 +493,7 @@ awk 'BEGIN { for (n = 1; n <= 40000; n++)
     print (n % 5 == 1 ? "http://h/a b" : n % 5 == 3 ? "x" : "http://h/" n) }' >all.links
 sums='links 40000 ok 24000 bad 16000 differs 0'
 awk 'BEGIN { for (n = 1; n <= 40000; n++) print "http://h/" n }' >right.links
-# failing TIMES : a program that fails with 3 on a piece that has the line http://h/20000, and else is urlcheck
+# failing TIMES : a program that fails with 3 on a piece that has the line http://h/20000, and otherwise is urlcheck
 mkdir failing
 printf '#!/bin/sh\ncat >piece.$$\nif grep -qx http://h/20000 piece.$$; then rm piece.$$; exit 3; fi\n%s' \
     "$room/path/urlcheck \"\$@\" <piece.\$\$; ended=\$?; rm piece.\$\$; exit \$ended" >failing/urlcheck

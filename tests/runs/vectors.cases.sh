@@ -5,7 +5,7 @@ expect 0 'vectors 221 pass 221 fail 0\n' '' vectors "$vectors/parser.json"
 expect 0 'vectors 597 pass 597 fail 0\n' '' vectors "$vectors/urls.json"
 expect 0 'vectors 3781 pass 3781 fail 0\n' '' vectors "$vectors/uts46.json"
 
-# The cases by the standard profile whose domain ends with a dot, and is no reason to refuse them, are those that root_dot.tsv names.
+# The cases under the standard profile whose domain ends with a dot, and isn't a reason to refuse them, are those that root_dot.tsv names.
 python3 - "$vectors" >"$room/out" <<'END'
 import json, os, re, sys
 print("file\tcase")
@@ -23,7 +23,7 @@ cmp -s "$room/out" "$vectors/root_dot.tsv" || fail 'root_dot.tsv: other cases ha
 # vector_file TEXT : a file in the room that has this text, read with escapes
 vector_file() { printf '%b' "$1" >"$room/vectors.json"; }
 
-# no_case NUMBER REASON : what is said on standard error of a value that is no case
+# no_case NUMBER REASON : what is said on standard error of a value that isn't a case
 no_case() { printf '%s' "urlcheck: vector $1: $2\\nvector $1 malformed\\n"; }
 either='it has to have either "text" or both "place" and "rule"'
 digits='"place" has to be a number in digits alone, below 2^64'
@@ -48,7 +48,7 @@ expect 1 'fail 2\nfail 4\nvectors 4 pass 2 fail 2\n' '' vectors vectors.json
 vector_file '[{"input":"urn:a","profile":"Wide","text":"urn:a"}]'
 expect 2 '' "$(no_case 1 '"profile" has to be "standard", "wide" or "parser"')" vectors vectors.json
 
-# Cases that fail: against a base that is refused, where `null` is none; with another text, a refusal for a text, another
+# Cases that fail: against a base that is refused, where `null` isn't one; with another text, a refusal for a text, another
 # place, another rule; and at a place beyond all texts.
 vector_file '[{"input":"#t","base":"urn:a","text":"urn:a#t"},{"input":"urn:a","base":"x","text":"urn:a"},
 {"input":"urn:a","base":null,"text":"urn:a"}]'
@@ -60,7 +60,7 @@ expect 1 'fail 1\nfail 2\nfail 3\nfail 4\nfail 5\nvectors 5 pass 0 fail 5\n' '' 
 vector_file '[{"input":"x","place":18446744073709551615,"rule":"no-scheme"}]'
 expect 1 'fail 1\nvectors 1 pass 0 fail 1\n' '' vectors vectors.json
 
-# The standard profile checks where a case names none, and else the named one, the base too.
+# The standard profile checks where a case names none, and otherwise the named one, the base too.
 vector_file '[{"input":"http://x_y/","place":7,"rule":"host-domain"},{"input":"#f","base":"http://x_y/","text":"http://x_y/#f"}]'
 expect 1 'fail 2\nvectors 2 pass 1 fail 1\n' '' vectors vectors.json
 vector_file '[{"input":"http://x_y/","profile":"wide","text":"http://x_y/"},
@@ -78,7 +78,7 @@ expect 1 'fail 4\nfail 5\nfail 9\nvectors 9 pass 6 fail 3\n' '' vectors vectors.
 vector_file '[{"input":"x","input":"urn:a","text":1,"text":"urn:a"}]'
 expect 0 'vectors 1 pass 1 fail 0\n' '' vectors vectors.json
 
-# malformed NUMBER REASON FILE.. : the value with this number is the first of each of these files that is no case
+# malformed NUMBER REASON FILE.. : the value with this number is the first of each of these files that isn't a case
 malformed() {
     local number=$1 reason=$2 text
     shift 2
@@ -125,7 +125,7 @@ malformed 1 "\"a\\0357\\0277\\0275[2J\" $no_key" '[{"a\\u001b[2J":0}]'
 malformed 1 "\"$(printf 'k%.0s' {1..80})\" $no_key" "[{\"$(printf 'k%.0s' {1..80})\":0}]"
 malformed 1 "\"$(printf 'k%.0s' {1..77})...\" $no_key" "[{\"$(printf 'k%.0s' {1..81})\":0}]"
 
-# not_json LINE COLUMN WHY FILE.. : each of these files is no JSON, for this reason and at this place
+# not_json LINE COLUMN WHY FILE.. : each of these files isn't JSON, for this reason and at this place
 not_json() {
     local place="line $1, column $2: $3" text
     shift 3
@@ -171,7 +171,7 @@ if has_file $'a\eb'; then
 fi
 rm -f "$room/$(printf 'a\033b')"
 
-# JSON texts that are no array.
+# JSON texts that aren't array.
 for text in '{"input":"urn:a","text":"urn:a"}' '{}' null '"[]"'; do
     vector_file "$text"
     expect 2 '' 'vectors not an array\n' vectors vectors.json

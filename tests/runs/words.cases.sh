@@ -52,7 +52,7 @@ expect 2 '' "urlcheck: a value is required for '--profile <PROFILE>' but none wa
 refused "'b'" check -- --base b t
 refused "'chek'" chek urn:a
 no_file='urlcheck: links reads standard input, not a file: urlcheck links <FILE'
-# usage_of WORDS : what is said of how a command is used: an option is one of those that may be left out, also where it is given
+# usage_of WORDS : what is said of how a command is used: an option is one of those that may be left out, even if it is given
 usage_of() { printf '%s' "urlcheck: Usage: $1\nurlcheck: For more information, try '--help'.\n"; }
 usage=$(usage_of 'urlcheck links [OPTIONS]')
 of_one=$(usage_of 'urlcheck check [OPTIONS] <TEXT>')
@@ -159,7 +159,7 @@ expect 2 '' "$both" check --wide --profile wide urn:a
 expect 2 '' "$both" links --profile standard --wide
 expect 2 '' "$both" check --wide --profile parser urn:a
 
-# A text that is `-` alone is no standard input: where it is refused, a hint says so.
+# A text that is `-` alone isn't a standard input: where it is refused, a hint says so.
 of_check='urlcheck: - is the text here; lint - and links read standard input\n'
 of_mend='urlcheck: - is the text here; mend without a TEXT reads standard input\n'
 expect 1 'refused 0 no-scheme\n' "$of_check" check -
@@ -196,7 +196,7 @@ expect 1 'refused 7 host-domain\n' '' check http://a_b/page.html
 expect 0 'valid\nscheme http\nhost domain h\nsegment page.html\n' '' check --base http://h/ page.html
 expect 2 '' "$(no_base 0 no-scheme 'it has no scheme')" check --base page.html page.html
 
-# A first word that is no command: a hint at what may have been meant.
+# A first word that isn't a command: a hint at what may have been meant.
 for word in http://h/ links.txt; do
     ran 2 "$word"
     if [ -s "$room/out" ] || [ "$(head -n 1 "$room/err")" != "urlcheck: unrecognized subcommand '$word'" ] ||
@@ -206,7 +206,7 @@ for word in http://h/ links.txt; do
 done
 
 # One that is near to a command, or abbreviates just one by its first letter and further ones in their order: that one, in place
-# of clap's tips. `version` is told to be an option.
+# of clap's tips. For `version` it is said which words show that.
 # no_command HINT WORD.. : these words are refused for the first of them, with this hint alone
 no_command() {
     local hint=$1
@@ -217,7 +217,7 @@ for words in 'chk check' 'chek check' 'LINT lint' 'lnit lint' 'mnd mend' 'vec ve
     read -r word near <<<"$words"
     no_command "no command is named '$word'; the nearest is $near" $word urn:a
 done
-no_command 'version is no command: write urlcheck --version' version
+no_command 'urlcheck --version shows the version' version
 # (so is the word after help)
 expect 2 '' "urlcheck: unrecognized subcommand 'lnt'\n$(usage_of "$(basename "$program") <COMMAND>")\
 urlcheck: no command is named 'lnt'; the nearest is lint\nwords\n" help lnt
@@ -263,6 +263,30 @@ shows 'Usage: urlcheck links [OPTIONS]' help links
 expect 2 '' "urlcheck: the following required arguments were not provided:\nurlcheck:   <FILE>...\n\
 $(usage_of 'urlcheck lint [OPTIONS] <FILE>...')\
 urlcheck: lint reads standard input as the FILE -\nwords\n" lint
+
+# A file, or a text, that was taken as the value of the option before it: this is said, and what is missing.
+# taken OPERAND USAGE HINT WORD.. : these words are refused since this operand is missing, with this hint
+taken() {
+    local operand=$1 of=$2 hint=$3
+    shift 3
+    expect 2 '' "urlcheck: the following required arguments were not provided:\nurlcheck:   $operand\n\
+$(usage_of "$of")urlcheck: $hint\nwords\n" "$@"
+}
+of_files='urlcheck lint [OPTIONS] <FILE>...'
+no_name='and no FILE is named; - is standard input'
+for option in --base --profile --format --columns --color --stdin-name; do
+    taken '<FILE>...' "$of_files" "links.txt is the value of $option, $no_name" lint $option links.txt
+done
+taken '<FILE>...' "$of_files" "https://h/ is the value of --base, $no_name" lint --wide -q --base https://h/
+taken '<FILE>...' "$of_files" "a\0357\0277\0275b is the value of --base, $no_name" lint --base $'a\eb'
+for option in --base --profile; do
+    taken '<TEXT>' 'urlcheck check [OPTIONS] <TEXT>' "x is the value of $option, and no TEXT is given" check --all $option x
+done
+# (a long value isn't repeated; nor is it said of a value after `=`)
+long=$(printf '%064d' 0)
+taken '<FILE>...' "$of_files" "$long is the value of --stdin-name, $no_name" lint --stdin-name $long
+taken '<FILE>...' "$of_files" "the last word is the value of --stdin-name, $no_name" lint --stdin-name ${long}0
+taken '<FILE>...' "$of_files" 'lint reads standard input as the FILE -' lint --base=links.txt
 
 # An option that another command takes: which commands these are, in place of the tip to hand it over as a text.
 # of_others COMMANDS COMMAND WORD.. : these words of a command are refused for the first of them, which these commands take
@@ -331,7 +355,7 @@ nearest_is --url explain --ulr percent
 # (so is one that abbreviates just one of them: by its first letter, and by further ones in their order)
 nearest_is --format lint --fmt gnu links.txt
 nearest_is --format lint -f gnu links.txt
-nearest_is --columns lint --cl=bytes links.txt
+nearest_is --columns lint --cms=bytes links.txt
 nearest_is --stdin-name lint --sin n -
 nearest_is --base links --BS http://h/
 for word in --fto --mat= --t; do
@@ -348,6 +372,57 @@ for words in '--bogus http://h/' '-x links.txt' '--only= same'; do
     fi
 done
 expect 2 '' "urlcheck: unexpected argument '--bse' found\n$usage$no_file\nwords\n" links -- --bse x
+expect 2 '' "urlcheck: unexpected argument '-' found\n$usage$no_file\nwords\n" links -
+
+# One hyphen in place of two is told too, where further letters are after it.
+# misspelt SHOWN USAGE HINT WORD.. : these words are refused for an option that clap calls so, with this hint alone
+misspelt() {
+    local shown=$1 of=$2 hint=$3
+    shift 3
+    expect 2 '' "urlcheck: unexpected argument '$shown' found\n$(usage_of "$of")urlcheck: $hint\nwords\n" "$@"
+}
+of_mend='urlcheck mend [OPTIONS] [TEXT]\nurlcheck:        urlcheck mend --in-place [OPTIONS] <FILE>...'
+misspelt -w 'urlcheck check [OPTIONS] <TEXT>' 'check has no option -wide; the nearest is --wide' check -wide urn:a
+misspelt -f "$of_files" 'lint has no option -format; the nearest is --format' lint -format=json links.txt
+misspelt -o "$of_mend" 'mend has no option -only; the nearest is --only' mend -only same
+
+# The letters count alone by which a name is near, not the hyphens.
+for words in 'lint --file' 'check --line' 'mend --mode' 'explain --rule=x'; do
+    ran 2 $words x
+    ! grep -q 'the nearest is' "$room/err" || fail "$words: on standard error: $(cat "$room/err")"
+done
+
+# Where nothing is known of an option, it is said that it isn't one, and how the command is used, without clap's tips: neither
+# to hand it over as a text, nor one at an option by letters of its name.
+# unknown USAGE SHOWN WORD.. : these words are refused for an option that clap calls so, and nothing more is said
+unknown() {
+    local of=$1 shown=$2
+    shift 2
+    expect 2 '' "urlcheck: unexpected argument '$shown' found\n$(usage_of "$of")words\n" "$@"
+}
+for words in '--fixx x' '--fixx=1 x' '--no-progress x' '--preview x' '--first x' '--hidden' '--0 x'; do
+    option=${words%% *}
+    unknown "$of_files" "${option%%=*}" lint $words
+done
+unknown 'urlcheck check [OPTIONS] <TEXT>' --preview check --preview urn:a
+unknown 'urlcheck check [OPTIONS] <TEXT>' -5 check -5
+unknown 'urlcheck check [OPTIONS] <TEXT>' -x check --wide -x urn:a
+unknown "$of_mend" --only-4xx mend --only-4xx
+unknown "$(basename "$program") vectors <FILE>" --bogus vectors --bogus a.json
+unknown "$(basename "$program") <COMMAND>" --bogus --bogus lint links.txt
+
+# A word that looks like no option, but begins with a hyphen: how it is handed over, to a command that takes texts.
+for words in 'check -a/b' 'check --base http://h/ -x?y' 'check -j/4.html' 'mend --a.b=c' 'mend -i -a.txt' $'check -\xc3\xa9'; do
+    ran 2 $words
+    if [ -s "$room/out" ] || grep -q 'tip:' "$room/err" ||
+        [ "$(tail -n 2 "$room/err")" != $'urlcheck: write -- before a word that begins with - and is no option\nwords' ]; then
+        fail "$words: on standard error: $(cat "$room/err")"
+    fi
+done
+for words in 'explain -a.b' 'lint -a.txt' 'links -a.b' 'check -a=/b' 'lint --a-b_c=a.b x'; do
+    ran 2 $words
+    ! grep -q 'write --' "$room/err" || fail "$words: on standard error: $(cat "$room/err")"
+done
 
 # Each option of the help is one of the commands that have it in their help, and of no other: as vectors says, which has none.
 count=$((count + 1))
@@ -369,42 +444,62 @@ for command in check lint links mend explain; do
     done
 done
 
-# What people of other tools write: what to write here, in place of clap's tip to hand it over as a text.
-# instead HINT COMMAND OPTION.. : each of these options is refused with this hint, by any command
+# What people of other tools write: what to write here, in place of clap's tip to hand it over as a text. No hint is longer
+# than two lines of a terminal.
+# instead HINT COMMAND OPTION.. : each of these options is refused with this hint, by any command. Of letters after one
+# hyphen the first is the option.
 instead() {
-    local hint=$1 command=$2 option
+    local hint=$1 command=$2 option shown
     shift 2
     for option in "$@"; do
+        case $option in --*) shown=${option%%=*} ;; *) shown=${option:0:2} ;; esac
         ran 2 $command $option x
-        if [ -s "$room/out" ] || [ "$(head -n 1 "$room/err")" != "urlcheck: unexpected argument '${option%%=*}' found" ] ||
-            [ "$(tail -n 2 "$room/err")" != "urlcheck: there is no option ${option%%=*}; $hint"$'\n'words ] ||
-            grep -q 'tip:' "$room/err"; then
+        if [ -s "$room/out" ] || [ "$(head -n 1 "$room/err")" != "urlcheck: unexpected argument '$shown' found" ] ||
+            [ "$(tail -n 2 "$room/err")" != "urlcheck: there is no option $shown; $hint"$'\n'words ] ||
+            grep -q 'tip:' "$room/err" || [ "$(awk 'length > 160' "$room/err")" != '' ]; then
             fail "$command $option: on standard error: $(cat "$room/err")"
         fi
     done
 }
-instead 'urlcheck mend --in-place FILE mends the links of a list' lint --fix --unsafe-fixes --write
-instead 'urlcheck mend -q <FILE | diff FILE - shows what mend changes' lint --diff --dry-run
-instead 'nothing here is written in colours' lint --color --no-color
+instead 'urlcheck mend --in-place FILE mends the links of a list' lint --fix --unsafe-fixes --write -w -wn
+instead 'urlcheck mend -q <FILE | diff FILE - shows what mend changes' lint --diff --dry-run --fix-dry-run
+instead 'lint --color WHEN takes auto, always and never' lint --colour --no-color --colors
 instead "lint --format FORMAT names the format" lint --output-format --reporter --formatter=json
 instead 'lint --format json writes an object a line' lint --json
 instead 'lint --format sarif writes SARIF' lint --sarif
 instead "lint reports every rule: grep -v '\\[percent\\]$' leaves out the lines of one" lint --select --ignore=percent --disable
-instead 'lint reads the FILEs that it is given, and each of their lines: leave some out before' lint --exclude --include --skip
-instead 'lint reads lists; urlcheck-documents FOLDER checks the documents of a folder' lint --recursive -r
-instead 'lint --format caret shows each line; explain RULE explains a rule' lint --verbose -v --debug
+instead 'lint reads the FILEs that it is given, and each of their lines: leave some out before' lint --exclude --include --skip \
+    --ignore-pattern --ignore-url --ignore-urls=x
+instead 'lint reads lists; urlcheck-documents FOLDER checks the documents of a folder' lint --recursive -r -rn
+instead 'lint --format caret shows each line, and urlcheck --version the version' lint --verbose -v -vv
+instead 'lint --format caret shows each line, and urlcheck --version the version' '' -v --verbose
+instead 'lint --format caret shows each line; explain RULE explains a rule' lint --debug --explain=x
 instead 'lint --quiet leaves out the counts' lint --silent -s
-instead '>FILE writes what is printed to a file' lint --output -o --output-file=x
+instead '>FILE writes what is printed to a file' lint --output -o --output-file=x -ox.txt
 instead "lint -q FILE | grep -o '\\[[a-z0-9-]*\\]$' | sort | uniq -c counts by rule" lint --statistics --count
 instead '|| [ $? = 1 ] after the command goes on at a refused link' lint --exit-zero
-instead 'lint reads a million links in less than a second: once, on one processor' lint --jobs -j --watch --cache
-instead 'only urlcheck-documents reads a configuration' lint --config
-instead 'no connection is opened: only how a link is written is checked' check --timeout --offline
-instead 'this is an option of urlcheck-documents' lint --check --gfm --type
+instead 'each refused link is an error' lint --max-warnings=0 --severity --minAlertLevel
+instead 'lint reads a million links in less than a second: once, on one processor' lint --jobs -j -j4 -j=4 --threads --parallel \
+    --watch --cache
+instead 'only urlcheck-documents reads a configuration' lint --config -c --norc --rcfile
+instead 'no command fetches a link: only how it is written is checked' check --timeout --offline --online --retries=3 --max-retries \
+    --max-redirects --user-agent --method --insecure --accept --check-extern --disable-external --recursion-level
+for command in lint links check ''; do
+    instead 'check, lint and links check how links are written, and fetch none' "$command" --check
+done
+instead 'urlcheck-documents, which reads documents, has one' lint --list --type=html --gfm --git --no-empty --baseline --write-baseline
+instead 'urlcheck-documents, which reads documents, has one' '' --list
+instead '--base URL is what relative links are resolved against' lint --base-url=http://h/
 instead 'the standard profile is the strictest, and the one without --profile' check --strict
 instead 'urlcheck explain explains every rule' lint --list-rules
 instead 'lint - reads standard input' lint --stdin
 instead 'lint --stdin-name NAME - names standard input' lint --stdin-filename=x
+# (the letter that a command doesn't take is the option)
+misspelt -w "$of_mend" 'there is no option -w; urlcheck mend --in-place FILE mends the links of a list' mend -iw links.txt
+misspelt -r "$of_files" 'there is no option -r; lint reads lists; urlcheck-documents FOLDER checks the documents of a folder' lint -qrn .
+misspelt -i 'urlcheck check [OPTIONS] <TEXT>' '-i is an option of mend' check -in urn:a
+misspelt --version "$of_files" 'urlcheck --version shows the version' lint --version
+misspelt -V 'urlcheck check [OPTIONS] <TEXT>' 'urlcheck --version shows the version' check -V
 
 # The text and the base are taken as they are given.
 expect 1 'refused 0 no-scheme\n' '' check ''
@@ -420,7 +515,7 @@ expect 0 'valid\nscheme urn\nopaque a\n' '' check -- urn:a
 expect 2 '' "$(no_base 7 host-missing 'a host is missing here')" check --base http:// http://h/
 expect 0 'links 0 ok 0 bad 0 differs 0\n' '' links --base x:
 
-# A refused text, a base in each way of giving it, and a base that is refused, also where the text has a scheme.
+# A refused text, a base in each way of giving it, and a base that is refused, even if the text has a scheme.
 expect 1 'refused 0 no-scheme\n' '' check x
 expect 1 'refused 10 code-point\n' '' check 'http://h/a b'
 expect 0 'valid\nscheme http\nhost domain h\nsegment a\nsegment x\n' '' check --base 'http://h/a/b?q' x
@@ -529,4 +624,4 @@ if it.get("offered"): print("urlcheck: write " + it["mended"])' "$room/json" | c
         fail "check $text: on standard error: $(cat "$room/err")"
 done < <("$program" explain |
     awk '/^rule / { base = "" } /^base / { base = substr($0, 6) } /^text / { print base "\037" substr($0, 6) }')
-all_cases 405
+all_cases 500

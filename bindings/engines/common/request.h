@@ -18,7 +18,7 @@ typedef struct request {
     slice url;
     slice base;
     const urlcheck_base *prepared; /* the base, checked by the profile */
-    urlcheck_base own;             /* what `prepared` points to where nothing else holds it */
+    urlcheck_base own;             /* what `prepared` points to if nothing else holds it */
     uint32_t profile;
 } request;
 
@@ -76,7 +76,7 @@ static inline const char *rule_sentence(uint32_t rule, char message[MESSAGE_ROOM
 }
 
 /*
- * What is wrong with a text at a place by a rule; where there is no memory for that, the sentence of the rule. Of bytes
+ * What is wrong with a text at a place by a rule; if there is no memory for that, the sentence of the rule. Of bytes
  * that aren't UTF-8 no rule says anything.
  */
 static inline const char *message_on(slice text, uint32_t profile, urlcheck_finding found, char message[MESSAGE_ROOM]) {

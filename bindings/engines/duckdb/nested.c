@@ -74,7 +74,7 @@ bool put_check(duckdb_function_info call, cell out, const request *request) {
     return true;
 }
 
-/* The faults of a url, to be freed, and how many there are; null where there is no memory for them. */
+/* The faults of a url, to be freed, and how many there are; null if there is no memory for them. */
 static urlcheck_fault *list_faults(const request *request, urlcheck_fault_count *answer) {
     size_t room = 16;
     urlcheck_fault *list = malloc(room * sizeof *list);
@@ -89,7 +89,7 @@ static urlcheck_fault *list_faults(const request *request, urlcheck_fault_count 
     return list;
 }
 
-/* Has room after the elements of the rows before for those of a row: false where there is no memory. */
+/* Has room after the elements of the rows before for those of a row: false if there is no memory. */
 static bool add_elements(cell out, idx_t count, idx_t *first) {
     duckdb_list_entry *entry = (duckdb_list_entry *)duckdb_vector_get_data(out.column) + out.row;
 

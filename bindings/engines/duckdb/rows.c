@@ -6,7 +6,7 @@ DUCKDB_EXTENSION_EXTERN
 /* A column that comes in. */
 typedef struct column {
     duckdb_string_t *texts;
-    uint64_t *present; /* null where none is missing */
+    uint64_t *present; /* null if none is missing */
 } column;
 
 static column column_of(duckdb_data_chunk chunk, idx_t number) {
@@ -28,7 +28,7 @@ static bool is_same(slice one, slice other) {
     return one.length == other.length && memcmp(one.bytes, other.bytes, one.length) == 0;
 }
 
-/* Checks the base, unless it is that of the row before, by the same profile. */
+/* Checks the base, unless it is that of the row before, under the same profile. */
 static void hold_base(request *request, slice base, uint32_t profile) {
     bool is_held = request->prepared && request->own.profile == profile && is_same(request->base, base);
 
@@ -37,7 +37,7 @@ static void hold_base(request *request, slice base, uint32_t profile) {
     request->prepared = &request->own;
 }
 
-/* Reads a row: false where the url is NULL, or the profile is none, which `error` says. */
+/* Reads a row: false where the url is NULL, or the profile isn't one, which `error` says. */
 static bool read_row(const column columns[3], idx_t row, request *request, const char **error) {
     slice base, name;
     int number = URLCHECK_STANDARD;

@@ -25,7 +25,7 @@ typedef struct cell {
 /* Answers each row of a chunk of arguments. */
 void answer_rows(duckdb_function_info call, duckdb_data_chunk chunk, duckdb_vector out);
 
-/* Ends the call with an error where the text wasn't checked: true where it has ended. */
+/* Ends the call with an error where the text wasn't checked: true if it has ended. */
 bool stops(duckdb_function_info call, const request *request, urlcheck_finding found);
 bool stops_without_memory(duckdb_function_info call);
 

@@ -8,7 +8,7 @@ DUCKDB_EXTENSION_EXTERN
 /* The room that most texts fit in. */
 enum { MOST = 512 };
 
-/* What is said of a refused text: false where that is an error. */
+/* What is said of a refused text: false if that is an error. */
 static bool put_refusal(duckdb_function_info call, cell out, question question, const request *request,
                         urlcheck_finding found) {
     char words[MESSAGE_ROOM], said[ERROR_ROOM];

@@ -14,7 +14,7 @@ static bool add(duckdb_connection connection, const char *name, int question, du
         duckdb_scalar_function_set_name(function, name);
         for (int at = 0; at < count; at++) duckdb_scalar_function_add_parameter(function, text);
         duckdb_scalar_function_set_return_type(function, gives);
-        /* (a base that is NULL is none: the answer isn't NULL for it) */
+        /* (a base that is NULL counts as none: the answer isn't NULL for it) */
         duckdb_scalar_function_set_special_handling(function);
         duckdb_scalar_function_set_extra_info(function, (void *)(intptr_t)question, NULL);
         duckdb_scalar_function_set_function(function, answer_rows);

@@ -41,7 +41,7 @@ Datum pg_url_resolve(PG_FUNCTION_ARGS) {
     PG_RETURN_TEXT_P(text_of(out, answer.length));
 }
 
-/* The url where it is valid, a mended text where one is given, and else NULL. */
+/* The url if it is valid, a mended text if one is given, and otherwise NULL. */
 Datum pg_url_mend(PG_FUNCTION_ARGS) {
     request request;
     uint8_t *out;
@@ -54,7 +54,7 @@ Datum pg_url_mend(PG_FUNCTION_ARGS) {
     PG_RETURN_TEXT_P(text_of(out, answer.length));
 }
 
-/* How the url is mended: false where it is valid, or no text is given in its place. */
+/* How the url is mended: false if it is valid, or no text is given in its place. */
 static bool read_mended(FunctionCallInfo fcinfo, urlcheck_mended *answer) {
     request request;
 

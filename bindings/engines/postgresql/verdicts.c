@@ -49,7 +49,7 @@ static char *shown(slice url, urlcheck_finding found) {
     return shown_around(found.verdict == URLCHECK_NO_UTF8 ? front : url, found.byte_place);
 }
 
-/* What is said before a mended text: that it is a text in the url's place, where it is offered, and else what it is. */
+/* What is said before a mended text: that it is a text in the url's place, if it is offered, and else what it is. */
 static const char *hint_before(urlcheck_mended answer) {
     if (!answer.offered) return psprintf("Something else may be meant; %s", kind_phrase(answer.kind));
     return answer.kind == URLCHECK_CHANGED ? "A valid text in its place (it may denote another URL): "
@@ -88,7 +88,7 @@ Datum pg_url_require(PG_FUNCTION_ARGS) {
     PG_RETURN_BOOL(true);
 }
 
-/* Reads the arguments, and what is wrong with the url: false where nothing is. */
+/* Reads the arguments, and what is wrong with the url: false if nothing is. */
 static bool read_refused(FunctionCallInfo fcinfo, request *request, urlcheck_finding *found) {
     if (!read_request(fcinfo, request, true)) return false;
     *found = checked(request).found;

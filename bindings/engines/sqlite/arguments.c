@@ -3,7 +3,7 @@
 
 SQLITE_EXTENSION_INIT3
 
-/* The bytes of a value that isn't NULL: false where there is no memory to read it as a text. */
+/* The bytes of a value that isn't NULL: false if there is no memory to read it as a text. */
 static int read_text(slice *text, sqlite3_value *value) {
     text->bytes = sqlite3_value_text(value);
     text->length = (size_t)sqlite3_value_bytes(value);

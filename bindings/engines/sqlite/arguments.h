@@ -10,13 +10,13 @@
 typedef enum reading { READ, READ_NULL, READ_NO_PROFILE, READ_NO_MEMORY } reading;
 
 /*
- * Reads the arguments, of which each may be null where it isn't given. A base that is NULL is none, a profile that is NULL
- * the standard one. The base is checked unless `held` is what it was checked to be before, by the same profile.
+ * Reads the arguments, of which each may be null if it isn't given. A base that is NULL is none, a profile that is NULL
+ * the standard one. The base is checked unless `held` is what it was checked to be before, under the same profile.
  */
 reading read_request(request *request, sqlite3_value *url, sqlite3_value *base, sqlite3_value *profile,
                      const urlcheck_base *held);
 
-/* Whether the text was checked; else how the call ends, with a message to free where it is an error of its own. */
+/* Whether the text was checked; otherwise how the call ends, with a message to free if it is an error of its own. */
 int is_checked(const request *request, urlcheck_finding found, char **message, int *code);
 
 /* Registers the tables url_check and url_faults. */

@@ -17,7 +17,7 @@ typedef struct table {
 
 typedef struct cursor {
     sqlite3_vtab_cursor head;
-    sqlite3_value *arguments[ARGUMENTS]; /* copies, null where not given */
+    sqlite3_value *arguments[ARGUMENTS]; /* copies, null if not given */
     request request;                     /* whose bytes are those of the copies */
     urlcheck_answer answer;              /* of url_check */
     urlcheck_fault *faults;              /* of url_faults */

@@ -57,7 +57,7 @@ urlcheck_mended make_one(const uint8_t *text, size_t length, const request *requ
     return made;
 }
 
-/* Room for so many bytes more: false where there is no memory. */
+/* Room for so many bytes more: false if there is no memory. */
 static int make_room(makings *out, size_t more) {
     size_t room = out->room;
     uint8_t *data;
@@ -71,7 +71,7 @@ static int make_room(makings *out, size_t more) {
     return 1;
 }
 
-/* Appends what is made of one text, where one is made: its verdict tells whether. A valid text is mended by itself. */
+/* Appends what is made of one text, if one is made: its verdict tells whether. A valid text is mended by itself. */
 static urlcheck_finding append_made(const uint8_t *text, size_t length, const request *request, int mends, makings *out,
                                     uint8_t *mark) {
     const urlcheck_finding no_memory = {URLCHECK_MEMORY, 0, 0, 0};
@@ -92,7 +92,7 @@ static urlcheck_finding append_made(const uint8_t *text, size_t length, const re
     return made.found;
 }
 
-/* What is made of text i, where it isn't missing: its verdict tells. */
+/* What is made of text i, if it isn't missing: its verdict tells. */
 static urlcheck_finding make_at(const texts *texts, size_t at, const request *request, int mends, makings *out) {
     const urlcheck_finding missing = {MISSING, 0, 0, 0}, no_offsets = {URLCHECK_NO_OFFSETS, 0, 0, 0};
     int64_t from = texts->offsets[at], to = texts->offsets[at + 1];
@@ -192,7 +192,7 @@ static int append_text(piece *piece, PyObject *text) {
     return 1;
 }
 
-/* Joins the texts of a list from one on, as many as a piece has: false, and an error, where one is none. */
+/* Joins the texts of a list from one on, as many as a piece has: false, and an error, if one isn't one. */
 static int join(piece *piece, PyObject *list, Py_ssize_t from, PyObject *missing) {
     Py_ssize_t end = PyList_Size(list);
 
@@ -300,7 +300,7 @@ PyObject *native_check_texts(PyObject *module, PyObject *args) {
     return answer;
 }
 
-/* write_texts(list, missing, base, profile, mends): a list of texts and one of kinds, each None where there is none. */
+/* write_texts(list, missing, base, profile, mends): a list of texts and one of kinds, each None if there is none. */
 PyObject *native_write_texts(PyObject *module, PyObject *args) {
     int64_t offsets[PIECE_TEXTS + 1];
     uint8_t marks[PIECE_TEXTS];

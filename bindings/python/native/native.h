@@ -33,11 +33,11 @@ typedef struct request {
     PyObject *bytes; /* its UTF-8 */
     const uint8_t *data;
     size_t length;
-    PyObject *base_bytes; /* the UTF-8 of the base; where the text is checked alone it and its data are null */
+    PyObject *base_bytes; /* the UTF-8 of the base; if the text is checked alone it and its data are null */
     const uint8_t *base_data;
     size_t base_length;
     urlcheck_base prepared;
-    const urlcheck_base *base; /* `prepared`, or null where the text is checked alone */
+    const urlcheck_base *base; /* `prepared`, or null if the text is checked alone */
     uint32_t profile;
 } request;
 
@@ -47,10 +47,10 @@ int read_arguments(PyObject *args, PyObject *named, const char *format, PyObject
 /* Reads a base and a profile, either of which may be null, into a request of zeros: false and an error where they are none. */
 int read_setting(state *state, PyObject *base, PyObject *profile, request *request);
 
-/* The same where the base has to be valid. */
+/* The same if the base has to be valid. */
 int read_valid_setting(state *state, PyObject *base, PyObject *profile, request *request);
 
-/* Reads the arguments of a call into a request of zeros: false and an error where they are no text, no base or no profile. */
+/* Reads the arguments of a call into a request of zeros: false and an error where they aren't text, no base or no profile. */
 int read_request(state *state, PyObject *arguments[3], request *request);
 
 void drop_request(request *request);
@@ -64,7 +64,7 @@ const uint8_t *bytes_of(PyObject *bytes, size_t *length);
 /* A text of these bytes, which are UTF-8. */
 PyObject *text_of(const uint8_t *bytes, size_t length);
 
-/* The error that says what is no text. */
+/* The error that says what isn't a text. */
 PyObject *refuse_text(PyObject *given, const char *what);
 
 /* The calls over one text: functions of the module. */
@@ -108,20 +108,20 @@ typedef struct texts {
     const uint8_t *data;
     const int64_t *offsets;
     size_t count;
-    const uint8_t *present; /* null where none is missing */
+    const uint8_t *present; /* null if none is missing */
     size_t first;
 } texts;
 
 /* What is found of each text. */
 typedef struct findings {
     uint8_t *verdicts; /* one of urlcheck_outcome, or MISSING */
-    uint8_t *rules;    /* 0 where none is violated; null where it isn't asked */
-    int64_t *places;   /* -1 where none is wrong; null where it isn't asked */
+    uint8_t *rules;    /* 0 if none is violated; null if it isn't asked */
+    int64_t *places;   /* -1 if none is wrong; null if it isn't asked */
 } findings;
 
 enum { MISSING = 255 };
 
-/* What is made of each text: where it is neither refused nor missing a text, else nothing. */
+/* What is made of each text: where it is neither refused nor missing a text, otherwise nothing. */
 typedef struct makings {
     uint8_t *data; /* by malloc */
     size_t length, room;

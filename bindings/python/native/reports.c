@@ -89,7 +89,7 @@ static PyObject *written_text(const writing *writing) {
     return text;
 }
 
-/* A number from 0. In place of one that doesn't fit stands the greatest, which is no place, line or column of a text. */
+/* A number from 0. In place of one that doesn't fit stands the greatest, which isn't a place, line or column of a text. */
 static int read_number(PyObject *given, void *number) {
     unsigned long long read = PyLong_AsUnsignedLongLong(given);
 
@@ -185,7 +185,7 @@ PyObject *native_column(PyObject *module, PyObject *args) {
     return is_given(counted.found) ? PyLong_FromUnsignedLongLong(counted.column) : NULL;
 }
 
-/* text(what, number): a fixed text, which is empty where there is none. */
+/* text(what, number): a fixed text, which is empty if there is none. */
 PyObject *native_text(PyObject *module, PyObject *args) {
     uint8_t out[512];
     uint32_t what, number;

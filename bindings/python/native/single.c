@@ -37,7 +37,7 @@ static PyObject *made(PyObject *type, state *state, PyObject *fields) {
     return object;
 }
 
-/* Puts a value, which is taken over, into a dictionary: false where there is none. */
+/* Puts a value, which is taken over, into a dictionary: false if there is none. */
 static int put(PyObject *fields, PyObject *key, PyObject *value) {
     int is_put = value && PyDict_SetItem(fields, key, value) == 0;
 
@@ -61,7 +61,7 @@ static PyObject *refused(state *state, urlcheck_finding found) {
     return at_place(state, state->refused, found.rule, found.place);
 }
 
-/* A part as a slice of the text, or None. The path is a text where it is absent, too. */
+/* A part as a slice of the text, or None. The path is a text if it is absent, too. */
 static PyObject *part_of(const request *request, state *state, urlcheck_span span, int is_ascii, int number) {
     if (!span.present && number != 3) {
         Py_INCREF(state->none);
@@ -122,7 +122,7 @@ PyObject *native_is_valid(PyObject *module, PyObject *args, PyObject *named) {
     return read_arguments(args, named, "O|OO:is_valid", arguments) ? check_answer(module, arguments, 0) : NULL;
 }
 
-/* Writes a text into `most`, or where it is longer into memory of its own, which is to be freed: null where there is none. */
+/* Writes a text into `most`, or where it is longer into memory of its own, which is to be freed: null if there is none. */
 static uint8_t *write_text(const request *request, int mends, uint8_t *most, urlcheck_mended *answer) {
     PyThreadState *thread = unlocked(request);
     uint8_t *out = most;

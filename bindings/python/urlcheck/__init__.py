@@ -12,7 +12,7 @@
 >>> urlcheck.mend("http://h/a b")
 Mended(text='http://h/a%20b', kind=<MendKind.SAME: 'same'>, is_offered=True)
 
-A text without a scheme is valid against a base alone: ``check("../x", "http://h/a/b")``. The functions keep no state
+A text without a scheme is valid only against a base: ``check("../x", "http://h/a/b")``. The functions keep no state
 and may be called from any thread.
 """
 
@@ -60,7 +60,7 @@ __all__ = [
 
 
 class Profile(enum.IntEnum):
-    """Which texts are valid; a text and its base are checked by one. Each accepts what the one before it accepts.
+    """Which texts are valid. Each profile accepts whatever the one before it accepts.
 
     ``STANDARD`` accepts the URL Standard's valid URL strings; ``WIDE`` also ``_`` and hyphens anywhere in
     domains, and any segments after an authority; ``PARSER`` each text that the URL Standard's parser accepts without a
@@ -77,8 +77,8 @@ class Profile(enum.IntEnum):
 
 @dataclass(frozen=True)
 class Valid:
-    """A valid URL string, which is true. Its parts are slices of the text, without their delimiters, and ``None`` where
-    absent."""
+    """A valid URL string, which is true. Its parts are slices of the text without their delimiters, or ``None`` if the
+    text lacks the part."""
 
     scheme: Optional[str]
     host: Optional[str]
@@ -106,16 +106,16 @@ class Refused:
 class MendKind(str, enum.Enum):
     """How a mended text differs from the refused one. Each is a ``str`` too, so that JSON has it.
 
-    ``SAME``: a second parser reads both as the same URL. ``ESCAPED``: not so, and some code points of the refused text
-    are percent-encoded, and nothing else. ``CHANGED``: neither, so its author has to look.
+    ``SAME``: a second parser reads both as the same URL. ``ESCAPED``: it doesn't, but only some code points were
+    percent-encoded. ``CHANGED``: neither, so check that the text is what was meant.
     """
 
     SAME = "same"
     """A second parser reads both as the same URL."""
     ESCAPED = "escaped"
-    """Not so; some code points of the refused text are percent-encoded, and nothing else."""
+    """It doesn't, but only some code points were percent-encoded."""
     CHANGED = "changed"
-    """Neither: its author has to look."""
+    """Neither: check that the text is what was meant."""
 
 
 @dataclass(frozen=True)
@@ -125,7 +125,7 @@ class Mended:
     text: str
     kind: MendKind
     is_offered: bool = True
-    """Whether a report says to write it: nothing shows that the text's author meant something else."""
+    """Whether reports offer it, because nothing shows that the text's author meant something else."""
 
 
 @dataclass(frozen=True)
@@ -137,7 +137,7 @@ class Fault:
 
 
 class BaseRefused(ValueError):
-    """The base, checked alone, violates ``rule`` at ``place``; nothing is said of the text."""
+    """The base violates ``rule`` at ``place``; the text wasn't checked."""
 
     def __init__(self, rule: str, place: int) -> None:
         super().__init__(rule, place)
@@ -150,12 +150,11 @@ class BaseRefused(ValueError):
 
 
 class Base:
-    """A base that is checked once, for many texts: the functions take it in the place of the base's text.
+    """A base that is checked once, for many texts: the functions accept it in place of the base's text.
 
-    Two bases are equal whose texts and profiles are. A text is checked against it by its profile. Beside it ``WIDE``
-    or ``PARSER`` raises ``ValueError`` where the base was checked by another one, and ``STANDARD`` says nothing, as
-    where no profile is given. Raises ``BaseRefused`` where the base isn't valid alone, and else what ``check`` raises
-    of a text.
+    Two bases are equal if their texts and profiles are. A text is checked against a base under the base's profile. With
+    another profile than that, ``WIDE`` or ``PARSER`` raises ``ValueError``, while ``STANDARD`` counts as not given.
+    Raises ``BaseRefused`` if the base isn't valid, and otherwise what ``check`` raises about a text.
     """
 
     __slots__ = ("text", "profile", "_data", "_held")
@@ -194,9 +193,9 @@ faults = native.faults
 def check_each(
     texts: Iterable[str], base: AnyBase = None, profile: Profile = Profile.STANDARD
 ) -> Iterator[Union[Valid, Refused]]:
-    """The answers of ``check`` for these texts, one after the other, as they are asked for. A base is checked once.
+    """The answers of ``check`` for these texts, one by one as you ask for them. A base is checked once.
 
-    Raises what ``check`` raises; a base that is refused and a profile that isn't one at the first answer.
+    Raises what ``check`` raises, for the base and the profile at the first answer.
     """
     if isinstance(texts, (str, bytes)):
         raise TypeError("texts are wanted, not one {}".format(type(texts).__name__))
@@ -204,18 +203,18 @@ def check_each(
 
 
 def sentence(rule: str) -> str:
-    """What is wrong at the place of a refusal by this rule. Raises ``KeyError`` where no rule has the name."""
+    """What is wrong at the place of a refusal by this rule. Raises ``KeyError`` if no rule has the name."""
     return _SENTENCES[rule]
 
 
 def version() -> str:
-    """The version of the library that is called."""
+    """The version of the library."""
     number = native.version()
     return "{}.{}.{}".format(number // 10000, number // 100 % 100, number % 100)
 
 
 def __dir__() -> List[str]:
-    """What the package has for its callers."""
+    """The names that the package has for its callers."""
     return sorted(__all__)
 
 

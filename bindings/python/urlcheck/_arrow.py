@@ -57,7 +57,7 @@ class Column:
         return cls("U", len(marks), count, (present if count else None, offsets, data))
 
     def like(self, texts: object) -> Any:
-        """The column as an array of pyarrow, where the texts are one, else as it is."""
+        """The column as an array of pyarrow, where the texts are one, otherwise as it is."""
         return Column.joined([self], texts)
 
     @staticmethod

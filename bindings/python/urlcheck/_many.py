@@ -1,7 +1,7 @@
 """Many texts in a call: lists, columns of numpy and pandas, and arrays of Arrow, each answered by columns of its own
 kind.
 
-numpy, pandas and pyarrow are imported only where what came in is theirs.
+numpy, pandas and pyarrow are imported only when what came in is theirs.
 """
 
 import sys
@@ -15,7 +15,7 @@ from ._library import native
 _MISSING = 255
 _NO_UTF8 = "no-utf8"
 _RULES: Tuple[Optional[str], ...] = (None, *(native.text(0, rule) for rule in range(1, 15)), _NO_UTF8)
-"""The names of the rules by their numbers, and after them of bytes that are no UTF-8, as an Arrow array may hold."""
+"""The names of the rules by their numbers, and after them of bytes that aren't UTF-8, as an Arrow array may hold."""
 
 
 class Findings(NamedTuple):
@@ -33,7 +33,7 @@ class Mendings(NamedTuple):
     """Valid texts in place of many, a column each."""
 
     text: Any
-    """The text itself where it is valid, else one made of it by local edits, or missing where they give none."""
+    """The text itself where it is valid, otherwise one made of it by local edits, or missing where they give none."""
     kind: Any
     """How it differs from a refused text: ``same``, ``escaped`` or ``changed``, as ``MendKind`` says."""
 
@@ -69,7 +69,7 @@ def mend_many(texts: Iterable[Optional[str]], base: AnyBase = None, profile: Pro
 
 
 def _missing() -> Tuple[Any, ...]:
-    """What stands for a missing text: that of pandas only where it was imported."""
+    """What stands for a missing text: that of pandas only when it was imported."""
     return None, getattr(sys.modules.get("pandas"), "NA", None)
 
 

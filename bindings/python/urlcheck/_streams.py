@@ -84,7 +84,7 @@ def write(lines: bytes, paint: Optional[Callable[[str], str]] = None) -> None:
     """Writes whole lines, as they are, or with colours; to a terminal what drives it is shown as U+FFFD."""
     if not lines:
         return
-    # (there is none where it was closed before the start)
+    # (there is none if it was closed before the start)
     if sys.stdout is None:
         raise closed()
     if sys.stdout.isatty() or paint is not None:

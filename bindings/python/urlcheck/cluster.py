@@ -141,7 +141,7 @@ class Run:
 
     def take(self, limit: float) -> None:
         """Takes the next span that has ended. Where none ends for long, those that are out are given up and tried
-        anew."""
+        again."""
         if not self.order or self.order[0] in self.known:
             return
         if self.suspects and not self.out:

@@ -56,7 +56,7 @@ def _run_into(file: Optional[BinaryIO], given: Asked, settings: Settings) -> int
     names, passed, no_git = _documents(given.files, settings)
     progress = Progress(len(names), given.is_quiet)
     screen = Screen(file, _paint(given, settings.format), progress)
-    # (a difference and counts are in the place of a report)
+    # (a difference and counts are in place of a report)
     is_reported = not given.has_statistics and not (settings.fixing and settings.fixing.is_shown)
     report = Report(settings.format, settings.unit, screen.write if is_reported else _leave)
     seen = Run(settings, given.is_checked, given.is_quiet, report, screen)
@@ -124,6 +124,9 @@ def _ended(given: Asked, seen: Run, passed: Passed) -> int:
     gone = len(given.settings.known - seen.met)
     if gone and not given.is_quiet:
         tell("{} of the baseline {} gone".format(_number(gone, "fault"), "is" if gone == 1 else "are"))
+    if seen.counts.unsafe and not given.is_quiet:
+        more = _number(seen.counts.unsafe, "more link")
+        tell("{} could be fixed with --unsafe-fixes, perhaps to another URL".format(more))
     if not given.is_quiet:
         tell(_counted(seen.counts, given) + named(passed.said()))
     status = seen.counts.status()
@@ -149,7 +152,9 @@ def _counted(counts: Counts, given: Asked) -> str:
     said += ["{} refused".format(counts.refused)] * given.is_checked
     said += ["{} ignored".format(counts.ignored)]
     said += ["{} known".format(counts.known)] * (given.settings.known != frozenset())
-    said += ["{} fixed".format(counts.fixed)] * (given.settings.fixing is not None)
+    fixing = given.settings.fixing
+    if fixing is not None:
+        said += ["{} would be fixed".format(counts.shown) if fixing.is_shown else "{} fixed".format(counts.fixed)]
     return ", ".join(said)
 
 

@@ -216,7 +216,7 @@ class Server(MethodDispatcher):  # type: ignore[misc]
                 self._changed_now(document, WAIT)
 
     def m_text_document__did_save(self, textDocument: Json, **_: Any) -> None:
-        """Checks anew, as what is saved may be a configuration's document."""
+        """Checks again, as what is saved may be a configuration's document."""
         configuration_of.cache_clear()
 
     def m_text_document__did_close(self, textDocument: Json, **_: Any) -> None:
@@ -349,7 +349,7 @@ class Server(MethodDispatcher):  # type: ignore[misc]
     def m_text_document__code_action(
         self, textDocument: Json, range: Json, context: Any = None, **_: Any
     ) -> Callable[[], List[Json]]:
-        """The mended texts that may be written in the place of the links of a range."""
+        """The mended texts that may be written in place of the links of a range."""
         wanted = context.get("only") if isinstance(context, dict) else None
         seeing, within = self._seeing(textDocument["uri"]), _range_of(range)
 
@@ -389,7 +389,7 @@ def _kind(uri: str, language: Any) -> Optional[str]:
     """The kind of a document by its name, or by its language."""
     path = urlsplit(uri).path
     kind = kind_of(unquote(path)) or (LIST if path.lower().endswith(_LIST_END) else None)
-    # (books are no texts)
+    # (books aren't texts)
     return kind if kind not in (None, "epub") else KINDS_BY_LANGUAGE.get(str(language).lower())
 
 

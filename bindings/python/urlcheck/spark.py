@@ -37,7 +37,7 @@ def resolve(urls: "pd.Series") -> "pd.Series":
 
 
 def mend(urls: "pd.Series") -> "pd.Series":
-    """Each url where it is valid, else a valid one in its place, or null: of type ``string``."""
+    """Each url where it is valid, otherwise a valid one in its place, or null: of type ``string``."""
     return _plain(mend_many(urls).text)
 
 

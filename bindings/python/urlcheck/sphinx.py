@@ -68,7 +68,7 @@ def setup(app: Any) -> Dict[str, Any]:
 
 
 def _settings(app: Any) -> _Settings:
-    """What links are checked by: what conf.py says, else the project's configuration. Raises Sphinx's
+    """What links are checked by: what conf.py says, otherwise the project's configuration. Raises Sphinx's
     ``ConfigError``."""
     failed: Any = importlib.import_module("sphinx.errors").ConfigError
     config = app.config

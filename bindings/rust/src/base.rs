@@ -86,7 +86,7 @@ impl Hash for Base {
     }
 }
 
-/// A base by the standard profile.
+/// A base under the standard profile.
 impl FromStr for Base {
     type Err = Refusal;
 

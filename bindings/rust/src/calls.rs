@@ -102,7 +102,7 @@ pub fn message(text: &str, profile: u32, rule: u32, place: usize) -> (ffi::Findi
     })
 }
 
-/// One of the library's fixed texts; the empty one where there is none.
+/// One of the library's fixed texts; the empty one if there is none.
 pub fn fixed_text(what: u32, number: u32) -> String {
     let write = |out, room| {
         // SAFETY: `out` has `room` bytes of its own.

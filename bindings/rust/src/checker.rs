@@ -40,7 +40,7 @@ impl<'base> Checker<'base> {
         self.profile
     }
 
-    /// The base, where texts are checked against one.
+    /// The base, if texts are checked against one.
     #[must_use]
     pub const fn base(self) -> Option<&'base Base> {
         self.base
@@ -57,14 +57,14 @@ impl<'base> Checker<'base> {
         Ok(Valid::new(text, answer.parts))
     }
 
-    /// Whether the text is valid: the fastest call. It is also false where no memory is left for a domain that isn't
+    /// Whether the text is valid: the fastest call. It is also false if no memory is left for a domain that isn't
     /// ASCII, which [`Checker::check`] tells apart.
     #[must_use]
     pub fn is_valid(self, text: &str) -> bool {
         calls::is_valid(text, self.profile.number(), self.prepared())
     }
 
-    /// The URL that the text denotes, against the base where there is one.
+    /// The URL that the text denotes, against the base if there is one.
     ///
     /// # Errors
     ///
@@ -76,11 +76,11 @@ impl<'base> Checker<'base> {
         Ok(Url { text: url, parts: record.parts, host_kind, has_opaque_path: record.opaque_path != 0 })
     }
 
-    /// The valid text to write in place of a refused one, or none where the text is valid itself.
+    /// The valid text to write in place of a refused one, or none if the text is valid itself.
     ///
     /// # Errors
     ///
-    /// The refusal of the text, where the edits make no valid text of it.
+    /// The refusal of the text, if the edits make no valid text of it.
     pub fn mend(self, text: &str) -> Result<Option<Mended>, Refusal> {
         let (mended, new) = calls::mend(text, self.profile.number(), self.base_text());
         if mended.found.verdict == ffi::MENDED {
@@ -91,7 +91,7 @@ impl<'base> Checker<'base> {
         Ok(None)
     }
 
-    /// All that is wrong with the text, by place and at one place by rule; empty where it is valid.
+    /// All that is wrong with the text, by place and at one place by rule; empty if it is valid.
     #[must_use]
     pub fn violations(self, text: &str) -> Vec<Violation> {
         let (found, faults) = calls::faults(text, self.profile.number(), self.prepared());

@@ -17,10 +17,12 @@
 //! over without a copy. There is no state: any thread may call, and every type here is `Send` and `Sync`.
 //!
 //! A text is a `&str`, so it may hold NUL, and is never refused for not being UTF-8; of bytes see
-//! [`std::str::from_utf8`]. Where no memory is left, a call ends as Rust's own collections do.
+//! [`std::str::from_utf8`]. If no memory is left, a call ends as Rust's own collections do.
 
 #![deny(missing_docs, rust_2018_idioms, unsafe_op_in_unsafe_fn)]
 #![warn(clippy::pedantic, clippy::undocumented_unsafe_blocks)]
+// (the manifest of this folder has no feature, and that of `serde/` has one)
+#![allow(unexpected_cfgs)]
 
 mod base;
 mod calls;
@@ -30,6 +32,8 @@ mod many;
 mod parts;
 mod profile;
 mod rule;
+#[cfg(feature = "serde")]
+mod serialized;
 mod violation;
 
 pub use base::Base;
@@ -43,7 +47,7 @@ pub use violation::{Refusal, Violation};
 /// The checker of the functions below.
 const STANDARD: Checker<'static> = Checker::new(Profile::Standard);
 
-/// The valid text with its parts, by the standard profile: see [`Checker::check`].
+/// The valid text with its parts, under the standard profile: see [`Checker::check`].
 ///
 /// # Errors
 ///
@@ -52,13 +56,13 @@ pub fn check(text: &str) -> Result<Valid<'_>, Refusal> {
     STANDARD.check(text)
 }
 
-/// Whether the text is valid by the standard profile: see [`Checker::is_valid`].
+/// Whether the text is valid under the standard profile: see [`Checker::is_valid`].
 #[must_use]
 pub fn is_valid(text: &str) -> bool {
     STANDARD.is_valid(text)
 }
 
-/// The URL that the text denotes, by the standard profile: see [`Checker::resolve`].
+/// The URL that the text denotes, under the standard profile: see [`Checker::resolve`].
 ///
 /// # Errors
 ///
@@ -74,11 +78,11 @@ pub fn resolve(text: &str) -> Result<Url, Refusal> {
     STANDARD.resolve(text)
 }
 
-/// The valid text to write in place of a refused one, by the standard profile: see [`Checker::mend`].
+/// The valid text to write in place of a refused one, under the standard profile: see [`Checker::mend`].
 ///
 /// # Errors
 ///
-/// The refusal of the text, where the edits make no valid text of it.
+/// The refusal of the text, if the edits make no valid text of it.
 ///
 /// ```
 /// let mended = urlcheck::mend("http://h/a b")?.expect("it isn't valid");
@@ -90,7 +94,7 @@ pub fn mend(text: &str) -> Result<Option<Mended>, Refusal> {
     STANDARD.mend(text)
 }
 
-/// All that is wrong with the text by the standard profile: see [`Checker::violations`].
+/// All that is wrong with the text under the standard profile: see [`Checker::violations`].
 ///
 /// ```
 /// let violations = urlcheck::violations("http://x_y/ ^");

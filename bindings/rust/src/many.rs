@@ -103,7 +103,7 @@ impl Urls {
         self.rows.is_empty()
     }
 
-    /// The URL of the text with this index, or the violation for which it is refused; none where there were fewer.
+    /// The URL of the text with this index, or the violation for which it is refused; none if there were fewer.
     #[must_use]
     pub fn get(&self, index: usize) -> Option<Result<&str, Violation>> {
         self.rows.get(index).map(|row| self.url(row))

@@ -4,7 +4,7 @@ use std::fmt;
 
 use crate::ffi::{Span, Spans};
 
-/// The part of a text that a span is, or none where the text lacks it.
+/// The part of a text that a span is, or none if the text lacks it.
 fn slice(text: &str, span: Span) -> Option<&str> {
     span.present.then(|| &text[span.start..span.start + span.length])
 }
@@ -117,6 +117,18 @@ impl HostKind {
             _ => None,
         }
     }
+
+    /// The kind's name, such as `ipv4`.
+    #[must_use]
+    pub const fn name(self) -> &'static str {
+        match self {
+            Self::Domain => "domain",
+            Self::Ipv4 => "ipv4",
+            Self::Ipv6 => "ipv6",
+            Self::Opaque => "opaque",
+            Self::Empty => "empty",
+        }
+    }
 }
 
 /// The URL that a valid text denotes, serialized (URL Standard, section 4.5), with its parts.
@@ -147,19 +159,19 @@ impl Url {
         slice(&self.text, self.parts.host)
     }
 
-    /// Of which kind the host is, where there is one.
+    /// Of which kind the host is, if there is one.
     #[must_use]
     pub const fn host_kind(&self) -> Option<HostKind> {
         self.host_kind
     }
 
-    /// The port, where it isn't the scheme's default port.
+    /// The port, if it isn't the scheme's default port.
     #[must_use]
     pub fn port(&self) -> Option<u16> {
         slice(&self.text, self.parts.port).and_then(|port| port.parse().ok())
     }
 
-    /// The path. Where it isn't opaque or empty it begins with `/`, and its segments are what is between two of these.
+    /// The path. If it isn't opaque or empty it begins with `/`, and its segments are what is between two of these.
     #[must_use]
     pub fn path(&self) -> &str {
         slice(&self.text, self.parts.path).unwrap_or_default()
@@ -215,7 +227,7 @@ pub struct Mended {
     pub text: String,
     /// How it differs from the refused text.
     pub kind: MendKind,
-    /// Whether reports offer it as what to write. Where not, its author seems to have meant another link.
+    /// Whether reports offer it as what to write. If not, its author seems to have meant another link.
     pub is_offered: bool,
 }
 

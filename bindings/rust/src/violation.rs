@@ -19,7 +19,7 @@ pub struct Violation {
 
 impl Violation {
     /// The sentence on this violation of the text, checked by this profile: it names the code point at the place, where
-    /// one is there. Where the place is after the end of the text, it is the rule's own sentence.
+    /// one is there. If the place is after the end of the text, it is the rule's own sentence.
     #[must_use]
     pub fn message(&self, text: &str, profile: Profile) -> String {
         let (found, message) = calls::message(text, profile.number(), self.rule.number(), self.place);
@@ -90,7 +90,7 @@ impl fmt::Display for Refusal {
 
 impl Error for Refusal {}
 
-/// What a finding of a text or of a base says: nothing where it is valid, else the refusal.
+/// What a finding of a text or of a base says: nothing if it is valid, otherwise the refusal.
 pub(crate) fn read_finding(found: &ffi::Finding, profile: Profile) -> Result<(), Refusal> {
     match found.verdict {
         ffi::VALID => Ok(()),
@@ -112,7 +112,7 @@ pub(crate) fn fail(verdict: u32) -> ! {
     panic!("liburlcheck {} ends with {verdict}, which no call of this crate brings about", calls::version())
 }
 
-/// Ends as Rust's own collections do where there is no memory.
+/// Ends as Rust's own collections do if there is no memory.
 #[cold]
 fn out_of_memory() -> ! {
     std::alloc::handle_alloc_error(std::alloc::Layout::new::<[usize; 8]>())

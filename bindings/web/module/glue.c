@@ -29,7 +29,7 @@ urlcheck_base held;
 
 static uint32_t address_of(const void *it) { return (uint32_t)(uintptr_t)it; }
 
-/* Makes rooms of so many bytes for the text and the base. Gives 0, and leaves the rooms, where there is no memory. */
+/* Makes rooms of so many bytes for the text and the base. Gives 0, and leaves the rooms, if there is no memory. */
 uint32_t make_rooms(uint32_t text_bytes, uint32_t base_bytes) {
     return heap_lay_out(text_bytes, base_bytes);
 }
@@ -89,7 +89,7 @@ void check(uint32_t length, uint32_t profile, uint32_t is_held) {
     say_parts(&checked.parts);
 }
 
-/* 1 where the text is known to be valid, else 0. */
+/* 1 if the text is known to be valid, otherwise 0. */
 uint32_t is_valid(uint32_t length, uint32_t profile, uint32_t is_held) {
     heap_empty();
     return proved_is_valid(heap_text(), length, profile, &held, is_held);
@@ -117,7 +117,7 @@ static bool are_same(const uint8_t *one, const uint8_t *other, uint32_t length) 
     return __builtin_memcmp(one, other, length) == 0;
 }
 
-/* The URL's text is at `out`. A base has its bytes in its room; where its length is below 0 there is none. */
+/* The URL's text is at `out`. A base has its bytes in its room; if its length is below 0 there is none. */
 void resolve(uint32_t length, uint32_t profile, int32_t base_length) {
     urlcheck_record record;
     const uint8_t *text = heap_text(), *base = heap_base();

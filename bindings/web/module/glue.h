@@ -38,12 +38,12 @@ extern urlcheck_base held;
 /* Answers what was found, and a length. */
 void say(const urlcheck_finding *found, uint64_t length);
 
-/* Gives up the blocks after the mark, and takes so many bytes for `out`; where there are none it says so. */
+/* Gives up the blocks after the mark, and takes so many bytes for `out`; if there are none it says so. */
 bool takes_out(uint64_t mark, uint64_t bytes);
 
 /*
  * Runs a call that writes `room` elements of a size to `out`, at first as many as are given, and then as many as it
- * needs; where there is no memory for them the function ends.
+ * needs; if there is no memory for them the function ends.
  */
 #define WRITE(first, size, needed, call)                                   \
     do {                                                                   \

@@ -38,7 +38,7 @@ static bool reaches(uint64_t end) {
     return end <= memory_end();
 }
 
-/* The end of a block that begins at `start`, or 0 where no address is so high. */
+/* The end of a block that begins at `start`, or 0 if no address is so high. */
 static uint64_t end_of(uint64_t start, uint64_t size) {
     return start <= LIMIT && size <= LIMIT - start ? start + size : 0;
 }

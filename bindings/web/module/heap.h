@@ -29,7 +29,7 @@ void *heap_take(uint64_t size, uint64_t alignment);
 /* The block with its first `kept` bytes, and so many bytes long; it may have moved. NULL: it is as it was. */
 void *heap_resize(void *block, uint64_t kept, uint64_t size, uint64_t alignment);
 
-/* Gives up the block where it is the last one, else keeps it until the heap is emptied. */
+/* Gives up the block if it is the last one, otherwise keeps it until the heap is emptied. */
 void heap_give(void *block);
 
 #endif

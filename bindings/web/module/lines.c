@@ -61,7 +61,7 @@ static urlcheck_line next_refused(const uint8_t *lines, size_t length, size_t fr
     return line;
 }
 
-/* Takes the valid lines before a line, and the line itself, where there is one. */
+/* Takes the valid lines before a line, and the line itself, if there is one. */
 static void take(lines_checked *checked, const urlcheck_line *line) {
     checked->lines += (uint32_t)line->passed;
     checked->next = (uint32_t)line->next;

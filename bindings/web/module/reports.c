@@ -58,7 +58,7 @@ void message(uint32_t length, uint32_t profile, uint32_t wording, uint32_t rule,
     WRITE_TEXT(proved_message(&written, heap_text(), length, profile, wording, rule, place, out, room));
 }
 
-/* The column of a place of the text, which begins in the column `start`, and 0 where there is none, which is said. */
+/* The column of a place of the text, which begins in the column `start`, and 0 if there is none, which is said. */
 static uint64_t column_of(uint32_t length, uint32_t unit, uint64_t start, uint64_t place) {
     urlcheck_counted counted;
     proved_column(&counted, heap_text(), length, unit, start, place);
@@ -87,7 +87,7 @@ static bool takes_text(fixed_text *taken, uint32_t what, uint32_t number) {
 
 /*
  * What is reported of a violation of the text, which begins in the column `column`, and whose sentence `message` has
- * just written. In the room of the base is the name of the file, and after it the fix, where its kind isn't 0.
+ * just written. In the room of the base is the name of the file, and after it the fix, if its kind isn't 0.
  */
 void diagnostic(uint32_t format, uint32_t unit, uint32_t is_first, uint32_t rule, uint32_t place, uint32_t line,
                 uint32_t column, uint32_t length, uint32_t file_length, uint32_t kind, uint32_t is_offered,
@@ -115,7 +115,7 @@ uint32_t takes_unit(uint32_t format, uint32_t unit) { return urlcheck_takes_unit
 
 uint32_t example_place(uint32_t rule) { return (uint32_t)urlcheck_example_place(rule); }
 
-/* A text of the library, for which each has room; its length is given, and is 0 where no number is such a one. */
+/* A text of the library, for which each has room; its length is given, and is 0 if no number is such a one. */
 uint32_t text(uint32_t what, uint32_t number) {
     fixed_text taken;
     heap_empty();

@@ -38,7 +38,7 @@ function candidateEnds(value, urlEnd) {
 }
 
 /**
- * The links of image candidates, as the HTML Standard parses a `srcset`. Words that are no descriptors belong to the
+ * The links of image candidates, as the HTML Standard parses a `srcset`. Words that aren't descriptors belong to the
  * link, as of `my photo.png 1x`: the Standard has no such candidate, and its author meant a URL with a space.
  */
 function linksOfCandidates(value) {

@@ -1,4 +1,4 @@
-// The page: its fields, its views and its address. Each key checks anew; nothing waits for a button.
+// The page: its fields, its views and its address. Each key checks again; nothing waits for a button.
 import { load } from '../urlcheck.js'
 import { byId, element } from './elements.js'
 import { linksOf } from './links.js'

@@ -1,5 +1,5 @@
 // A list, read piece by piece as `urlcheck lint` reads a file: each piece has whole lines, and a line with too many
-// bytes is a piece of its own. A byte order mark at a file's start is no part of the first line.
+// bytes is a piece of its own. A byte order mark at a file's start isn't a part of the first line.
 
 /** A line has at most so many bytes. */
 export const LONGEST_LINE = 65536
@@ -65,7 +65,7 @@ export async function* piecesOf(file) {
     const last = piece.value.lastIndexOf(LF)
     if (last === -1) {
       rest = isLong ? rest : joined(rest, piece.value)
-      // (a byte order mark, and a CR after which an LF may come, are no part of the line)
+      // (a byte order mark, and a CR after which an LF may come, aren't part of the line)
       isLong ||= rest.length > LONGEST_LINE + BYTE_ORDER_MARK.length + 1
       if (isLong) rest = rest.subarray(0, 0)
       continue

@@ -10,7 +10,7 @@ const PROFILES = ['standard', 'wide', 'parser']
 /** What the page begins with. */
 export const FIRST_TEXT = 'https://example.com/a b?x=100%&y=1#top'
 
-/** The state that the address gives; `text` and `list` are null where it has none. */
+/** The state that the address gives; `text` and `list` are null if it has none. */
 export function readState() {
   const words = new URLSearchParams(location.hash.slice(1))
   const view = words.get('view')

@@ -28,7 +28,7 @@ export function checkText(urlcheck, text, base, profile) {
   }
 }
 
-/** What a refused text is mended to. It is null where there is none, or no memory for it. */
+/** What a refused text is mended to. It is null if there is none, or no memory for it. */
 function insteadOf(urlcheck, text, options) {
   try {
     const mended = urlcheck.mend(text, options)

@@ -33,7 +33,7 @@ class Job {
     this.number = number
     this.source = source
     this.name = name
-    // A base is checked once, before anything else: it throws where it is refused.
+    // A base is checked once, before anything else: it throws if it is refused.
     this.options = { base: base === '' ? null : urlcheck.base(base, { profile }), profile }
     this.isStopped = false
     this.lines = 0

@@ -1,12 +1,12 @@
 //! Checks the lines of standard input, as often as is asked: the driver of the benches. Its words are a mode, a number
-//! of rounds, a profile's name and a base; with none of them it checks once, alone, by the standard profile. The base
-//! is resolved once.
+//! of rounds, a profile's name and a base; with none of them it checks once, alone, under the standard profile. The
+//! base is resolved once.
 //!
 //! `read` cuts the input into lines and does no more. In each round `check` checks each line, `alone` does so without a
 //! base by `check_alone`, `valid` asks for no more than whether it is valid, `resolve` makes the URL that it denotes,
 //! serialized, and `record` its record and the record's text; all six say how many lines there are and how many were
 //! valid. `verdicts` writes `1` or `0` for each line, `texts` its serialized URL, and `records` the text of its record,
-//! or nothing where it has none.
+//! or nothing if it has none.
 #![tactic(auto)]
 
 use std::alloc::{AllocError, Global};
@@ -63,7 +63,7 @@ fn main(rt: HostRuntime) -> io::Result<()> {
     print!(rt; "{said}")
 }
 
-// A word, or what stands for it where it isn't given.
+// A word, or what stands for it if it isn't given.
 fn word_at<'w>(words: &'w [String], at: usize, otherwise: &'w str) -> &'w str {
     match words.get(at) {
         Some(word) => word.as_str(),
@@ -84,7 +84,7 @@ fn texts_in<'b>(alloc: Global, bytes: &'b [u8]) -> Result<Vec<&'b str>, AllocErr
     Ok(texts)
 }
 
-// How many of the texts are valid, asked so many times; none where the mode doesn't ask.
+// How many of the texts are valid, asked so many times; none if the mode doesn't ask.
 fn count_in_rounds(
     mode: &str,
     rounds: u32,
@@ -116,7 +116,7 @@ fn count_checked(texts: &[&str], setting: Setting<'_>) -> Result<usize, AllocErr
     Ok(valid)
 }
 
-// The same by a call that knows no base, which is made here alone.
+// How many of the texts are valid without a base, by `check_alone`, which is called here alone.
 fn count_alone(texts: &[&str], setting: Setting<'_>) -> Result<usize, AllocError> {
     let mut valid = 0usize;
     for text in texts {
@@ -127,7 +127,7 @@ fn count_alone(texts: &[&str], setting: Setting<'_>) -> Result<usize, AllocError
     Ok(valid)
 }
 
-// The same by the verdict without parts.
+// How many of the texts are valid, by the verdict without parts.
 fn count_valid(texts: &[&str], setting: Setting<'_>) -> Result<usize, AllocError> {
     let mut valid = 0usize;
     for text in texts {
@@ -138,7 +138,7 @@ fn count_valid(texts: &[&str], setting: Setting<'_>) -> Result<usize, AllocError
     Ok(valid)
 }
 
-// The same by the texts of their URLs.
+// How many of the texts are valid, found by making the text of each one's URL.
 fn count_resolved(
     texts: &[&str],
     setting: Setting<'_>,
@@ -153,7 +153,7 @@ fn count_resolved(
     Ok(valid)
 }
 
-// The text of a text's URL, or none where the text is refused.
+// The text of a text's URL, or none if the text is refused.
 fn url_text(
     text: &str,
     setting: Setting<'_>,

@@ -1,9 +1,9 @@
 //! Makes one call of the library, which standard input names, and prints its answer: the driver of
 //! bench/failed_allocations.py, which has each of the call's allocations refused in turn. The first line says how many
 //! allocations to make before the call, the second names the call, the third the profile, the fourth has the base,
-//! empty where there is none, and the rest is the text, the list or the vector file, which is checked by the standard
+//! empty when there is none, and the rest is the text, the list or the vector file, which is checked under the standard
 //! profile. No other allocation is made but by the call and, where there is a base, by what resolves it. The status is
-//! 3 where the call is out of memory.
+//! 3 if the call is out of memory.
 #![tactic(auto)]
 
 use std::alloc::{AllocError, Global};
@@ -14,6 +14,7 @@ use uv_cli::{CliFault, run_check, run_faults};
 use uv_grammar::{Verdict, check, faults};
 use uv_host::{DomainAnswer, domain};
 use uv_io::{FromReader, ToWriter};
+use uv_lines::StopFault;
 use uv_links::{LinkFault, LinkLimits, run_links};
 use uv_model::{Host, Profile, Record, Refusal, UrlPath};
 use uv_resolve::{ResolveFault, resolve};
@@ -226,7 +227,7 @@ fn links_ended<R: Print + AllocGlobal>(rt: &R, asked: &Asked<'_>, base: Option<&
     let end = printed(print_page(rt, &page, room));
     match answer {
         Ok(_) => end,
-        Err(LinkFault::Memory) => End::Memory,
+        Err(LinkFault::Stop(StopFault::Memory)) => End::Memory,
         Err(_) => End::NotAsked,
     }
 }

@@ -32,7 +32,7 @@ impl<'a> Model for ScriptSource<'a> {
 }
 
 impl<'a> ScriptSource<'a> {
-    /// The source that plays these answers, or none where a piece of them is empty: that would be the end.
+    /// The source that plays these answers, or none if a piece of them is empty: that would be the end.
     pub fn new(answers: &'a [Result<&'a [u8], DeviceFault>]) -> Option<ScriptSource<'a>>
         ensures taken { is_some result ≡ not (list_any spec.is_empty_piece answers.now) }
         ensures value { IfSome result (λ source. source ≡ record {

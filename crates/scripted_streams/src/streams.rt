@@ -29,7 +29,7 @@ impl Read for Faltering {
     }
 }
 
-// Whether one read of a piece of two bytes gives these bytes, through the bound, or fails where none are wanted.
+// Whether one read of a piece of two bytes gives these bytes, through the bound, or fails when none are wanted.
 fn gives<S: Source>(source: &mut S, wanted: Option<&[u8]>) -> bool
     requires { S.failed source.old < 2 ^ 64 - 1 }
     ensures { S.failed source.new < S.failed source.old + 2 }
@@ -91,7 +91,7 @@ fn refuses_an_empty_piece(rt: HostRuntime) {
     assert!(rt; ScriptSource::new(&[]).is_some());
 }
 
-// Whether one write of the bytes takes so many, through the bound, or fails where no number is wanted.
+// Whether one write of the bytes takes so many, through the bound, or fails when no number is wanted.
 fn takes<S: Sink>(sink: &mut S, bytes: &[u8], wanted: Option<usize>) -> bool
     requires { S.failed sink.old < 2 ^ 64 - 1 }
     ensures { S.failed sink.new < S.failed sink.old + 2 }

@@ -3,7 +3,7 @@
 use std::alloc::{AllocError, Global};
 use uv_model::{Host, Profile, Record, Text, TextList, UrlPath, well_formed};
 
-/// `http://h/`, or none where its parts aren't well formed.
+/// `http://h/`, or none if its parts aren't well formed.
 pub(crate) fn special_base(alloc: Global) -> Result<Option<Record>, AllocError> {
     let host = Some(Host::Domain(Text::of(String::from_str(alloc, "h")?)));
     let mut items = Vec::new(alloc);

@@ -38,7 +38,7 @@ const ROWS: [Row; 19] = [
     ("http://1.2.3/", false, Some((7, Rule::HostNumber))),
 ];
 
-// What `check` answers: none where memory ran out, and else the refusal, where there is one.
+// What `check` answers: none if memory ran out, and otherwise the refusal, where there is one.
 fn answer(alloc: Global, text: &str, base: Option<&Record>) -> Option<Option<(usize, Rule)>> {
     match check(alloc, text, base, Profile::Standard) {
         Ok(Verdict::Yes(_)) => Some(None),

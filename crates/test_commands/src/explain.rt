@@ -4,9 +4,9 @@
 use scripted_streams::ScriptSink;
 use std::alloc::Global;
 use std::test::Fail;
+use uv_arguments::Told;
 use uv_cli::{CliFault, ExplainEnd, run_explain};
 use uv_io::{DeviceFault, Sink, ToWriter};
-use uv_words::Told;
 
 const HOST_MISSING: &str = "rule host-missing
 means a host is missing here
@@ -35,7 +35,7 @@ fn explains_a_rule(rt: HostRuntime) -> Result<(), Fail> {
     Ok(())
 }
 
-// A name of no rule after that of one: nothing is written.
+// A name of no rule after the name of one: nothing is written.
 #[test]
 fn knows_no_other_names(rt: HostRuntime) -> Result<(), Fail> {
     let mut out = ToWriter::new(Vec::new(rt.alloc()));

@@ -3,9 +3,9 @@
 
 use crate::jobs::{Wanted, ends};
 use std::test::Fail;
+use uv_arguments::{FilterJob, Job};
 use uv_io::DeviceFault;
 use uv_model::Profile;
-use uv_words::{FilterJob, Job};
 
 // A filter without options.
 fn every() -> Job {

@@ -4,9 +4,9 @@ use scripted_streams::{ScriptSink, ScriptSource};
 use std::fs::Files;
 use std::process::Abort;
 use std::test::Fail;
+use uv_arguments::Job;
 use uv_cli::{error_line, run_job, status};
 use uv_io::DeviceFault;
-use uv_words::Job;
 
 /// How a run of a job is to end: its status, the lines that end standard error, and what it writes.
 #[derive(Clone, Copy)]

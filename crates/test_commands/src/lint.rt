@@ -4,9 +4,9 @@
 use crate::jobs::{Wanted, ends};
 use std::alloc::Global;
 use std::test::Fail;
+use uv_arguments::{Colours, Job, LintJob};
 use uv_io::DeviceFault;
 use uv_model::{Extent, Profile};
-use uv_words::{Job, LintJob};
 
 // What is wrong with the second line, as compilers write it.
 const WRONG: &str = "-:2:1: error: there is no scheme and no base [no-scheme]\n";
@@ -26,6 +26,7 @@ fn job(alloc: Global, other: Option<&str>) -> Result<Job, Fail> {
         format: None,
         columns: None,
         located: false,
+        colours: Colours::Auto,
         stdin_name: None,
         quiet: false,
     }))

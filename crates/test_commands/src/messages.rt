@@ -4,7 +4,7 @@ use std::io::ErrorKind;
 use std::test::Fail;
 use uv_messages::unread::{unread, unwritten};
 
-// Kinds of errors, and what is said of a file that gives them.
+// Kinds of errors, and the messages on a file that gives them.
 const UNREAD: [(ErrorKind, &str); 3] = [
     (
         ErrorKind::ResourceBusy,

@@ -22,7 +22,7 @@ impl Write for Held {
     }
 }
 
-// A flush that fails is reported, with the status of a write; of a closed pipe nothing is said.
+// A flush that fails is reported, with the status of a write; a closed pipe isn't mentioned.
 #[test]
 fn reports_a_failed_flush(rt: HostRuntime) {
     let whole = finished(End::Valid, &mut WatchedWriter::new(Held { fails: None }));

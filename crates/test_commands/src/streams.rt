@@ -135,7 +135,7 @@ const ROWS: [Row<'static>; 15] = [
 // More writes than a check of the rows makes.
 const MOST_WRITES: usize = 200;
 
-// Whether the writes suffice for the whole output. Where they don't, the one after them fails, and a beginning of the
+// Whether the writes suffice for the whole output. If they don't, the one after them fails, and a beginning of the
 // output is written.
 fn writes_all(
     rt: &(impl Abort + AllocGlobal),
@@ -174,7 +174,7 @@ fn fails_each_write(
     panic!(rt; "no check was whole");
 }
 
-// Of each row, each write after short ones of this length fails in turn.
+// In each row, each write after short ones of this length fails in turn.
 fn reports_each(rt: &(impl Abort + AllocGlobal), length: usize) -> Result<(), Fail> {
     for row in &ROWS {
         fails_each_write(rt, row, length)?;

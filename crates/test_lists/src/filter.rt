@@ -8,8 +8,9 @@ use scripted_streams::{ScriptSink, ScriptSource};
 use std::alloc::{AllocError, Global};
 use std::process::Abort;
 use std::test::Fail;
-use uv_filter::{FilterCounts, FilterFault, FilterSetting, run_filter};
+use uv_filter::{FilterCounts, FilterSetting, run_filter};
 use uv_io::{DeviceFault, Sink};
+use uv_lines::StopFault;
 use uv_model::Profile;
 
 // No base, the standard profile, and every mended text.
@@ -46,7 +47,7 @@ fn ran<'w>(
     alloc: Global,
     reads: &[Result<&[u8], DeviceFault>],
     writes: &'w [Result<usize, DeviceFault>],
-) -> Result<(Result<(), FilterFault>, FilterCounts, ScriptSink<'w>), Fail> {
+) -> Result<(Result<(), StopFault>, FilterCounts, ScriptSink<'w>), Fail> {
     let mut reader = ScriptSource::new(reads).ok_or("a piece is empty")?;
     let mut writer = ScriptSink::new(alloc, 200_000, writes)?;
     let (counts, answer) = run_filter(alloc, &mut reader, &mut writer, SETTING);
@@ -69,7 +70,7 @@ fn fails_after(
 ) -> Result<(), Fail> {
     let (answer, _, writer) = ran(rt.alloc(), reads, &TAKEN)?;
     let written = writer.bytes();
-    assert!(rt; answer == Err(FilterFault::Read));
+    assert!(rt; answer == Err(StopFault::Read));
     assert!(rt; MENDED.starts_with(written) && line_feeds(written) == ended);
     assert!(rt; written.is_empty() || written.ends_with(b"\n"));
     Ok(())
@@ -101,7 +102,7 @@ fn writes_the_lines_before_a_failed_read(rt: HostRuntime) -> Result<(), Fail> {
     Ok(())
 }
 
-// A text with so many bytes, of which each but those of its start is a space.
+// A text with so many bytes, of which each is a space, but for those at its start.
 fn long_line(alloc: Global, length: usize) -> Result<Vec<u8>, AllocError> {
     let mut line = Vec::new(alloc);
     line.extend_from_slice(b"http://h/")?;
@@ -109,7 +110,7 @@ fn long_line(alloc: Global, length: usize) -> Result<Vec<u8>, AllocError> {
     Ok(line)
 }
 
-// Of a line that is too long all that was read is written, and it is counted.
+// All that was read of a line that is too long is written, and the line is counted.
 #[test]
 fn writes_a_long_line_before_a_failed_read(rt: HostRuntime) -> Result<(), Fail> {
     let mut line = long_line(rt.alloc(), 65_538)?;
@@ -122,7 +123,7 @@ fn writes_a_long_line_before_a_failed_read(rt: HostRuntime) -> Result<(), Fail> 
     let (answer, counts, writer) = ran(rt.alloc(), &reads, &TAKEN)?;
     line.extend_from_slice(b"xyz")?;
     let written = writer.bytes();
-    assert!(rt; answer == Err(FilterFault::Read));
+    assert!(rt; answer == Err(StopFault::Read));
     assert!(rt; written.starts_with(b"http://h/\n") && written.ends_with(&line));
     assert!(rt; written.len() == 65_551);
     let counted = FilterCounts {
@@ -142,7 +143,7 @@ fn writes_a_long_line_before_a_failed_read(rt: HostRuntime) -> Result<(), Fail> 
 // More writes than a run over the lists makes.
 const MOST_WRITES: usize = 100;
 
-// Whether the writes suffice for the whole list. Where they don't, the one after them fails, and a prefix is written.
+// Whether the writes suffice for the whole list. If they don't, the one after them fails, and a prefix is written.
 fn writes_all(
     rt: &(impl Abort + AllocGlobal),
     list: &[u8],
@@ -154,7 +155,7 @@ fn writes_all(
         assert!(rt; writer.bytes() == want);
         return Ok(true);
     }
-    assert!(rt; answer == Err(FilterFault::Write) && writer.failures() == 1);
+    assert!(rt; answer == Err(StopFault::Write) && writer.failures() == 1);
     assert!(rt; want.starts_with(writer.bytes()) && writer.bytes().len() < want.len());
     Ok(false)
 }

@@ -5,7 +5,7 @@ ghost use Rattle.std.specs.Prelude.{◌≡◌, ℕ, ◌≤◌, ◌++◌, List, O
 use std::alloc::{AllocError, Global};
 use std::process::Abort;
 use uv_io::{FromReader, Sink, ToWriter};
-use uv_lines::{Frame, LineFault, LineLimits, ReportFault, Reporter, run_lines};
+use uv_lines::{Frame, Line, LineFault, LineLimits, ReportFault, Reporter, StopFault, run_lines};
 
 mod parts;
 
@@ -28,7 +28,7 @@ impl Reporter for Lengths {
     fn report<W: Sink>(
         &mut self,
         alloc: Global,
-        line: Option<&[u8]>,
+        line: Option<Line<'_>>,
         text: &mut Vec<u8>,
         _writer: &mut W,
     ) -> Result<(), ReportFault<AllocError>> {
@@ -56,7 +56,7 @@ impl Reporter for Lengths {
 fn push_length(
     alloc: Global,
     number: u64,
-    line: Option<&[u8]>,
+    line: Option<Line<'_>>,
     text: &mut Vec<u8>,
 ) -> Result<(), AllocError>
     ensures said { OnOk result ((said : List ℕ) × (text.new.items ≡ text.old.items ++ said)) }
@@ -64,7 +64,7 @@ fn push_length(
 {
     let said = match line {
         Some(line) => {
-            let size = line.len();
+            let size = line.as_bytes().len();
             format!(in alloc; "{number}:{size} ")?
         }
         None => format!(in alloc; "{number}:- ")?,
@@ -128,7 +128,7 @@ fn reports_on_lines_in_order(rt: HostRuntime) {
 // but not what is said after the last line.
 #[test]
 fn stops_after_the_last_line_that_may_come(rt: HostRuntime) {
-    let fault = Err(LineFault::TooManyLines);
+    let fault = Err(LineFault::Stop(StopFault::TooManyLines));
     says(&rt, b"a\nb\n", 2, Ok(()), 2, "<1:1 2:1 .>");
     says(&rt, b"a\nb\n\n", 2, fault, 2, "<1:1 2:1 >");
     says(&rt, b"a\nb\nc", 2, fault, 2, "<1:1 2:1 >");

@@ -4,6 +4,7 @@ mod streams;
 
 use std::process::Abort;
 use std::test::Fail;
+use uv_lines::StopFault;
 use uv_links::{LinkFault, LinkLimits};
 
 #[test]
@@ -24,11 +25,15 @@ fn is_named(rt: &(impl Abort + AllocGlobal), fault: LinkFault, want: &str) -> Re
 // The words that the program says of a fault.
 #[test]
 fn names_faults(rt: HostRuntime) -> Result<(), Fail> {
-    is_named(&rt, LinkFault::Memory, "memory")?;
-    is_named(&rt, LinkFault::Read, "read")?;
-    is_named(&rt, LinkFault::Write, "write")?;
+    is_named(&rt, LinkFault::Stop(StopFault::Memory), "memory")?;
+    is_named(&rt, LinkFault::Stop(StopFault::Read), "read")?;
+    is_named(&rt, LinkFault::Stop(StopFault::Write), "write")?;
     is_named(&rt, LinkFault::Overflow, "overflow")?;
     is_named(&rt, LinkFault::BaseDiffers, "base differs")?;
-    is_named(&rt, LinkFault::TooManyLines, "too many lines")?;
-    is_named(&rt, LinkFault::Endless, "endless")
+    is_named(
+        &rt,
+        LinkFault::Stop(StopFault::TooManyLines),
+        "too many lines",
+    )?;
+    is_named(&rt, LinkFault::Stop(StopFault::Endless), "endless")
 }

@@ -9,8 +9,8 @@ use std::alloc::{AllocError, Global};
 use std::process::Abort;
 use std::test::Fail;
 use uv_io::{DeviceFault, Sink};
-use uv_lines::LineLimits;
-use uv_lint::{LineForm, LintCounts, LintFault, LintSetting, run_lint, run_within};
+use uv_lines::{LineLimits, StopFault};
+use uv_lint::{LineForm, LintCounts, LintSetting, run_lint, run_within};
 use uv_model::{Extent, Profile};
 use uv_report::{Columns, Format};
 
@@ -46,7 +46,7 @@ fn ran<'w>(
     reads: &[Result<&[u8], DeviceFault>],
     writes: &'w [Result<usize, DeviceFault>],
     setting: LintSetting<'_>,
-) -> Result<(Result<(), LintFault>, (u64, u64), ScriptSink<'w>), Fail> {
+) -> Result<(Result<(), StopFault>, (u64, u64), ScriptSink<'w>), Fail> {
     let mut reader = ScriptSource::new(reads).ok_or("a piece is empty")?;
     let mut writer = ScriptSink::new(alloc, 1_000_000, writes)?;
     let (counts, answer) = run_lint(alloc, &mut reader, &mut writer, "list", true, setting);
@@ -58,7 +58,7 @@ fn counts_of(counts: LintCounts) -> (u64, u64) {
     (counts.lines, counts.refused)
 }
 
-// The same of so many of the list's first lines.
+// How many lines are checked and how many refused among so many of the list's first lines.
 fn counts_on(lines: usize) -> (u64, u64) {
     match lines {
         0 => (0, 0),
@@ -80,7 +80,7 @@ fn before_end(report: &[u8]) -> &[u8] {
 fn answers(
     rt: &(impl Abort + AllocGlobal),
     reads: &[Result<&[u8], DeviceFault>],
-    want: Result<(), LintFault>,
+    want: Result<(), StopFault>,
     lines: usize,
 ) -> Result<(), Fail> {
     let (answer, counts, writer) = ran(rt.alloc(), reads, &TAKEN, SETTING)?;
@@ -101,7 +101,7 @@ fn fails_each_read(rt: &(impl Abort + AllocGlobal), length: usize) -> Result<(),
     let mut ended = 0usize;
     for piece in LIST.chunks(length) {
         reads.push(Err(DeviceFault))?;
-        answers(rt, &reads, Err(LintFault::Read), ended)?;
+        answers(rt, &reads, Err(StopFault::Read), ended)?;
         reads.pop();
         reads.push(Ok(piece))?;
         ended = ended.saturating_add(line_feeds(piece));
@@ -120,7 +120,7 @@ fn ends_the_report_after_each_failed_read(rt: HostRuntime) -> Result<(), Fail> {
 // More writes than a run over the list makes.
 const MOST_WRITES: usize = 800;
 
-// Whether the writes suffice for the whole report. Where they don't, the one after them fails, and a beginning of the
+// Whether the writes suffice for the whole report. If they don't, the one after them fails, and a beginning of the
 // report is written.
 fn writes_all(
     rt: &(impl Abort + AllocGlobal),
@@ -131,7 +131,7 @@ fn writes_all(
         assert!(rt; writer.bytes() == REPORT.as_bytes());
         return Ok(true);
     }
-    assert!(rt; answer == Err(LintFault::Write) && writer.failures() == 1);
+    assert!(rt; answer == Err(StopFault::Write) && writer.failures() == 1);
     assert!(rt; REPORT.as_bytes().starts_with(writer.bytes()));
     assert!(rt; writer.bytes().len() < REPORT.len());
     Ok(false)
@@ -163,7 +163,7 @@ fn reports_a_failed_write_after_a_failed_read(rt: HostRuntime) -> Result<(), Fai
     let reads = [Ok(b"b\nurn".as_slice()), Err(DeviceFault)];
     let writes = [Ok(1_000), Ok(1_000), Ok(4)];
     let (answer, counts, writer) = ran(rt.alloc(), &reads, &writes, SETTING)?;
-    assert!(rt; answer == Err(LintFault::Write) && counts == (1, 1));
+    assert!(rt; answer == Err(StopFault::Write) && counts == (1, 1));
     let written = writer.bytes();
     assert!(rt; written.ends_with(b"</fi") && line_feeds(written) == 2);
     let lines = written
@@ -181,8 +181,8 @@ fn line_of_carets(alloc: Global, count: usize) -> Result<Vec<u8>, AllocError> {
     Ok(line)
 }
 
-// Where each code point of a line is wrong, its first diagnostics are written before the others are said: where the
-// second write fails, what the first one has written are whole diagnostics, and the line isn't counted.
+// If each code point of a line is wrong, its first diagnostics are written before the others are said: where the second
+// write fails, what the first one has written are whole diagnostics, and the line isn't counted.
 #[test]
 fn writes_a_long_line_in_parts(rt: HostRuntime) -> Result<(), Fail> {
     let line = line_of_carets(rt.alloc(), 6_999)?;
@@ -195,7 +195,7 @@ fn writes_a_long_line_in_parts(rt: HostRuntime) -> Result<(), Fail> {
     let (whole, counted, report) = ran(rt.alloc(), &reads, &TAKEN, all)?;
     assert!(rt; whole == Ok(()) && counted == (1, 1));
     let (answer, counts, writer) = ran(rt.alloc(), &reads, &[Ok(1_000_000)], all)?;
-    assert!(rt; answer == Err(LintFault::Write) && counts == (0, 0));
+    assert!(rt; answer == Err(StopFault::Write) && counts == (0, 0));
     let written = writer.bytes();
     assert!(rt; report.bytes().starts_with(written) && written.ends_with(b"[code-point]\n"));
     assert!(rt; written.len() >= 262_144 && written.len() < 262_300);
@@ -206,7 +206,7 @@ fn writes_a_long_line_in_parts(rt: HostRuntime) -> Result<(), Fail> {
 fn stops(
     rt: &(impl Abort + AllocGlobal),
     bytes: &[u8],
-    want: Result<(), LintFault>,
+    want: Result<(), StopFault>,
 ) -> Result<(), Fail> {
     let reads = [Ok(bytes)];
     let mut reader = ScriptSource::new(&reads).ok_or("a piece is empty")?;
@@ -235,7 +235,7 @@ fn stops(
 #[test]
 fn stops_after_the_last_line_that_may_come(rt: HostRuntime) -> Result<(), Fail> {
     stops(&rt, b"abcd\n\n", Ok(()))?;
-    stops(&rt, b"abcd\n\nb\n", Err(LintFault::TooManyLines))?;
-    stops(&rt, b"abcd\n\n\n", Err(LintFault::TooManyLines))?;
-    stops(&rt, b"abcd\n\nb", Err(LintFault::TooManyLines))
+    stops(&rt, b"abcd\n\nb\n", Err(StopFault::TooManyLines))?;
+    stops(&rt, b"abcd\n\n\n", Err(StopFault::TooManyLines))?;
+    stops(&rt, b"abcd\n\nb", Err(StopFault::TooManyLines))
 }

@@ -27,7 +27,7 @@ fn knows_the_special_schemes(rt: HostRuntime) {
     }
 }
 
-// Whether a name is that of the rule with this number.
+// Whether the rule with this number has this name.
 fn is_name(name: &str, number: usize) -> bool {
     match Rule::of_name(name) {
         Some(rule) => usize::from(rule.number()) == number && rule.name() == name,

@@ -35,12 +35,12 @@ fn hold(alloc: Global, host: Option<&Host>, rows: &[Row]) -> Result<bool, AllocE
     Ok(true)
 }
 
-// The same of a record with this domain.
+// Whether each row holds of a record with this domain, and a path of one segment.
 fn hold_of_domain(alloc: Global, domain: &str, rows: &[Row]) -> Result<bool, AllocError> {
     hold(alloc, Some(&Host::Domain(ascii(alloc, domain)?)), rows)
 }
 
-// The same of a record with this opaque host.
+// Whether each row holds of a record with this opaque host, and a path of one segment.
 fn hold_of_opaque(alloc: Global, host: &str, rows: &[Row]) -> Result<bool, AllocError> {
     hold(alloc, Some(&Host::Opaque(ascii(alloc, host)?)), rows)
 }

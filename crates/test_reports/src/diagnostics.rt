@@ -2,7 +2,8 @@
 ghost use Rattle.std.specs.Prelude.{◌≡◌, ◌+◌, ◌-◌, ◌^◌, [], None, min};
 ghost use Rattle.uv_report.specs.Diagnostic.{diagnostic_view};
 
-use uv_report::{Diagnostic, Region, SeenText};
+use uv_report::{Diagnostic, Region};
+use uv_sentences::SeenText;
 
 /// A diagnostic on the third line of a file, on a text that begins its line and violates a rule at a place.
 pub fn refused<'a>(

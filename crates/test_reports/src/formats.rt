@@ -1,16 +1,14 @@
 //! Diagnostics that no run of the program reports, written out by hand: without a text, by a rule of the caller's own,
-//! within something, over two lines, with a line feed in the message; of a host that is no domain though nothing is
-//! wrong with it by the profile; and the end of a document of SARIF after a run that was stopped.
+//! within something, over two lines, with a line feed in the message; of a host that isn't a domain though nothing is
+//! wrong with it under the profile; and the end of a document of SARIF after a run that was stopped.
 
 use crate::diagnostics::refused;
 use crate::reports::report;
 use std::process::Abort;
 use std::test::Fail;
 use uv_model::{MendKind, Profile, Refusal, Rule};
-use uv_report::{
-    Checked, Completion, Diagnostic, Fix, Format, LineViolation, Region, SeenText, Wording, end_of,
-    message,
-};
+use uv_report::{Completion, Diagnostic, Fix, Format, Region, end_of};
+use uv_sentences::{Checked, LineViolation, SeenText, Wording, message};
 
 // Where no text is carried there is no line to show and no place below it.
 #[test]
@@ -111,7 +109,7 @@ fn replaces_a_text_over_two_lines(rt: HostRuntime) -> Result<(), Fail> {
     Ok(())
 }
 
-// A text that may be written nowhere in the file is said, but is no edit of it.
+// A text that may be written nowhere in the file is said, but isn't an edit of it.
 #[test]
 fn edits_no_file_without_a_region(rt: HostRuntime) -> Result<(), Fail> {
     let link = SeenText::new("a b");

@@ -1,12 +1,12 @@
-//! Plain links of each length round those of the loads in which they are looked at, with other bytes at each place, as
+//! Plain links of each length near the lengths of the loads in which they are read, with other bytes at each place, as
 //! the second parser reads them. Each expected answer is by the URL that the URL Standard, section 4.4, makes of them.
 
 use std::alloc::{AllocError, Global};
 use std::process::Abort;
 use std::test::Fail;
-use uv_second::reads_as;
+use uv_compare::reads_as;
 
-// What a text begins with, so many small letters, of which this is in the place of one, and what it ends with.
+// What a text begins with, so many small letters, of which this is in place of one, and what it ends with.
 fn with_letters(
     alloc: Global,
     begin: &str,

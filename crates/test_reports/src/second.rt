@@ -1,7 +1,7 @@
-//! What the second parser makes of texts. Each expected URL is that of the URL Standard, section 4.4.
+//! What the second parser makes of texts. Each expected URL follows from the URL Standard, section 4.4.
 
 use std::process::Abort;
-use uv_second::{RoomFault, read_as, reading, reads_as, reads_same, serial};
+use uv_compare::{RoomFault, read_as, reading, reads_as, reads_same, serial};
 
 // The second parser reads the text, alone, as the URL of this text, or refuses it.
 fn reads(
@@ -102,7 +102,7 @@ fn compares_dot_segments(rt: HostRuntime) -> Result<(), RoomFault> {
     )
 }
 
-// What is taken off, slashes, and authorities that are no plain names.
+// What is taken off, slashes, and authorities that aren't plain names.
 #[test]
 fn compares_other_texts(rt: HostRuntime) -> Result<(), RoomFault> {
     compares(

@@ -78,8 +78,8 @@ fn ends_alike_at_each_length(rt: HostRuntime) -> Result<(), AllocError> {
 }
 
 // What a name of so many bytes is, of which all are `a` but the one at a place: by hand from the URL Standard, section
-// 3.3, and UTS #46, section 4.1. A domain's form has lower-case letters, digits, `-` and the full stop, by the wide
-// profile `_` too. A label has 1 to 63 bytes, and by the standard profile no hyphen at an edge; the last one may be
+// 3.3, and UTS #46, section 4.1. A domain's form has lower-case letters, digits, `-` and the full stop, under the wide
+// profile `_` too. A label has 1 to 63 bytes, and under the standard profile no hyphen at an edge; the last one may be
 // empty.
 fn answer_of(byte: u8, place: usize, length: usize, profile: Profile) -> Option<PlainAnswer> {
     let after = length.saturating_sub(place).saturating_sub(1);
@@ -150,7 +150,7 @@ fn answer_name(name: &str, profile: Profile) -> &'static str {
     }
 }
 
-// The answer on each name of the table, without ToASCII, by the profile.
+// The answer on each name of the table, without ToASCII, under the profile.
 fn are_answers(rt: &impl Abort, profile: Profile, rows: &[(&str, &str)]) {
     for (name, answer) in rows {
         assert!(rt; answer_name(*name, profile) == *answer, "{name}");
@@ -179,8 +179,8 @@ fn reads_the_hyphens_of_labels(rt: HostRuntime) {
     );
 }
 
-// What is known of names by the standard profile: hyphens in the third and fourth place, and at an edge of a label (UTS
-// #46, section 4.1), the code points of a form, and what ToASCII has to be asked for.
+// What is known of names under the standard profile: hyphens in the third and fourth place, and at an edge of a label
+// (UTS #46, section 4.1), the code points of a form, and what ToASCII has to be asked for.
 #[test]
 fn answers_on_names_without_toascii(rt: HostRuntime) {
     are_answers(
@@ -197,7 +197,7 @@ fn answers_on_names_without_toascii(rt: HostRuntime) {
     );
 }
 
-// The same by the wider profiles.
+// What is known of names by the wider profiles without ToASCII.
 #[test]
 fn answers_on_more_names_without_toascii(rt: HostRuntime) {
     are_answers(
@@ -225,7 +225,7 @@ fn answers_on_more_names_without_toascii(rt: HostRuntime) {
     );
 }
 
-// By the wide profile without ToASCII, by hand: lower case with `_`, at each place of a label and of the whole, with
+// Under the wide profile without ToASCII, by hand: lower case with `_`, at each place of a label and of the whole, with
 // the root's full stop, and at the end in a number.
 #[test]
 fn answers_on_names_with_low_lines(rt: HostRuntime) {

@@ -79,7 +79,7 @@ no_kind number profile bytes base finding by (inl (inr (read, is, why), numbers)
 no_kind number profile bytes base finding by (inr (kind, of_kind, same)) none =
     absurd (says_base number kind base same none.0)
 
--- the same where a base is given
+-- nothing is read of the bytes that a base was made of, where one without a kind is given
 no_kind_given : (number : ℕ) (profile : Profile) (base : Option Base) (of : Option (List ℕ)) (finding : Finding)
     → profile_of number ≡ Some profile → IsMadeOf number base of → IsNoKindGiven number base finding
     → IsNoBaseGiven profile of finding
@@ -128,14 +128,14 @@ kind_request number (Some base) bytes profile (Some kind) (Some raw) by utf8 giv
       of_kind.kind_is,
     )
 
--- the same of a request
+-- a request against the kind that is given is one against what the base was made of
 pub asked_request : (number : ℕ) (base : Option Base) (bytes : List ℕ) (request : CheckRequest) (of : Option (List ℕ))
     → IsAsked number base bytes (Ok request) → IsMadeOf number base of
     → (url : Option Url) × IsRequest number of bytes request.profile url × IsOfKindGiven url request.kind
 asked_request number base bytes request of is made =
     kind_request number base bytes request.profile request.kind of is.1 is.2 is.3 made
 
--- a kind that is given is that of a base by the profile
+-- a kind that is given is the kind of a base under the profile
 known_kind : (number : ℕ) (base : Option Base) (kind : Option BaseKind) → IsKindGiven number base kind
     → IsStray number base → ⊥
 known_kind number None kind given stray = stray
@@ -143,7 +143,7 @@ known_kind number (Some base) None given stray = given
 known_kind number (Some base) (Some kind) given (inl other) = other given.0
 known_kind number (Some base) (Some kind) given (inr none) = let some = given.1 in cc
 
--- nothing is asked against a base that is none by the profile
+-- nothing is asked against a base that isn't one under the profile
 pub not_stray : (number : ℕ) (base : Option Base) (bytes : List ℕ) (request : CheckRequest)
     → IsAsked number base bytes (Ok request) → IsStray number base → ⊥
 not_stray number base bytes request is stray = known_kind number base request.kind is.3 stray
@@ -194,7 +194,7 @@ small_given : (number : ℕ) (base : Option Base) (finding : Finding) → IsNoKi
 small_given number None finding none = absurd none
 small_given number (Some base) finding none = rw none.1 (small_fault number base)
 
--- so do those of what is told where nothing is checked
+-- so do the numbers of an answer if nothing is checked
 pub small_unasked : (number : ℕ) (base : Option Base) (bytes : List ℕ) (finding : Finding)
     → IsUnasked number base bytes finding → IsSmall finding
 small_unasked number base bytes finding (inl lacking) = rw lacking.1 (lit< tt, lit< tt)

@@ -46,7 +46,7 @@ column_more rows row values old now new value count below column put = (
       put.1 (rw same short) ∙ same,
 )
 
--- the same of what a function gives of elements
+-- a value more is in a column of what a function gives of elements
 pub mapped_more : {X : Type 0} (f : Finding → X) (rows row : ℕ) (found : List Finding) (last : Finding)
     (old now new : List X) → length found ≡ row → row < rows → IsColumn rows (map f found) old now
     → IsPut rows row (f last) now new → IsColumn rows (map f (found ++ (last ∷ []))) old new

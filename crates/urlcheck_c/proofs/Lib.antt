@@ -3,7 +3,6 @@ mod BaseLemmas
 mod BatchLemmas
 mod NextLineLemmas
 mod PlaceLemmas
-mod RecordLemmas
 mod RecordPlaceLemmas
 mod ResolvedBatchLemmas
 mod RuleLemmas

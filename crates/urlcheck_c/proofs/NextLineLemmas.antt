@@ -109,7 +109,7 @@ open_one : (rest : List ℕ) → 0 < length rest → open_lines rest ≡ rest �
 open_one [] some = absurd (omega (arith, some))
 open_one (x ∷ rest) some = refl
 
--- the only line, where no LF ends it
+-- the only line, if no LF ends it
 pub open_first : (rest : List ℕ) → split rest ≡ ([], rest) → 0 < length rest
     → lines_of rest ≡ rest ∷ lines_of (drop (length rest) rest)
 open_first rest none some =
@@ -143,7 +143,7 @@ end_after bytes start end next long (inr (inl (is, code, lf))) =
 end_after bytes start end next long (inr (inr (is, all))) =
     inr (inr (omega (arith, is), omega (arith, long, all)))
 
--- the next line begins after the end of one, where that isn't the end of the buffer
+-- the next line begins after the end of one, if that isn't the end of the buffer
 pub start_after : (bytes : List ℕ) (from end next : ℕ) → from ≤ end → IsLineEnd bytes end next → next < length bytes
     → IsLineStart bytes from next
 start_after bytes from end next after (inl (is, lf)) below =

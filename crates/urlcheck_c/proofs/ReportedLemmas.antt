@@ -11,7 +11,7 @@ no_profile_is_reported number base bytes answer (inl (bare, inr (profile, some, 
 no_profile_is_reported number base bytes answer (inr (profile, url, request, checked)) is =
     absurd (let e = sym request.profile_is ∙ is in cc)
 
--- a text that is no UTF-8 is reported, by each profile
+-- a text that isn't UTF-8 is reported, under each profile
 pub no_utf8_is_reported : NoUtf8IsReported
 no_utf8_is_reported number base bytes answer (inl (bare, inl (lacking, found))) profile is not_utf8 =
     absurd (let e = sym lacking ∙ is in cc)
@@ -21,7 +21,7 @@ no_utf8_is_reported number base bytes answer (inl (bare, inr (other, some, inr (
 no_utf8_is_reported number base bytes answer (inr (other, url, request, checked)) profile is not_utf8 =
     absurd (not_utf8 request.utf8)
 
--- after a text that is UTF-8, a base that is none is reported
+-- after a text that is UTF-8, a base that isn't one is reported
 pub no_base_utf8_is_reported : NoBaseUtf8IsReported
 no_base_utf8_is_reported number base bytes answer (inl (bare, inl (none, found))) q is utf8 wrong =
     absurd (let e = sym none ∙ is in cc)

@@ -2,13 +2,14 @@
 use Rattle.std.proofs.Common.{◌≡◌, ℕ, suc, ◌+◌, ◌<◌, List, [], ◌∷◌, ◌++◌, length, refl, sym, ap, ◌∙◌, inl, inr}
 use Rattle.std.proofs.Common.{arith, append-nil, lit<, subst}
 use Rattle.std.specs.List.{concat}
-use Rattle.std.specs.Prelude.{Err, None, Ok, String, string_bytes}
+use Rattle.std.specs.Prelude.{Err, None, Ok, String, option_map, string_bytes}
 use Rattle.std.specs.declared.alloc.Global.{Global}
 use Rattle.std.proofs.lemmas.List.{drop_all, length-append}
 use Rattle.std.proofs.lemmas.List.Folds.{concat-append}
 use Rattle.uv_model.specs.declared.profile.Profile.{Profile}
 use Rattle.uv_model.specs.Records.Serialize.{serial}
 use Rattle.uv_model.specs.Records.Url.{is_opaque}
+use Rattle.uv_resolve.specs.Layout.{kind_of}
 use Rattle.uv_resolve.specs.Resolve.{DenotesText}
 use Rattle.urlcheck_c.specs.declared.finding.Finding.{Finding}
 use Rattle.urlcheck_c.specs.declared.finding.CallOutcome.TheVariants.{Memory, Valid}
@@ -54,7 +55,7 @@ text_row number bytes text profile request (url, denotes, is) =
         found = plain_finding Valid;
         length = length (serial url);
         parts = record_spans url;
-        host = host_number url.host;
+        host = host_number (option_map kind_of url.host);
         opaque_path = flag_number (is_opaque url.path);
       };
       answer = inr (

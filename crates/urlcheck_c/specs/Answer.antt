@@ -36,7 +36,7 @@ IsAnswer number base bytes answer =
     × IsChecked profile url bytes answer)
 
 -- The answer on bytes, alone or against the base that a call is given: against one that was made of bytes it is the
--- answer against these, and against one that is none by the profile nothing is checked.
+-- answer against these, and against one that isn't one under the profile nothing is checked.
 pub record IsAnswerTo (number : ℕ) (base : Option Base) (bytes : List ℕ) (answer : Answer) : Type 0 where
   pub made : (of : Option (List ℕ)) → IsMadeOf number base of → IsAnswer number of bytes answer
   pub stray : IsStray number base → (answer.parts ≡ no_spans) × IsUnasked number base bytes answer.found

@@ -39,7 +39,7 @@ abbrev pub flag_number : Bool → ℕ
 flag_number true = 1
 flag_number false = 0
 
--- a base of the kind, which is valid by the profile with this number
+-- a base of the kind, which is valid under the profile with this number
 abbrev pub held_base : ℕ → BaseKind → Base
 held_base number kind = record {
   found = plain_finding valid_outcome;
@@ -49,7 +49,7 @@ held_base number kind = record {
   empty_host = flag_number kind.has_empty_host;
 }
 
--- a base from which nothing is read by the profile with this number, for this reason
+-- a base from which nothing is read under the profile with this number, for this reason
 abbrev pub unread_base : ℕ → Finding → Base
 unread_base number why = record { found = why; profile = number; scheme = 0; opaque_path = 0; empty_host = 0 }
 
@@ -67,7 +67,7 @@ kind_in base = option_map (kind_with base) (scheme_with base.scheme)
 
 -- ---- what was read of a base
 
--- nothing is read from the bytes: no profile has the number, or they are no base by it
+-- nothing is read from the bytes: no profile has the number, or they aren't a base by it
 abbrev pub IsUnread : ℕ → List ℕ → Finding → Type 0
 IsUnread number bytes finding =
     ((profile_of number ≡ None) × (finding ≡ plain_finding NoProfile))
@@ -81,12 +81,12 @@ pub record IsBaseOfKind (number : ℕ) (bytes : List ℕ) (kind : BaseKind) : Ty
   pub base_is : IsBase profile (Some bytes) (Some url)
   pub kind_is : IsOfKind url kind
 
--- the kind of what the bytes denote alone by the profile, or why they denote nothing
+-- the kind of what the bytes denote alone under the profile, or why they denote nothing
 abbrev pub IsKindDenoted : Profile → List ℕ → Result BaseKind Finding → Type 0
 IsKindDenoted profile bytes (Ok kind) = (url : Url) × IsBase profile (Some bytes) (Some url) × IsOfKind url kind
 IsKindDenoted profile bytes (Err finding) = IsNoBase profile bytes finding
 
--- the same by the profile with this number
+-- the kind of what the bytes denote alone under the profile with this number, or why they denote nothing
 abbrev pub IsKindRead : ℕ → List ℕ → Result BaseKind Finding → Type 0
 IsKindRead number bytes (Ok kind) = IsBaseOfKind number bytes kind
 IsKindRead number bytes (Err finding) = IsUnread number bytes finding
@@ -99,7 +99,7 @@ IsPreparedBase number bytes base =
 
 -- ---- what is checked against it
 
--- The base was made of these bytes by the profile with this number. Where no base is given, there are no bytes.
+-- The base was made of these bytes under the profile with this number. If no base is given, there are no bytes.
 abbrev pub IsMadeOf : ℕ → Option Base → Option (List ℕ) → Type 0
 IsMadeOf number (Some base) (Some bytes) = IsPreparedBase number bytes base
 IsMadeOf number (Some base) None = ⊥
@@ -109,7 +109,7 @@ IsMadeOf number None bytes = bytes ≡ None
 abbrev pub SaysNoBase : ℕ → Base → Type 0
 SaysNoBase number base = (base.profile ≢ number) ⊎ (kind_in base ≡ None)
 
--- a base is given, which is none by the profile with this number
+-- a base is given, which isn't one under the profile with this number
 abbrev pub IsStray : ℕ → Option Base → Type 0
 IsStray number None = ⊥
 IsStray number (Some base) = SaysNoBase number base
@@ -126,7 +126,7 @@ abbrev pub base_fault : ℕ → Base → Finding
 base_fault number base =
     if base.profile == number && is_refused_base base.found then base.found else plain_finding NoBase
 
--- the kind of a base by the profile with this number, or why there is none
+-- the kind of a base under the profile with this number, or why there is none
 abbrev pub IsKindBy : ℕ → Base → Result BaseKind Finding → Type 0
 IsKindBy number base (Ok kind) = (base.profile ≡ number) × (kind_in base ≡ Some kind)
 IsKindBy number base (Err finding) = SaysNoBase number base × (finding ≡ base_fault number base)
@@ -137,12 +137,12 @@ IsKindGiven number (Some base) (Some kind) = IsKindBy number base (Ok kind)
 IsKindGiven number (Some base) None = ⊥
 IsKindGiven number None kind = kind ≡ None
 
--- a base is given that has no kind by the profile, and why
+-- a base is given that has no kind under the profile, and why
 abbrev pub IsNoKindGiven : ℕ → Option Base → Finding → Type 0
 IsNoKindGiven number None finding = ⊥
 IsNoKindGiven number (Some base) finding = IsKindBy number base (Err finding)
 
--- No profile has the number; else the text is no UTF-8; else no kind is read of the base.
+-- No profile has the number; otherwise the text isn't UTF-8; otherwise no kind is read of the base.
 abbrev pub IsUnasked : ℕ → Option Base → List ℕ → Finding → Type 0
 IsUnasked number base bytes finding =
     ((profile_of number ≡ None) × (finding ≡ plain_finding NoProfile))

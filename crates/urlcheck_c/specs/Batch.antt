@@ -35,7 +35,7 @@ IsColumn rows values old new =
 
 -- ---- what is found of texts
 
--- 1 for a valid text, else 0
+-- 1 for a valid text, otherwise 0
 abbrev pub one_if_valid : Finding → ℕ
 one_if_valid finding = if finding.verdict == 0 then 1 else 0
 
@@ -75,7 +75,7 @@ IsBatch number base texts offsets old new answer =
     ⊎ (AreRows (length texts) offsets (row_count offsets) × (answer ≡ checked_batch answer.valid)
     × AreChecked number base texts offsets (row_count offsets) old new answer.valid)
 
--- no profile has the number, and nothing was written; else the texts are checked by it
+-- no profile has the number, and nothing was written; otherwise the texts are checked by it
 abbrev pub IsBatchAnswer : ℕ → Option Base → List ℕ → List ℕ → Columns → Columns → Batch → Type 0
 IsBatchAnswer number base texts offsets old new answer =
     ((profile_of number ≡ None) × (answer ≡ unchecked_batch NoProfile 0) × (new ≡ old))

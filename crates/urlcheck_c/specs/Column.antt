@@ -28,8 +28,8 @@ pub record IsCounted (bytes : List ℕ) (unit start place : ℕ) (answer : Count
   pub found : answer.found ≡ plain_finding Done
   pub column : answer.column ≡ column_at columns start bytes place
 
--- The text is no UTF-8, no unit has the number, the column that it begins in is out of range, or the place is after
--- its end; else the column is told.
+-- The text isn't UTF-8, no unit has the number, the column that it begins in is out of range, or the place is after its
+-- end; otherwise the column is told.
 abbrev pub IsColumnAnswer : List ℕ → ℕ → ℕ → ℕ → Counted → Type 0
 IsColumnAnswer bytes unit start place answer =
     ((finding : Finding) × IsNoText NoUtf8 bytes finding × (answer ≡ uncounted finding))

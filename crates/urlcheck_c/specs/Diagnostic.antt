@@ -56,7 +56,7 @@ IsRegion region =
     IsInRange region.line × IsInRange region.column × IsInRange region.end_line × IsInRange region.end_column
     × IsInOrder region
 
--- a region of zeros is none
+-- a region of zeros isn't one
 abbrev pub is_nowhere : Region → Bool
 is_nowhere region =
     (region.line == 0) && ((region.column == 0) && ((region.end_line == 0) && (region.end_column == 0)))
@@ -66,7 +66,7 @@ abbrev pub IsFixRegion : Region → Option Region → Type 0
 IsFixRegion given None = is_nowhere given ≡ true
 IsFixRegion given (Some region) = (is_nowhere given ≡ false) × (region ≡ given) × IsRegion given
 
--- it is no region
+-- it isn't a region
 abbrev pub IsNoFixRegion : Region → Finding → Type 0
 IsNoFixRegion given finding = (is_nowhere given ≡ false) × ¬ (IsRegion given) × (finding ≡ plain_finding NoColumn)
 
@@ -90,14 +90,14 @@ abbrev pub IsFix : ReportedNumbers → List ℕ → Option FixView → Type 0
 IsFix numbers bytes None = numbers.kind ≡ 0
 IsFix numbers bytes (Some fix) = IsSomeFix numbers bytes fix
 
--- They say none of these: no kind has the number, the bytes are no UTF-8, or the region is none.
+-- They say none of these: no kind has the number, the bytes aren't UTF-8, or the region isn't one.
 abbrev pub IsNoFix : ReportedNumbers → List ℕ → Finding → Type 0
 IsNoFix numbers bytes finding =
     (numbers.kind ≢ 0)
     × (((kind_of numbers.kind ≡ None) × (finding ≡ plain_finding NoKind))
     ⊎ (IsNoText MendedNoUtf8 bytes finding ⊎ IsNoFixRegion numbers.fix_region finding))
 
--- the same as the code has it
+-- there is none, or this one, as the code has it; or why the numbers say neither
 abbrev pub IsFixRead : ReportedNumbers → List ℕ → Result (Option Fix) Finding → Type 0
 IsFixRead numbers bytes (Ok None) = numbers.kind ≡ 0
 IsFixRead numbers bytes (Ok (Some fix)) = IsSomeFix numbers bytes (fix_view fix)
@@ -144,7 +144,7 @@ pub record IsDiagnostic (numbers : ReportedNumbers) (texts : ReportedTexts) (tex
     fix = found.fix;
   }
 
--- They say none: one of the texts is no UTF-8, the region is none, or the fix is.
+-- They say none: one of the texts isn't UTF-8, the region isn't one, or the fix is.
 abbrev pub IsNoDiagnostic : ReportedNumbers → ReportedTexts → Finding → Type 0
 IsNoDiagnostic numbers texts finding =
     IsNoText FileNoUtf8 texts.file finding

@@ -60,7 +60,8 @@ IsFaultsAnswer number base bytes old new answer =
     ⊎ ((profile : Profile) × (url : Option Url) × IsRequest number base bytes profile url
     × IsFaultsChecked profile url bytes old new answer)
 
--- the same of the base that a call is given; against one that is none by the profile nothing is checked or written
+-- what is answered against the base of a call; against one that isn't one under the profile nothing is checked or
+-- written
 pub record IsFaultsTo (number : ℕ) (base : Option Base) (bytes : List ℕ) (old new : List Fault)
     (answer : FaultCount) : Type 0 where
   pub made : (of : Option (List ℕ)) → IsMadeOf number base of → IsFaultsAnswer number of bytes old new answer

@@ -63,7 +63,7 @@ refused_finding outcome bytes refusal = record {
   byte_place = byte_place bytes refusal.place;
 }
 
--- bytes that are no UTF-8, with the end of their longest prefix that is
+-- bytes that aren't UTF-8, with the end of their longest prefix that is
 abbrev pub no_utf8_finding : CallOutcome → List ℕ → Finding
 no_utf8_finding outcome bytes = record {
   verdict = outcome_number outcome;

@@ -1,39 +1,26 @@
 -- The fixed texts that a caller asks for by numbers.
 use Rattle.std.specs.Prelude.{◌≡◌, ℕ, ◌==◌, ◌||◌, if◌then◌else◌, Bool, true, false, List, [], Option, Some, None}
-use Rattle.std.specs.Prelude.{unwrap_or}
-use Rattle.uv_model.specs.declared.rule.Rule.{Rule}
+use Rattle.std.specs.Int.{is_in_range}
 use Rattle.uv_report.specs.declared.format.Format.{Format}
-use Rattle.uv_report.specs.declared.line_violation.LineViolation.{LineViolation}
-use Rattle.uv_report.specs.declared.line_violation.LineViolation.TheVariants.{Refused}
+use Rattle.uv_sentences.specs.declared.line_violation.LineViolation.{LineViolation}
+use Rattle.uv_sentences.specs.declared.line_violation.LineViolation.TheVariants.{Refused}
 use Rattle.uv_report.specs.declared.places.column.Columns.{Columns}
 use Rattle.uv_report.specs.Format.{format_name}
-use Rattle.uv_report.specs.LineViolation.{violation_address, violation_name}
+use Rattle.uv_sentences.specs.LineViolation.{violation_address, violation_name}
 use Rattle.uv_report.specs.Places.Column.{columns_name}
-use Rattle.uv_report.specs.Rules.Explanation.{rule_base, rule_mended, rule_place, rule_wrong}
+use Rattle.uv_sentences.specs.Escaping.Printable.{IsLine}
 use Rattle.urlcheck_c.specs.Buffer.{IsWritten}
 use Rattle.urlcheck_c.specs.Names.{rule_with_number}
 use Rattle.urlcheck_c.specs.ReportNumbers.{format_of, unit_of, violation_of}
 
 -- ---- texts that programs read
 
--- of the example of a rule: its base, a text that is refused, and a valid one
-abbrev pub example_text : ℕ → Rule → List ℕ
-example_text what rule =
-    if what == 5 then unwrap_or (rule_base rule) []
-    else (if what == 6 then rule_wrong rule else (if what == 7 then rule_mended rule else []))
-
--- the same of what is wrong with a text; of a line that isn't checked there is no example
-abbrev pub violation_example : ℕ → LineViolation → List ℕ
-violation_example what (Refused refusal) = example_text what refusal.rule
-violation_example what violation = []
-
--- of what is wrong with a text or a line: the name, where it is in the Standard, or the example
+-- of what is wrong with a text or a line: the name, or where it is in the Standard
 abbrev pub violation_text : ℕ → LineViolation → List ℕ
 violation_text what violation =
-    if what == 0 then violation_name violation
-    else (if what == 2 then violation_address violation else violation_example what violation)
+    if what == 0 then violation_name violation else (if what == 2 then violation_address violation else [])
 
--- the same where something is wrong
+-- of what is wrong with a text or a line, where something is: the name, or where it is in the Standard
 abbrev pub violation_text_or_none : ℕ → Option LineViolation → List ℕ
 violation_text_or_none what None = []
 violation_text_or_none what (Some violation) = violation_text what violation
@@ -57,15 +44,17 @@ known_text what number =
 
 -- ---- what is given
 
--- a sentence for people is asked for: what is wrong, what the rule requires, or the section of the Standard
-abbrev pub is_sentence : ℕ → Bool
-is_sentence what = what == 1 || (what == 3 || what == 4)
+-- Words for people are asked for: what is wrong with a text or a line, or what is required; of a rule of texts also its
+-- section of the Standard and its example.
+abbrev pub has_words : ℕ → Option LineViolation → Bool
+has_words what None = false
+has_words what (Some (Refused refusal)) = (what == 1) || is_in_range 3 7 what
+has_words what (Some violation) = (what == 1) || (what == 3)
 
--- the text is the one that is asked for; there is no sentence where no rule has the number
-abbrev pub IsFixedText : ℕ → ℕ → List ℕ → Type 0
-IsFixedText what number text =
-    (is_sentence what ≡ false → text ≡ known_text what number) × (violation_of number 0 ≡ None
-    → is_sentence what ≡ true → text ≡ [])
+-- the text is the one that is asked for: a section and an example are one line each
+pub record IsFixedText (what number : ℕ) (text : List ℕ) : Type 0 where
+  pub exact : has_words what (violation_of number 0) ≡ false → text ≡ known_text what number
+  pub example : is_in_range 4 7 what ≡ true → IsLine text
 
 -- the text is at the start of the buffer where it fits, and its length is given
 abbrev pub IsTextAnswer : ℕ → ℕ → List ℕ → List ℕ → ℕ → Type 0
@@ -74,11 +63,6 @@ IsTextAnswer what number old new answer =
 
 -- ---- the place of an example
 
--- the place of a rule's example, where there is a rule
-abbrev pub place_or_none : Option Rule → ℕ
-place_or_none None = 0
-place_or_none (Some rule) = rule_place rule
-
--- the same by the number of a rule
-abbrev pub example_place : ℕ → ℕ
-example_place number = place_or_none (rule_with_number number)
+-- it is at the start if no rule has the number
+abbrev pub IsExamplePlace : ℕ → ℕ → Type 0
+IsExamplePlace number place = rule_with_number number ≡ None → place ≡ 0

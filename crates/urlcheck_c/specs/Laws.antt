@@ -12,14 +12,14 @@ NoProfileIsReported =
     (number : ℕ) (base : Option (List ℕ)) (bytes : List ℕ) (answer : Answer) → IsAnswer number base bytes answer
     → profile_of number ≡ None → answer.found ≡ plain_finding NoProfile
 
--- a text that is no UTF-8 is reported in each profile, alone and whatever the base
+-- a text that isn't UTF-8 is reported in each profile, alone and whatever the base
 abbrev pub NoUtf8IsReported : Type 0
 NoUtf8IsReported =
     (number : ℕ) (base : Option (List ℕ)) (bytes : List ℕ) (answer : Answer) → IsAnswer number base bytes answer
     → (profile : Profile) → profile_of number ≡ Some profile → ¬ (IsUtf8 bytes)
     → answer.found ≡ no_utf8_finding NoUtf8 bytes
 
--- a base that is no UTF-8 is reported in each profile of each text that is
+-- a base that isn't UTF-8 is reported in each profile of each text that is
 abbrev pub NoBaseUtf8IsReported : Type 0
 NoBaseUtf8IsReported =
     (number : ℕ) (base bytes : List ℕ) (answer : Answer) → IsAnswer number (Some base) bytes answer

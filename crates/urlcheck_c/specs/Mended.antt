@@ -7,7 +7,7 @@ use Rattle.uv_mend.specs.declared.answer.Mending.TheVariants as answer
 use Rattle.uv_model.specs.declared.mend_kind.MendKind.{MendKind}
 use Rattle.uv_model.specs.declared.mend_kind.MendKind.TheVariants.{Same, Escaped, Changed}
 use Rattle.uv_mend.specs.Mending.{IsMending}
-use Rattle.uv_report.specs.Sentences.Intention.{is_offered}
+use Rattle.uv_sentences.specs.Sentences.Intention.{is_offered}
 use Rattle.urlcheck_c.specs.declared.finding.Finding.{Finding}
 use Rattle.urlcheck_c.specs.declared.finding.CallOutcome.TheVariants as outcome
 use Rattle.urlcheck_c.specs.declared.mended.Mended.{Mended}

@@ -74,7 +74,7 @@ IsFound number bytes from line = IsRefusedLine number bytes from line ⊎ IsNone
 abbrev pub no_line : CallOutcome → Line
 no_line outcome = record { found = plain_finding outcome; start = 0; length = 0; next = 0; passed = 0 }
 
--- no profile has the number; else the buffer ends before the place; else a line is refused, or none is
+-- no profile has the number; otherwise the buffer ends before the place; otherwise a line is refused, or none is
 abbrev pub IsNextAnswer : ℕ → List ℕ → ℕ → Line → Type 0
 IsNextAnswer number bytes from line =
     ((profile_of number ≡ None) × (line ≡ no_line NoProfile))

@@ -1,12 +1,13 @@
 -- The record that a valid text denotes: its text in the caller's buffer, and where its parts are there.
-use Rattle.std.specs.Prelude.{◌≡◌, ℕ, ◌⊎◌, List, Option}
+use Rattle.std.specs.Prelude.{◌≡◌, ℕ, ◌⊎◌, List, Option, option_map}
 use Rattle.std.specs.Str.{chars}
 use Rattle.uv_model.specs.declared.profile.Profile.{Profile}
 use Rattle.uv_model.specs.Records.Serialize.{serial}
 use Rattle.uv_model.specs.Records.Url.{Url, is_opaque}
+use Rattle.uv_resolve.specs.Layout.{kind_of}
 use Rattle.uv_resolve.specs.Resolve.{Denotes}
 use Rattle.urlcheck_c.specs.declared.finding.Finding.{Finding}
-use Rattle.urlcheck_c.specs.declared.finding.CallOutcome.TheVariants.{Memory, Refused, Valid}
+use Rattle.urlcheck_c.specs.declared.finding.CallOutcome.TheVariants.{Refused, Valid}
 use Rattle.urlcheck_c.specs.declared.records.PlacedRecord.{PlacedRecord}
 use Rattle.urlcheck_c.specs.Base.{flag_number}
 use Rattle.urlcheck_c.specs.Buffer.{IsWritten}
@@ -25,17 +26,12 @@ pub record IsPlaced (url : Url) (old new : List ℕ) (answer : PlacedRecord) : T
   pub found : answer.found ≡ plain_finding Valid
   pub written : IsWritten (serial url) old new answer.length
   pub parts : AreRecordSpans url answer.parts
-  pub host : answer.host ≡ host_number url.host
+  pub host : answer.host ≡ host_number (option_map kind_of url.host)
   pub opaque_path : answer.opaque_path ≡ flag_number (is_opaque url.path)
 
 -- nothing was written, since this was found
 abbrev pub IsUnplaced : List ℕ → List ℕ → PlacedRecord → Type 0
 IsUnplaced old new answer = (answer ≡ no_record answer.found) × (new ≡ old)
-
--- the record is given, or memory ran out and nothing was written
-abbrev pub IsPlacedOrWanting : Url → List ℕ → List ℕ → PlacedRecord → Type 0
-IsPlacedOrWanting url old new answer =
-    IsPlaced url old new answer ⊎ ((answer ≡ no_record (plain_finding Memory)) × (new ≡ old))
 
 -- the text denotes a URL whose record is given; or nothing was written, and it is refused, or memory ran out
 abbrev pub IsPlacedChecked : Profile → Option Url → List ℕ → List ℕ → List ℕ → PlacedRecord → Type 0

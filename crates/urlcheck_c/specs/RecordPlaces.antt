@@ -1,10 +1,11 @@
 -- Where the parts of a record are in its text (URL Standard, section 4.5), in bytes. The text is ASCII.
-use Rattle.std.specs.Prelude.{◌≡◌, ℕ, ◌+◌, ◌≤◌, List, [], Option, Some, None, decimal, length, option_map, slice_range}
+use Rattle.std.specs.Prelude.{◌≡◌, ℕ, ◌+◌, ◌≤◌, List, Option, Some, None, decimal, length, option_map, slice_range}
 use Rattle.uv_model.specs.declared.host.Host.{Host}
-use Rattle.uv_model.specs.declared.host.Host.TheVariants.{Domain, V4, V6, Opaque, Empty}
-use Rattle.uv_model.specs.declared.path.UrlPath.{UrlPath}
-use Rattle.uv_model.specs.Records.Serialize.{serial, serial_authority, serial_host, serial_path}
+use Rattle.uv_model.specs.Records.Serialize.{serial, serial_host, serial_path}
 use Rattle.uv_model.specs.Records.Url.{Url}
+use Rattle.uv_resolve.specs.declared.layout.HostKind.{HostKind}
+use Rattle.uv_resolve.specs.declared.layout.HostKind.TheVariants.{Domain, V4, V6, Opaque, Empty}
+use Rattle.uv_resolve.specs.Layout.{host_end, path_end, path_start, query_end}
 use Rattle.urlcheck_c.specs.declared.spans.Span.{Span}
 use Rattle.urlcheck_c.specs.declared.spans.Spans.{Spans}
 use Rattle.urlcheck_c.specs.Span.{no_span}
@@ -12,12 +13,12 @@ use Rattle.urlcheck_c.specs.Span.{no_span}
 -- ---- the texts of its parts
 
 -- the number of a host's kind, or 0 for none
-abbrev pub host_number : Option Host → ℕ
+abbrev pub host_number : Option HostKind → ℕ
 host_number None = 0
-host_number (Some (Domain form)) = 1
-host_number (Some (V4 value)) = 2
-host_number (Some (V6 pieces)) = 3
-host_number (Some (Opaque text)) = 4
+host_number (Some Domain) = 1
+host_number (Some V4) = 2
+host_number (Some V6) = 3
+host_number (Some Opaque) = 4
 host_number (Some Empty) = 5
 
 -- the text of a host
@@ -28,11 +29,6 @@ host_text host = option_map (λ h. serial_host h) host
 abbrev pub port_text : Option Host → Option ℕ → Option (List ℕ)
 port_text None port = None
 port_text (Some host) port = option_map (λ p. decimal p) port
-
--- the `/.` before a path without a host that would be read as one with a host
-abbrev pub dot_prefix : Option Host → UrlPath → List ℕ
-dot_prefix None path = serial_authority None None path
-dot_prefix (Some host) path = []
 
 -- ---- how they are laid
 
@@ -49,26 +45,9 @@ reach mark (Some count) = mark + count
 abbrev pub host_place : Url → ℕ
 host_place url = length url.scheme + 1
 
--- the place of the port's `:`, after the host
-abbrev pub port_place : Url → ℕ
-port_place url = host_place url + reach 2 (length_in (host_text url.host))
-
--- the place of the path, after the port, or after what is before it
-abbrev pub path_place : Url → ℕ
-path_place url =
-    port_place url + reach 1 (length_in (port_text url.host url.port)) + length (dot_prefix url.host url.path)
-
--- the place of the query's `?`, after the path
-abbrev pub query_place : Url → ℕ
-query_place url = path_place url + length (serial_path url.path)
-
--- the place of the fragment's `#`, after the query
-abbrev pub fragment_place : Url → ℕ
-fragment_place url = query_place url + reach 1 (length_in url.query)
-
 -- how long the record's text is
 abbrev pub record_extent : Url → ℕ
-record_extent url = fragment_place url + reach 1 (length_in url.fragment)
+record_extent url = query_end url + reach 1 (length_in url.fragment)
 
 -- the span of a text of this length whose delimiter begins here
 abbrev pub placed_span : ℕ → ℕ → Option ℕ → Span
@@ -80,10 +59,10 @@ abbrev pub record_spans : Url → Spans
 record_spans url = record {
   scheme = placed_span 0 0 (Some (length url.scheme));
   host = placed_span (host_place url) 2 (length_in (host_text url.host));
-  port = placed_span (port_place url) 1 (length_in (port_text url.host url.port));
-  path = placed_span (path_place url) 0 (Some (length (serial_path url.path)));
-  query = placed_span (query_place url) 1 (length_in url.query);
-  fragment = placed_span (fragment_place url) 1 (length_in url.fragment);
+  port = placed_span (host_end url) 1 (length_in (port_text url.host url.port));
+  path = placed_span (path_start url) 0 (Some (length (serial_path url.path)));
+  query = placed_span (path_end url) 1 (length_in url.query);
+  fragment = placed_span (query_end url) 1 (length_in url.fragment);
 }
 
 -- ---- where they are
@@ -100,8 +79,8 @@ StandsAt bytes at mark (Some text) span =
 pub record AreRecordSpans (url : Url) (spans : Spans) : Type 0 where
   pub scheme : StandsAt (serial url) 0 0 (Some url.scheme) spans.scheme
   pub host : StandsAt (serial url) (host_place url) 2 (host_text url.host) spans.host
-  pub port : StandsAt (serial url) (port_place url) 1 (port_text url.host url.port) spans.port
-  pub path : StandsAt (serial url) (path_place url) 0 (Some (serial_path url.path)) spans.path
-  pub query : StandsAt (serial url) (query_place url) 1 url.query spans.query
-  pub fragment : StandsAt (serial url) (fragment_place url) 1 url.fragment spans.fragment
+  pub port : StandsAt (serial url) (host_end url) 1 (port_text url.host url.port) spans.port
+  pub path : StandsAt (serial url) (path_start url) 0 (Some (serial_path url.path)) spans.path
+  pub query : StandsAt (serial url) (path_end url) 1 url.query spans.query
+  pub fragment : StandsAt (serial url) (query_end url) 1 url.fragment spans.fragment
   pub whole : length (serial url) ≡ record_extent url

@@ -13,7 +13,8 @@ use Rattle.urlcheck_c.specs.ReportNumbers.{completion_of, format_of, unit_of}
 use Rattle.urlcheck_c.specs.Request.{IsNoText}
 use Rattle.urlcheck_c.specs.Written.{IsGiven, IsRefusedFor, IsTextGiven, IsUnwritten}
 
--- No format has the number; or no unit has, or the format has no word for it; else what a report begins with is given.
+-- No format has the number; or no unit has, or the format has no word for it; otherwise what a report begins with is
+-- given.
 abbrev pub IsBeginAnswer : ℕ → ℕ → List ℕ → List ℕ → Written → Type 0
 IsBeginAnswer format unit old new answer =
     ((format_of format ≡ None) × IsRefusedFor NoFormat old new answer)
@@ -22,7 +23,7 @@ IsBeginAnswer format unit old new answer =
     × (((takes_columns known columns ≡ false) × IsRefusedFor NoUnit old new answer)
     ⊎ ((takes_columns known columns ≡ true) × IsGiven (begin_text known columns) old new answer))))
 
--- no format has the number, or the file's name is no UTF-8; else what is before its diagnostics is given
+-- no format has the number, or the file's name isn't UTF-8; otherwise what is before its diagnostics is given
 abbrev pub IsFileBeginAnswer : ℕ → List ℕ → List ℕ → List ℕ → Written → Type 0
 IsFileBeginAnswer format file old new answer =
     ((format_of format ≡ None) × IsRefusedFor NoFormat old new answer)
@@ -30,13 +31,13 @@ IsFileBeginAnswer format file old new answer =
     × (((finding : Finding) × IsNoText FileNoUtf8 file finding × IsUnwritten finding old new answer)
     ⊎ (IsUtf8 file × IsGiven (file_begin_text known file) old new answer)))
 
--- no format has the number; else what is after the diagnostics of a file is given
+-- no format has the number; otherwise what is after the diagnostics of a file is given
 abbrev pub IsFileEndAnswer : ℕ → List ℕ → List ℕ → Written → Type 0
 IsFileEndAnswer format old new answer =
     ((format_of format ≡ None) × IsRefusedFor NoFormat old new answer)
     ⊎ ((known : Format) × (format_of format ≡ Some known) × IsGiven (file_end_text known) old new answer)
 
--- no format or no completion has the number; else what a report ends with is given, for which no memory is asked
+-- no format or no completion has the number; otherwise what a report ends with is given, for which no memory is asked
 abbrev pub IsEndAnswer : ℕ → ℕ → List ℕ → List ℕ → Written → Type 0
 IsEndAnswer format completion old new answer =
     ((format_of format ≡ None) × IsRefusedFor NoFormat old new answer)
@@ -51,7 +52,7 @@ abbrev pub shown_by : Option Format → Bool
 shown_by None = false
 shown_by (Some format) = reported.shows_mended format
 
--- the same by the number of a format
+-- diagnostics of the format with this number say what to write, where there is one
 abbrev pub shows_mended : ℕ → Bool
 shows_mended number = shown_by (format_of number)
 
@@ -60,11 +61,11 @@ abbrev pub takes_columns_of : Option Columns → Format → Bool
 takes_columns_of None format = false
 takes_columns_of (Some columns) format = takes_columns format columns
 
--- the same where there is a format
+-- the format takes columns in the unit, where there are both
 abbrev pub taken_by : Option Format → Option Columns → Bool
 taken_by None columns = false
 taken_by (Some format) columns = takes_columns_of columns format
 
--- the same by numbers
+-- the format with the one number takes columns in the unit with the other, where there are both
 abbrev pub takes_unit : ℕ → ℕ → Bool
 takes_unit format unit = taken_by (format_of format) (unit_of unit)

@@ -10,10 +10,10 @@ use Rattle.uv_report.specs.declared.completion.Completion.TheVariants.{Whole, Un
 use Rattle.uv_report.specs.declared.format.Format.{Format}
 use Rattle.uv_report.specs.declared.format.Format.TheVariants.{Gnu, Caret, Json, Github, Sarif, Checkstyle}
 use Rattle.uv_report.specs.declared.format.Format.TheVariants.{Junit, Gitlab, Rdjson}
-use Rattle.uv_report.specs.declared.line_violation.LineViolation.{LineViolation}
-use Rattle.uv_report.specs.declared.line_violation.LineViolation.TheVariants.{Refused, NotUtf8, TooLong, NotLocated}
-use Rattle.uv_report.specs.declared.located_fault.LocatedFault.TheVariants.{NoFile, NoLine, LineRange, NoColumn}
-use Rattle.uv_report.specs.declared.located_fault.LocatedFault.TheVariants.{ColumnRange, NoLink}
+use Rattle.uv_sentences.specs.declared.line_violation.LineViolation.{LineViolation}
+use Rattle.uv_sentences.specs.declared.line_violation.LineViolation.TheVariants.{Refused, NotUtf8, TooLong, NotLocated}
+use Rattle.uv_sentences.specs.declared.located_fault.LocatedFault.TheVariants.{NoFile, NoLine, LineRange, NoColumn}
+use Rattle.uv_sentences.specs.declared.located_fault.LocatedFault.TheVariants.{ColumnRange, NoLink}
 use Rattle.urlcheck_c.specs.Names.{rule_with_number}
 
 -- the format with a number

@@ -15,7 +15,7 @@ use Rattle.urlcheck_c.specs.declared.finding.CallOutcome.TheVariants.{NoProfile}
 use Rattle.urlcheck_c.specs.declared.request.Request.{Request}
 use Rattle.urlcheck_c.specs.Finding.{no_utf8_finding, plain_finding, profile_of, refused_finding}
 
--- the bytes are no UTF-8, and the finding says so with this outcome
+-- the bytes aren't UTF-8, and the finding says so with this outcome
 pub record IsNoText (outcome : CallOutcome) (bytes : List ℕ) (finding : Finding) : Type 0 where
   pub none : ¬ (IsUtf8 bytes)
   pub said : finding ≡ no_utf8_finding outcome bytes
@@ -46,7 +46,7 @@ abbrev pub IsTextRead : CallOutcome → List ℕ → Result (Bor (List ℕ)) Fin
 IsTextRead outcome bytes (Ok text) = (text.now ≡ bytes) × IsUtf8 bytes
 IsTextRead outcome bytes (Err finding) = IsNoText outcome bytes finding
 
--- the bytes of a base are no UTF-8; else they are refused alone, or memory ran out where their check asks for it
+-- the bytes of a base aren't UTF-8; otherwise they are refused alone, or memory ran out where their check asks for it
 abbrev pub IsNoBase : Profile → List ℕ → Finding → Type 0
 IsNoBase profile bytes finding =
     IsNoText BaseNoUtf8 bytes finding
@@ -74,7 +74,7 @@ abbrev pub IsNoBaseGiven : Profile → Option (List ℕ) → Finding → Type 0
 IsNoBaseGiven profile None finding = ⊥
 IsNoBaseGiven profile (Some bytes) finding = IsNoBase profile bytes finding
 
--- No profile has the number; else the text is no UTF-8; else nothing is read from the base.
+-- No profile has the number; otherwise the text isn't UTF-8; otherwise nothing is read from the base.
 abbrev pub IsUnchecked : ℕ → Option (List ℕ) → List ℕ → Finding → Type 0
 IsUnchecked number base bytes finding =
     ((profile_of number ≡ None) × (finding ≡ plain_finding NoProfile))

@@ -64,7 +64,7 @@ text_offsets from (text ∷ rest) = from ∷ text_offsets (from + length text) r
 
 -- ---- columns
 
--- the caller's columns, and that of where the texts of the records begin
+-- the caller's columns, and the column of the places at which the texts of the records begin
 pub record ResolvedColumns : Type 0 where
   pub found : Columns
   pub ends : List ℕ
@@ -76,9 +76,8 @@ resolved_columns verdicts rules places ends = record {
   ends = ends;
 }
 
--- Of the first so many texts the columns have the answers, and where the texts of their records begin. These texts are
--- the
--- bytes one after the other, and so many texts are valid.
+-- The columns have the answers to the first so many texts, and the places at which the texts of their records begin.
+-- These texts are the bytes one after the other, and so many texts are valid.
 pub record AreRowsResolved (number : ℕ) (texts offsets : List ℕ) (rows : ℕ) (old new : ResolvedColumns)
     (bytes : List ℕ) (valid : ℕ) : Type 0 where
   pub found : List Finding
@@ -114,7 +113,8 @@ pub record IsBatchResolved (number : ℕ) (texts offsets : List ℕ) (old new : 
 abbrev pub IsUnresolved : Batch → ResolvedColumns → ResolvedColumns → List ℕ → List ℕ → Batch → Type 0
 IsUnresolved why old new out_old out_new answer = (answer ≡ why) × (new ≡ old) × (out_new ≡ out_old)
 
--- No profile has the number; or the offsets of a text are wrong, of which this is the first; else all are resolved.
+-- No profile has the number; or the offsets of a text are wrong, of which this is the first; otherwise all are
+-- resolved.
 abbrev pub IsResolvedBatch : ℕ → List ℕ → List ℕ → ResolvedColumns → ResolvedColumns → List ℕ → List ℕ → Batch → Type 0
 IsResolvedBatch number texts offsets old new out_old out_new answer =
     ((profile_of number ≡ None) × IsUnresolved (unchecked_batch NoProfile 0) old new out_old out_new answer)

@@ -2,8 +2,8 @@
 use Rattle.std.specs.Prelude.{◌≡◌, ℕ, ◌⊎◌, ◌≤◌, ◌<◌, List, length, Some, None, Result, Ok, Err, IsUtf8}
 use Rattle.std.specs.Str.{chars}
 use Rattle.uv_model.specs.declared.profile.Profile.{Profile}
-use Rattle.uv_report.specs.declared.line_violation.LineViolation.{LineViolation}
-use Rattle.uv_report.specs.Diagnostic.{IsMessage}
+use Rattle.uv_sentences.specs.declared.line_violation.LineViolation.{LineViolation}
+use Rattle.uv_sentences.specs.Sentences.Message.{IsMessage}
 use Rattle.urlcheck_c.specs.declared.finding.Finding.{Finding}
 use Rattle.urlcheck_c.specs.declared.finding.CallOutcome.TheVariants.{Memory, NoProfile, NoUtf8, NoRule, NoPlace}
 use Rattle.urlcheck_c.specs.declared.finding.CallOutcome.TheVariants.{NoWording}
@@ -22,7 +22,7 @@ pub record IsViolation (number rule place : ℕ) (bytes : List ℕ) (profile : P
   pub violation_is : violation_of rule place ≡ Some violation
   pub within : place ≤ length (chars bytes)
 
--- They don't: no profile has the number, the text is no UTF-8, no rule has the number, or the place is after its end.
+-- They don't: no profile has the number, the text isn't UTF-8, no rule has the number, or the place is after its end.
 abbrev pub IsNoViolation : ℕ → ℕ → ℕ → List ℕ → Finding → Type 0
 IsNoViolation number rule place bytes finding =
     ((profile_of number ≡ None) × (finding ≡ plain_finding NoProfile))
@@ -48,7 +48,7 @@ IsSentenceGiven number rule place bytes old new answer =
     ⊎ ((profile : Profile) × (violation : LineViolation) × IsViolation number rule place bytes profile violation
     × IsMessageGiven old new answer)
 
--- no wording has the number, and nothing was written; else the sentence is given, or it is told why there is none
+-- no wording has the number, and nothing was written; otherwise the sentence is given, or it is told why there is none
 abbrev pub IsMessageAnswer : ℕ → ℕ → ℕ → ℕ → List ℕ → List ℕ → List ℕ → Written → Type 0
 IsMessageAnswer number wording rule place bytes old new answer =
     ((3 < wording) × IsRefusedFor NoWording old new answer)

@@ -15,7 +15,7 @@ unwritten found = record { found = found; length = 0 }
 abbrev pub IsUnwritten : Finding → List ℕ → List ℕ → Written → Type 0
 IsUnwritten found old new answer = (answer ≡ unwritten found) × (new ≡ old)
 
--- the same for this reason
+-- nothing was written, for this reason
 abbrev pub IsRefusedFor : CallOutcome → List ℕ → List ℕ → Written → Type 0
 IsRefusedFor outcome old new answer = IsUnwritten (plain_finding outcome) old new answer
 

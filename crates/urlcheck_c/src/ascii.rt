@@ -34,7 +34,7 @@ fn is_ascii(bytes: &[u8]) -> bool
     is_load_ascii(u8x32::from_slice(bytes)) && is_load_ascii(last)
 }
 
-// The same of fewer than 32 bytes: of 16 and more by two halves of a load.
+// Whether fewer than 32 bytes are all ASCII. Two halves of a load, which may overlap, see 16 and more.
 #[inline(always)]
 fn is_short_ascii(bytes: &[u8]) -> bool
     requires { length bytes.now < 32 }
@@ -47,7 +47,7 @@ fn is_short_ascii(bytes: &[u8]) -> bool
     is_half_ascii(u8x16::from_slice(bytes)) && is_half_ascii(last)
 }
 
-// The same of 32 bytes and more.
+// Whether 32 bytes or more are all ASCII, by as many loads as they need.
 #[inline(always)]
 fn are_loads_ascii(bytes: &[u8]) -> bool
     requires { 32 ≤ length bytes.now }

@@ -19,16 +19,16 @@ pub struct Base {
     pub found: Finding,
     /// The number of the profile by which the base was checked: the only one by which texts are checked against it.
     pub profile: u32,
-    /// The scheme by its class and its default port: 1 `ftp`, 2 `http` or `ws`, 3 `https` or `wss`, 4 `file`,
-    /// 5 another, and 0 where the base isn't valid.
+    /// The scheme by its class and its default port: 1 `ftp`, 2 `http` or `ws`, 3 `https` or `wss`, 4 `file`, 5
+    /// another, and 0 if the base isn't valid.
     pub scheme: u32,
-    /// 1 where the path is opaque, else 0.
+    /// 1 if the path is opaque, otherwise 0.
     pub opaque_path: u32,
-    /// 1 where the host is the empty one, else 0.
+    /// 1 if the host is the empty one, otherwise 0.
     pub empty_host: u32,
 }
 
-/// Checks the bytes of a base alone by the profile with this number, for calls that are given the base after that.
+/// Checks the bytes of a base alone under the profile with this number, for calls that are given the base after that.
 #[unsafe(no_mangle)]
 pub extern "C" fn urlcheck_prepare(alloc: Global, base: &[u8], profile: u32) -> Base
     ensures { IsPreparedBase profile base.now result }
@@ -90,7 +90,7 @@ impl Base {
         }
     }
 
-    // The kind of a base that was prepared by the profile with this number, or why there is none.
+    // The kind of a base that was prepared under the profile with this number, or why there is none.
     #[inline(always)]
     fn kind_by(&self, profile: u32) -> Result<BaseKind, Finding>
         ensures { IsKindBy profile self.now result }
@@ -111,7 +111,7 @@ impl Base {
         Finding::plain(CallOutcome::NoBase)
     }
 
-    // The kind that the numbers of a base say: none where no scheme has its number, as 0.
+    // The kind that the numbers of a base say: none if no scheme has its number, as 0.
     #[inline(always)]
     fn kind(&self) -> Option<BaseKind>
         ensures { result ≡ kind_in self.now }
@@ -175,7 +175,7 @@ pub(crate) struct CheckRequest<'t> {
     pub(crate) profile: Profile,
 }
 
-/// The base that a caller gave, or none where it gave none.
+/// The base that a caller gave, or none if it gave none.
 #[inline(always)]
 pub(crate) fn given_base(base: &Base, has_base: bool) -> Option<&Base>
     ensures { option_copied result ≡ given has_base base.now }
@@ -183,7 +183,7 @@ pub(crate) fn given_base(base: &Base, has_base: bool) -> Option<&Base>
     if has_base { Some(base) } else { None }
 }
 
-/// What is to be checked of the bytes of a text by the profile with this number, alone or against a base that was
+/// What is to be checked of the bytes of a text under the profile with this number, alone or against a base that was
 /// prepared by it, or why nothing is: a profile is read first, then the text, and then the base.
 #[inline(always)]
 pub(crate) fn asked<'t>(

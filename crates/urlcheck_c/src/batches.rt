@@ -15,19 +15,19 @@ use std::alloc::Global;
 #[repr(C)]
 #[derive(Clone, Copy)]
 pub struct Batch {
-    /// The number of the outcome: 9 where the texts were checked, else why nothing was.
+    /// The number of the outcome: 9 if the texts were checked, otherwise why nothing was.
     pub outcome: u32,
-    /// The first text whose offsets are wrong, where the outcome says that some are, else 0.
+    /// The first text whose offsets are wrong, where the outcome says that some are, otherwise 0.
     pub row: usize,
     /// How many texts are valid.
     pub valid: usize,
-    /// How many bytes were to be written, where texts were asked for, else 0.
+    /// How many bytes were to be written, where texts were asked for, otherwise 0.
     pub length: usize,
 }
 
-/// Checks texts that are one after the other in a buffer, by the profile with this number, alone or against a base as
-/// `urlcheck_check` has it. Of each, the number of its verdict, that of its rule and its place in code points go to the
-/// three columns, each of which is left out where it has no room for all. Where nothing is checked, nothing is written.
+/// Checks texts that are one after the other in a buffer, under the profile with this number, alone or against a base
+/// as `urlcheck_check` has it. The three columns get each text's verdict, its rule, both as numbers, and its place in
+/// code points; a column without room for all is left out. If nothing is checked, nothing is written.
 #[unsafe(no_mangle)]
 pub extern "C" fn urlcheck_check_many(
     alloc: Global,
@@ -55,7 +55,7 @@ pub extern "C" fn urlcheck_check_many(
     )
 }
 
-// The same against a base that may be none.
+// Checks texts that are one after the other in a buffer, alone or against a base, and fills the three columns.
 fn checked(
     alloc: Global,
     texts: &[u8],

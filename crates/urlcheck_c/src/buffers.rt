@@ -7,7 +7,7 @@ use crate::places::{after_passed, bytes_before};
 use crate::reports::fault_lists::Fault;
 use uv_model::Refusal;
 
-/// Writes the bytes to the start of `out` where they fit, and gives their length. Where `out` is shorter it stays as it
+/// Writes the bytes to the start of `out` if they fit, and gives their length. Where `out` is shorter it stays as it
 /// is.
 pub(crate) fn write_prefix(bytes: &[u8], out: &mut [u8]) -> usize
     ensures { IsWritten bytes.now out.old out.new result }

@@ -23,12 +23,12 @@ use uv_grammar::{Verdict, check_alone, check_of_kind};
 pub struct Answer {
     /// The verdict.
     pub found: Finding,
-    /// The parts of a valid text, else none.
+    /// The parts of a valid text, otherwise none.
     pub parts: Spans,
 }
 
-/// Whether the bytes are a valid URL string (URL Standard, section 4.3) by the profile with this number: alone, or
-/// where `has_base` is true against a base that `urlcheck_prepare` made by the same profile.
+/// Whether the bytes are a valid URL string (URL Standard, section 4.3) under the profile with this number: alone, or
+/// where `has_base` is true against a base that `urlcheck_prepare` made under the same profile.
 #[unsafe(no_mangle)]
 pub extern "C" fn urlcheck_check(
     alloc: Global,

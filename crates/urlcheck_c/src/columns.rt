@@ -13,9 +13,9 @@ use uv_text::count_code_points;
 #[repr(C)]
 #[derive(Clone, Copy)]
 pub struct Counted {
-    /// The outcome: 9 where there is a column, else why there is none.
+    /// The outcome: 9 if there is a column, otherwise why there is none.
     pub found: Finding,
-    /// The column, from 1, or 0 where there is none.
+    /// The column, from 1, or 0 if there is none.
     pub column: u64,
 }
 

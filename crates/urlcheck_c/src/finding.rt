@@ -13,15 +13,15 @@ use uv_text::count_code_points;
 #[repr(C)]
 #[derive(Clone, Copy)]
 pub struct Finding {
-    /// The number of the outcome: 0 valid, 1 refused, 2 no UTF-8, 3 the base is refused alone, 4 the base is no UTF-8,
-    /// 5 out of memory, 6 no profile has the number, 7 no base of the profile, 8 the text violates a rule and a
-    /// mended text is given. include/urlcheck.h has those of batches and reports, from 9 on; 18 is said there alone.
+    /// The number of the outcome: 0 valid, 1 refused, 2 no UTF-8, 3 the base is refused alone, 4 the base isn't UTF-8,
+    /// 5 out of memory, 6 no profile has the number, 7 no base of the profile, 8 the text violates a rule and a mended
+    /// text is given. include/urlcheck.h has the numbers of batches and reports, from 9 on; only that file has 18.
     pub verdict: u32,
-    /// The number of the violated rule, from 1 to 14, where the text or the base is refused, else 0.
+    /// The number of the violated rule, from 1 to 14, where the text or the base is refused, otherwise 0.
     pub rule: u32,
     /// The first wrong place in code points from 0, of the text or, where the verdict is about it, of the base.
     pub place: usize,
-    /// The same place in bytes from 0.
+    /// The first wrong place in bytes from 0, of the text or, where the verdict is about it, of the base.
     pub byte_place: usize,
 }
 
@@ -32,17 +32,17 @@ pub(crate) enum CallOutcome {
     Valid,
     /// The text violates a rule.
     Refused,
-    /// The text is no UTF-8.
+    /// The text isn't UTF-8.
     NoUtf8,
     /// The base violates a rule alone.
     BaseRefused,
-    /// The base is no UTF-8.
+    /// The base isn't UTF-8.
     BaseNoUtf8,
     /// An allocation failed.
     Memory,
     /// No profile has the number.
     NoProfile,
-    /// What was given as a base is none that was prepared by the profile.
+    /// What was given as a base isn't one that was prepared under the profile.
     NoBase,
     /// The text violates a rule, and a mended text is given.
     Mended,
@@ -64,11 +64,11 @@ pub(crate) enum CallOutcome {
     NoColumn,
     /// An offset is less than the one before it, or after the texts' end.
     NoOffsets,
-    /// The name of the file is no UTF-8.
+    /// The name of the file isn't UTF-8.
     FileNoUtf8,
-    /// The mended text is no UTF-8.
+    /// The mended text isn't UTF-8.
     MendedNoUtf8,
-    /// The name or the address of a rule, a message, or what it is within is no UTF-8.
+    /// The name or the address of a rule, a message, or what it is within isn't UTF-8.
     ReportedNoUtf8,
     /// No wording of sentences has the number.
     NoWording,

@@ -12,7 +12,7 @@ use uv_lines::{line_end, line_text};
 #[repr(C)]
 #[derive(Clone, Copy)]
 pub struct Line {
-    /// What was found of its text; the verdict is 0 where no further line is refused.
+    /// What was found of its text; the verdict is 0 if no further line is refused.
     pub found: Finding,
     /// Where it begins.
     pub start: usize,
@@ -24,8 +24,8 @@ pub struct Line {
     pub passed: usize,
 }
 
-/// The first line of a buffer, from this byte on, that isn't valid alone by the profile with this number. A line ends
-/// with LF, and one CR before that is no part of it; what follows the last LF is a line where it isn't empty.
+/// The first line of a buffer, from this byte on, that isn't valid alone under the profile with this number. A line
+/// ends with LF, and one CR before that isn't a part of it; what follows the last LF is a line if it isn't empty.
 #[unsafe(no_mangle)]
 pub extern "C" fn urlcheck_next_refused(
     alloc: Global,
@@ -44,7 +44,7 @@ pub extern "C" fn urlcheck_next_refused(
     next_refused(alloc, lines, from, profile)
 }
 
-// The same by a profile, from a byte of the buffer on.
+// The first line of a buffer, from this byte of it on, that isn't valid alone under the profile with this number.
 fn next_refused(alloc: Global, lines: &[u8], from: usize, profile: u32) -> Line
     requires { from ≤ length lines.now }
     ensures { IsFound profile lines.now from result }

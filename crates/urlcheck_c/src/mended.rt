@@ -8,7 +8,7 @@ use crate::finding::{CallOutcome, Finding};
 use crate::request::{Request, given_bytes, prepared};
 use std::alloc::{AllocError, Global};
 use uv_mend::{MendKind, Mending, mend};
-use uv_report::intention_of;
+use uv_sentences::intention_of;
 
 /// What a text is, and what was made of it.
 #[repr(C)]
@@ -16,17 +16,17 @@ use uv_report::intention_of;
 pub struct Mended {
     /// The verdict.
     pub found: Finding,
-    /// How the mended text is to the text: 1 the same URL, 2 escaped alone, 3 changed, 0 where there is none.
+    /// How the mended text is to the text: 1 the same URL, 2 escaped alone, 3 changed, 0 if there is none.
     pub kind: u32,
-    /// 1 where reports say to write the mended text in the text's place, else 0.
+    /// 1 if reports say to write the mended text in the text's place, otherwise 0.
     pub offered: u32,
-    /// The length in bytes of the mended text, 0 where there is none.
+    /// The length in bytes of the mended text, 0 if there is none.
     pub length: usize,
 }
 
 /// Writes a valid URL string in place of refused bytes, as `uv_mend` makes it of them, to the start of `out`, where it
 /// fits. Else, and where there is none, `out` stays as it is. The bytes are read alone, or where `has_base` is true
-/// against the bytes of a base, which is checked alone by the same profile.
+/// against the bytes of a base, which is checked alone under the same profile.
 #[unsafe(no_mangle)]
 pub extern "C" fn urlcheck_mend(
     alloc: Global,

@@ -48,7 +48,7 @@ pub(crate) fn prepared<'t>(
     }
 }
 
-/// The bytes of a base that a caller gave, or none where it gave none.
+/// The bytes of a base that a caller gave, or none if it gave none.
 #[inline(always)]
 pub(crate) fn given_bytes(base: &[u8], has_base: bool) -> Option<&[u8]>
     ensures { option_copied result ≡ given has_base base.now }
@@ -80,7 +80,7 @@ pub(crate) fn text_of(bytes: &[u8], fault: CallOutcome) -> Result<&str, Finding>
     }
 }
 
-// The same of bytes that aren't all ASCII.
+// Bytes that aren't all ASCII, as a text. The error says that they aren't UTF-8.
 #[inline(never)]
 fn text_beyond_ascii(bytes: &[u8], fault: CallOutcome) -> Result<&str, Finding>
     ensures { IsTextRead fault bytes.now result }

@@ -17,7 +17,7 @@ pub struct Span {
     pub start: usize,
     /// How long it is.
     pub length: usize,
-    /// 1 where the text has it, else 0. C reads the first byte as its `bool`. The field has the room of C's padding
+    /// 1 if the text has it, otherwise 0. C reads the first byte as its `bool`. The field has the room of C's padding
     /// too, which would else be written for itself, in pieces.
     pub present: u64,
 }

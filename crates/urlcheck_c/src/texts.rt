@@ -1,20 +1,22 @@
 //! The fixed texts that a caller asks for by numbers.
-ghost use Rattle.std.specs.Prelude.{◌≡◌, ◌≢◌, false};
-ghost use Rattle.urlcheck_c.specs.FixedText.{IsFixedText, IsTextAnswer, example_place, example_text};
-ghost use Rattle.urlcheck_c.specs.FixedText.{format_name_or_none, is_sentence, known_text, unit_name_or_none};
-ghost use Rattle.urlcheck_c.specs.FixedText.{violation_example, violation_text};
+ghost use Rattle.std.specs.Int.{is_in_range};
+ghost use Rattle.std.specs.Prelude.{◌≡◌, ◌≢◌, [], Some, false, true};
+ghost use Rattle.urlcheck_c.specs.FixedText.{IsExamplePlace, IsFixedText, IsTextAnswer, format_name_or_none, has_words};
+ghost use Rattle.urlcheck_c.specs.FixedText.{known_text, unit_name_or_none, violation_text};
+ghost use Rattle.uv_sentences.specs.Escaping.Printable.{IsLine};
 ghost use Rattle.urlcheck_c.specs.ReportNumbers as spec;
 
 use crate::buffers::write_prefix;
 use crate::names::rule_of;
 use crate::reports::report_numbers::{format_of, unit_of, violation_of};
 use uv_model::Rule;
-use uv_report::{LineViolation, explain};
+use uv_sentences::{LineViolation, explain};
 
-/// Writes a fixed text to the start of `out` where it fits, and gives its length: 0 where there is none. It is told by
-/// what is asked for and by the number of what it is about. Of a rule of texts or of lines: 0 its name, 1 its sentence
-/// and 3 what it requires. Of a rule of texts: 2 where it is in the URL Standard, 4 its section there, 5 the base of its
-/// example, 6 the example and 7 a valid text that may have been meant. 8 the name of a format, and 9 that of a unit.
+/// Writes a fixed text to the start of `out` if it fits, and gives its length: 0 if there is none. It is told by what
+/// is asked for and by the number of what it is about. For a rule of texts or of lines: 0 its name, 1 its sentence and
+/// 3 what it requires. For a rule of texts: 2 where it is in the URL Standard, 4 its section there, 5 the base of its
+/// example, 6 the example and 7 a valid text that may have been meant. 8 the name of a format, and 9 the name of a
+/// unit.
 #[unsafe(no_mangle)]
 pub extern "C" fn urlcheck_text(what: u32, number: u32, out: &mut [u8]) -> usize
     ensures { IsTextAnswer what number out.old out.new result }
@@ -25,7 +27,7 @@ pub extern "C" fn urlcheck_text(what: u32, number: u32, out: &mut [u8]) -> usize
 /// The place at which the example of the rule with this number is refused, in code points, or 0 without such a rule.
 #[unsafe(no_mangle)]
 pub extern "C" fn urlcheck_example_place(rule: u32) -> usize
-    ensures { result ≡ example_place rule }
+    ensures { IsExamplePlace rule result }
 {
     match rule_of(rule) {
         Some(rule) => explain(rule).place,
@@ -78,7 +80,8 @@ fn rule_text(what: u32, number: u32) -> &'static str
 
 // A text of what is wrong with a text or a line.
 fn violation_text(what: u32, violation: LineViolation) -> &'static str
-    ensures { is_sentence what ≡ false → result.now ≡ violation_text what violation }
+    ensures exact { has_words what (Some violation) ≡ false → result.now ≡ violation_text what violation }
+    ensures example { is_in_range 4 7 what ≡ true → IsLine result.now }
 {
     match what {
         0 => violation.name(),
@@ -91,7 +94,10 @@ fn violation_text(what: u32, violation: LineViolation) -> &'static str
 
 // A text that explains what is wrong with a text; of a line that isn't checked there is none.
 fn explanation_text(what: u32, violation: LineViolation) -> &'static str
-    ensures { what ≢ 4 → result.now ≡ violation_example what violation }
+    requires sentence { what ≢ 1 }
+    requires help { what ≢ 3 }
+    ensures none { has_words what (Some violation) ≡ false → result.now ≡ [] }
+    ensures words { IsLine result.now }
 {
     match violation {
         LineViolation::Refused(refusal) => example_text(what, refusal.rule),
@@ -101,7 +107,8 @@ fn explanation_text(what: u32, violation: LineViolation) -> &'static str
 
 // A text that explains a rule.
 fn example_text(what: u32, rule: Rule) -> &'static str
-    ensures { what ≢ 4 → result.now ≡ example_text what rule }
+    ensures none { is_in_range 4 7 what ≡ false → result.now ≡ [] }
+    ensures words { IsLine result.now }
 {
     let explanation = explain(rule);
     match what {

@@ -11,9 +11,9 @@ use std::alloc::AllocError;
 #[repr(C)]
 #[derive(Clone, Copy)]
 pub struct Written {
-    /// The outcome: 9 where there is a text, else why there is none.
+    /// The outcome: 9 if there is a text, otherwise why there is none.
     pub found: Finding,
-    /// The length of the text in bytes, 0 where there is none.
+    /// The length of the text in bytes, 0 if there is none.
     pub length: usize,
 }
 
@@ -43,7 +43,7 @@ pub(crate) fn given(text: &Result<String, AllocError>, out: &mut [u8]) -> Writte
     }
 }
 
-/// The same of a text that is there.
+/// Writes a text to the start of the buffer, where it fits, and gives its length in bytes.
 pub(crate) fn text_given(text: &str, out: &mut [u8]) -> Written
     ensures { IsTextGiven text.now out.old out.new result }
 {

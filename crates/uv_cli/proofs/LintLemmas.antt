@@ -6,36 +6,37 @@ use Rattle.std.proofs.lemmas.List.{map_more, take_all}
 use Rattle.std.specs.Borrow.{Bor}
 use Rattle.std.specs.Io.KnownBytes.{Consumes, IsAtEnd}
 use Rattle.uv_lint.specs.declared.counts.LintCounts.{LintCounts}
-use Rattle.uv_lint.specs.declared.fault.LintFault.{LintFault}
-use Rattle.uv_lint.specs.declared.fault.LintFault.TheVariants.{Memory, Read, Write, TooManyLines, Endless}
+use Rattle.uv_lines.specs.declared.fault.StopFault.{StopFault}
+use Rattle.uv_lines.specs.declared.fault.StopFault.TheVariants.{Memory, Read, Write, TooManyLines, Endless}
+use Rattle.uv_lines.specs.Fault.{writes_failed}
 use Rattle.uv_lint.specs.declared.setting.LintSetting.{LintSetting}
 use Rattle.uv_lint.specs.LineViolations.{FileSetting, file_setting}
-use Rattle.uv_lint.specs.Run.{FailsReads, Leaves, Reports, writes_failed}
+use Rattle.uv_lint.specs.Run.{FailsReads, Leaves, Reports}
 use Rattle.uv_report.specs.declared.places.column.Columns.{Columns}
 use Rattle.uv_report.specs.declared.format.Format.{Format}
 use Rattle.uv_model.specs.Records.Url.{Url}
 use Rattle.uv_resolve.specs.Base.{IsBase}
-use Rattle.uv_words.specs.declared.words.LintJob.{LintJob}
+use Rattle.uv_arguments.specs.declared.jobs.LintJob.{LintJob}
 use Rattle.uv_cli.specs.declared.ends.End.{End}
 use Rattle.uv_cli.specs.declared.ends.End.TheVariants as end
 use Rattle.uv_cli.specs.declared.fault.CliFault.TheVariants as cli
 use Rattle.uv_cli.specs.declared.linted.Linted.{Linted}
-use Rattle.uv_cli.specs.Stream.{Stream}
+use Rattle.uv_cli.specs.Stream.{Stream, stream}
 use Rattle.uv_cli.specs.Lint.{AreNamed, FailsAsAnswered, HasLinted, HasLintedAgainst, LintsAll, LintsNamed, LintsNext}
 use Rattle.uv_cli.specs.Lint.{LintsSource, WritesPiece, most, reported_name}
 use Rattle.uv_cli.specs.Linted.{is_stopped, is_writable, no_file, with_file}
 
 -- what a run over a source has done
 pub lints_source : (setting : FileSetting) (is_first : Bool) (counts : LintCounts)
-    (answer : Result (Unit {0}) LintFault) (start rest old new : Option (List ℕ)) (a b c d : ℕ)
+    (answer : Result (Unit {0}) StopFault) (start rest old new : Option (List ℕ)) (a b c d : ℕ)
     → OnOk answer ((read : List ℕ) × Consumes start rest read × IsAtEnd rest
     × Reports setting most is_first old read counts new)
     → IfErr answer (λ e. (read : List ℕ) × Consumes start rest read
     × Leaves e setting most is_first old read (IsAtEnd rest) counts new)
     → IfErr answer (λ e. FailsReads e a b × (d ≡ c + writes_failed e))
     → OnOk answer ((b ≡ a) × (d ≡ c))
-    → LintsSource setting is_first counts answer (record { bytes = start; failed = a })
-    (record { bytes = rest; failed = b }) (record { bytes = old; failed = c }) (record { bytes = new; failed = d })
+    → LintsSource setting is_first counts answer (stream start a)
+    (stream rest b) (stream old c) (stream new d)
 lints_source setting is_first counts (Ok u) start rest old new a b c d (read, consumed, end, reports) fault failed is =
     record { read = read; consumed = consumed; wrote = (end, reports); failed = is }
 lints_source setting is_first counts (Err e) start rest old new a b c d report (read, consumed, leaves) failed quiet =
@@ -70,9 +71,9 @@ pub files_all : (files : List (String Global)) (at : ℕ) → length files ≤ a
     → map string_bytes (take at files) ≡ map string_bytes files
 files_all files at end = ap (map string_bytes) (take_all at files end)
 
--- a source that was linted: where no write has failed, none was counted
+-- a source that was linted: if no write has failed, none was counted
 source_quiet : (before : Linted) (is_input is_document : Bool) (counts : LintCounts)
-    (answer : Result (Unit {0}) LintFault) (input rest old new : Stream)
+    (answer : Result (Unit {0}) StopFault) (input rest old new : Stream)
     → FailsAsAnswered answer input rest old new
     → is_writable (with_file before is_input is_document counts answer).stopped ≡ true → new.failed ≡ old.failed
 source_quiet before is_input is_document counts (Ok u) input rest old new failed writable = failed.1
@@ -87,9 +88,9 @@ source_quiet before is_input is_document counts (Err TooManyLines) input rest ol
 source_quiet before is_input is_document counts (Err Endless) input rest old new failed writable =
     let h = failed.1 in omega (arith, h)
 
--- the same of a file by its name
+-- a file that was linted by its name: if no write has failed, none was counted
 named_quiet : (is_input is_document : Bool) (setting : FileSetting) (is_first : Bool) (before : Linted)
-    (counts : LintCounts) (answer : Result (Unit {0}) LintFault) (input rest old new : Stream)
+    (counts : LintCounts) (answer : Result (Unit {0}) StopFault) (input rest old new : Stream)
     → LintsNamed is_input setting is_first counts answer input rest old new
     → is_writable (with_file before is_input is_document counts answer).stopped ≡ true → new.failed ≡ old.failed
 named_quiet true is_document setting is_first before counts answer input rest old new named writable = elim named [
@@ -102,11 +103,11 @@ named_quiet false is_document setting is_first before counts answer input rest o
 ]
 
 -- what hasn't stopped can write
-writable_unstopped : (stopped : Option LintFault) → is_some stopped ≡ false → is_writable stopped ≡ true
+writable_unstopped : (stopped : Option StopFault) → is_some stopped ≡ false → is_writable stopped ≡ true
 writable_unstopped None h = refl
 writable_unstopped (Some fault) h = grind (arith, h)
 
--- the next file: where no write has failed, none was counted, and none had failed before
+-- the next file: if no write has failed, none was counted, and none had failed before
 quiet_by : (stopped : Bool) (file : List ℕ) (setting : FileSetting) (before after : Linted)
     (input rest old new : Stream)
     → is_stopped before ≡ stopped → LintsNext stopped file setting before after input rest old new
@@ -138,7 +139,7 @@ begins_with piece text is_quiet none first old begun is same wrote =
     subst (λ t. WritesPiece true t (no_file is_quiet) first old begun) same
     (subst (λ l. WritesPiece (is_writable l.stopped) piece l first old begun) is wrote)
 
--- the same files were linted
+-- what was linted under these names was linted under names that are equal to them
 pub lints_files : (name : List ℕ) (setting : LintSetting) (files names : List (List ℕ)) (before after : Linted)
     (input rest old new : Stream)
     → files ≡ names

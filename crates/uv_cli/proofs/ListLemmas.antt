@@ -12,7 +12,7 @@ use Rattle.uv_cli.specs.declared.fault.CliFault.TheVariants.{Memory, Write}
 use Rattle.uv_cli.specs.Stream.{Stream}
 use Rattle.uv_cli.specs.Jobs.{HasListed, HasListedAgainst}
 
--- the same against the base's text
+-- what was listed against a URL was listed against the base's text that resolves to it
 pub listed_against : (profile : Profile) (base : Option (Bor (List ℕ))) (url : Option Url) (end : End)
     (input rest old new : Stream)
     → IsBase profile base url → HasListedAgainst profile url end input rest old new

@@ -1,9 +1,9 @@
--- What was shown where there is no job.
+-- What was shown if there is no job.
 use Rattle.std.proofs.Common.{◌≡◌, Some, Result, Ok, Err, MatchResult, true, false, inl, inr, subst}
 use Rattle.std.specs.IoError.{error_kind}
 use Rattle.std.specs.declared.io.Error.{Error}
-use Rattle.uv_words.specs.Words.{asks_to_show}
-use Rattle.uv_words.specs.declared.words.WordsFault.{WordsFault}
+use Rattle.uv_arguments.specs.Requests.{asks_to_show}
+use Rattle.uv_arguments.specs.declared.reading.WordsFault.{WordsFault}
 use Rattle.uv_cli.specs.Ends.{end_without_job}
 use Rattle.uv_cli.specs.Flushed.{ended_after, open_end}
 use Rattle.uv_cli.specs.Program.{HasShown}

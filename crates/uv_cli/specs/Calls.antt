@@ -5,12 +5,12 @@ use Rattle.std.specs.declared.io.Error.{Error}
 use Rattle.std.specs.declared.io.ErrorKind.{ErrorKind}
 use Rattle.std.specs.declared.io.ErrorKind.TheVariants.{BrokenPipe}
 
--- the kind of the last error after a call: that of the call, where it failed
+-- the kind of the last error after a call: the call's, if it failed
 abbrev pub fault_after : {A : Type 0} → Option ErrorKind → Result A Error → Option ErrorKind
 fault_after fault (Ok given) = fault
 fault_after fault (Err error) = Some (error_kind error)
 
--- whoever read the output has gone
+-- anyone who read the output has gone
 abbrev pub is_closed_by : Option ErrorKind → Bool
 is_closed_by (Some BrokenPipe) = true
 is_closed_by fault = false

@@ -28,8 +28,8 @@ SaysRefused All profile base text whole =
     ((refusal : Refusal) × IsRefused profile base text refusal)
     × ((refusals : List Refusal) × AreFaults profile base text refusals × (whole ≡ faults_text refusals))
 
--- What a check says of a text against a URL as base, and how it ends: the lines of the URL that the text denotes, or
--- those of its violations. On a valid text the URL parser is silent, and gives the URL that is denoted.
+-- What a check says of a text against a URL as base, and how it ends: the lines of the URL that the text denotes, or a
+-- line for each violation. On a valid text the URL parser is silent, and gives the URL that is denoted.
 abbrev pub Says : Extent → Profile → Option Url → List ℕ → CheckEnd → List ℕ → Type 0
 Says extent profile base text check.Valid whole =
     (parts : Parts) × Valid profile base text parts × RunsSilently base text parts
@@ -37,7 +37,7 @@ Says extent profile base text check.Valid whole =
 Says extent profile base text check.Refused whole = SaysRefused extent profile base text whole
 Says extent profile base text (check.BaseRefused refusal) whole = ⊥
 
--- the whole of what is said of the text was written
+-- all that a command says of the text was written
 pub record WritesWhole (extent : Extent) (profile : Profile) (base : Option Url) (text : List ℕ)
     (end : CheckEnd)
     (old new : Option (List ℕ)) : Type 0 where
@@ -45,7 +45,7 @@ pub record WritesWhole (extent : Extent) (profile : Profile) (base : Option Url)
   pub says : Says extent profile base text end whole
   pub wrote : Appends old new whole
 
--- a prefix of what is said of the text was written
+-- a prefix of what a command says of the text was written
 pub record WritesPrefix (extent : Extent) (profile : Profile) (base : Option Url) (text : List ℕ)
     (old new : Option (List ℕ)) : Type 0 where
   pub end : CheckEnd
@@ -54,14 +54,14 @@ pub record WritesPrefix (extent : Extent) (profile : Profile) (base : Option Url
   pub count : ℕ
   pub wrote : Appends old new (take count whole)
 
--- what is said of the text against the base's text was written, or the base is refused
+-- what a command says of the text against the base's text was written, or the base is refused
 abbrev pub HasWritten
     : Extent → Profile → Option (Bor (List ℕ)) → List ℕ → CheckEnd → Option (List ℕ) → Option (List ℕ) → Type 0
 HasWritten extent profile base text (check.BaseRefused refusal) old new = IsBaseRefused profile base refusal
 HasWritten extent profile base text end old new =
     (url : Option Url) × IsBase profile base url × WritesWhole extent profile url text end old new
 
--- a prefix of what is said of the text against the base's text was written
+-- a prefix of what a command says of the text against the base's text was written
 abbrev pub HasWrittenPrefix
     : Extent → Profile → Option (Bor (List ℕ)) → List ℕ → Option (List ℕ) → Option (List ℕ) → Type 0
 HasWrittenPrefix extent profile base text old new =

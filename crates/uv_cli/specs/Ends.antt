@@ -6,10 +6,10 @@ use Rattle.uv_model.specs.Violations.Rule.{rule_name}
 use Rattle.uv_links.specs.declared.counts.Counts.{Counts}
 use Rattle.uv_links.specs.declared.fault.LinkFault.{LinkFault}
 use Rattle.uv_links.specs.declared.fault.LinkFault.TheVariants as link
-use Rattle.uv_lint.specs.declared.fault.LintFault.TheVariants.{Write}
-use Rattle.uv_words.specs.declared.words.WordsFault.{WordsFault}
-use Rattle.uv_words.specs.declared.words.WordsFault.TheVariants as words
-use Rattle.uv_words.specs.Words.{asks_to_show}
+use Rattle.uv_lines.specs.declared.fault.StopFault.TheVariants.{Write}
+use Rattle.uv_arguments.specs.declared.reading.WordsFault.{WordsFault}
+use Rattle.uv_arguments.specs.declared.reading.WordsFault.TheVariants as words
+use Rattle.uv_arguments.specs.Requests.{asks_to_show}
 use Rattle.uv_cli.specs.declared.check.CheckEnd.{CheckEnd}
 use Rattle.uv_cli.specs.declared.check.CheckEnd.TheVariants as check
 use Rattle.uv_cli.specs.declared.explain.ExplainEnd.{ExplainEnd}
@@ -28,10 +28,10 @@ use Rattle.uv_vectors.specs.declared.ends.VectorEnd.{VectorEnd}
 use Rattle.uv_vectors.specs.declared.ends.VectorEnd.TheVariants as vectors
 use Rattle.uv_cli.specs.declared.vector_file.FileFault.{FileFault}
 use Rattle.uv_cli.specs.declared.vector_file.FileFault.TheVariants as file
-use Rattle.uv_filter.specs.declared.fault.FilterFault.TheVariants as filter
 use Rattle.uv_cli.specs.Filtered as spec
 use Rattle.uv_cli.specs.Filtered.{filter_status, filtered_text}
 use Rattle.uv_cli.specs.Linted.{lint_status, linted_text, with_fault}
+use Rattle.uv_cli.specs.Stopped.{stop_text}
 
 -- ---- the end of what was given
 
@@ -47,7 +47,7 @@ abbrev pub end_of_list : Result Counts LinkFault → End
 end_of_list (Ok counts) = if counts.ok == counts.lines then Valid else Refused
 end_of_list (Err fault) = Stopped fault
 
--- the same fault of a command
+-- the fault of a command for the fault of a run over a vector file
 abbrev pub fault_of_vectors : VectorFault → CliFault
 fault_of_vectors vector.Memory = cli.Memory
 fault_of_vectors vector.Write = cli.Write
@@ -80,7 +80,7 @@ end_after_output Valid false = Fault cli.Write
 end_after_output Refused false = Fault cli.Write
 end_after_output Shown false = Fault cli.Write
 end_after_output (Linted linted) false = Linted (with_fault linted Write)
-end_after_output (Filtered filtered) false = Filtered (spec.with_fault filtered filter.Write)
+end_after_output (Filtered filtered) false = Filtered (spec.with_fault filtered Write)
 end_after_output (Vectors vectors.AllPass) false = Fault cli.Write
 end_after_output (Vectors vectors.SomeFail) false = Fault cli.Write
 end_after_output end false = end
@@ -116,14 +116,10 @@ base_refused_text refusal =
     codes "base refused " ++ (decimal refusal.place ++ (codes " " ++ (rule_name refusal.rule ++ codes "\n")))
 
 -- the line of a fault of a list
-abbrev pub stopped_text : LinkFault → List ℕ
-stopped_text link.Memory = codes "memory\n"
-stopped_text link.Read = codes "read\n"
-stopped_text link.Write = codes "write\n"
-stopped_text link.Overflow = codes "overflow\n"
-stopped_text link.BaseDiffers = codes "base differs\n"
-stopped_text link.TooManyLines = codes "too many lines\n"
-stopped_text link.Endless = codes "endless\n"
+abbrev pub listed_text : LinkFault → List ℕ
+listed_text (link.Stop fault) = stop_text fault
+listed_text link.Overflow = codes "overflow\n"
+listed_text link.BaseDiffers = codes "base differs\n"
 
 -- the line of a case that is malformed
 unfoldable pub malformed_text : ℕ → List ℕ
@@ -155,7 +151,7 @@ fixed_text (Fault cli.Memory) = Some (codes "memory\n")
 fixed_text (Fault cli.Write) = Some (codes "write\n")
 fixed_text (Linted linted) = None
 fixed_text (Filtered filtered) = None
-fixed_text (Stopped fault) = Some (stopped_text fault)
+fixed_text (Stopped fault) = Some (listed_text fault)
 fixed_text (Vectors end) = fixed_vectors_text end
 fixed_text Unread = Some (codes "read\n")
 

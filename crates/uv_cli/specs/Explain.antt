@@ -1,4 +1,4 @@
--- What was written where rules are to be explained, given what is said of them.
+-- What was written where rules are to be explained, given the messages on them.
 use Rattle.std.specs.Prelude.{◌≡◌, ℕ, true, false, List, Option, String}
 use Rattle.std.specs.Io.KnownBytes.{Appends}
 use Rattle.std.specs.declared.alloc.Global.{Global}
@@ -11,7 +11,7 @@ abbrev pub HasWrittenText : List (String Global) → Option (List ℕ) → Optio
 HasWrittenText rules old new =
     (are_explained rules ≡ true) × ((text : List ℕ) × Appends old new text)
 
--- what is said was written, or one of the names is that of no rule and of no violation
+-- what is said was written, or one of the names belongs to no rule and to no violation
 abbrev pub HasExplained : List (String Global) → ExplainEnd → Option (List ℕ) → Option (List ℕ) → Type 0
 HasExplained rules Explained old new = HasWrittenText rules old new
 HasExplained rules Unknown old new = are_explained rules ≡ false

@@ -3,23 +3,24 @@ use Rattle.std.specs.Prelude.{◌≡◌, ℕ, ◌+◌, Bool, false, List, Option
 use Rattle.std.specs.Borrow.{Bor}
 use Rattle.std.specs.Io.KnownBytes.{Consumes, IsAtEnd}
 use Rattle.uv_filter.specs.declared.counts.FilterCounts.{FilterCounts}
-use Rattle.uv_filter.specs.declared.fault.FilterFault.{FilterFault}
+use Rattle.uv_lines.specs.declared.fault.StopFault.{StopFault}
+use Rattle.uv_lines.specs.Fault.{reads_failed, writes_failed}
 use Rattle.uv_filter.specs.Fates.{Mender}
 use Rattle.uv_filter.specs.Filtered.{Filtering, starting}
 use Rattle.uv_filter.specs.Lines.{all_lines}
-use Rattle.uv_filter.specs.Run.{Leaves, Wrote, reads_failed, writes_failed}
+use Rattle.uv_filter.specs.Run.{Leaves, Wrote}
 use Rattle.uv_model.specs.declared.mend_kind.MendKind.{MendKind}
 use Rattle.uv_model.specs.MendKindName.{named_kind}
 use Rattle.uv_model.specs.Records.Url.{Url}
 use Rattle.uv_resolve.specs.Base.{IsBase, IsBaseRefused}
 use Rattle.uv_cli.specs.declared.fault.CliFault.TheVariants as cli
-use Rattle.uv_words.specs.declared.words.FilterJob.{FilterJob}
+use Rattle.uv_arguments.specs.declared.jobs.FilterJob.{FilterJob}
 use Rattle.uv_cli.specs.declared.ends.End.{End}
 use Rattle.uv_cli.specs.declared.ends.End.TheVariants as end
 use Rattle.uv_cli.specs.declared.filtered.Filtered.{Filtered}
 use Rattle.uv_cli.specs.Stream.{Stream}
 
--- the kind with this name, or every kind where none is named; none where no kind has the name
+-- the kind with this name, or every kind if none is named; none if no kind has the name
 abbrev pub only_of : Option (Bor (List ℕ)) → Option (Option MendKind)
 only_of None = Some None
 only_of (Some name) = option_map Some (named_kind name.now)
@@ -30,7 +31,7 @@ mender_of asked base only =
     record { profile = asked.profile; base = base; only = only; all = asked.all }
 
 -- what was written of the bytes that were read, by what stopped the filter
-abbrev pub FilteredBy : Option FilterFault → Mender → List ℕ → Filtering → Stream → Stream → Stream → Stream → Type 0
+abbrev pub FilteredBy : Option StopFault → Mender → List ℕ → Filtering → Stream → Stream → Stream → Stream → Type 0
 FilteredBy None mender read now input rest old new =
     IsAtEnd rest.bytes × Wrote (starting mender) (all_lines read) old.bytes new.bytes now
     × (rest.failed ≡ input.failed) × (new.failed ≡ old.failed)

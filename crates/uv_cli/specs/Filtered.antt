@@ -3,22 +3,22 @@ use Rattle.std.specs.Prelude.{ℕ, ◌+◌, ◌-◌, ◌^◌, ◌==◌, Bool, fa
 use Rattle.std.specs.Prelude.{decimal, is_some, min, if◌then◌else◌}
 use Rattle.uv_filter.specs.declared.counts.FilterCounts.{FilterCounts}
 use Rattle.uv_filter.specs.Counts.{both}
-use Rattle.uv_filter.specs.declared.fault.FilterFault.{FilterFault}
-use Rattle.uv_filter.specs.declared.fault.FilterFault.TheVariants.{Memory, Read, Write, Endless}
+use Rattle.uv_lines.specs.declared.fault.StopFault.{StopFault}
 use Rattle.uv_cli.specs.declared.filtered.Filtered.{Filtered}
+use Rattle.uv_cli.specs.Stopped.{stopped_text}
 
 -- what stopped it, by its answer
-abbrev pub fault_of : Result (Unit {0}) FilterFault → Option FilterFault
+abbrev pub fault_of : Result (Unit {0}) StopFault → Option StopFault
 fault_of (Ok u) = None
 fault_of (Err fault) = Some fault
 
 -- by its counts and its answer
-abbrev pub filtered_by : FilterCounts → Result (Unit {0}) FilterFault → Bool → Filtered
+abbrev pub filtered_by : FilterCounts → Result (Unit {0}) StopFault → Bool → Filtered
 filtered_by counts answer is_quiet =
     record { counts = counts; stopped = fault_of answer; is_quiet = is_quiet; is_file_left = false }
 
 -- stopped by this fault
-abbrev pub with_fault : Filtered → FilterFault → Filtered
+abbrev pub with_fault : Filtered → StopFault → Filtered
 with_fault filtered fault = record filtered { stopped = Some fault }
 
 -- after a further file of which this was counted
@@ -67,14 +67,6 @@ refused_text count = codes ", " ++ (decimal count ++ codes " refused\n")
 abbrev pub counts_text : FilterCounts → List ℕ
 counts_text counts =
     lines_text counts.lines ++ (mended_text counts ++ refused_text (refused_count counts))
-
--- the line of what stopped it
-abbrev pub stopped_text : Option FilterFault → List ℕ
-stopped_text None = []
-stopped_text (Some Memory) = codes "memory\n"
-stopped_text (Some Read) = codes "read\n"
-stopped_text (Some Write) = codes "write\n"
-stopped_text (Some Endless) = codes "endless\n"
 
 -- the lines on standard error
 abbrev pub filtered_text : Filtered → List ℕ

@@ -10,6 +10,6 @@ use Rattle.uv_cli.specs.declared.program.Ended.{Ended}
 abbrev pub open_end : End → Ended
 open_end end = record { end = end; is_closed = false }
 
--- the end once the output is flushed, or isn't, by the kind of the last error: where it isn't, as if a write had failed
+-- the end once the output is flushed, or isn't, by the kind of the last error: if it isn't, as if a write had failed
 abbrev pub ended_after : End → Bool → Option ErrorKind → Ended
 ended_after end flushed fault = record { end = end_after_output end flushed; is_closed = is_closed_by fault }

@@ -12,14 +12,14 @@ use Rattle.uv_links.specs.declared.counts.Counts.{Counts}
 use Rattle.uv_links.specs.declared.fault.LinkFault.{LinkFault}
 use Rattle.uv_links.specs.Report.{ListSetting}
 use Rattle.uv_links.specs.Run.{Leaves, Reports, reads_failed, writes_failed}
-use Rattle.uv_second.specs.Second.{AgreesOnBase}
+use Rattle.uv_compare.specs.Second.{AgreesOnBase}
 use Rattle.uv_resolve.specs.Base.{IsBase, IsBaseRefused}
 use Rattle.uv_vectors.specs.Ends.{IsEndOf}
 use Rattle.uv_vectors.specs.Run.{WritesVectors, WritesVectorsPrefix, is_checked}
-use Rattle.uv_words.specs.declared.words.FilterJob.{FilterJob}
-use Rattle.uv_words.specs.declared.words.Job.{Job}
-use Rattle.uv_words.specs.declared.words.Job.TheVariants as job
-use Rattle.uv_words.specs.declared.words.LintJob.{LintJob}
+use Rattle.uv_arguments.specs.declared.jobs.FilterJob.{FilterJob}
+use Rattle.uv_arguments.specs.declared.jobs.Job.{Job}
+use Rattle.uv_arguments.specs.declared.jobs.Job.TheVariants as job
+use Rattle.uv_arguments.specs.declared.jobs.LintJob.{LintJob}
 use Rattle.uv_cli.specs.declared.check.CheckEnd.TheVariants as check
 use Rattle.uv_cli.specs.declared.explain.ExplainEnd.TheVariants as explain
 use Rattle.uv_cli.specs.declared.fault.CliFault.TheVariants as cli
@@ -88,7 +88,8 @@ HasListedAgainst profile base end.Refused input rest old new =
 HasListedAgainst profile base (end.Stopped fault) input rest old new = HasStopped profile base fault input rest old new
 HasListedAgainst profile base _ input rest old new = ⊥
 
--- the same against the base's text, which is checked alone, before anything is read or written
+-- what was read and written of the list against the base's text, which is checked alone, before anything is read or
+-- written
 abbrev pub HasListed : Profile → Option (Bor (List ℕ)) → End → Stream → Stream → Stream → Stream → Type 0
 HasListed profile base (end.BaseRefused refusal) input rest old new =
     IsBaseRefused profile base refusal × (rest ≡ input) × (new ≡ old)
@@ -134,18 +135,18 @@ HasDoneLint asked end input rest old new =
     AtLent asked.base (λ base. AtLent asked.format (λ format. AtLent asked.columns (λ columns.
     HasLinted asked base format columns end input rest old new)))
 
--- the same of a filter
+-- what a filter has read and written
 abbrev pub HasDoneFilter : FilterJob → End → Stream → Stream → Stream → Stream → Type 0
 HasDoneFilter asked end input rest old new =
     AtLent asked.base (λ base. AtLent asked.only (λ only. HasFiltered asked base only end input rest old new))
 
--- how the mending of the lines of files in their place ends: refused where no file is named
+-- how the mending of the lines of files in their place ends: refused if no file is named
 abbrev pub EndsInPlace : Bool → FilterJob → End → Type 0
 EndsInPlace true asked ended = ended ≡ end.Words
 EndsInPlace false asked ended =
     AtLent asked.base (λ base. AtLent asked.only (λ only. HasMendedFiles asked base only ended))
 
--- the same by the names of the files
+-- how it ends by the names of the files
 abbrev pub HasDoneInPlace : List (String Global) → FilterJob → End → Type 0
 HasDoneInPlace files asked ended = EndsInPlace (length files == 0) asked ended
 
@@ -162,6 +163,8 @@ HasDone (job.Mend text base profile) bytes end input rest old new =
 HasDone (job.Filter asked) bytes end input rest old new = HasDoneFilter asked end input rest old new
 HasDone job.LintWithoutInput bytes ended input rest old new = (ended ≡ end.Words) × (rest ≡ input) × (new ≡ old)
 HasDone job.LintUnnamed bytes ended input rest old new = (ended ≡ end.Words) × (rest ≡ input) × (new ≡ old)
+HasDone (job.UnknownColours name) bytes ended input rest old new =
+    (ended ≡ end.Words) × (rest ≡ input) × (new ≡ old)
 HasDone job.FilterOfText bytes ended input rest old new = (ended ≡ end.Words) × (rest ≡ input) × (new ≡ old)
 HasDone job.SeveralTexts bytes ended input rest old new = (ended ≡ end.Words) × (rest ≡ input) × (new ≡ old)
 HasDone (job.InPlace files asked) bytes ended input rest old new =

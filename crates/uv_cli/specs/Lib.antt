@@ -1,6 +1,7 @@
 pub mod Calls
 pub mod Check
 pub mod Stream
+pub mod Stopped
 pub mod Ends
 pub mod Explain
 pub mod Flushed

@@ -16,15 +16,16 @@ use Rattle.uv_report.specs.Format.{named_format, own_columns, takes_columns}
 use Rattle.uv_report.specs.Report.{begin_text, end_text}
 use Rattle.uv_lines.specs.declared.limits.LineLimits.{LineLimits}
 use Rattle.uv_lint.specs.declared.counts.LintCounts.{LintCounts}
-use Rattle.uv_lint.specs.declared.fault.LintFault.{LintFault}
-use Rattle.uv_lint.specs.declared.fault.LintFault.TheVariants.{Memory, Read, Write}
+use Rattle.uv_lines.specs.declared.fault.StopFault.{StopFault}
+use Rattle.uv_lines.specs.declared.fault.StopFault.TheVariants.{Memory, Read, Write}
+use Rattle.uv_lines.specs.Fault.{writes_failed}
 use Rattle.uv_lint.specs.declared.setting.LineForm.{LineForm}
 use Rattle.uv_lint.specs.declared.setting.LineForm.TheVariants.{Plain, Located}
 use Rattle.uv_lint.specs.LineViolations.{FileSetting}
 use Rattle.uv_lint.specs.Report.{none_counted}
-use Rattle.uv_lint.specs.Run.{FailsReads, Leaves, Reports, writes_failed}
+use Rattle.uv_lint.specs.Run.{FailsReads, Leaves, Reports}
 use Rattle.uv_resolve.specs.Base.{IsBase, IsBaseRefused}
-use Rattle.uv_words.specs.declared.words.LintJob.{LintJob}
+use Rattle.uv_arguments.specs.declared.jobs.LintJob.{LintJob}
 use Rattle.uv_cli.specs.declared.ends.End.{End}
 use Rattle.uv_cli.specs.declared.ends.End.TheVariants as end
 use Rattle.uv_cli.specs.declared.fault.CliFault.TheVariants as cli
@@ -34,17 +35,17 @@ use Rattle.uv_cli.specs.Linted.{completion_of, is_clean, is_stopped, is_writable
 
 -- ---- what the job asks for
 
--- the format with this name, or that of compilers where none is named
+-- the format with this name, or the one of compilers if none is named
 abbrev pub format_of : Option (Bor (List ℕ)) → Option Format
 format_of None = Some Gnu
 format_of (Some name) = named_format name.now
 
--- what the name says that columns count in a format, or where nothing is named what they count there
+-- what the name says that columns count in a format, or if nothing is named what they count there
 abbrev pub columns_of : Format → Option (Bor (List ℕ)) → Option Columns
 columns_of format None = Some (own_columns format)
 columns_of format (Some name) = named_columns name.now
 
--- what a line is: where each is to say where its link is, it is that, else a text
+-- what a line is: where each is to say where its link is, it is that, otherwise a text
 abbrev pub form_of : Bool → LineForm
 form_of true = Located
 form_of false = Plain
@@ -80,7 +81,7 @@ abbrev pub most : LineLimits
 most = record { line_bytes = 65536; lines = 1000000000 }
 
 -- what was written of the bytes that were read of a file, by the answer of the run over it
-abbrev pub WritesFile : FileSetting → Bool → Result (Unit {0}) LintFault → LintCounts → List ℕ → Option (List ℕ)
+abbrev pub WritesFile : FileSetting → Bool → Result (Unit {0}) StopFault → LintCounts → List ℕ → Option (List ℕ)
     → Option (List ℕ) → Option (List ℕ) → Type 0
 WritesFile setting is_first (Ok done) counts read rest old new =
     IsAtEnd rest × Reports setting most is_first old read counts new
@@ -88,21 +89,21 @@ WritesFile setting is_first (Err fault) counts read rest old new =
     Leaves fault setting most is_first old read (IsAtEnd rest) counts new
 
 -- how often the streams have failed after it
-abbrev pub FailsAsAnswered : Result (Unit {0}) LintFault → Stream → Stream → Stream → Stream → Type 0
+abbrev pub FailsAsAnswered : Result (Unit {0}) StopFault → Stream → Stream → Stream → Stream → Type 0
 FailsAsAnswered (Ok done) input rest old new = (rest.failed ≡ input.failed) × (new.failed ≡ old.failed)
 FailsAsAnswered (Err fault) input rest old new =
     FailsReads fault input.failed rest.failed × (new.failed ≡ old.failed + writes_failed fault)
 
 -- a source was linted, of which so many lines were counted
 pub record LintsSource (setting : FileSetting) (is_first : Bool) (counts : LintCounts)
-    (answer : Result (Unit {0}) LintFault) (input rest old new : Stream) : Type 0 where
+    (answer : Result (Unit {0}) StopFault) (input rest old new : Stream) : Type 0 where
   pub read : List ℕ
   pub consumed : Consumes input.bytes rest.bytes read
   pub wrote : WritesFile setting is_first answer counts read rest.bytes old.bytes new.bytes
   pub failed : FailsAsAnswered answer input rest old new
 
 -- a source that nothing else has read was linted: the file with this name
-abbrev pub LintsOpened : FileSetting → Bool → LintCounts → Result (Unit {0}) LintFault → Stream → Stream → Type 0
+abbrev pub LintsOpened : FileSetting → Bool → LintCounts → Result (Unit {0}) StopFault → Stream → Stream → Type 0
 LintsOpened setting is_first counts answer old new =
     (file : Stream) × (left : Stream) × LintsSource setting is_first counts answer file left old new
 
@@ -111,23 +112,23 @@ abbrev pub LintsNothing : LintCounts → Stream → Stream → Type 0
 LintsNothing counts old new = (counts ≡ none_counted) × (new ≡ old)
 
 -- a file wasn't opened: it couldn't be, or memory ran out
-abbrev pub IsUnopened : Result (Unit {0}) LintFault → Type 0
+abbrev pub IsUnopened : Result (Unit {0}) StopFault → Type 0
 IsUnopened (Err Read) = Unit {0}
 IsUnopened (Err Memory) = Unit {0}
 IsUnopened _ = ⊥
 
 -- a file wasn't opened since memory ran out, or for another reason, by the kind of the library's error
-abbrev pub IsWhyUnopened : ErrorKind → LintFault → Type 0
+abbrev pub IsWhyUnopened : ErrorKind → StopFault → Type 0
 IsWhyUnopened kind Memory = kind ≡ OutOfMemory
 IsWhyUnopened kind Read = kind ≢ OutOfMemory
 IsWhyUnopened kind _ = ⊥
 
 -- the input isn't read where its count of failed reads is at its end
-abbrev pub IsUnreadable : Result (Unit {0}) LintFault → Stream → Type 0
+abbrev pub IsUnreadable : Result (Unit {0}) StopFault → Stream → Type 0
 IsUnreadable answer input = (answer ≡ Err Read) × (input.failed ≡ 2 ^ 64 - 1)
 
--- the input was linted for the file that is named `-`, else a file that was opened by its name, if it could be
-abbrev pub LintsNamed : Bool → FileSetting → Bool → LintCounts → Result (Unit {0}) LintFault
+-- the input was linted for the file that is named `-`, otherwise a file that was opened by its name, if it could be
+abbrev pub LintsNamed : Bool → FileSetting → Bool → LintCounts → Result (Unit {0}) StopFault
     → Stream → Stream → Stream → Stream → Type 0
 LintsNamed true setting is_first counts answer input rest old new =
     LintsSource setting is_first counts answer input rest old new
@@ -136,11 +137,11 @@ LintsNamed false setting is_first counts answer input rest old new =
     (LintsOpened setting is_first counts answer old new
     ⊎ (LintsNothing counts old new × IsUnopened answer)) × (rest ≡ input)
 
--- the next file was linted, by its name, which looks like that of a document or not
+-- the next file was linted, by its name, which looks like a document's or not
 pub record LintsFile (file : List ℕ) (setting : FileSetting) (before after : Linted)
     (input rest old new : Stream) : Type 0 where
   pub counts : LintCounts
-  pub answer : Result (Unit {0}) LintFault
+  pub answer : Result (Unit {0}) StopFault
   pub is_document : Bool
   pub named : LintsNamed (is_input file) setting (is_clean before) counts answer input rest old new
   pub is_after : after ≡ with_file before (is_input file) is_document counts answer
@@ -177,7 +178,7 @@ WritesOrStops false piece before after old new =
     (after ≡ with_fault before Write) × ((prefix : ℕ) × Appends old.bytes new.bytes (take prefix piece))
     × (new.failed ≡ old.failed + 1)
 
--- the same, but nothing is written after a failed write
+-- a piece was written if no write has failed before, and otherwise nothing
 abbrev pub WritesPiece : Bool → List ℕ → Linted → Linted → Stream → Stream → Type 0
 WritesPiece true piece before after old new = (is_out : Bool) × WritesOrStops is_out piece before after old new
 WritesPiece false piece before after old new = (after ≡ before) × (new ≡ old)
@@ -209,8 +210,9 @@ pub record AreNamed (name unit : Option (Bor (List ℕ))) (format : Format) (col
   pub columns_are : columns_of format unit ≡ Some columns
   pub takes_is : takes_columns format columns ≡ takes
 
--- The same by the texts that the job has: its base, the name of the format, and that of what columns count. Both names
--- are looked up first, and then the base is checked alone, before anything is read or written.
+-- What was read and written of the files by the texts that the job has: its base, the name of the format, and the name
+-- of what columns count. Both names are looked up first, and then the base is checked alone, before anything is read or
+-- written.
 abbrev pub HasLinted : LintJob → Option (Bor (List ℕ)) → Option (Bor (List ℕ)) → Option (Bor (List ℕ)) → End
     → Stream → Stream → Stream → Stream → Type 0
 HasLinted asked base name unit end.UnknownFormat input rest old new =

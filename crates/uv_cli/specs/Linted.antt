@@ -2,12 +2,13 @@
 use Rattle.std.specs.Prelude.{ℕ, ◌+◌, ◌-◌, ◌^◌, ◌==◌, ◌&&◌, ◌||◌, Bool, true, false, List, [], ◌++◌, Option, Some, None}
 use Rattle.std.specs.Prelude.{Result, Ok, Err, codes, decimal, is_some, min, not, if◌then◌else◌}
 use Rattle.uv_lint.specs.declared.counts.LintCounts.{LintCounts}
-use Rattle.uv_lint.specs.declared.fault.LintFault.{LintFault}
-use Rattle.uv_lint.specs.declared.fault.LintFault.TheVariants.{Memory, Read, Write, TooManyLines, Endless}
+use Rattle.uv_lines.specs.declared.fault.StopFault.{StopFault}
+use Rattle.uv_lines.specs.declared.fault.StopFault.TheVariants.{Read, Write}
 use Rattle.uv_lint.specs.Report.{none_counted}
 use Rattle.uv_report.specs.declared.completion.Completion.{Completion}
 use Rattle.uv_report.specs.declared.completion.Completion.TheVariants.{Whole, Unread, Stopped}
 use Rattle.uv_cli.specs.declared.linted.Linted.{Linted}
+use Rattle.uv_cli.specs.Stopped.{stopped_text}
 
 -- before the first file
 abbrev pub no_file : Bool → Linted
@@ -28,7 +29,7 @@ sum_counts a b = record {
 }
 
 -- stopped by this fault
-abbrev pub with_fault : Linted → LintFault → Linted
+abbrev pub with_fault : Linted → StopFault → Linted
 with_fault linted fault = record linted { stopped = Some fault }
 
 -- after a file that can't be opened, or not be read to its end: the standard input, or another one
@@ -50,7 +51,7 @@ with_counts linted is_document counts =
 
 -- after a file with these counts and this answer, which is the standard input or another one, and has the name of a
 -- document or of something else: a failed read stops nothing, and each other fault does
-abbrev pub with_file : Linted → Bool → Bool → LintCounts → Result (Unit {0}) LintFault → Linted
+abbrev pub with_file : Linted → Bool → Bool → LintCounts → Result (Unit {0}) StopFault → Linted
 with_file linted is_input is_document counts (Ok done) = with_counts linted is_document counts
 with_file linted is_input is_document counts (Err Read) =
     with_unread (with_counts linted is_document counts) is_input
@@ -61,7 +62,7 @@ abbrev pub is_stopped : Linted → Bool
 is_stopped linted = is_some linted.stopped
 
 -- no write has failed
-abbrev pub is_writable : Option LintFault → Bool
+abbrev pub is_writable : Option StopFault → Bool
 is_writable (Some Write) = false
 is_writable _ = true
 
@@ -84,15 +85,6 @@ counts_text counts =
     codes "urlcheck: " ++ (decimal counts.lines ++ (codes " "
     ++ ((if counts.lines == 1 then codes "line" else codes "lines")
     ++ (codes ", " ++ (decimal counts.refused ++ codes " refused\n")))))
-
--- the line of what stopped it
-abbrev pub stopped_text : Option LintFault → List ℕ
-stopped_text None = []
-stopped_text (Some Memory) = codes "memory\n"
-stopped_text (Some Read) = codes "read\n"
-stopped_text (Some Write) = codes "write\n"
-stopped_text (Some TooManyLines) = codes "too many lines\n"
-stopped_text (Some Endless) = codes "endless\n"
 
 -- the lines on standard error
 abbrev pub linted_text : Linted → List ℕ

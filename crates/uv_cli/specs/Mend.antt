@@ -30,7 +30,7 @@ end_of_mending mending.Valid = check.Valid
 end_of_mending (mending.Mended text kind) = check.Valid
 end_of_mending (mending.Refused refusal) = check.Refused
 
--- what is said of a text, by its bytes, against a URL as base, and how that ends
+-- what a command says of a text, by its bytes, against a URL as base, and how that ends
 pub record SaysMending (profile : Profile) (base : Option Url) (text : List ℕ) (end : CheckEnd) (whole : List ℕ)
     : Type 0 where
   pub answer : Mending
@@ -38,14 +38,14 @@ pub record SaysMending (profile : Profile) (base : Option Url) (text : List ℕ)
   pub ends : end ≡ end_of_mending answer
   pub says : whole ≡ mending_text answer
 
--- the whole of what is said of the text was written
+-- all that a command says of the text was written
 pub record WritesMending (profile : Profile) (base : Option Url) (text : List ℕ) (end : CheckEnd)
     (old new : Option (List ℕ)) : Type 0 where
   pub whole : List ℕ
   pub says : SaysMending profile base text end whole
   pub wrote : Appends old new whole
 
--- a prefix of what is said of the text was written
+-- a prefix of what a command says of the text was written
 pub record WritesMendingPrefix (profile : Profile) (base : Option Url) (text : List ℕ)
     (old new : Option (List ℕ)) : Type 0 where
   pub end : CheckEnd
@@ -54,14 +54,14 @@ pub record WritesMendingPrefix (profile : Profile) (base : Option Url) (text : L
   pub count : ℕ
   pub wrote : Appends old new (take count whole)
 
--- what is said of the text against the base's text was written, or the base is refused
+-- what a command says of the text against the base's text was written, or the base is refused
 abbrev pub HasWrittenMending
     : Profile → Option (Bor (List ℕ)) → List ℕ → CheckEnd → Option (List ℕ) → Option (List ℕ) → Type 0
 HasWrittenMending profile base text (check.BaseRefused refusal) old new = IsBaseRefused profile base refusal
 HasWrittenMending profile base text end old new =
     (url : Option Url) × IsBase profile base url × WritesMending profile url text end old new
 
--- a prefix of what is said of the text against the base's text was written
+-- a prefix of what a command says of the text against the base's text was written
 abbrev pub HasWrittenMendingPrefix
     : Profile → Option (Bor (List ℕ)) → List ℕ → Option (List ℕ) → Option (List ℕ) → Type 0
 HasWrittenMendingPrefix profile base text old new =

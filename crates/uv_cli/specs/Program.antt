@@ -3,14 +3,14 @@ use Rattle.std.specs.Prelude.{◌≡◌, ◌⊎◌, ℕ, Bool, false, true, List
 use Rattle.std.specs.Io.KnownBytes.{Keeps}
 use Rattle.std.specs.declared.io.ErrorKind.{ErrorKind}
 use Rattle.uv_cli.specs.declared.fault.CliFault.TheVariants as cli
-use Rattle.uv_words.specs.Words.{asks_to_show}
-use Rattle.uv_words.specs.declared.words.Job.{Job}
-use Rattle.uv_words.specs.declared.words.Job.TheVariants as job
-use Rattle.uv_words.specs.declared.words.WordsFault.{WordsFault}
+use Rattle.uv_arguments.specs.Requests.{asks_to_show}
+use Rattle.uv_arguments.specs.declared.jobs.Job.{Job}
+use Rattle.uv_arguments.specs.declared.jobs.Job.TheVariants as job
+use Rattle.uv_arguments.specs.declared.reading.WordsFault.{WordsFault}
 use Rattle.uv_cli.specs.Ends.{end_without_file, end_without_job, fixed_text, status_of}
 use Rattle.uv_cli.specs.Flushed.{ended_after, open_end}
 use Rattle.uv_cli.specs.Jobs.{HasDone}
-use Rattle.uv_cli.specs.Stream.{Stream}
+use Rattle.uv_cli.specs.Stream.{Stream, stream}
 use Rattle.uv_cli.specs.declared.ends.End.{End}
 use Rattle.uv_cli.specs.declared.ends.End.TheVariants as end
 use Rattle.uv_cli.specs.declared.program.Ended.{Ended}
@@ -18,13 +18,13 @@ use Rattle.uv_cli.specs.declared.vector_file.FileFault.{FileFault}
 
 -- ---- a job
 
--- the job was done over the input and the output, which was flushed after its last write, or not: the end is the
--- job's, or that of a failed write
+-- the job was done over the input and the output, which was flushed after its last write, or not: the end is the job's,
+-- or the end of a failed write
 abbrev pub HasRun : Job → List ℕ → Ended → Stream → Stream → Option (List ℕ) → Option (List ℕ) → Bool
     → Option ErrorKind → Type 0
 HasRun asked file ended input rest old new flushed fault =
     (end : End) × (held : Option (List ℕ)) × (failed : ℕ)
-    × HasDone asked file end input rest (record { bytes = old; failed = 0 }) (record { bytes = held; failed = failed })
+    × HasDone asked file end input rest (stream old 0) (stream held failed)
     × Keeps held new × (ended ≡ ended_after end flushed fault)
 
 -- the job has a file
@@ -56,7 +56,7 @@ HasAnswered (Err fault) ended = HasShown fault ended
 
 -- ---- the status
 
--- the status is that of the end, or, only where its last line has numbers, that of no memory to say it
+-- the status is the end's, or, only when its last line has numbers, the status of no memory to say it
 abbrev pub IsStatus : End → ℕ → Type 0
 IsStatus ended status =
     (status ≡ status_of ended) ⊎ ((fixed_text ended ≡ None) × (status ≡ status_of (end.Fault cli.Memory)))

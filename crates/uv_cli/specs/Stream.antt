@@ -6,3 +6,7 @@ use Rattle.std.specs.Prelude.{ℕ, List, Option}
 pub record Stream : Type 0 where
   pub bytes : Option (List ℕ)
   pub failed : ℕ
+
+-- the stream with these bytes, of which so many calls have failed
+abbrev pub stream : Option (List ℕ) → ℕ → Stream
+stream bytes failed = record { bytes = bytes; failed = failed }

@@ -26,8 +26,8 @@ pub enum CheckEnd {
 /// Checks a text by a profile, alone or against a base, and writes what it says of it: the lines of a valid text's
 /// record, or the line of a refused text's first violation.
 ///
-/// The base is resolved alone by the same profile, before the text is looked at. An error of memory leaves the output
-/// as it was; an error of a write leaves a beginning of what was to be written.
+/// The base is resolved alone under the same profile, before the text is looked at. An error of memory leaves the
+/// output as it was; an error of a write leaves a beginning of what was to be written.
 pub fn run_check<S: Sink>(
     alloc: Global,
     text: &str,
@@ -154,7 +154,7 @@ fn say(
     }
 }
 
-// The lines of a text that is refused so: that of the refusal, or one for each of its faults.
+// The lines of a text that is refused so: one for the refusal, or one for each of its faults.
 fn refused_lines(
     alloc: Global,
     text: &str,

@@ -2,21 +2,20 @@
 ghost use Rattle.std.specs.Prelude.{◌≡◌, IfOk, option_copied, string_bytes};
 ghost use Rattle.uv_cli.specs.Ends as spec;
 ghost use Rattle.uv_cli.specs.Ends.{base_refused_text, error_text, fixed_text, fixed_vectors_text, malformed_text};
-ghost use Rattle.uv_cli.specs.Ends.{numbered_text, status_of, stopped_text};
+ghost use Rattle.uv_cli.specs.Ends.{listed_text, numbered_text, status_of};
 
 use crate::check::CheckEnd;
 use crate::explain::ExplainEnd;
-use crate::fault::CliFault;
+use crate::fault::{CliFault, stop_line};
 use crate::filtered::Filtered;
 use crate::linted::Linted;
 use crate::vector_file::FileFault;
 use std::alloc::{AllocError, Global};
-use uv_filter::FilterFault;
+use uv_arguments::WordsFault;
+use uv_lines::StopFault;
 use uv_links::{Counts, LinkFault};
-use uv_lint::LintFault;
 use uv_model::Refusal;
 use uv_vectors::{CasesEnd, VectorEnd, VectorFault};
-use uv_words::WordsFault;
 
 /// How a run of the program ends.
 #[derive(Clone, Copy, PartialEq, Eq)]
@@ -138,9 +137,9 @@ pub(crate) fn end_after_output(end: End, is_out: bool) -> End
 {
     match end {
         End::Valid | End::Refused | End::Shown if !is_out => End::Fault(CliFault::Write),
-        End::Linted(linted) if !is_out => End::Linted(linted.with_fault(LintFault::Write)),
+        End::Linted(linted) if !is_out => End::Linted(linted.with_fault(StopFault::Write)),
         End::Filtered(filtered) if !is_out => {
-            End::Filtered(filtered.with_fault(FilterFault::Write))
+            End::Filtered(filtered.with_fault(StopFault::Write))
         }
         End::Vectors(VectorEnd::AllPass | VectorEnd::SomeFail) if !is_out => {
             End::Fault(CliFault::Write)
@@ -149,9 +148,9 @@ pub(crate) fn end_after_output(end: End, is_out: bool) -> End
     }
 }
 
-/// The exit status: 0 where the text is valid, every line ok, every case passed, or help or an explanation shown; 1
-/// where one is refused, differs or fails; 2 where the arguments, a rule's name, the base or the vector file are
-/// refused or the base differs; 3 for any other fault.
+/// The exit status: 0 if the text is valid, every line ok, every case passed, or help or an explanation shown; 1 if one
+/// is refused, differs or fails; 2 if the arguments, a rule's name, the base or the vector file are refused or the base
+/// differs; 3 for any other fault.
 pub fn status(end: End) -> u8
     ensures { result ≡ status_of end }
 {
@@ -190,7 +189,7 @@ pub(crate) fn fixed_line(end: End) -> Option<&'static str>
         End::Linted(_) | End::Filtered(_) | End::BaseRefused(_) => None,
         End::Fault(CliFault::Memory) => Some("memory\n"),
         End::Fault(CliFault::Write) => Some("write\n"),
-        End::Stopped(fault) => Some(stopped_line(fault)),
+        End::Stopped(fault) => Some(listed_line(fault)),
         End::Vectors(end) => fixed_vectors_line(end),
         End::Unread => Some("read\n"),
     }
@@ -238,16 +237,12 @@ fn base_refused_line(alloc: Global, refusal: Refusal) -> Result<String, AllocErr
     format!(in alloc; "base refused {place} {name}\n")
 }
 
-fn stopped_line(fault: LinkFault) -> &'static str
-    ensures { result.now ≡ stopped_text fault }
+fn listed_line(fault: LinkFault) -> &'static str
+    ensures { result.now ≡ listed_text fault }
 {
     match fault {
-        LinkFault::Memory => "memory\n",
-        LinkFault::Read => "read\n",
-        LinkFault::Write => "write\n",
+        LinkFault::Stop(fault) => stop_line(fault),
         LinkFault::Overflow => "overflow\n",
         LinkFault::BaseDiffers => "base differs\n",
-        LinkFault::TooManyLines => "too many lines\n",
-        LinkFault::Endless => "endless\n",
     }
 }

@@ -1,27 +1,27 @@
-//! The command `explain`: what rules ask, their sections of the URL Standard, and an example, of some rules or of each;
-//! or the addresses of these sections.
+//! The command `explain`: what rules require, their sections of the URL Standard, and an example, of some rules or of
+//! each; or the addresses of these sections.
 ghost use Rattle.std.specs.Prelude.{◌≡◌, ◌+◌, ◌-◌, ◌^◌, ◌<◌, IfOk, OnOk};
 ghost use Rattle.uv_cli.specs.Explain.{HasExplained, HasWrittenText};
 
 use crate::fault::CliFault;
 use std::alloc::Global;
+use uv_arguments::Told;
 use uv_io::{DeviceFault, Sink, write_whole};
 use uv_messages::explanations::explained;
-use uv_words::Told;
 
 /// How an explanation ends.
 #[derive(Clone, Copy, PartialEq, Eq)]
 pub enum ExplainEnd {
     /// What was asked for was written.
     Explained,
-    /// The name is that of no rule and of no violation with a line. Nothing was written.
+    /// The name belongs to no rule and to no violation with a line. Nothing was written.
     Unknown,
 }
 
 /// Writes what the rules with these names ask, where they are, and an example of each, in the order of the names and
 /// with an empty line between two; without a name it writes this of each rule, in the order of their numbers. By the
-/// name of a violation with a line that isn't checked it writes what a line is asked. Where `told` asks for addresses,
-/// it writes of each that of its section of the URL Standard, in a line, and nothing where it has none.
+/// name of a violation with a line that isn't checked it writes what a line is asked. If `told` asks for addresses, it
+/// writes for each rule the address of its section of the URL Standard, in a line, and nothing if it has none.
 ///
 /// An error of memory leaves the output as it was; an error of a write leaves a beginning of what was to be written.
 pub fn run_explain<S: Sink>(

@@ -1,10 +1,12 @@
-//! Why a command's output is not whole.
+//! Why a command's output is not whole, and the line of what stopped a run over lines.
 ghost use Rattle.std.specs.Prelude.{◌≡◌};
 ghost use Rattle.uv_cli.specs.declared.fault.CliFault.TheVariants as cli;
 ghost use Rattle.uv_cli.specs.Ends.{fault_of_vectors};
+ghost use Rattle.uv_cli.specs.Stopped.{stop_text, stopped_text};
 
 use std::alloc::AllocError;
 use thiserror::Error;
+use uv_lines::StopFault;
 use uv_vectors::VectorFault;
 
 /// Why a command's output is not whole.
@@ -34,5 +36,28 @@ impl From<VectorFault> for CliFault {
             VectorFault::Memory => CliFault::Memory,
             VectorFault::Write => CliFault::Write,
         }
+    }
+}
+
+/// The line of what stopped a run over lines.
+pub(crate) fn stop_line(fault: StopFault) -> &'static str
+    ensures { result.now ≡ stop_text fault }
+{
+    match fault {
+        StopFault::Memory => "memory\n",
+        StopFault::Read => "read\n",
+        StopFault::Write => "write\n",
+        StopFault::TooManyLines => "too many lines\n",
+        StopFault::Endless => "endless\n",
+    }
+}
+
+/// The line of what stopped a run over lines, if something did.
+pub(crate) fn stopped_line(stopped: Option<StopFault>) -> &'static str
+    ensures { result.now ≡ stopped_text stopped }
+{
+    match stopped {
+        Some(fault) => stop_line(fault),
+        None => "",
     }
 }

@@ -2,21 +2,22 @@
 ghost use Rattle.std.specs.Prelude.{◌≡◌, ◌-◌, ◌^◌, ◌<◌, option_copied};
 ghost use Rattle.uv_cli.specs.Filter.{HasFiltered, IsFiltered, only_of};
 ghost use Rattle.uv_cli.specs.Filter as spec;
+ghost use Rattle.uv_cli.specs.Stream.{stream};
 
 use crate::ends::End;
 use crate::fault::CliFault;
 use crate::filtered::Filtered;
 use std::alloc::Global;
+use uv_arguments::FilterJob;
 use uv_filter::{FilterSetting, run_filter};
 use uv_io::{Sink, Source};
 use uv_mend::MendKind;
 use uv_model::Record;
 use uv_resolve::{ResolveFault, resolve_base};
-use uv_words::FilterJob;
 
-/// Writes each line of an input, mended where there is a mended text of the kind with the name, or any where none is
-/// named, and else as it was: alone or against the base, which is resolved alone, before anything is read. The base
-/// and the name are the texts that the job has.
+/// Writes each line of an input, mended where there is a mended text of the kind with the name, or any if none is
+/// named, and otherwise as it was: alone or against the base, which is resolved alone, before anything is read. The
+/// base and the name are the texts that the job has.
 pub(crate) fn filter_lines<I: Source, S: Sink>(
     alloc: Global,
     job: &FilterJob,
@@ -28,10 +29,8 @@ pub(crate) fn filter_lines<I: Source, S: Sink>(
     requires reads { I.failed input.old < 2 ^ 64 - 1 }
     requires writes { S.failed out.old < 2 ^ 64 - 1 }
     ensures { HasFiltered job.now base.entry name.entry result
-        (record { bytes = I.remaining input.old; failed = I.failed input.old })
-        (record { bytes = I.remaining input.new; failed = I.failed input.new })
-        (record { bytes = S.contents out.old; failed = S.failed out.old })
-        (record { bytes = S.contents out.new; failed = S.failed out.new }) }
+        (stream (I.remaining input.old) (I.failed input.old)) (stream (I.remaining input.new) (I.failed input.new))
+        (stream (S.contents out.old) (S.failed out.old)) (stream (S.contents out.new) (S.failed out.new)) }
 {
     let Some(only) = only_of(name) else {
         return End::UnknownKind;
@@ -43,7 +42,7 @@ pub(crate) fn filter_lines<I: Source, S: Sink>(
     }
 }
 
-/// The kind with a name, or every kind where none is named.
+/// The kind with a name, or every kind if none is named.
 pub(crate) fn only_of(name: Option<&str>) -> Option<Option<MendKind>>
     ensures { result ≡ only_of name.entry }
 {
@@ -68,10 +67,8 @@ fn filter_against<I: Source, S: Sink>(
     requires reads { I.failed input.old < 2 ^ 64 - 1 }
     requires writes { S.failed out.old < 2 ^ 64 - 1 }
     ensures { IsFiltered (spec.mender_of job.now (option_copied base.entry) only) job.now.quiet result
-        (record { bytes = I.remaining input.old; failed = I.failed input.old })
-        (record { bytes = I.remaining input.new; failed = I.failed input.new })
-        (record { bytes = S.contents out.old; failed = S.failed out.old })
-        (record { bytes = S.contents out.new; failed = S.failed out.new }) }
+        (stream (I.remaining input.old) (I.failed input.old)) (stream (I.remaining input.new) (I.failed input.new))
+        (stream (S.contents out.old) (S.failed out.old)) (stream (S.contents out.new) (S.failed out.new)) }
 {
     let setting = FilterSetting {
         base,

@@ -4,8 +4,10 @@ ghost use Rattle.uv_cli.specs.Filtered as spec;
 ghost use Rattle.uv_cli.specs.Filtered.{counts_text, filter_status, filtered_text, lines_text, mended_count};
 ghost use Rattle.uv_cli.specs.Filtered.{mended_text, refused_count, refused_text};
 
+use crate::fault::stopped_line;
 use std::alloc::{AllocError, Global};
-use uv_filter::{FilterCounts, FilterFault};
+use uv_filter::FilterCounts;
+use uv_lines::StopFault;
 
 /// What a filter of lines has come to: what was counted, and what went wrong.
 #[derive(Clone, Copy, PartialEq, Eq)]
@@ -13,7 +15,7 @@ pub struct Filtered {
     /// What has become of the lines.
     pub counts: FilterCounts,
     /// What stopped the filter, if something did.
-    pub stopped: Option<FilterFault>,
+    pub stopped: Option<StopFault>,
     /// Whether no counts are wanted.
     pub is_quiet: bool,
     /// Whether a file stays as it was since it can't be read or written.
@@ -24,7 +26,7 @@ impl Filtered {
     /// What a filter has come to by its counts and its answer.
     pub(crate) fn new(
         counts: FilterCounts,
-        answer: Result<(), FilterFault>,
+        answer: Result<(), StopFault>,
         is_quiet: bool,
     ) -> Filtered
         ensures { result ≡ spec.filtered_by counts answer is_quiet }
@@ -37,7 +39,7 @@ impl Filtered {
         }
     }
 
-    /// The same after a further file of which this was counted.
+    /// What the filter has come to after a further file of which this was counted.
     pub(crate) fn with_counts(self, counts: FilterCounts) -> Filtered
         ensures { result ≡ spec.with_counts self counts }
     {
@@ -49,7 +51,7 @@ impl Filtered {
         }
     }
 
-    /// The same after a further file that stays as it was, since something failed.
+    /// What the filter has come to after a further file that stays as it was, since something failed.
     pub(crate) fn with_file_left(self) -> Filtered
         ensures { result ≡ spec.with_file_left self }
     {
@@ -61,8 +63,8 @@ impl Filtered {
         }
     }
 
-    /// The same where this stopped it.
-    pub(crate) fn with_fault(self, fault: FilterFault) -> Filtered
+    /// What the filter has come to where this stopped it.
+    pub(crate) fn with_fault(self, fault: StopFault) -> Filtered
         ensures { result ≡ spec.with_fault self fault }
     {
         Filtered {
@@ -80,8 +82,8 @@ impl Filtered {
         refused(self.counts) == 0
     }
 
-    /// The exit status: 3 where something stopped the filter; else 2 where a file stays as it was since it can't be read
-    /// or written; else 1 where a line stays refused; else 0.
+    /// The exit status: 3 if something stopped the filter; otherwise 2 if a file stays as it was since it can't be read
+    /// or written; otherwise 1 if a line stays refused; otherwise 0.
     pub(crate) fn status(self) -> u8
         ensures { result ≡ filter_status self }
     {
@@ -163,16 +165,4 @@ fn refused_part(alloc: Global, count: u64) -> Result<String, AllocError>
     ensures { IfOk result (λ part. string_bytes part ≡ refused_text count) }
 {
     format!(in alloc; ", {count} refused\n")
-}
-
-fn stopped_line(stopped: Option<FilterFault>) -> &'static str
-    ensures { result.now ≡ spec.stopped_text stopped }
-{
-    match stopped {
-        None => "",
-        Some(FilterFault::Memory) => "memory\n",
-        Some(FilterFault::Read) => "read\n",
-        Some(FilterFault::Write) => "write\n",
-        Some(FilterFault::Endless) => "endless\n",
-    }
 }

@@ -7,20 +7,21 @@ use crate::ends::End;
 use crate::fault::CliFault;
 use crate::filter::only_of;
 use crate::filtered::Filtered;
-use crate::watched::{WatchedReader, WatchedWriter};
+use crate::watched_streams::{WatchedReader, WatchedWriter};
 use std::alloc::{AllocError, Global};
 use std::fs;
 use std::fs::{Files, OpenFile, OpenOptions};
 use std::io::{self, ErrorKind, Read, Write};
-use uv_filter::{FilterCounts, FilterFault, FilterSetting, run_filter};
+use uv_arguments::FilterJob;
+use uv_arguments::arguments::said_of;
+use uv_filter::{FilterCounts, FilterSetting, run_filter};
 use uv_io::{FromReader, ToWriter};
+use uv_lines::StopFault;
 use uv_messages::messages::{Message, say};
 use uv_messages::unread::{unmended, unread};
 use uv_resolve::{ResolveFault, resolve_base};
-use uv_words::FilterJob;
-use uv_words::arguments::said_of;
 
-// What is after a file's name in that of the new one, until it takes its place.
+// What follows the file's name in the name of the new one, until that takes its place.
 const NEW: &str = ".urlcheck-new";
 
 // Why a file stays as it was.
@@ -45,8 +46,8 @@ impl From<AllocError> for Left {
 /// Mends the lines of files by what a job asks for, each in its place: alone or against the base, which is resolved
 /// alone, before a file is opened. The base and the name of the kind are the texts that the job has.
 ///
-/// What is written of a file goes to a new one beside it, which gets its permissions, and its name once it is whole.
-/// A file of which no line is mended stays untouched; so does one that can't be read or written, which is reported on
+/// What is written of a file goes to a new one next to it, which gets its permissions, and its name once it is whole. A
+/// file of which no line is mended stays untouched; so does one that can't be read or written, which is reported on
 /// standard error, and the next ones go on. A link is followed, and stays one.
 pub(crate) fn mend_files<R: Files + Eprint + AllocGlobal>(
     rt: &R,
@@ -108,7 +109,7 @@ fn mend_next<R: Files + Eprint + AllocGlobal>(
     }
     match mend_file(rt, file, setting) {
         Ok(counts) | Err(Left::Unchanged(counts)) => filtered.with_counts(counts),
-        Err(Left::Memory) => filtered.with_fault(FilterFault::Memory),
+        Err(Left::Memory) => filtered.with_fault(StopFault::Memory),
         Err(Left::Unread(why)) => {
             say(rt, unread(rt.alloc(), file, why));
             filtered.with_file_left()
@@ -159,7 +160,7 @@ fn left_unfound(kind: ErrorKind) -> Left {
     }
 }
 
-// Opens a file that can be read and written, and is no folder and no device.
+// Opens a file that can be read and written, and is neither a folder nor a device.
 fn opened<R: Files>(rt: &R, path: &str) -> Result<R::File, Left> {
     match fs::metadata(rt, path) {
         Ok(data) if data.is_file() => {}
@@ -223,11 +224,11 @@ fn written_mended<I: Read + Drop, W: Write + Drop>(
 }
 
 // Why a file stays as it was where its lines weren't read or written, by the kinds of the last errors of both.
-fn left_by(fault: FilterFault, read: Option<ErrorKind>, written: Option<ErrorKind>) -> Left {
+fn left_by(fault: StopFault, read: Option<ErrorKind>, written: Option<ErrorKind>) -> Left {
     match fault {
-        FilterFault::Memory => Left::Memory,
-        FilterFault::Write => Left::Unwritten(written),
-        FilterFault::Read | FilterFault::Endless => Left::Unread(read),
+        StopFault::Memory => Left::Memory,
+        StopFault::Write => Left::Unwritten(written),
+        StopFault::Read | StopFault::TooManyLines | StopFault::Endless => Left::Unread(read),
     }
 }
 

@@ -4,6 +4,7 @@ ghost use Rattle.uv_cli.specs.Check.{RunsAgainst};
 ghost use Rattle.uv_cli.specs.Jobs.{HasChecked, HasDone, HasDoneFilter, HasDoneInPlace, HasDoneLint};
 ghost use Rattle.uv_cli.specs.Jobs.{HasRunExplain, HasRunVectors};
 ghost use Rattle.uv_cli.specs.Mend.{HasMended};
+ghost use Rattle.uv_cli.specs.Stream.{stream};
 
 use crate::check::{run_check, run_faults};
 use crate::ends::{End, end_of_check, end_of_explanation, end_of_vectors};
@@ -12,19 +13,19 @@ use crate::filter::filter_lines;
 use crate::in_place::mend_files;
 use crate::links::list_links;
 use crate::lint::lint_files;
+use crate::malformed_vectors::said_of_vectors;
 use crate::mend::run_mend;
-use crate::unchecked::said_of_vectors;
 use std::alloc::Global;
 use std::fs::Files;
+use uv_arguments::{FilterJob, Job, LintJob, Told};
 use uv_io::{Sink, Source};
 use uv_messages::messages::say;
 use uv_model::{Extent, Profile};
 use uv_vectors::run_cases;
-use uv_words::{FilterJob, Job, LintJob, Told};
 
-/// Does what a job asks for: it checks the job's text, against the job's base and by the profile that the job names, or
-/// says what to write in its place, or says what is wrong with the lines of the job's files, or reports on the lines of
-/// the input, or mends them, or runs the cases of a vector file, or explains the job's rules, or each rule, or says
+/// Does what a job asks for: it checks the job's text, against the job's base and under the profile that the job names,
+/// or says what to write in its place, or says what is wrong with the lines of the job's files, or reports on the lines
+/// of the input, or mends them, or runs the cases of a vector file, or explains the job's rules, or each rule, or says
 /// where they are in the URL Standard.
 ///
 /// The file has the bytes of the job's file, and only a run of vectors looks at it. A lint opens its files itself. The
@@ -39,10 +40,8 @@ pub fn run_job<R: Files + Eprint + AllocGlobal, I: Source, S: Sink>(
     requires reads { I.failed input.old < 2 ^ 64 - 1 }
     requires writes { S.failed out.old < 2 ^ 64 - 1 }
     ensures { HasDone job.now file.now result
-        (record { bytes = I.remaining input.old; failed = I.failed input.old })
-        (record { bytes = I.remaining input.new; failed = I.failed input.new })
-        (record { bytes = S.contents out.old; failed = S.failed out.old })
-        (record { bytes = S.contents out.new; failed = S.failed out.new }) }
+        (stream (I.remaining input.old) (I.failed input.old)) (stream (I.remaining input.new) (I.failed input.new))
+        (stream (S.contents out.old) (S.failed out.old)) (stream (S.contents out.new) (S.failed out.new)) }
 {
     let alloc = rt.alloc();
     match job {
@@ -53,7 +52,7 @@ pub fn run_job<R: Files + Eprint + AllocGlobal, I: Source, S: Sink>(
             profile,
         } => check_text(rt, text.as_str(), base.as_deref(), *extent, *profile, out),
         Job::Lint(asked) => lint_asked(rt, asked, input, out),
-        Job::LintWithoutInput | Job::LintUnnamed => End::Words,
+        Job::LintWithoutInput | Job::LintUnnamed | Job::UnknownColours { .. } => End::Words,
         Job::Links { base, profile } => list_links(alloc, base.as_deref(), *profile, input, out),
         Job::Mend {
             text,
@@ -79,10 +78,8 @@ fn lint_asked<R: Files + Eprint + AllocGlobal, I: Source, S: Sink>(
     requires reads { I.failed input.old < 2 ^ 64 - 1 }
     requires writes { S.failed out.old < 2 ^ 64 - 1 }
     ensures { HasDoneLint asked.now result
-        (record { bytes = I.remaining input.old; failed = I.failed input.old })
-        (record { bytes = I.remaining input.new; failed = I.failed input.new })
-        (record { bytes = S.contents out.old; failed = S.failed out.old })
-        (record { bytes = S.contents out.new; failed = S.failed out.new }) }
+        (stream (I.remaining input.old) (I.failed input.old)) (stream (I.remaining input.new) (I.failed input.new))
+        (stream (S.contents out.old) (S.failed out.old)) (stream (S.contents out.new) (S.failed out.new)) }
 {
     lint_files(
         rt,
@@ -105,10 +102,8 @@ fn filter_asked<I: Source, S: Sink>(
     requires reads { I.failed input.old < 2 ^ 64 - 1 }
     requires writes { S.failed out.old < 2 ^ 64 - 1 }
     ensures { HasDoneFilter asked.now result
-        (record { bytes = I.remaining input.old; failed = I.failed input.old })
-        (record { bytes = I.remaining input.new; failed = I.failed input.new })
-        (record { bytes = S.contents out.old; failed = S.failed out.old })
-        (record { bytes = S.contents out.new; failed = S.failed out.new }) }
+        (stream (I.remaining input.old) (I.failed input.old)) (stream (I.remaining input.new) (I.failed input.new))
+        (stream (S.contents out.old) (S.failed out.old)) (stream (S.contents out.new) (S.failed out.new)) }
 {
     filter_lines(
         alloc,
@@ -146,8 +141,7 @@ fn mend_text<S: Sink>(
 ) -> End
     requires { S.failed out.old < 2 ^ 64 - 1 }
     ensures { HasMended profile base.entry text.now result
-        (record { bytes = S.contents out.old; failed = S.failed out.old })
-        (record { bytes = S.contents out.new; failed = S.failed out.new }) }
+        (stream (S.contents out.old) (S.failed out.old)) (stream (S.contents out.new) (S.failed out.new)) }
 {
     end_of_check(run_mend(alloc, text, base, profile, out))
 }
@@ -156,8 +150,7 @@ fn mend_text<S: Sink>(
 fn explained<S: Sink>(alloc: Global, rules: &[String], told: Told, out: &mut S) -> End
     requires { S.failed out.old < 2 ^ 64 - 1 }
     ensures { HasRunExplain rules.now result
-        (record { bytes = S.contents out.old; failed = S.failed out.old })
-        (record { bytes = S.contents out.new; failed = S.failed out.new }) }
+        (stream (S.contents out.old) (S.failed out.old)) (stream (S.contents out.new) (S.failed out.new)) }
 {
     end_of_explanation(run_explain(alloc, rules, told, out))
 }
@@ -171,8 +164,7 @@ fn vectors_run<R: Eprint + AllocGlobal, S: Sink>(
 ) -> End
     requires { S.failed out.old < 2 ^ 64 - 1 }
     ensures { HasRunVectors file.now result
-        (record { bytes = S.contents out.old; failed = S.failed out.old })
-        (record { bytes = S.contents out.new; failed = S.failed out.new }) }
+        (stream (S.contents out.old) (S.failed out.old)) (stream (S.contents out.new) (S.failed out.new)) }
 {
     let gave = run_cases(rt.alloc(), file, out);
     if let Ok(end) = &gave {
@@ -192,8 +184,7 @@ fn check_text<R: AllocGlobal, S: Sink>(
 ) -> End
     requires { S.failed out.old < 2 ^ 64 - 1 }
     ensures checked { HasChecked extent profile base.entry (chars text.now) result
-        (record { bytes = S.contents out.old; failed = S.failed out.old })
-        (record { bytes = S.contents out.new; failed = S.failed out.new }) }
+        (stream (S.contents out.old) (S.failed out.old)) (stream (S.contents out.new) (S.failed out.new)) }
     ensures runs { RunsAgainst profile base.entry (chars text.now) }
 {
     let alloc = rt.alloc();

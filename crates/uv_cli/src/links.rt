@@ -1,6 +1,7 @@
 //! The command `links`: a report on the lines of an input.
 ghost use Rattle.std.specs.Prelude.{◌≡◌, ◌-◌, ◌^◌, ◌<◌, option_copied};
 ghost use Rattle.uv_cli.specs.Jobs.{HasListed, HasListedAgainst};
+ghost use Rattle.uv_cli.specs.Stream.{stream};
 
 use crate::ends::{End, end_of_list};
 use crate::fault::CliFault;
@@ -22,10 +23,8 @@ pub(crate) fn list_links<I: Source, S: Sink>(
     requires reads { I.failed input.old < 2 ^ 64 - 1 }
     requires writes { S.failed out.old < 2 ^ 64 - 1 }
     ensures { HasListed profile base.entry result
-        (record { bytes = I.remaining input.old; failed = I.failed input.old })
-        (record { bytes = I.remaining input.new; failed = I.failed input.new })
-        (record { bytes = S.contents out.old; failed = S.failed out.old })
-        (record { bytes = S.contents out.new; failed = S.failed out.new }) }
+        (stream (I.remaining input.old) (I.failed input.old)) (stream (I.remaining input.new) (I.failed input.new))
+        (stream (S.contents out.old) (S.failed out.old)) (stream (S.contents out.new) (S.failed out.new)) }
 {
     match resolve_base(alloc, base, profile) {
         Ok(base) => list_against(alloc, base.as_ref(), profile, input, out),
@@ -45,10 +44,8 @@ fn list_against<I: Source, S: Sink>(
     requires reads { I.failed input.old < 2 ^ 64 - 1 }
     requires writes { S.failed out.old < 2 ^ 64 - 1 }
     ensures { HasListedAgainst profile (option_copied base.entry) result
-        (record { bytes = I.remaining input.old; failed = I.failed input.old })
-        (record { bytes = I.remaining input.new; failed = I.failed input.new })
-        (record { bytes = S.contents out.old; failed = S.failed out.old })
-        (record { bytes = S.contents out.new; failed = S.failed out.new }) }
+        (stream (I.remaining input.old) (I.failed input.old)) (stream (I.remaining input.new) (I.failed input.new))
+        (stream (S.contents out.old) (S.failed out.old)) (stream (S.contents out.new) (S.failed out.new)) }
 {
     end_of_list(run_links(alloc, input, out, base, LinkLimits::standard(), profile))
 }

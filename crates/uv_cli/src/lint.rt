@@ -6,25 +6,27 @@ ghost use Rattle.uv_cli.specs.Lint.{HasLinted, HasLintedAgainst, LintsAll, Lints
 ghost use Rattle.uv_cli.specs.Lint.{LintsOpened, IsUnopened, IsWhyUnopened, WritesPiece, columns_of};
 ghost use Rattle.uv_cli.specs.Lint.{form_of, format_of, input_name, is_input, reported_name};
 ghost use Rattle.uv_cli.specs.Linted.{is_stopped, is_writable};
+ghost use Rattle.uv_cli.specs.Stream.{stream};
 
 use crate::ends::End;
 use crate::fault::CliFault;
 use crate::linted::Linted;
 use crate::said::{Seen, said_of_file, said_of_unread};
-use crate::watched::WatchedReader;
+use crate::watched_streams::WatchedReader;
 use std::alloc::{AllocError, Global};
 use std::fs;
 use std::fs::Files;
 use std::io::ErrorKind;
+use uv_arguments::LintJob;
+use uv_arguments::arguments::said_of;
 use uv_io::{DeviceFault, FromReader, Sink, Source, write_whole};
-use uv_lint::{LineForm, LintCounts, LintFault, LintSetting, run_lint};
+use uv_lines::StopFault;
+use uv_lint::{LineForm, LintCounts, LintSetting, run_lint};
 use uv_messages::file_names::has_document_end;
 use uv_messages::messages::{Message, say};
 use uv_model::Record;
 use uv_report::{Columns, Format, end_of, push_begin};
 use uv_resolve::{ResolveFault, resolve_base};
-use uv_words::LintJob;
-use uv_words::arguments::said_of;
 
 // Nothing was counted.
 const NONE_COUNTED: LintCounts = LintCounts {
@@ -32,14 +34,14 @@ const NONE_COUNTED: LintCounts = LintCounts {
     refused: 0,
 };
 
-/// Reports on the lines of the job's files, in their order: in the format with the name, or in that of compilers, and
-/// alone or against the base, which is resolved alone, before anything is read. Columns count what the unit says, or
-/// what they count in the format. The base, the name and the unit are the texts that the job has. The input is read for
-/// each file named `-`.
+/// Reports on the lines of the job's files, in their order: in the format with the name, or in the one of compilers,
+/// and alone or against the base, which is resolved alone, before anything is read. Columns count what the unit says,
+/// or what they count in the format. The base, the name and the unit are the texts that the job has. The input is read
+/// for each file named `-`.
 ///
 /// A file that can't be opened, or not be read to its end, is reported on standard error by its name, and the next
 /// files go on; of the input the end says it. Another fault stops the lint; what the report ends with is still written
-/// where no write has failed.
+/// if no write has failed.
 pub(crate) fn lint_files<R: Files + Eprint + AllocGlobal, I: Source, S: Sink>(
     rt: &R,
     job: &LintJob,
@@ -52,10 +54,8 @@ pub(crate) fn lint_files<R: Files + Eprint + AllocGlobal, I: Source, S: Sink>(
     requires reads { I.failed input.old < 2 ^ 64 - 1 }
     requires writes { S.failed out.old < 2 ^ 64 - 1 }
     ensures { HasLinted job.now base.entry name.entry unit.entry result
-        (record { bytes = I.remaining input.old; failed = I.failed input.old })
-        (record { bytes = I.remaining input.new; failed = I.failed input.new })
-        (record { bytes = S.contents out.old; failed = S.failed out.old })
-        (record { bytes = S.contents out.new; failed = S.failed out.new }) }
+        (stream (I.remaining input.old) (I.failed input.old)) (stream (I.remaining input.new) (I.failed input.new))
+        (stream (S.contents out.old) (S.failed out.old)) (stream (S.contents out.new) (S.failed out.new)) }
 {
     let Some(format) = format_of(name) else {
         return End::UnknownFormat;
@@ -73,8 +73,8 @@ pub(crate) fn lint_files<R: Files + Eprint + AllocGlobal, I: Source, S: Sink>(
     }
 }
 
-// The format with a name, or that of compilers where none is named.
-fn format_of(name: Option<&str>) -> Option<Format>
+/// The format with a name, or the one of compilers if none is named.
+pub(crate) fn format_of(name: Option<&str>) -> Option<Format>
     ensures { result ≡ format_of name.entry }
 {
     match name {
@@ -83,7 +83,7 @@ fn format_of(name: Option<&str>) -> Option<Format>
     }
 }
 
-// What columns count in a format by its name, or where nothing is named what they count there.
+// What columns count in a format by its name, or if nothing is named what they count there.
 fn columns_of(format: Format, name: Option<&str>) -> Option<Columns>
     ensures { result ≡ columns_of format name.entry }
 {
@@ -117,10 +117,8 @@ fn lint_against<R: Files + Eprint + AllocGlobal, I: Source, S: Sink>(
     requires reads { I.failed input.old < 2 ^ 64 - 1 }
     requires writes { S.failed out.old < 2 ^ 64 - 1 }
     ensures { HasLintedAgainst job.now (option_copied base.entry) format columns result
-        (record { bytes = I.remaining input.old; failed = I.failed input.old })
-        (record { bytes = I.remaining input.new; failed = I.failed input.new })
-        (record { bytes = S.contents out.old; failed = S.failed out.old })
-        (record { bytes = S.contents out.new; failed = S.failed out.new }) }
+        (stream (I.remaining input.old) (I.failed input.old)) (stream (I.remaining input.new) (I.failed input.new))
+        (stream (S.contents out.old) (S.failed out.old)) (stream (S.contents out.new) (S.failed out.new)) }
 {
     let setting = LintSetting {
         base,
@@ -159,15 +157,14 @@ fn begin_of(alloc: Global, format: Format, columns: Columns) -> Result<String, A
 fn write_piece<S: Sink>(out: &mut S, piece: &str, linted: Linted) -> Linted
     requires { is_writable linted.stopped ≡ true → S.failed out.old < 2 ^ 64 - 1 }
     ensures { WritesPiece (is_writable linted.stopped) piece.now linted result
-        (record { bytes = S.contents out.old; failed = S.failed out.old })
-        (record { bytes = S.contents out.new; failed = S.failed out.new }) }
+        (stream (S.contents out.old) (S.failed out.old)) (stream (S.contents out.new) (S.failed out.new)) }
 {
     if !linted.is_writable() {
         return linted;
     }
     match write_whole(out, piece.as_bytes()) {
         Ok(()) => linted,
-        Err(DeviceFault) => linted.with_fault(LintFault::Write),
+        Err(DeviceFault) => linted.with_fault(StopFault::Write),
     }
 }
 
@@ -184,10 +181,8 @@ fn lint_each<R: Files + Eprint + AllocGlobal, I: Source, S: Sink>(
     requires { is_writable linted.stopped ≡ true → S.failed out.old < 2 ^ 64 - 1 }
     ensures all { LintsAll (λ file. file_setting (reported_name name.now file) setting.entry)
         (map string_bytes files.now) linted result
-        (record { bytes = I.remaining input.old; failed = I.failed input.old })
-        (record { bytes = I.remaining input.new; failed = I.failed input.new })
-        (record { bytes = S.contents out.old; failed = S.failed out.old })
-        (record { bytes = S.contents out.new; failed = S.failed out.new }) }
+        (stream (I.remaining input.old) (I.failed input.old)) (stream (I.remaining input.new) (I.failed input.new))
+        (stream (S.contents out.old) (S.failed out.old)) (stream (S.contents out.new) (S.failed out.new)) }
     ensures quiet { is_writable result.stopped ≡ true → S.failed out.new ≡ S.failed out.old }
     ensures stays { is_writable result.stopped ≡ true → is_writable linted.stopped ≡ true }
 {
@@ -211,10 +206,8 @@ fn lint_next<R: Files + Eprint + AllocGlobal, I: Source, S: Sink>(
     requires { is_writable linted.stopped ≡ true → S.failed out.old < 2 ^ 64 - 1 }
     ensures next { LintsNext (is_stopped linted) file.now (file_setting (reported_name name.now file.now) setting.entry)
         linted result
-        (record { bytes = I.remaining input.old; failed = I.failed input.old })
-        (record { bytes = I.remaining input.new; failed = I.failed input.new })
-        (record { bytes = S.contents out.old; failed = S.failed out.old })
-        (record { bytes = S.contents out.new; failed = S.failed out.new }) }
+        (stream (I.remaining input.old) (I.failed input.old)) (stream (I.remaining input.new) (I.failed input.new))
+        (stream (S.contents out.old) (S.failed out.old)) (stream (S.contents out.new) (S.failed out.new)) }
 {
     if linted.is_stopped() {
         return linted;
@@ -242,13 +235,11 @@ fn lint_named<R: Files + Eprint + AllocGlobal, I: Source, S: Sink>(
     is_first: bool,
     input: &mut I,
     out: &mut S,
-) -> (LintCounts, Result<(), LintFault>)
+) -> (LintCounts, Result<(), StopFault>)
     requires { S.failed out.old < 2 ^ 64 - 1 }
     ensures { LintsNamed is_input (file_setting file.now setting.entry) is_first result.0 result.1
-        (record { bytes = I.remaining input.old; failed = I.failed input.old })
-        (record { bytes = I.remaining input.new; failed = I.failed input.new })
-        (record { bytes = S.contents out.old; failed = S.failed out.old })
-        (record { bytes = S.contents out.new; failed = S.failed out.new }) }
+        (stream (I.remaining input.old) (I.failed input.old)) (stream (I.remaining input.new) (I.failed input.new))
+        (stream (S.contents out.old) (S.failed out.old)) (stream (S.contents out.new) (S.failed out.new)) }
 {
     if is_input {
         return lint_input(rt.alloc(), file, setting, is_first, input, out);
@@ -264,35 +255,31 @@ fn lint_input<I: Source, S: Sink>(
     is_first: bool,
     input: &mut I,
     out: &mut S,
-) -> (LintCounts, Result<(), LintFault>)
+) -> (LintCounts, Result<(), StopFault>)
     requires { S.failed out.old < 2 ^ 64 - 1 }
     ensures { LintsNamed true (file_setting file.now setting.entry) is_first result.0 result.1
-        (record { bytes = I.remaining input.old; failed = I.failed input.old })
-        (record { bytes = I.remaining input.new; failed = I.failed input.new })
-        (record { bytes = S.contents out.old; failed = S.failed out.old })
-        (record { bytes = S.contents out.new; failed = S.failed out.new }) }
+        (stream (I.remaining input.old) (I.failed input.old)) (stream (I.remaining input.new) (I.failed input.new))
+        (stream (S.contents out.old) (S.failed out.old)) (stream (S.contents out.new) (S.failed out.new)) }
 {
     if input.failures() == u64::MAX {
-        return (NONE_COUNTED, Err(LintFault::Read));
+        return (NONE_COUNTED, Err(StopFault::Read));
     }
     run_lint(alloc, input, out, file, is_first, setting)
 }
 
-// Reports on the file that is opened by its name, and reports why it isn't read, where it isn't read to its end.
+// Reports on the file that is opened by its name, and reports why it isn't read, if it isn't read to its end.
 fn lint_opened<R: Files + Eprint + AllocGlobal, S: Sink>(
     rt: &R,
     file: &str,
     setting: LintSetting<'_>,
     is_first: bool,
     out: &mut S,
-) -> (LintCounts, Result<(), LintFault>)
+) -> (LintCounts, Result<(), StopFault>)
     requires { S.failed out.old < 2 ^ 64 - 1 }
     ensures { LintsOpened (file_setting file.now setting.entry) is_first result.0 result.1
-        (record { bytes = S.contents out.old; failed = S.failed out.old })
-        (record { bytes = S.contents out.new; failed = S.failed out.new })
+        (stream (S.contents out.old) (S.failed out.old)) (stream (S.contents out.new) (S.failed out.new))
         ⊎ (LintsNothing result.0
-        (record { bytes = S.contents out.old; failed = S.failed out.old })
-        (record { bytes = S.contents out.new; failed = S.failed out.new })
+        (stream (S.contents out.old) (S.failed out.old)) (stream (S.contents out.new) (S.failed out.new))
         × IsUnopened result.1) }
 {
     if let Some(said) = said_of(file) {
@@ -316,21 +303,21 @@ fn lint_opened<R: Files + Eprint + AllocGlobal, S: Sink>(
 }
 
 // A file whose name isn't UTF-8 is never read, which is reported.
-fn unnamed<R: Eprint + AllocGlobal>(rt: &R, said: &str) -> LintFault
-    ensures { result ≡ LintFault.Read }
+fn unnamed<R: Eprint + AllocGlobal>(rt: &R, said: &str) -> StopFault
+    ensures { result ≡ StopFault.Read }
 {
     say(rt, Message::of(rt.alloc(), said));
-    LintFault::Read
+    StopFault::Read
 }
 
 // Why a file isn't opened. What isn't out of memory is reported.
-fn unopened<R: Eprint + AllocGlobal>(rt: &R, file: &str, kind: ErrorKind) -> LintFault
+fn unopened<R: Eprint + AllocGlobal>(rt: &R, file: &str, kind: ErrorKind) -> StopFault
     ensures fault { IsUnopened (Err result) }
     ensures why { IsWhyUnopened kind result }
 {
     if kind == ErrorKind::OutOfMemory {
-        return LintFault::Memory;
+        return StopFault::Memory;
     }
     say(rt, said_of_unread(rt.alloc(), file, Some(kind)));
-    LintFault::Read
+    StopFault::Read
 }

@@ -3,8 +3,10 @@ ghost use Rattle.std.specs.Prelude.{◌≡◌, IfOk, string_bytes};
 ghost use Rattle.uv_cli.specs.Linted as spec;
 ghost use Rattle.uv_cli.specs.Linted.{completion_of, counts_text, is_writable, lint_status, linted_text};
 
+use crate::fault::stopped_line;
 use std::alloc::{AllocError, Global};
-use uv_lint::{LintCounts, LintFault};
+use uv_lines::StopFault;
+use uv_lint::LintCounts;
 use uv_report::Completion;
 
 /// What a lint of files has come to: what was counted, and what went wrong.
@@ -19,7 +21,7 @@ pub struct Linted {
     /// Whether a line was refused of a file that has the name of a document.
     pub is_document_refused: bool,
     /// What stopped the lint, if something did. A failed read stops none.
-    pub stopped: Option<LintFault>,
+    pub stopped: Option<StopFault>,
     /// Whether no counts are wanted.
     pub is_quiet: bool,
 }
@@ -42,26 +44,27 @@ impl Linted {
         }
     }
 
-    /// The same after a file of which so many lines were counted: the standard input, or another one, with the name of
-    /// a document or of something else.
+    /// What the lint has come to after a file of which so many lines were counted: the standard input, or another one,
+    /// with the name of a document or of something else.
     pub(crate) fn with_file(
         self,
         is_input: bool,
         is_document: bool,
         counts: LintCounts,
-        answer: Result<(), LintFault>,
+        answer: Result<(), StopFault>,
     ) -> Linted
         ensures { result ≡ spec.with_file self is_input is_document counts answer }
     {
         let counted = self.with_counts(is_document, counts);
         match answer {
             Ok(()) => counted,
-            Err(LintFault::Read) => counted.with_unread(is_input),
+            Err(StopFault::Read) => counted.with_unread(is_input),
             Err(fault) => counted.with_fault(fault),
         }
     }
 
-    // The same after a file of which so many lines were counted, with the name of a document or of something else.
+    // The counts of the lint after a file of which so many lines were counted, with the name of a document or of
+    // something else.
     fn with_counts(self, is_document: bool, counts: LintCounts) -> Linted
         ensures { result ≡ spec.with_counts self is_document counts }
     {
@@ -79,7 +82,8 @@ impl Linted {
         }
     }
 
-    // The same after a file that can't be opened, or not be read to its end: the standard input, or another one.
+    // What the lint has come to after a file that can't be opened, or not be read to its end: the standard input, or
+    // another one.
     fn with_unread(self, is_input: bool) -> Linted
         ensures { result ≡ spec.with_unread self is_input }
     {
@@ -93,8 +97,8 @@ impl Linted {
         }
     }
 
-    /// The same where this stopped it.
-    pub(crate) fn with_fault(self, fault: LintFault) -> Linted
+    /// What the lint has come to where this stopped it.
+    pub(crate) fn with_fault(self, fault: StopFault) -> Linted
         ensures { result ≡ spec.with_fault self fault }
     {
         Linted {
@@ -118,7 +122,7 @@ impl Linted {
     pub(crate) fn is_writable(self) -> bool
         ensures { result ≡ is_writable self.stopped }
     {
-        !matches!(self.stopped, Some(LintFault::Write))
+        !matches!(self.stopped, Some(StopFault::Write))
     }
 
     /// Whether nothing was found so far, so that a next diagnostic is the first one.
@@ -141,8 +145,8 @@ impl Linted {
         }
     }
 
-    /// The exit status: 3 where something stopped the lint; else 2 where a file wasn't read; else 1 where something was
-    /// found; else 0.
+    /// The exit status: 3 if something stopped the lint; otherwise 2 if a file wasn't read; otherwise 1 if something
+    /// was found; otherwise 0.
     pub(crate) fn status(self) -> u8
         ensures { result ≡ lint_status self }
     {
@@ -178,17 +182,4 @@ fn counts_line(alloc: Global, counts: LintCounts) -> Result<String, AllocError>
     let refused = counts.refused;
     let noun = if lines == 1 { "line" } else { "lines" };
     format!(in alloc; "urlcheck: {lines} {noun}, {refused} refused\n")
-}
-
-fn stopped_line(stopped: Option<LintFault>) -> &'static str
-    ensures { result.now ≡ spec.stopped_text stopped }
-{
-    match stopped {
-        None => "",
-        Some(LintFault::Memory) => "memory\n",
-        Some(LintFault::Read) => "read\n",
-        Some(LintFault::Write) => "write\n",
-        Some(LintFault::TooManyLines) => "too many lines\n",
-        Some(LintFault::Endless) => "endless\n",
-    }
 }

@@ -15,10 +15,10 @@ use uv_model::{Profile, Record, Refusal};
 use uv_resolve::{ResolveFault, resolve_base};
 
 /// Says what to write in place of a text by a profile, alone or against a base, and writes that: `mended KIND` and the
-/// mended text, `valid`, or `none` and the line of the refusal. It ends with `Valid` where a valid text was found.
+/// mended text, `valid`, or `none` and the line of the refusal. It ends with `Valid` if a valid text was found.
 ///
-/// The base is resolved alone by the same profile, before the text is looked at. An error of memory leaves the output
-/// as it was; an error of a write leaves a beginning of what was to be written.
+/// The base is resolved alone under the same profile, before the text is looked at. An error of memory leaves the
+/// output as it was; an error of a write leaves a beginning of what was to be written.
 pub fn run_mend<S: Sink>(
     alloc: Global,
     text: &str,

@@ -6,42 +6,44 @@ ghost use Rattle.uv_cli.specs.Calls.{is_closed_by};
 ghost use Rattle.uv_cli.specs.Ends.{status_of};
 ghost use Rattle.uv_cli.specs.Flushed.{ended_after, open_end};
 ghost use Rattle.uv_cli.specs.Program.{HasAnswered, HasEndedJob, HasFile, HasRun, HasShown, IsStatus};
+ghost use Rattle.uv_cli.specs.Stream.{stream};
 
 use crate::ends::{
     End, end_after_output, end_without_file, end_without_job, fixed_line, numbered_line, status,
 };
 use crate::fault::CliFault;
 use crate::jobs::run_job;
+use crate::painted::{PaintedWriter, painted_format};
 use crate::said::{Seen, said_at_end};
 use crate::vector_file::{FileFault, read_vector_file};
-use crate::watched::{WatchedReader, WatchedWriter};
+use crate::watched_streams::{WatchedReader, WatchedWriter};
 use std::alloc::{AllocError, Global};
 use std::fs::Files;
 use std::io;
 use std::io::{ErrorKind, Write};
 use std::rt::Env;
+use uv_arguments::arguments::{OwnArguments, refused, words_of};
+use uv_arguments::{Job, WordsFault, read_words};
 use uv_io::{FromReader, Source, ToWriter};
 use uv_messages::messages::{Message, say};
 use uv_messages::refused_words::refused_words;
 use uv_messages::unread::{unread, unwritten};
-use uv_words::arguments::{OwnArguments, refused, words_of};
-use uv_words::{Job, WordsFault, read_words};
 
 // What is said of arguments that `clap` takes, and that ask for nothing.
 const NO_JOB: &str = "--wide is short for --profile wide: only one of them may be given";
 
-/// How the program ends, and whether whoever read its output has gone: then nothing is said of the end.
+/// How the program ends, and whether anyone who read its output has gone: then the end isn't reported.
 #[derive(Clone, Copy)]
 pub struct Ended {
     /// The end.
     pub end: End,
-    /// Whether whoever read the output has gone.
+    /// Whether anyone who read the output has gone.
     pub is_closed: bool,
 }
 
-/// Runs the program on the arguments of the runtime, and gives its exit status.
-pub fn run<R: Env + Files + Input + Print + Eprint + AllocGlobal>(rt: &R) -> u8 {
-    match outcome(rt) {
+/// Runs the program on the arguments of the runtime, and gives its exit status. Its output may go to a terminal.
+pub fn run<R: Env + Files + Input + Print + Eprint + AllocGlobal>(rt: &R, is_terminal: bool) -> u8 {
+    match outcome(rt, is_terminal) {
         Ok(
             Ended {
                 end,
@@ -55,6 +57,7 @@ pub fn run<R: Env + Files + Input + Print + Eprint + AllocGlobal>(rt: &R) -> u8 
 
 fn outcome<R: Env + Files + Input + Print + Eprint + AllocGlobal>(
     rt: &R,
+    is_terminal: bool,
 ) -> Result<Ended, AllocError> {
     let words = words_of(rt.alloc(), &OwnArguments::new(rt))?;
     let texts: Vec<&str> = words.iter().map(|word| word.as_str()).collect(rt.alloc())?;
@@ -66,19 +69,20 @@ fn outcome<R: Env + Files + Input + Print + Eprint + AllocGlobal>(
     if let Some(said) = refused(words.as_slice(), job) {
         return Ok(refusal(rt, said));
     }
-    Ok(answered(rt, texts.as_slice(), &asked))
+    Ok(answered(rt, texts.as_slice(), &asked, is_terminal))
 }
 
 // Does what the arguments, which are these words, ask for, or says why there is nothing to do.
-fn answered<R: Files + Input + Print + Eprint + AllocGlobal>(
+fn answered<R: Env + Files + Input + Print + Eprint + AllocGlobal>(
     rt: &R,
     words: &[&str],
     asked: &Result<Option<Job>, WordsFault>,
+    is_terminal: bool,
 ) -> Ended
     ensures { HasAnswered asked.now result }
 {
     match asked {
-        Ok(Some(job)) => done(rt, job),
+        Ok(Some(job)) => done(rt, job, is_terminal),
         Ok(None) => refusal(rt, NO_JOB),
         Err(fault) => shown(rt, words, fault),
     }
@@ -102,16 +106,39 @@ fn open(end: End) -> Ended
     }
 }
 
-// Does a job over the runtime's streams.
-fn done<R: Files + Input + Print + Eprint + AllocGlobal>(rt: &R, job: &Job) -> Ended
+// Does a job over the runtime's streams, in colours where it asks for some.
+fn done<R: Env + Files + Input + Print + Eprint + AllocGlobal>(
+    rt: &R,
+    job: &Job,
+    is_terminal: bool,
+) -> Ended
     ensures { HasEndedJob job.now result }
 {
     let file = match file_of(rt, job) {
         Ok(file) => file,
         Err(fault) => return open(end_without_file(fault)),
     };
+    let out = io::writer(rt);
+    match painted_format(rt, job, is_terminal) {
+        Some(format) => {
+            let painted = PaintedWriter::new(rt.alloc(), out, format);
+            done_into(rt, job, file.as_slice(), painted)
+        }
+        None => done_into(rt, job, file.as_slice(), out),
+    }
+}
+
+// Does a job over the runtime's input and a writer, and says what is to be said of its end.
+fn done_into<R: Files + Input + Eprint + AllocGlobal, W: Write + Drop>(
+    rt: &R,
+    job: &Job,
+    file: &[u8],
+    out: W,
+) -> Ended
+    ensures { HasEndedJob job.now result }
+{
     let mut input = FromReader::new(WatchedReader::new(rt.reader()));
-    let (ended, out) = done_over(rt, job, file.as_slice(), &mut input, io::writer(rt));
+    let (ended, out) = done_over(rt, job, file, &mut input, out);
     if !ended.is_closed {
         let reader = input.into_reader();
         let seen = Seen {
@@ -134,8 +161,7 @@ fn done_over<R: Files + Eprint + AllocGlobal, I: Source, W: Write + Drop>(
 ) -> (Ended, WatchedWriter<W>)
     requires { I.failed input.old < 2 ^ 64 - 1 }
     ensures { HasRun job.now file.now result.0
-        (record { bytes = I.remaining input.old; failed = I.failed input.old })
-        (record { bytes = I.remaining input.new; failed = I.failed input.new })
+        (stream (I.remaining input.old) (I.failed input.old)) (stream (I.remaining input.new) (I.failed input.new))
         (W.contents writer) (W.contents result.1.writer) result.1.is_flushed result.1.fault }
 {
     let mut out = ToWriter::new(WatchedWriter::new(writer));
@@ -145,7 +171,7 @@ fn done_over<R: Files + Eprint + AllocGlobal, I: Source, W: Write + Drop>(
     (ended, out)
 }
 
-// The bytes of the job's file, and none where it has no file. It is reported why a file isn't read.
+// The bytes of the job's file, and none if it has no file. It is reported why a file isn't read.
 fn file_of<R: Files + Eprint + AllocGlobal>(rt: &R, job: &Job) -> Result<Vec<u8>, FileFault>
     ensures { OnErr result (HasFile job.now) }
 {
@@ -159,7 +185,7 @@ fn file_of<R: Files + Eprint + AllocGlobal>(rt: &R, job: &Job) -> Result<Vec<u8>
     read
 }
 
-/// The end once the output is flushed, or once that failed: then it is that of a failed write.
+/// The end once the output is flushed, or once that failed: then it is the end of a failed write.
 pub fn finished<W: Write>(end: End, out: &mut WatchedWriter<W>) -> Ended
     ensures ended { result ≡ ended_after end out.new.is_flushed out.new.fault }
     ensures bytes { Keeps (W.contents out.old.writer) (W.contents out.new.writer) }
@@ -171,7 +197,7 @@ pub fn finished<W: Write>(end: End, out: &mut WatchedWriter<W>) -> Ended
     }
 }
 
-// Whether whoever read the output has gone, by the kind of the last error.
+// Whether anyone who read the output has gone, by the kind of the last error.
 fn is_closed_by(fault: Option<ErrorKind>) -> bool
     ensures { result ≡ is_closed_by fault }
 {
@@ -233,7 +259,7 @@ fn end_with<R: Eprint + AllocGlobal>(rt: &R, end: End) -> u8
     }
 }
 
-// Says the last line, or that there was no memory for it, and gives the exit status: that of the end, or that of no
+// Says the last line, or that there was no memory for it, and gives the exit status: the end's, or the one of no
 // memory.
 fn said<R: Eprint>(rt: &R, end: End, line: Result<String, AllocError>) -> u8
     ensures { MatchResult line (λ text. result ≡ status_of end)

@@ -6,22 +6,24 @@ use crate::filtered::Filtered;
 use crate::linted::Linted;
 use std::alloc::{AllocError, Global};
 use std::io::ErrorKind;
-use uv_filter::FilterFault;
+use uv_arguments::Job;
 use uv_grammar::{faults, wider_profile};
+use uv_lines::StopFault;
 use uv_links::LinkFault;
-use uv_lint::{LintCounts, LintFault};
+use uv_lint::LintCounts;
 use uv_mend::{Mending, mend};
-use uv_messages::contents::{Content, content_line};
 use uv_messages::hints::{Hint, file_hint, push_text_hint};
+use uv_messages::list_contents::{Content, content_line};
 use uv_messages::messages::Message;
 use uv_messages::unknown::{
-    refused_unit, unknown_format, unknown_kind, unknown_profile, unknown_rules, unknown_unit,
+    refused_unit, unknown_colours, unknown_format, unknown_kind, unknown_profile, unknown_rules,
+    unknown_unit,
 };
 use uv_messages::unread::{unread, unwritten, unwritten_line};
 use uv_model::{Extent, Profile, Record, Refusal, Rule};
-use uv_report::{Checked, Format, LineViolation, SeenText, Wording, is_offered, message};
+use uv_report::Format;
 use uv_resolve::{ResolveFault, resolve_base};
-use uv_words::Job;
+use uv_sentences::{Checked, LineViolation, SeenText, Wording, is_offered, message};
 
 // How standard input is named.
 const INPUT: &str = "standard input";
@@ -64,15 +66,15 @@ pub(crate) fn said_at_end(
         End::BaseRefused(refusal) => said_of_base(alloc, job, refusal),
         End::Linted(linted) => said_of_linted(alloc, linted, seen),
         End::Filtered(filtered) => said_of_filtered(alloc, filtered, seen),
-        End::Stopped(LinkFault::Read) => unread(alloc, INPUT, seen.read),
-        End::Stopped(LinkFault::Write) | End::Fault(CliFault::Write) => {
+        End::Stopped(LinkFault::Stop(StopFault::Read)) => unread(alloc, INPUT, seen.read),
+        End::Stopped(LinkFault::Stop(StopFault::Write)) | End::Fault(CliFault::Write) => {
             unwritten(alloc, seen.written)
         }
         _ => said_of_names(alloc, job, end),
     }
 }
 
-// What is said of a job that names what there is none of, or asks for what doesn't go together; else nothing.
+// What is said of a job that names what there is none of, or asks for what doesn't go together; otherwise nothing.
 fn said_of_names(alloc: Global, job: &Job, end: End) -> Result<Message, AllocError> {
     match (job, end) {
         (Job::LintWithoutInput, _) => Message::of(alloc, OF_INPUT),
@@ -81,6 +83,7 @@ fn said_of_names(alloc: Global, job: &Job, end: End) -> Result<Message, AllocErr
         (Job::SeveralTexts, _) => Message::of(alloc, Hint::OneTextOfMend.text()),
         (Job::InPlace { .. }, End::Words) => Message::of(alloc, OF_NO_FILES),
         (Job::UnknownProfile { name }, _) => unknown_profile(alloc, name.as_str()),
+        (Job::UnknownColours { name }, _) => unknown_colours(alloc, name.as_str()),
         (Job::Explain { rules, .. }, End::UnknownRule) => unknown_rules(alloc, rules.as_slice()),
         (Job::Filter(asked) | Job::InPlace { asked, .. }, End::UnknownKind) => {
             unknown_kind(alloc, or_empty(&asked.only))
@@ -96,7 +99,7 @@ fn said_of_names(alloc: Global, job: &Job, end: End) -> Result<Message, AllocErr
     }
 }
 
-// A name, or an empty text where none is given.
+// A name, or an empty text if none is given.
 fn or_empty(name: &Option<String>) -> &str {
     name.as_deref().unwrap_or("")
 }
@@ -238,7 +241,7 @@ fn said_of_linted(alloc: Global, linted: Linted, seen: Seen) -> Result<Message, 
     } else {
         Message::nothing(alloc)
     };
-    if linted.stopped == Some(LintFault::Write) {
+    if linted.stopped == Some(StopFault::Write) {
         said.push(alloc, unwritten_line(alloc, seen.written)?.as_str())?;
     }
     if linted.is_document_refused && !linted.is_quiet && !linted.is_stopped() {
@@ -253,8 +256,8 @@ fn said_of_linted(alloc: Global, linted: Linted, seen: Seen) -> Result<Message, 
 // What is said of a filter: that a stream failed, and what its input looks like.
 fn said_of_filtered(alloc: Global, filtered: Filtered, seen: Seen) -> Result<Message, AllocError> {
     let mut said = match filtered.stopped {
-        Some(FilterFault::Read) => unread(alloc, INPUT, seen.read)?,
-        Some(FilterFault::Write) => unwritten(alloc, seen.written)?,
+        Some(StopFault::Read) => unread(alloc, INPUT, seen.read)?,
+        Some(StopFault::Write) => unwritten(alloc, seen.written)?,
         _ => Message::nothing(alloc),
     };
     if !filtered.is_clean() {
@@ -269,11 +272,11 @@ pub(crate) fn said_of_file(
     alloc: Global,
     file: &str,
     counts: LintCounts,
-    answer: Result<(), LintFault>,
+    answer: Result<(), StopFault>,
     seen: Seen,
 ) -> Result<Message, AllocError> {
     let mut said = match answer {
-        Err(LintFault::Read) => said_of_unread(alloc, file, seen.read)?,
+        Err(StopFault::Read) => said_of_unread(alloc, file, seen.read)?,
         _ => Message::nothing(alloc),
     };
     if counts.refused > 0 {

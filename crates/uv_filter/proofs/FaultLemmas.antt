@@ -4,18 +4,21 @@ use Rattle.std.proofs.Common.{sym, ap, ◌∙◌, subst, arith, append-nil, inl,
 use Rattle.std.proofs.KnownBytes.{Appends-trans, Appends-nil}
 use Rattle.std.proofs.Math.Seq.{take-append-add, take-length}
 use Rattle.std.specs.Io.KnownBytes.{Appends}
-use Rattle.uv_lines.specs.declared.fault.ListFault.{ListFault}
-use Rattle.uv_lines.specs.declared.fault.ListFault.TheVariants as list
+use Rattle.std.specs.declared.alloc.AllocError.{AllocError}
+use Rattle.uv_lines.specs.declared.fault.LineFault.{LineFault}
+use Rattle.uv_lines.specs.declared.fault.LineFault.TheVariants.{Own, Stop}
+use Rattle.uv_lines.specs.declared.fault.ReportFault.{ReportFault}
+use Rattle.uv_lines.specs.declared.fault.ReportFault.TheVariants as within
+use Rattle.uv_lines.specs.declared.fault.StopFault.TheVariants.{Memory, Read, Write, TooManyLines, Endless}
+use Rattle.uv_lines.specs.Fault.{failed_within, reads_failed, writes_failed}
 use Rattle.uv_lines.specs.Lines.{line_feed, split}
-use Rattle.uv_lines.specs.Taking.{Left, Way, reads_of, writes_of}
+use Rattle.uv_lines.specs.Run as run
+use Rattle.uv_lines.specs.Taking.{Left, Way, writes_of}
 use Rattle.uv_lines.proofs.FramedLemmas.{prefix_of}
-use Rattle.uv_filter.specs.declared.fault.FilterFault.{FilterFault}
-use Rattle.uv_filter.specs.declared.fault.FilterFault.TheVariants.{Memory, Read, Write, Endless}
 use Rattle.uv_filter.specs.Filtered.{Filtered, Filtering}
 use Rattle.uv_filter.specs.Lines.{Line, all_lines, ended_line, ended_lines, is_over, ready_lines, whole}
 use Rattle.uv_filter.specs.Progress.{Ends, Stands, passed, passing, with_over}
-use Rattle.uv_filter.specs.Run.{Cut, Leaves, Stops, TakeFault, Wrote, WrotePrefix, fault_of_list, reads_failed}
-use Rattle.uv_filter.specs.Run.{writes_failed}
+use Rattle.uv_filter.specs.Run.{Cut, Leaves, Stops, TakeFault, Wrote, WrotePrefix, fault_of_list}
 use Rattle.uv_filter.proofs.FilteredLemmas.{with_ready}
 use Rattle.uv_filter.proofs.LineLemmas.{ended-growing, ended_few, first_few, first_lines, last-growing, over_long}
 use Rattle.uv_filter.proofs.LineLemmas.{prefix_count, ready_first}
@@ -33,7 +36,7 @@ cut start lines old new newer now written more text n before part is all = recor
       (rw (take-append-add written more n) (Appends-trans old new newer written (take n more) before part));
 }
 
--- the lines that have ended, where no line has begun that is too long
+-- the lines that have ended, if no line has begun that is too long
 closed_filtered : (start : Filtering) (old : Option (List ℕ)) (read : List ℕ) (now : Filtering) (begun : List ℕ)
     (is_long : Bool) (text : List ℕ) (new : Option (List ℕ))
     → (h : Stands start old read now begun is_long text new) → is_long ≡ false
@@ -61,11 +64,11 @@ write-cut start old read rest now after begun is_long text new newer n h short p
 )
 
 -- memory ran out
-memory-left : (start : Filtering) (old : Option (List ℕ)) (read rest : List ℕ) (now after : Filtering)
-    (begun : List ℕ) (is_long : Bool) (text : List ℕ) (new newer : Option (List ℕ))
+memory-left : (fault : AllocError) (start : Filtering) (old : Option (List ℕ)) (read rest : List ℕ)
+    (now after : Filtering) (begun : List ℕ) (is_long : Bool) (text : List ℕ) (new newer : Option (List ℕ))
     → Stands start old read now begun is_long text new → is_long ≡ false → Appends new newer text → after ≡ now
-    → TakeFault Memory start old (read ++ rest) after newer
-memory-left start old read rest now after begun is_long text new newer h short wrote same = (
+    → TakeFault (within.Reporter fault) start old (read ++ rest) after newer
+memory-left fault start old read rest now after begun is_long text new newer h short wrote same = (
   length (ended_lines read),
   prefix_count read rest,
   subst (λ q. Wrote start (take (length (ended_lines read)) (all_lines (read ++ rest))) old newer q) (sym same)
@@ -77,18 +80,17 @@ memory-left start old read rest now after begun is_long text new newer h short w
 )
 
 -- memory ran out, and what waited was written or a prefix of it
-pub stops-left : (e : FilterFault) (start : Filtering) (old : Option (List ℕ)) (read rest : List ℕ)
+pub stops-left : (e : ReportFault AllocError) (start : Filtering) (old : Option (List ℕ)) (read rest : List ℕ)
     (now after : Filtering) (begun : List ℕ) (is_long : Bool) (text waits : List ℕ) (new newer : Option (List ℕ))
     → Stands start old read now begun is_long text new → is_long ≡ false → waits ≡ text → Stops e waits new newer
     → after ≡ now → TakeFault e start old (read ++ rest) after newer
-stops-left Memory start old read rest now after begun is_long text waits new newer h short is stops same =
-    memory-left start old read rest now after begun is_long text new newer h short
+stops-left (within.Reporter fault) start old read rest now after begun is_long text waits new newer h short is stops
+    same =
+    memory-left fault start old read rest now after begun is_long text new newer h short
     (subst (λ t. Appends new newer t) is stops) same
-stops-left Write start old read rest now after begun is_long text waits new newer h short is stops same =
+stops-left within.Write start old read rest now after begun is_long text waits new newer h short is stops same =
     write-cut start old read rest now after begun is_long text new newer stops.0 h short
     (subst (λ t. Appends new newer (take stops.0 t)) is stops.1) same
-stops-left Read start old read rest now after begun is_long text waits new newer h short is stops same = absurd stops
-stops-left Endless start old read rest now after begun is_long text waits new newer h short is stops same = absurd stops
 
 -- a write failed while a line that is too long went on
 pub pass-cut : (start : Filtering) (old : Option (List ℕ)) (read rest : List ℕ) (now after : Filtering)
@@ -211,23 +213,17 @@ ready-wrote start old read now begun is_long text new h empty = record {
   wrote = h.wrote;
 }
 
--- what a piece's fault leaves is what the run's fault leaves
-take_to_run : (e : FilterFault) (start : Filtering) (old : Option (List ℕ)) (read : List ℕ) (at_end : Type 0)
-    (now : Filtering) (new : Option (List ℕ)) → TakeFault e start old read now new
-    → Leaves e start old read at_end now new
-take_to_run Memory start old read at_end now new left =
-    (left.0, (let few = ended_few read in let below = left.1 in omega (arith, few, below)), inl left.1, left.2)
-take_to_run Write start old read at_end now new left = left
-take_to_run Read start old read at_end now new left = absurd left
-take_to_run Endless start old read at_end now new left = absurd left
-
--- such a fault is no failed read
-taking_reads : (e : FilterFault) (start : Filtering) (old : Option (List ℕ)) (read : List ℕ) (now : Filtering)
-    (new : Option (List ℕ)) → TakeFault e start old read now new → reads_failed e ≡ 0
-taking_reads Memory start old read now new left = refl
-taking_reads Write start old read now new left = refl
-taking_reads Read start old read now new left = absurd left
-taking_reads Endless start old read now new left = absurd left
+-- what a piece's fault leaves is what the run's fault leaves, and it isn't a failed read
+take_to_run : (e : ReportFault AllocError) (start : Filtering) (old : Option (List ℕ)) (read : List ℕ)
+    (at_end : Type 0) (now : Filtering) (new : Option (List ℕ)) → TakeFault e start old read now new
+    → Leaves (fault_of_list (Own e)) start old read at_end now new × (reads_failed (fault_of_list (Own e)) ≡ 0)
+    × (writes_failed (fault_of_list (Own e)) ≡ failed_within e)
+take_to_run (within.Reporter fault) start old read at_end now new left = (
+  (left.0, (let few = ended_few read in let below = left.1 in omega (arith, few, below)), inl left.1, left.2),
+  refl,
+  refl,
+)
+take_to_run within.Write start old read at_end now new left = (left, refl, refl)
 
 -- before the first read nothing is written
 nothing_written : (start : Filtering) (old : Option (List ℕ)) (at_end : Type 0)
@@ -241,28 +237,23 @@ nothing_written start old at_end = (
 
 -- what is left where a list is taken by the filter is what the run's fault leaves
 pub list_to_run : {P : Type 0} (p : P) (of : P → Filtering) (stands : Way P) (rests : P → Type 0)
-    (stops : FilterFault → Way P) (e : ListFault FilterFault) (old : Option (List ℕ)) (read : List ℕ)
-    (at_end : Type 0) (q : P) (new : Option (List ℕ))
-    → ((fault : FilterFault) → stops fault p old read q new → TakeFault fault (of p) old read (of q) new)
+    (stops : ReportFault AllocError → Way P) (e : LineFault (ReportFault AllocError)) (old : Option (List ℕ))
+    (read : List ℕ) (at_end : Type 0) (q : P) (new : Option (List ℕ))
+    → ((fault : ReportFault AllocError) → stops fault p old read q new → TakeFault fault (of p) old read (of q) new)
     → (stands p old read q new → rests q → Wrote (of p) (ready_lines read) old new (of q))
     → Left stands rests stops stops e p old read at_end q new
     → Leaves (fault_of_list e) (of p) old read at_end (of q) new
-    × (reads_failed (fault_of_list e) ≡ reads_of e) × (writes_failed (fault_of_list e) ≡ writes_of writes_failed e)
-list_to_run p of stands rests stops (list.Taken fault) old read at_end q new stopped ready (inl left) =
-    let is = stopped fault left in (
-      take_to_run fault (of p) old read at_end (of q) new is,
-      taking_reads fault (of p) old read (of q) new is,
-      refl,
-    )
-list_to_run p of stands rests stops (list.Taken fault) old read at_end q new stopped ready (inr left) =
-    let is = stopped fault left.1 in (
-      take_to_run fault (of p) old read at_end (of q) new is,
-      taking_reads fault (of p) old read (of q) new is,
-      refl,
-    )
-list_to_run p of stands rests stops list.Memory old read at_end q new stopped ready left =
+    × (reads_failed (fault_of_list e) ≡ run.reads_failed e)
+    × (writes_failed (fault_of_list e) ≡ writes_of failed_within e)
+list_to_run p of stands rests stops (Own fault) old read at_end q new stopped ready (inl left) =
+    take_to_run fault (of p) old read at_end (of q) new (stopped fault left)
+list_to_run p of stands rests stops (Own fault) old read at_end q new stopped ready (inr left) =
+    take_to_run fault (of p) old read at_end (of q) new (stopped fault left.1)
+list_to_run p of stands rests stops (Stop Memory) old read at_end q new stopped ready left =
     (rw (left.0, left.1, left.2) (nothing_written (of p) old at_end), refl, refl)
-list_to_run p of stands rests stops list.Read old read at_end q new stopped ready left =
+list_to_run p of stands rests stops (Stop Read) old read at_end q new stopped ready left =
     (ready left.0 left.1, refl, refl)
-list_to_run p of stands rests stops list.Endless old read at_end q new stopped ready left =
+list_to_run p of stands rests stops (Stop Endless) old read at_end q new stopped ready left =
     ((ready left.0 left.1, left.2), refl, refl)
+list_to_run p of stands rests stops (Stop Write) old read at_end q new stopped ready left = absurd left
+list_to_run p of stands rests stops (Stop TooManyLines) old read at_end q new stopped ready left = absurd left

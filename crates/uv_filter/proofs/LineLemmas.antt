@@ -32,7 +32,7 @@ ended-growing xs rest none = ap (λ p. map ended_line p.0) (split-growing xs res
 pub last-growing : (xs rest : List ℕ) → split rest ≡ ([], rest) → (split (xs ++ rest)).1 ≡ (split xs).1 ++ rest
 last-growing xs rest none = ap (λ p. p.1) (split-growing xs rest none)
 
--- the lines that have ended are the first of those of a longer list
+-- the lines that have ended are the first lines of a longer list
 ended_joined : (ws : List (List ℕ)) (l : List ℕ) (vs : List (List ℕ)) (m : List ℕ)
     → (more : List Line) × (map ended_line (join ws l vs m).0 ≡ map ended_line ws ++ more)
 ended_joined ws l [] m = ([], sym (append-nil (map ended_line ws)))
@@ -120,7 +120,7 @@ ready_whole false read begun is none =
     let l = (split read).1 in
     ap (λ o. ended_lines read ++ o) (ap last_line (none refl) ∙ ap (λ c. over_line c l) (sym is))
 
--- they are all lines where none has begun that isn't too long
+-- they are all lines if none has begun that isn't too long
 pub all_ready : (read : List ℕ) → (is_over (split read).1 ≡ false → (split read).1 ≡ [])
     → all_lines read ≡ ready_lines read
 all_ready read none = ready_whole (is_over (split read).1) read [] refl none

@@ -95,7 +95,7 @@ passed_whole true l begun rest out closed is kept =
 passed_whole false l begun rest out closed is kept =
     ap (λ t. out ++ (t ++ rest)) kept ∙ ap (λ t. t ++ (l ++ rest)) (is ∙ append-nil closed)
 
--- the same of what has was
+-- what was written, with what is kept of the line, has all that was read
 pub passed_out : (start : Filtering) (old : Option (List ℕ)) (read : List ℕ) (now : Filtering) (begun : List ℕ)
     (is_long : Bool) (text : List ℕ) (new : Option (List ℕ)) (rest : List ℕ)
     → (h : Stands start old read now begun is_long text new)
@@ -248,7 +248,7 @@ ready_filtered start old read now begun is_long text new h =
 
 -- ---- the end of the list
 
--- where no line has begun, or one that is too long
+-- if no line has begun, or one that is too long
 pub Ends-empty : (start : Filtering) (old : Option (List ℕ)) (read : List ℕ) (now : Filtering) (begun : List ℕ)
     (is_long : Bool) (text : List ℕ) (new : Option (List ℕ))
     → Stands start old read now begun is_long text new → begun ≡ [] → Ends start old read now text new

@@ -14,7 +14,7 @@ use Rattle.uv_filter.specs.declared.fate.Fate.{Fate}
 use Rattle.uv_filter.specs.declared.fate.Fate.TheVariants.{Empty, Valid, Mended, Refused, NotUtf8, TooLong}
 use Rattle.uv_filter.specs.declared.setting.FilterSetting.{FilterSetting}
 use Rattle.uv_filter.specs.Lines.{Line, checked_of, replaced, text_of, whole}
-use Rattle.uv_report.specs.Sentences.Intention.{is_offered}
+use Rattle.uv_sentences.specs.Sentences.Intention.{is_offered}
 
 -- by what lines are mended: the profile, the base, the kind of the mended texts that are written, where not all are,
 -- and whether those are written too that aren't offered
@@ -47,7 +47,7 @@ takes None found = true
 takes (Some wanted) found = is_kind wanted found
 
 -- a mended text of this kind is written in place of a text: it is of the kind that is asked for, and it is offered (see
--- uv_report), where not all are written
+-- uv_sentences), where not all are written
 unfoldable pub writes : Mender → List ℕ → List ℕ → MendKind → Bool
 writes mender text mended found = takes mender.only found && (mender.all || is_offered text mended)
 

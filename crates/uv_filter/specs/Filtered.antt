@@ -28,7 +28,7 @@ pub record Filters (before : Filtering) (line : Line) (text : List ℕ) (after :
   pub written : text ≡ written_of before.is_first line fate
   pub left : after ≡ with_fate before fate
 
--- the same of lines
+-- of the next lines this is written, and the filter is left so
 abbrev pub Filtered : Filtering → List Line → List ℕ → Filtering → Type 0
 Filtered before [] text after = (text ≡ []) × (after ≡ before)
 Filtered before (line ∷ lines) text after =

@@ -1,5 +1,5 @@
 -- The lines of a list with their ends. A line ends with LF, and one CR before that is part of its end; what follows the
--- last LF is a line where it isn't empty.
+-- last LF is a line if it isn't empty.
 use Rattle.std.specs.Prelude.{ℕ, ◌-◌, Bool, true, false, List, [], ◌∷◌, ◌++◌, drop, length, map, nat_le, take}
 use Rattle.uv_lines.specs.Lines.{line_feed, split, without_mark}
 use Rattle.uv_lines.specs.Progress.{ended}
@@ -60,7 +60,7 @@ replaced is_first line text = mark_of is_first line ++ (text ++ end_of line)
 abbrev pub ended_lines : List ℕ → List Line
 ended_lines bytes = map ended_line (split bytes).0
 
--- the last one, where no LF ends it
+-- the last one, if no LF ends it
 abbrev pub last_line : List ℕ → List Line
 last_line [] = []
 last_line (x ∷ xs) = open_line (x ∷ xs) ∷ []

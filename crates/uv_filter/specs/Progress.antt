@@ -27,7 +27,7 @@ abbrev pub with_over : Bool → Filtering → Filtering
 with_over true before = with_fate before TooLong
 with_over false before = before
 
--- the same where it is known already, or isn't
+-- a line is counted as too long, unless it is known to be already
 abbrev pub passing : Bool → Filtering → Filtering
 passing true before = before
 passing false before = with_fate before TooLong

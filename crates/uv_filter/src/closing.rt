@@ -1,18 +1,18 @@
 //! What is written of a line after what waits to be, the end of a list, and where memory runs out.
 ghost use Rattle.std.specs.Prelude.{◌≡◌, ℕ, ◌+◌, ◌-◌, ◌^◌, ◌<◌, List, [], Option, OnErr, OnOk, vec_len};
+ghost use Rattle.uv_lines.specs.Fault.{failed_within};
 ghost use Rattle.uv_filter.specs.Filtered.{Filtering};
 ghost use Rattle.uv_filter.specs.Progress.{Adds, Ends, Stands};
-ghost use Rattle.uv_filter.specs.Run.{Stops, writes_failed};
+ghost use Rattle.uv_filter.specs.Run.{Stops};
 
-use crate::fault::FilterFault;
 use crate::progress::Progress;
 use crate::written::ListLine;
 use std::alloc::{AllocError, Global};
 use uv_io::{DeviceFault, Sink};
-use uv_lines::write_out;
+use uv_lines::{ReportFault, write_out};
 
 impl<'b> Progress<'b> {
-    /// Appends what is written of the last line, where no LF ends it and it isn't written already.
+    /// Appends what is written of the last line, if no LF ends it and it isn't written already.
     pub(crate) fn append_last(&mut self, alloc: Global) -> Result<(), AllocError>
         ensures ends { OnOk result ((start : Filtering) (old : Option (List ℕ)) (read : List ℕ)
             (new : Option (List ℕ))
@@ -48,15 +48,15 @@ impl<'b> Progress<'b> {
     }
 
     /// Writes what waits to be written, where memory ran out, and gives the fault.
-    pub(crate) fn stop<W: Sink>(&mut self, writer: &mut W) -> FilterFault
+    pub(crate) fn stop<W: Sink>(&mut self, writer: &mut W) -> ReportFault<AllocError>
         requires { W.failed writer.old < 2 ^ 64 - 1 }
         ensures stopped { Stops result self.old.text.items (W.contents writer.old) (W.contents writer.new) }
         ensures filter { self.new.filter ≡ self.old.filter }
-        ensures failed { W.failed writer.new ≡ W.failed writer.old + writes_failed result }
+        ensures failed { W.failed writer.new ≡ W.failed writer.old + failed_within result }
     {
         match write_out(&mut self.text, writer) {
-            Ok(()) => FilterFault::Memory,
-            Err(DeviceFault) => FilterFault::Write,
+            Ok(()) => ReportFault::Reporter(AllocError),
+            Err(DeviceFault) => ReportFault::Write,
         }
     }
 }

@@ -66,7 +66,7 @@ impl FilterCounts {
         self.same != 0 || self.escaped != 0 || self.changed != 0
     }
 
-    /// Counts a further line of which this has become.
+    /// Counts one more line, by what became of it.
     pub(crate) fn count(&mut self, fate: &Fate)
         ensures { self.new ≡ counted self.old fate.now }
     {

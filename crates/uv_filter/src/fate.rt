@@ -2,7 +2,7 @@
 
 use uv_mend::MendKind;
 
-/// What becomes of a line: where there is a mended text that is written it is mended, and else it stays as it was.
+/// What becomes of a line: where there is a mended text that is written it is mended, and otherwise it stays as it was.
 #[derive(Drop)]
 pub(crate) enum Fate {
     /// It is empty, and isn't checked.

@@ -1,10 +1,9 @@
-//! A filter of lists of links: each line mended where there is a text to write in its place, and else as it was.
+//! A filter of lists of links: each line mended where there is a text to write in its place, and otherwise as it was.
 #![tactic(auto)]
 
 mod closing;
 mod counts;
 mod fate;
-mod fault;
 mod line_filter;
 mod progress;
 mod run;
@@ -13,6 +12,5 @@ mod taking;
 mod written;
 
 pub use counts::FilterCounts;
-pub use fault::FilterFault;
 pub use run::run_filter;
 pub use setting::FilterSetting;

@@ -16,7 +16,7 @@ use std::marker::Model;
 use std::str::from_utf8;
 use uv_lines::line_text;
 use uv_mend::{MendKind, Mending, mend};
-use uv_report::{SeenText, is_offered};
+use uv_sentences::{SeenText, is_offered};
 
 // How many bytes a line may have, its end not counted.
 const LINE_BYTES: usize = 65_536;
@@ -62,7 +62,7 @@ impl<'b> LineFilter<'b> {
         self.counts
     }
 
-    /// Counts a line that is too long, and isn't kept, where it isn't counted already.
+    /// Counts a line that is too long, and isn't kept, if it isn't counted already.
     pub(crate) fn count_long(&mut self, is_counted: bool)
         ensures { self.new ≡ passing is_counted self.old }
     {

@@ -1,34 +1,36 @@
 //! A run of the filter over a list.
 ghost use Rattle.std.specs.Prelude.{◌≡◌, ℕ, ◌+◌, ◌-◌, ◌^◌, ◌<◌, List, IfErr, OnOk};
 ghost use Rattle.std.specs.Io.KnownBytes.{Consumes, IsAtEnd};
+ghost use Rattle.uv_lines.specs.Fault.{reads_failed, writes_failed};
 ghost use Rattle.uv_filter.specs.Fates.{mender_of};
 ghost use Rattle.uv_filter.specs.Filtered.{Filtering, starting};
 ghost use Rattle.uv_filter.specs.Lines.{all_lines};
-ghost use Rattle.uv_filter.specs.Run.{Leaves, Wrote, reads_failed, writes_failed};
+ghost use Rattle.uv_filter.specs.Run as spec;
+ghost use Rattle.uv_filter.specs.Run.{Leaves, Wrote};
 
 use crate::counts::FilterCounts;
-use crate::fault::{FilterFault, fault_of_list};
 use crate::progress::Progress;
 use crate::setting::FilterSetting;
-use std::alloc::Global;
+use std::alloc::{AllocError, Global};
 use uv_io::{Sink, Source};
-use uv_lines::take_list;
+use uv_lines::{LineFault, ReportFault, StopFault, take_list};
 
 /// Writes each line of a list: with a mended text in place of a refused one, where there is one of a kind that is
-/// wanted, and else as it was, byte for byte.
+/// wanted, and otherwise as it was, byte for byte.
 ///
-/// A line ends with LF, and one CR before that is part of its end; a last part without LF is a line where it isn't
-/// empty. Each end is kept. A byte order mark at the list's start is no part of the first text, and is kept too. An
-/// empty line isn't checked, nor is one that isn't UTF-8 or has more than 65,536 bytes without its end. What is written
-/// of the lines that a read has ended is written before the next read, and so is all that was read of a line that is
-/// too long: memory doesn't grow with the list. The writer isn't flushed. The counts are those of the lines that were
+/// A line ends with LF, and one CR before that is part of its end; a last part without LF is a line if it isn't empty.
+/// Each end is kept. A byte order mark at the list's start isn't a part of the first text, and is kept too. An empty
+/// line isn't checked, nor is one that isn't UTF-8 or has more than 65,536 bytes without its end. What is written of
+/// the lines that a read has ended is written before the next read, and so is all that was read of a line that is too
+/// long: memory doesn't grow with the list. The writer isn't flushed. The counts are those of the lines that were
 /// written, also after a fault. After a fault nothing is tried again, and how far the reader was read is open.
+/// `StopFault::TooManyLines` never comes.
 pub fn run_filter<R: Source, W: Sink>(
     alloc: Global,
     reader: &mut R,
     writer: &mut W,
     setting: FilterSetting<'_>,
-) -> (FilterCounts, Result<(), FilterFault>)
+) -> (FilterCounts, Result<(), StopFault>)
     requires reads { R.failed reader.old < 2 ^ 64 - 1 }
     requires writes { W.failed writer.old < 2 ^ 64 - 1 }
     ensures filtered { OnOk result.1 ((read : List ℕ) × (now : Filtering)
@@ -48,5 +50,16 @@ pub fn run_filter<R: Source, W: Sink>(
     match take_list(alloc, reader, writer, &mut progress) {
         Ok(()) => (progress.counts(), Ok(())),
         Err(fault) => (progress.counts(), Err(fault_of_list(fault))),
+    }
+}
+
+// The fault of a run, by that of its list.
+fn fault_of_list(fault: LineFault<ReportFault<AllocError>>) -> StopFault
+    ensures { result ≡ spec.fault_of_list fault }
+{
+    match fault {
+        LineFault::Own(ReportFault::Reporter(AllocError)) => StopFault::Memory,
+        LineFault::Own(ReportFault::Write) => StopFault::Write,
+        LineFault::Stop(fault) => fault,
     }
 }

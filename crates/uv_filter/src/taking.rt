@@ -1,21 +1,21 @@
 //! The lines of a list, each written where it ends, and one that is too long as it comes.
 ghost use Rattle.std.specs.Prelude.{◌≡◌, ℕ, ◌+◌, ◌-◌, ◌^◌, ◌<◌, ◌≤◌, [], ◌++◌, OnErr, OnOk, length, take, vec_len};
 ghost use Rattle.std.specs.Io.KnownBytes.{Appends};
+ghost use Rattle.uv_lines.specs.Fault.{failed_within};
 ghost use Rattle.uv_filter.specs.Lines.{all_lines, ended_line};
 ghost use Rattle.uv_filter.specs.Progress.{Adds, Stands, passing};
-ghost use Rattle.uv_filter.specs.Run.{TakeFault, Wrote, writes_failed};
+ghost use Rattle.uv_filter.specs.Run.{TakeFault, Wrote};
 
-use crate::fault::FilterFault;
 use crate::progress::{KEPT_BYTES, Progress};
 use crate::written::ListLine;
 use std::alloc::{AllocError, Global};
 use uv_io::{DeviceFault, Sink, write_whole};
-use uv_lines::{Taker, end_part, write_out};
+use uv_lines::{Line, ReportFault, Taker, end_part, write_out};
 
 impl<'b> Taker for Progress<'b> {
-    type Fault = FilterFault;
+    type Fault = ReportFault<AllocError>;
 
-    ghost writes = { writes_failed };
+    ghost writes = { failed_within };
 
     ghost stands = { λ start old read now new. Stands start.filter old read now.filter now.begun.items now.is_long
         now.text.items new };
@@ -32,13 +32,14 @@ impl<'b> Taker for Progress<'b> {
         &mut self,
         alloc: Global,
         writer: &mut W,
-        line: &[u8],
+        line: Line<'_>,
         whole: &[u8],
-    ) -> Result<(), FilterFault> {
+    ) -> Result<(), ReportFault<AllocError>> {
+        let line = line.as_bytes();
         if self.is_long || line.len() > KEPT_BYTES - self.begun.len() {
             return match self.pass_on(writer, whole, false) {
                 Ok(()) => Ok(()),
-                Err(DeviceFault) => Err(FilterFault::Write),
+                Err(DeviceFault) => Err(ReportFault::Write),
             };
         }
         if let Err(AllocError) = self.close_short(alloc, line) {
@@ -46,15 +47,19 @@ impl<'b> Taker for Progress<'b> {
         }
         match end_part(&mut self.text, writer) {
             Ok(()) => Ok(()),
-            Err(DeviceFault) => Err(FilterFault::Write),
+            Err(DeviceFault) => Err(ReportFault::Write),
         }
     }
 
-    fn take_part<W: Sink>(&mut self, writer: &mut W, part: &[u8]) -> Result<(), FilterFault> {
+    fn take_part<W: Sink>(
+        &mut self,
+        writer: &mut W,
+        part: &[u8],
+    ) -> Result<(), ReportFault<AllocError>> {
         if self.is_long || part.len() > KEPT_BYTES - self.begun.len() {
             return match self.pass_on(writer, part, true) {
                 Ok(()) => Ok(()),
-                Err(DeviceFault) => Err(FilterFault::Write),
+                Err(DeviceFault) => Err(ReportFault::Write),
             };
         }
         match self.begun.extend_from_slice(part) {
@@ -63,20 +68,24 @@ impl<'b> Taker for Progress<'b> {
         }
     }
 
-    fn end_piece<W: Sink>(&mut self, writer: &mut W) -> Result<(), FilterFault> {
+    fn end_piece<W: Sink>(&mut self, writer: &mut W) -> Result<(), ReportFault<AllocError>> {
         match write_out(&mut self.text, writer) {
             Ok(()) => Ok(()),
-            Err(DeviceFault) => Err(FilterFault::Write),
+            Err(DeviceFault) => Err(ReportFault::Write),
         }
     }
 
-    fn end_list<W: Sink>(&mut self, alloc: Global, writer: &mut W) -> Result<(), FilterFault> {
+    fn end_list<W: Sink>(
+        &mut self,
+        alloc: Global,
+        writer: &mut W,
+    ) -> Result<(), ReportFault<AllocError>> {
         if let Err(AllocError) = self.append_last(alloc) {
             return Err(self.stop(writer));
         }
         match write_out(&mut self.text, writer) {
             Ok(()) => Ok(()),
-            Err(DeviceFault) => Err(FilterFault::Write),
+            Err(DeviceFault) => Err(ReportFault::Write),
         }
     }
 }

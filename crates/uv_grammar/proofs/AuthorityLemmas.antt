@@ -22,11 +22,11 @@ use Rattle.uv_model.specs.Ascii.{colon, left_bracket, right_bracket}
 use Rattle.uv_model.specs.Cut.{host_before, host_cut, port_cut, is_port_mark, is_within, port_after}
 use Rattle.uv_text.proofs.SplitsLemmas.{prefix_slice}
 
--- a byte beyond ASCII is no `:`
+-- a byte beyond ASCII isn't a `:`
 no_mark : (within : Bool) (b : ℕ) → 128 ≤ b → is_port_mark within b ≡ false
 no_mark within b high = let other : b ≢ colon = omega arith in rw (ne_eqb b colon other) refl
 
--- a byte beyond ASCII is no bracket
+-- a byte beyond ASCII isn't a bracket
 no_bracket : (within : Bool) (b : ℕ) → 128 ≤ b → is_within within b ≡ within
 no_bracket within b high =
     let left : b ≢ left_bracket = omega arith in
@@ -91,13 +91,13 @@ port_after-encodes within (c ∷ cs) =
     port_step true cs ys e = refl
     port_step false cs ys e = e
 
--- the host of the code points is that of the bytes
+-- the code points and the bytes have the same host
 pub host_before-chars : (bytes : List ℕ) → IsUtf8 bytes
     → host_before false bytes ≡ encodes (host_before false (chars bytes))
 host_before-chars bytes utf8 =
     ap (λ s. host_before false s) (sym (encodes-chars bytes utf8)) ∙ host_before-encodes false (chars bytes)
 
--- the port of the code points is that of the bytes
+-- the code points and the bytes have the same port
 pub port_after-chars : (bytes : List ℕ) → IsUtf8 bytes
     → port_after false bytes ≡ option_map encodes (port_after false (chars bytes))
 port_after-chars bytes utf8 =
@@ -130,7 +130,7 @@ host_sides bytes prefix after end utf8 prefix_utf8 after_utf8 mark is_prefix is_
       option_some (port_after false (chars bytes)) after after_utf8 port,
     )
 
--- the whole authority, where no `:` of a port is there
+-- the whole authority, if no `:` of a port is there
 pub host_alone : (bytes : List ℕ) → IsUtf8 bytes → IsPortMark bytes None
     → (chars bytes ≡ host_before false (chars bytes)) × (None ≡ port_after false (chars bytes))
 host_alone bytes utf8 mark =
@@ -147,7 +147,7 @@ mark_boundary bytes end utf8 mark =
 
 -- ---- the host and the port by the class
 
--- a host and a port that are those of the class
+-- a host and a port as the class has them
 pub splits_host : (class : Class) (authority host : List ℕ) (port : Option (List ℕ)) → host ≡ host_cut class authority
     → port ≡ port_cut class authority → SplitsHost class authority host port
 splits_host class authority host port is_host is_port =
@@ -178,7 +178,7 @@ no_port bytes none = (whole false bytes none, nothing false bytes none)
         let parts = is_without-cons colon c rest none in
         rw parts.0 (nothing (is_within within c) rest parts.1)
 
--- the first `:` is that of a port, where no `[` is before it
+-- the first `:` begins a port if no `[` is before it
 pub first_port : (bytes : List ℕ) (end : ℕ) → IsFirstMark colon bytes (Some end)
     → is_without left_bracket (take end bytes) ≡ true → IsPortMark bytes (Some end)
 first_port bytes end first none =
@@ -204,7 +204,7 @@ first_port bytes end first none =
 
 -- ---- an authority that begins with `[`
 
--- within brackets no `:` is that of a port
+-- within brackets no `:` begins a port
 no_mark_within : (c : ℕ) → is_port_mark true c ≡ false
 no_mark_within c = elim (cases_Bool (c == colon)) [ inl same ↦ rw same refl | inr other ↦ rw other refl ]
 
@@ -248,7 +248,7 @@ pub from_place : (place : ℕ) (bytes : List ℕ) → take (length bytes - place
 from_place place bytes =
     take_all (length bytes - place) (drop place bytes) (let size = length-drop place bytes in omega (arith, size))
 
--- after the first `]` the search begins anew
+-- after the first `]` the search begins again
 anew_after_bracket : (prefix rest : List ℕ) → starts_with_bracket (prefix ++ right_bracket ∷ rest) ≡ true
     → is_without right_bracket prefix ≡ true
     → (host_before false (prefix ++ right_bracket ∷ rest) ≡ prefix ++ right_bracket ∷ host_before false rest)

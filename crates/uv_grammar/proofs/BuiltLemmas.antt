@@ -102,7 +102,7 @@ units_of_path setting cut plain none =
     (λ place rule h. none place rule
     (rw plain (path_violation-plain setting.profile (is_followed cut) cut.path_text place rule h)))
 
--- an opaque path is units, and by the parser's profile spaces too
+-- an opaque path is units, and under the parser's profile spaces too
 opaque_path : (profile : Profile) (base : Option Url) (scheme : List ℕ) (port_text : Option (List ℕ)) (path : List ℕ)
     (query fragment : Option (List ℕ)) → scheme_class scheme ≡ Other → starts_with_slash path ≡ false
     → is_without question_mark path ≡ true

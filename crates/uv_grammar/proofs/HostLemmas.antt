@@ -62,7 +62,7 @@ empty_content_fits profile Other last place HostCodePoint h = nothing_at place h
 empty_content_fits profile Other last place Percent h = nothing_at place percent_sign h.1.rest h.1.here
 empty_content_fits profile Other last place _ h = absurd h
 
--- the rules of an empty host are that of a missing one
+-- an empty host violates the rule of a missing one
 pub empty_rule : (profile : Profile) (class : Class) (last : Bool) (port_text : Option (List ℕ)) (path_text : List ℕ)
     (place : ℕ) (rule : Rule)
     → HostViolation profile class last [] port_text path_text place rule
@@ -210,14 +210,14 @@ name_answer profile text host is = (is, λ place rule h. none rule h.0)
         (other_not_stopped profile text, h.0, h.1)
     none _ h = h
 
--- a text whose form by the parser's profile ends in a number and is no address
+-- a text whose form under the parser's profile ends in a number and isn't an address
 pub number_violation : (text : List ℕ) → text ≢ [] → starts_with_bracket text ≡ false
     → IsNumberText Parser text × ((value : ℕ) → ¬ (IsIpv4Text Parser text value))
     → NameViolation Parser text HostNumber
 number_violation text some plain (number, none) =
     (record { some = some; no_bracket = plain; no_ipv4 = none }, number)
 
--- a text without a form by the parser's profile
+-- a text without a form under the parser's profile
 pub parser_no_form : (text : List ℕ) → text ≢ [] → starts_with_bracket text ≡ false → HasNoForm Parser text
     → NameViolation Parser text HostDomain
 parser_no_form text some plain none =
@@ -266,7 +266,7 @@ some_chars (b ∷ bytes) utf8 is none =
     let same : [] ≡ b ∷ bytes = ap encodes (sym none) ∙ encodes-chars (b ∷ bytes) utf8 in
     cc
 
--- a slice is empty exactly where it has no code points
+-- a slice is empty exactly when it has no code points
 pub empty_same : (bytes : List ℕ) → IsUtf8 bytes → (length bytes == 0) ≡ (length (chars bytes) == 0)
 empty_same bytes utf8 = elim (cases_Bool (length bytes == 0)) [
   | inl none ↦ none ∙ rw (no_chars bytes none) refl
@@ -277,7 +277,7 @@ empty_same bytes utf8 = elim (cases_Bool (length bytes == 0)) [
     not_nothing [] some = absurd (some refl)
     not_nothing (c ∷ rest) some = ne_eqb (length (c ∷ rest)) 0 (λ same. omega (arith, same))
 
--- a slice has code points exactly where it isn't empty
+-- a slice has code points exactly when it isn't empty
 pub some_iff : (bytes : List ℕ) (is_empty : Bool) → IsUtf8 bytes → is_empty ≡ (length bytes == 0)
     → IsTrue (not is_empty) ↔ (chars bytes ≢ [])
 some_iff bytes true utf8 is = (λ other. absurd (false≢true other), λ some. absurd (some (no_chars bytes (sym is))))
@@ -285,7 +285,7 @@ some_iff bytes false utf8 is = (λ other. some_chars bytes utf8 (sym is), λ som
 
 -- ---- memory
 
--- a name that is no IPv4 text makes no form where no domain of a written profile holds it, or where it is plain
+-- a name that isn't an IPv4 text makes no form if no domain of a written profile holds it, or where it is plain
 pub written_no_form : (profile : Profile) (text : List ℕ) → IsWritten profile → ShouldBeDomain profile text
     → MakesNoForm profile text → (has_permitted profile text ≡ false) ⊎ (is_plain_name text ≡ true)
 written_no_form Standard text written should (inl bracket) = absurd (false≢true (sym should.no_bracket ∙ bracket))
@@ -296,14 +296,14 @@ written_no_form Wide text written should (inr (inl (value, is))) = absurd (shoul
 written_no_form Wide text written should (inr (inr h)) = h
 written_no_form Parser text written should h = absurd written
 
--- and by the parser's profile where it is a plain domain
+-- and under the parser's profile where it is a plain domain
 pub parser_plain_domain : (text : List ℕ) → starts_with_bracket text ≡ false
     → ((value : ℕ) → ¬ (IsIpv4 text value)) → MakesNoForm Parser text → IsPlainDomain text
 parser_plain_domain text plain none (inl bracket) = absurd (false≢true (sym plain ∙ bracket))
 parser_plain_domain text plain none (inr (inl (value, is))) = absurd (none value is)
 parser_plain_domain text plain none (inr (inr h)) = h
 
--- a host that isn't empty, in a class other than Other, takes no memory where no form is made of it
+-- a host that isn't empty, in a class other than Other, takes no memory if no form is made of it
 pub makes_no_form : (profile : Profile) (class : Class) (text : List ℕ) → class ≢ Other → text ≢ []
     → HostTakesNoMemory profile class text → MakesNoForm profile text
 makes_no_form profile class text special some (inl other) = absurd (special other)

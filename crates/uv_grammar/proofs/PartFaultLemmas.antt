@@ -43,7 +43,8 @@ use Rattle.uv_grammar.specs.declared.checked.Checked.{Checked}
 use Rattle.uv_grammar.specs.declared.checked.Checked.TheVariants.{Valid, Refused}
 use Rattle.uv_grammar.specs.Checked.{IsChecked, refusal_of}
 use Rattle.uv_grammar.specs.PartViolations.{OfFragment, OfPath, OfPathStart, OfQuery}
-use Rattle.uv_grammar.specs.Scan.{DigitViolation, HostUnitViolation}
+use Rattle.uv_host.specs.OpaqueHosts.{HostUnitViolation}
+use Rattle.uv_grammar.specs.Scan.{DigitViolation}
 use Rattle.uv_grammar.proofs.HostLemmas.{empty_rule, content_from_host, one_rule}
 use Rattle.uv_grammar.proofs.PortLemmas.{digits_only}
 use Rattle.uv_grammar.proofs.ScanLemmas.{HasOneAtMost, adds_both, adds_fault, adds_like}
@@ -338,7 +339,7 @@ first_before_held setting text cut = record { order = order }
     order place later rule other (inr (started, inr (inr start))) held =
         (path_start_first setting cut).order place later rule other start held
 
--- a list with no refusal, where there is no violation
+-- a list with no refusal, if there is no violation
 no_faults : (profile : Profile) (base : Option Url) (text : List ℕ) (found : List Refusal)
     → ListsViolations (Violation profile base text) found → (parts : Parts) → valid.Valid profile base text parts
     → found ≡ []

@@ -1,5 +1,6 @@
 -- The prefix of a text that the scan of units passes is URL units, without the marks that its class lacks.
-use Rattle.std.proofs.Common.{◌≡◌, ℕ, ◌<◌, ◌==◌, Bool, true, false, not, ◌&&◌, List, [], ◌∷◌, ◌++◌, take, refl, sym}
+use Rattle.std.proofs.Common.{◌≡◌, ◌≢◌, ℕ, zero, suc, ◌<◌, ◌==◌, Bool, true, false, not, ◌&&◌, List, [], ◌∷◌, ◌++◌}
+use Rattle.std.proofs.Common.{take, refl, sym}
 use Rattle.std.proofs.Common.{◌∙◌, subst, inl, inr, arith, eqb-true, ne_eqb}
 use Rattle.std.specs.Prelude.{nat_le}
 use Rattle.std.specs.Char.{is_ascii, is_ascii_hexdigit}
@@ -7,14 +8,17 @@ use Rattle.std.proofs.lemmas.Bool.{and_parts, cases_Bool, cases_eq, false≢true
 use Rattle.std.proofs.lemmas.Bool.Decides.{nat_tests}
 use Rattle.std.proofs.lemmas.List.{take-append-drop}
 use Rattle.uv_model.specs.Ascii.{number_sign, percent_sign, question_mark}
-use Rattle.uv_model.specs.Path.{is_without}
+use Rattle.uv_model.specs.Cut.{starts_with_two_slashes}
+use Rattle.uv_model.specs.Path.{is_without, starts_with_slash}
 use Rattle.uv_model.specs.Units.{is_faultless, is_unit_at, is_url_code_point, starts_with_two_hex}
 use Rattle.uv_model.proofs.Texts.MarkLemmas.{is_without-more}
 use Rattle.uv_text.specs.Class.{HasHexDigits, HoldsPathBytes, HoldsUrlBytes}
-use Rattle.uv_text.specs.Splits.{IsUnitSplit, begins_mark, begins_unit, unit_length}
-use Rattle.uv_grammar.specs.PlainLinks.{AreUnits}
+use Rattle.uv_text.specs.Splits.{IsUnitSplit, begins_mark, begins_unit, class_has, unit_length}
+use Rattle.uv_text.specs.declared.units.UnitClass.TheVariants.{Path}
+use Rattle.uv_text.proofs.ClassLemmas.{class_digits}
+use Rattle.uv_grammar.specs.PlainLinks.{AreUnits, IsPathCut}
 
--- `%` and `#` are no URL code points
+-- `%` and `#` aren't URL code points
 percent_sign-unit : is_url_code_point percent_sign ≡ false
 unfolding is_url_code_point
 percent_sign-unit = refl
@@ -136,3 +140,41 @@ path_units held text prefix rest holds digits cut =
       | inl is ↦ rw is refl
       | inr not ↦ rw not refl
     ]
+
+-- ---- the path of a plain link
+
+-- if no `/` begins the text, its path is empty
+pub no_path : (text path rest : List ℕ) → path ≡ [] → rest ≡ text → IsPathCut text path rest
+no_path text path rest none all =
+    rw (none, all) (record {
+      joined = refl;
+      units = record { units = refl; no_number_sign = refl; no_question_mark = λ _. refl };
+      slashed = λ some. absurd (some refl);
+      single = refl;
+    })
+
+-- a prefix of a text that begins with `/`
+slash_kept : (n : ℕ) (text : List ℕ) → starts_with_slash text ≡ true → take n text ≢ []
+    → starts_with_slash (take n text) ≡ true
+slash_kept n [] slashed some = absurd (false≢true slashed)
+slash_kept zero (c ∷ rest) slashed some = absurd (some refl)
+slash_kept (suc n) (c ∷ rest) slashed some = slashed
+
+-- a prefix of a text that doesn't begin with two
+single_kept : (n : ℕ) (text : List ℕ) → starts_with_two_slashes text ≡ false
+    → starts_with_two_slashes (take n text) ≡ false
+single_kept zero text single = refl
+single_kept (suc n) [] single = single
+single_kept (suc zero) (c ∷ rest) single = refl
+single_kept (suc (suc n)) (c ∷ []) single = single
+single_kept (suc (suc n)) (c ∷ d ∷ rest) single = single
+
+-- units after one `/` are a path
+pub path_after_slash : (text path rest : List ℕ) → starts_with_slash text ≡ true → starts_with_two_slashes text ≡ false
+    → IsUnitSplit (class_has Path) text path rest → IsPathCut text path rest
+path_after_slash text path rest slashed single cut = record {
+  joined = split_joined (class_has Path) text path rest cut;
+  units = path_units (class_has Path) text path rest (λ byte. refl) (class_digits Path) cut;
+  slashed = rw cut.is_prefix (slash_kept (unit_length (class_has Path) text) text slashed);
+  single = rw cut.is_prefix (single_kept (unit_length (class_has Path) text) text single);
+}

@@ -8,24 +8,23 @@ use Rattle.std.proofs.lemmas.List.{drop-drop, length-drop}
 use Rattle.uv_model.specs.declared.profile.Profile.TheVariants.{Parser}
 use Rattle.uv_model.specs.declared.rule.Rule.{Rule}
 use Rattle.uv_model.specs.declared.rule.Refusal.{Refusal}
-use Rattle.uv_model.specs.declared.rule.Rule.TheVariants.{CodePoint, HostCodePoint, HostIpv6, Percent, PortDigit}
+use Rattle.uv_model.specs.declared.rule.Rule.TheVariants.{CodePoint, HostCodePoint, Percent, PortDigit}
 use Rattle.uv_model.specs.Violations.AllViolations.{ListsViolations}
 use Rattle.uv_model.specs.Ascii.{percent_sign}
 use Rattle.uv_model.specs.Violations.Violation.{After, refusal_after}
-use Rattle.uv_model.specs.Hosts.OpaqueHost.{is_forbidden_host, starts_with_bracket}
-use Rattle.uv_model.specs.Violations.OpaqueHostViolation.{OpaqueHostViolation}
+use Rattle.uv_model.specs.Hosts.OpaqueHost.{is_forbidden_host}
 use Rattle.uv_model.specs.Violations.Refusal.{IsLeast}
 use Rattle.uv_model.specs.Violations.UnitViolation.{HasBarePercent, IsTakenSpace, PathUnitViolation, UnitViolation}
 use Rattle.uv_model.specs.Units.{is_url_code_point}
 use Rattle.uv_model.proofs.Violations.AllViolationsLemmas.{IsScan, lists_both, lists_like, lists_none, lists_one}
 use Rattle.uv_model.proofs.Violations.AllViolationsLemmas.{lists_scan}
 use Rattle.uv_model.proofs.Violations.ViolationLemmas.{unit_violation_bounds, within_text}
-use Rattle.uv_model.proofs.Violations.RefusalLemmas.{IsLeast-like}
 use Rattle.uv_model.proofs.Violations.LeastLemmas.{Either, Precedes}
 use Rattle.uv_grammar.specs.declared.scan.Scan.{Scan}
 use Rattle.uv_grammar.specs.declared.scan.Scan.TheVariants.{Units, SpacedUnits, OpaqueHost, Digits}
 use Rattle.uv_grammar.specs.Faults.{AddsViolations, fault_list}
-use Rattle.uv_grammar.specs.Scan.{DigitViolation, HostUnitViolation, ScanViolation}
+use Rattle.uv_host.specs.OpaqueHosts.{HostUnitViolation}
+use Rattle.uv_grammar.specs.Scan.{DigitViolation, ScanViolation}
 
 -- ---- violations of a code point and of what follows it
 
@@ -87,7 +86,7 @@ units_scan = record { one = one; after = after; whole = whole }
 percent_allowed : is_forbidden_host percent_sign ≡ false
 percent_allowed = refl
 
--- what no host holds is no `%`
+-- what no host holds isn't a `%`
 foreign_no_percent : (c : ℕ) → (is_forbidden_host c ≡ true) ⊎ ((is_url_code_point c ≡ false) × (c ≢ percent_sign))
     → c ≢ percent_sign
 foreign_no_percent c (inl forbidden) same =
@@ -132,22 +131,6 @@ host_scan = record { one = one; after = after; whole = whole }
     }
     whole prefix text place Percent h = percent_whole prefix text place h
     whole prefix text place _ h = absurd h
-
--- without a bracket the least violation of an opaque host is that of its code points
-pub host_least : (text : List ℕ) (least : Option Refusal) → starts_with_bracket text ≡ false
-    → IsLeast (OpaqueHostViolation text) least → IsLeast (HostUnitViolation text) least
-host_least text least none = IsLeast-like (OpaqueHostViolation text) (HostUnitViolation text) to from least
-  where
-    to : (place : ℕ) (rule : Rule) → OpaqueHostViolation text place rule → HostUnitViolation text place rule
-    to place HostIpv6 h = absurd (false≢true (sym none ∙ h.0.bracket))
-    to place HostCodePoint h = h.1
-    to place Percent h = h.1
-    to place _ h = absurd h
-
-    from : (place : ℕ) (rule : Rule) → HostUnitViolation text place rule → OpaqueHostViolation text place rule
-    from place HostCodePoint h = (none, h)
-    from place Percent h = (none, h)
-    from place _ h = absurd h
 
 digit_scan : IsScan DigitViolation
 digit_scan = record { one = one; after = after; whole = whole }
@@ -298,7 +281,7 @@ scan_goes_on scan start text before found after here left next refusal held utf8
         (sym (ap (λ (l : List Refusal). l ++ list) pushed ∙ append_assoc found (refusal_after here refusal ∷ []) list))
         all
 
--- and where no fault is left
+-- and if no fault is left
 pub scan_ends : (scan : Scan) (start : ℕ) (text : List ℕ) (before found : List Refusal) (here : ℕ) (left : List ℕ)
     → ScansOn scan start text before found here left → IsLeast (ScanViolation scan (chars left)) None
     → AddsViolations (After start (ScanViolation scan (chars text))) before found

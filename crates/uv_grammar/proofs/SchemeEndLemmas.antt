@@ -1,21 +1,22 @@
 -- Lemmas on the `:` after the scheme of a text, in its bytes and in its code points.
 use Rattle.std.proofs.Common.{◌≡◌, ℕ, suc, ◌+◌, ◌<◌, Bool, true, false, ◌&&◌, ◌==◌, List, [], ◌∷◌, ◌++◌, length, take}
 use Rattle.std.proofs.Common.{drop, refl, sym, ap, ◌∙◌, subst, arith, inl, inr, Some, None, lit<, append_assoc, cond}
-use Rattle.std.specs.Prelude.{◌||◌, slice_range}
+use Rattle.std.specs.Prelude.{◌||◌, slice_index, slice_range}
 use Rattle.std.specs.Char.{is_ascii_alphabetic}
 use Rattle.std.specs.List.{list_all, prefix_len}
 use Rattle.std.specs.Str.{chars, IsCharBoundary, IsUtf8}
 use Rattle.std.proofs.lemmas.Bool.{and_from, and_parts, cases_Bool, false≢true}
 use Rattle.std.proofs.lemmas.Bool.Decides.{nat_tests}
-use Rattle.std.proofs.lemmas.List.{length-append}
+use Rattle.std.proofs.lemmas.List.{length-append, length-take, take-append-drop}
 use Rattle.std.proofs.lemmas.Str.{IsAscii-append, IsCharBoundary-after_ascii}
 use Rattle.std.proofs.Math.Seq.{take-append_seam}
-use Rattle.uv_model.specs.Ascii.{colon}
+use Rattle.uv_model.specs.Ascii.{colon, slash}
 use Rattle.uv_model.specs.Scheme.{goes_on_to_colon, is_scheme, is_scheme_code_point, starts_with_scheme}
 use Rattle.uv_model.proofs.Cuts.SchemeCutLemmas.{scheme_not_colon, scheme_without_colon, splits_at_scheme}
 use Rattle.uv_model.proofs.Cuts.SchemeCutLemmas.{starts_with_written_scheme}
 use Rattle.uv_model.proofs.Texts.AsciiLemmas.{IsAscii-from_test}
 use Rattle.uv_text.specs.Splits.{starts_in}
+use Rattle.uv_grammar.specs.PlainLinks.{IsSpecialPrefix}
 use Rattle.uv_grammar.specs.TextSplits.{IsFirstMark, IsSchemeEnd, SplitsScheme}
 use Rattle.uv_grammar.proofs.SliceLemmas.{byte_after, splits_at_mark}
 use Rattle.uv_grammar.proofs.TestLemmas.{PassesByPrefix, is_scheme-chars, prefix_test, scheme_ascii}
@@ -122,6 +123,19 @@ no_scheme_found text end run none =
     starts_by_run text
     ∙ subst (λ (n : ℕ). (starts_in is_ascii_alphabetic text && starts_in (λ c. c == colon) (drop n text)) ≡ false)
     run none
+
+-- a special scheme with `://` after it is found at once
+pub special_found : (bytes : List ℕ) (end : ℕ) → IsSpecialPrefix bytes end → IsSchemeEnd bytes (Some end)
+special_found bytes end is =
+    let prefix = sym (take-append-drop end bytes) ∙ ap (λ s. take end bytes ++ s) is.mark in
+    let long : length (take end bytes) ≡ end = omega (arith, length-take end bytes, is.inside) in
+    let inside : end < length bytes
+    = omega (arith, ap length prefix, length-append (take end bytes) (colon ∷ slash ∷ slash ∷ is.after)) in
+    let here : slice_index bytes end ≡ colon
+    = subst (λ (n : ℕ). slice_index bytes n ≡ colon) long
+    (subst (λ (s : List ℕ). slice_index s (length (take end bytes)) ≡ colon) (sym prefix)
+    (byte_after (take end bytes) (slash ∷ slash ∷ is.after) colon)) in
+    (inside, here, is.scheme)
 
 -- ---- the code points
 

@@ -54,7 +54,7 @@ some_lane p (x ∷ xs) some =
 
 module _ (mark : ℕ) (bytes : List ℕ) (from lanes found : ℕ) (within : from + lanes ≤ length bytes)
     (mask : found ≡ mask_l (map (λ x. eqb x mark) (chunk from lanes bytes))) where
-  -- where no bit is set, the byte is nowhere in the load
+  -- if no bit is set, the byte is nowhere in the load
   pub none_of_load : found ≡ 0 → Nowhere (Passes (is_byte mark) bytes) from (from + lanes)
   none_of_load none = λ k low high here.
       false≢true (sym (none_from_empty_mask (λ x. eqb x mark) bytes from lanes 0 within (sym mask ∙ none) k low high)

@@ -3,7 +3,7 @@ use Rattle.std.proofs.Common.{◌≡◌, ◌≢◌, ℕ, ◌+◌, ◌-◌, ◌<�
 use Rattle.std.proofs.Common.{Some, None, sym, ap, subst, ◌∙◌, arith, inl, inr, refl, zero, suc, eqb-true, ◌==◌}
 use Rattle.std.specs.Str.{IsUtf8, chars}
 use Rattle.std.specs.List.{prefix_len}
-use Rattle.std.proofs.lemmas.Bool.{cases_Bool, cases_order, false≢true, true≢false}
+use Rattle.std.proofs.lemmas.Bool.{cases_Bool, cases_order, false≢true}
 use Rattle.std.proofs.lemmas.Str.{encodes-chars}
 use Rattle.std.proofs.lemmas.Str.{encodes-chars, length-le-encodes}
 use Rattle.std.proofs.lemmas.List.{drop-drop, length-drop}
@@ -13,106 +13,71 @@ use Rattle.uv_model.specs.declared.profile.Profile.TheVariants.{Standard, Wide, 
 use Rattle.uv_model.specs.declared.rule.Rule.{Rule}
 use Rattle.uv_model.specs.declared.rule.Refusal.{Refusal}
 use Rattle.uv_model.specs.Ascii.{space}
-use Rattle.uv_model.specs.Cut.{Cut, is_followed}
+use Rattle.uv_model.specs.Cut.{Cut, is_followed, path_place}
 use Rattle.uv_model.specs.Setting.{Setting}
 use Rattle.uv_model.specs.Violations.Refusal.{IsLeast}
 use Rattle.uv_model.specs.Violations.UnitViolation.{IsTakenSpace, PathUnitViolation, UnitViolation, only_spaces}
-use Rattle.uv_model.specs.Violations.Violation.{After, PathContentViolation, has_opaque_path}
+use Rattle.uv_model.specs.Violations.Violation.{After, PathContentViolation, fault_after, has_opaque_path}
+use Rattle.uv_model.proofs.Violations.LeastLemmas.{least_after}
 use Rattle.uv_model.proofs.Violations.RefusalLemmas.{IsLeast-like}
-use Rattle.uv_model.proofs.Violations.SpacedPathLemmas.{path_violation-unit}
 use Rattle.uv_grammar.specs.Faults.{AddsViolations}
-use Rattle.uv_grammar.specs.SpacedPaths.{IsTakenRun, is_space, may_be_spaced, takes_spaces}
+use Rattle.uv_grammar.specs.PartViolations.{OfPath}
+use Rattle.uv_grammar.specs.Scan.{ScanViolation}
+use Rattle.uv_grammar.specs.declared.scan.Scan.{Scan}
+use Rattle.uv_grammar.specs.SpacedPaths.{IsTakenRun, is_space, may_be_spaced, path_scan, units_or_spaced}
 use Rattle.uv_grammar.proofs.ScanLemmas.{adds_like, units_scan}
 
 -- ---- which violations are asked for
 
--- where no spaces are taken, each violation of units is one of what the path holds
-unit_to_path : (profile : Profile) (opaque followed : Bool) (text : List ℕ) (place : ℕ) (rule : Rule)
-    → may_be_spaced profile opaque ≡ false → UnitViolation text place rule
+-- what a path is scanned for are the violations of what it holds
+scan_to_path : (profile : Profile) (opaque followed : Bool) (text : List ℕ) (place : ℕ) (rule : Rule)
+    → ScanViolation (units_or_spaced (may_be_spaced profile opaque) followed) text place rule
     → PathUnitViolation profile opaque followed text place rule
-unit_to_path Standard opaque followed text place rule none h = h
-unit_to_path Wide opaque followed text place rule none h = h
-unit_to_path Parser false followed text place rule none h = h
-unit_to_path Parser true followed text place rule none h = absurd (true≢false none)
+scan_to_path Standard opaque followed text place rule h = h
+scan_to_path Wide opaque followed text place rule h = h
+scan_to_path Parser false followed text place rule h = h
+scan_to_path Parser true followed text place rule h = h
 
--- where spaces are taken, the violations are those of the parser's profile
-spaced_to_path : (profile : Profile) (opaque followed : Bool) (text : List ℕ) (place : ℕ) (rule : Rule)
-    → may_be_spaced profile opaque ≡ true → PathUnitViolation Parser true followed text place rule
+path_to_scan : (profile : Profile) (opaque followed : Bool) (text : List ℕ) (place : ℕ) (rule : Rule)
     → PathUnitViolation profile opaque followed text place rule
-spaced_to_path Standard opaque followed text place rule takes h = absurd (false≢true takes)
-spaced_to_path Wide opaque followed text place rule takes h = absurd (false≢true takes)
-spaced_to_path Parser false followed text place rule takes h = absurd (false≢true takes)
-spaced_to_path Parser true followed text place rule takes h = h
+    → ScanViolation (units_or_spaced (may_be_spaced profile opaque) followed) text place rule
+path_to_scan Standard opaque followed text place rule h = h
+path_to_scan Wide opaque followed text place rule h = h
+path_to_scan Parser false followed text place rule h = h
+path_to_scan Parser true followed text place rule h = h
 
-path_to_spaced : (profile : Profile) (opaque followed : Bool) (text : List ℕ) (place : ℕ) (rule : Rule)
-    → may_be_spaced profile opaque ≡ true → PathUnitViolation profile opaque followed text place rule
-    → PathUnitViolation Parser true followed text place rule
-path_to_spaced Standard opaque followed text place rule takes h = absurd (false≢true takes)
-path_to_spaced Wide opaque followed text place rule takes h = absurd (false≢true takes)
-path_to_spaced Parser false followed text place rule takes h = absurd (false≢true takes)
-path_to_spaced Parser true followed text place rule takes h = h
+-- the least of them, counted from the text's start
+pub path_least : (setting : Setting) (cut : Cut) (scan : Scan) (text : List ℕ) (least : Option Refusal)
+    → scan ≡ path_scan setting cut → text ≡ cut.path_text → IsLeast (ScanViolation scan text) least
+    → IsLeast (OfPath setting cut) (fault_after (path_place cut) least)
+path_least setting cut scan text least is same found =
+    least_after (path_place cut) (PathContentViolation setting cut) least
+    (IsLeast-like (ScanViolation (path_scan setting cut) cut.path_text) (PathContentViolation setting cut)
+    (scan_to_path setting.profile (has_opaque_path setting.class cut) (is_followed cut) cut.path_text)
+    (path_to_scan setting.profile (has_opaque_path setting.class cut) (is_followed cut) cut.path_text) least
+    (rw (is, same) at found))
 
--- the least violation, where no spaces are taken
-pub plain_least : (setting : Setting) (cut : Cut) (least : Option Refusal) → takes_spaces setting cut ≡ false
-    → IsLeast (UnitViolation cut.path_text) least → IsLeast (PathContentViolation setting cut) least
-plain_least setting cut least none =
-    IsLeast-like (UnitViolation cut.path_text) (PathContentViolation setting cut)
-    (λ place rule h. unit_to_path setting.profile (has_opaque_path setting.class cut) (is_followed cut) cut.path_text
-    place rule none h)
-    (path_violation-unit setting.profile (has_opaque_path setting.class cut) (is_followed cut) cut.path_text) least
-
--- and where they are
-pub spaced_least : (setting : Setting) (cut : Cut) (least : Option Refusal) → takes_spaces setting cut ≡ true
-    → IsLeast (PathUnitViolation Parser true (is_followed cut) cut.path_text) least
-    → IsLeast (PathContentViolation setting cut) least
-spaced_least setting cut least takes =
-    IsLeast-like (PathUnitViolation Parser true (is_followed cut) cut.path_text) (PathContentViolation setting cut)
-    (λ place rule h. spaced_to_path setting.profile (has_opaque_path setting.class cut) (is_followed cut) cut.path_text
-    place rule takes h)
-    (λ place rule h. path_to_spaced setting.profile (has_opaque_path setting.class cut) (is_followed cut) cut.path_text
-    place rule takes h) least
-
--- all violations at a place, where no spaces are taken
-pub plain_adds : (setting : Setting) (cut : Cut) (start : ℕ) (before after : List Refusal)
-    → takes_spaces setting cut ≡ false → AddsViolations (After start (UnitViolation cut.path_text)) before after
-    → AddsViolations (After start (PathContentViolation setting cut)) before after
-plain_adds setting cut start before after none =
-    adds_like (After start (UnitViolation cut.path_text)) (After start (PathContentViolation setting cut))
+-- and all of them
+pub path_adds : (setting : Setting) (cut : Cut) (scan : Scan) (start : ℕ) (text : List ℕ)
+    (before after : List Refusal)
+    → scan ≡ path_scan setting cut → start ≡ path_place cut → text ≡ cut.path_text
+    → AddsViolations (After start (ScanViolation scan text)) before after
+    → AddsViolations (OfPath setting cut) before after
+path_adds setting cut scan start text before after is place same adds =
+    adds_like (After (path_place cut) (ScanViolation (path_scan setting cut) cut.path_text)) (OfPath setting cut)
     (λ place rule h. record {
       inner = h.inner;
       moved = h.moved;
-      holds = unit_to_path setting.profile (has_opaque_path setting.class cut) (is_followed cut) cut.path_text h.inner
-          rule none h.holds;
+      holds = scan_to_path setting.profile (has_opaque_path setting.class cut) (is_followed cut) cut.path_text h.inner
+          rule h.holds;
     })
     (λ place rule h. record {
       inner = h.inner;
       moved = h.moved;
-      holds = path_violation-unit setting.profile (has_opaque_path setting.class cut) (is_followed cut) cut.path_text
-          h.inner rule h.holds;
+      holds = path_to_scan setting.profile (has_opaque_path setting.class cut) (is_followed cut) cut.path_text h.inner
+          rule h.holds;
     })
-    before after
-
--- and where they are
-pub spaced_adds : (setting : Setting) (cut : Cut) (start : ℕ) (before after : List Refusal)
-    → takes_spaces setting cut ≡ true
-    → AddsViolations (After start (PathUnitViolation Parser true (is_followed cut) cut.path_text)) before after
-    → AddsViolations (After start (PathContentViolation setting cut)) before after
-spaced_adds setting cut start before after takes =
-    adds_like (After start (PathUnitViolation Parser true (is_followed cut) cut.path_text))
-    (After start (PathContentViolation setting cut))
-    (λ place rule h. record {
-      inner = h.inner;
-      moved = h.moved;
-      holds = spaced_to_path setting.profile (has_opaque_path setting.class cut) (is_followed cut) cut.path_text h.inner
-          rule takes h.holds;
-    })
-    (λ place rule h. record {
-      inner = h.inner;
-      moved = h.moved;
-      holds = path_to_spaced setting.profile (has_opaque_path setting.class cut) (is_followed cut) cut.path_text h.inner
-          rule takes h.holds;
-    })
-    before after
+    before after (rw (is, place, same) at adds)
 
 -- ---- spaces at the start
 
@@ -225,7 +190,7 @@ in_left followed text here left on place rule h =
     rw on.after (units_scan.after here text (place - here) rule
     (subst (λ (n : ℕ). UnitViolation text n rule) same h.0))
 
--- a violation of units that is no space which is taken is the least violation
+-- a violation of units that isn't a space which is taken is the least violation
 pub spaced_found : (followed : Bool) (text : List ℕ) (here : ℕ) (left : List ℕ) (refusal : Refusal)
     → SpacedOn followed text here left → IsLeast (UnitViolation left) (Some refusal)
     → ¬ (IsTakenSpace followed (drop refusal.place left) 0)
@@ -303,7 +268,7 @@ spaced_goes_on followed text here left found next refusal spaces on least is_fou
           | inr (inr more) ↦ omega arith
         ]
 
--- and where no violation of units is left
+-- and if no violation of units is left
 pub spaced_ends : (followed : Bool) (text : List ℕ) (here : ℕ) (left : List ℕ) → SpacedOn followed text here left
     → IsLeast (UnitViolation left) None → IsLeast (PathUnitViolation Parser true followed text) None
 spaced_ends followed text here left on none place rule h =

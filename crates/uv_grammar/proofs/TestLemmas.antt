@@ -1,4 +1,4 @@
--- Tests of a text that look at ASCII alone give the same of its bytes and of its code points.
+-- Tests of a text that look only at ASCII give the same on its bytes and on its code points.
 use Rattle.std.proofs.Common.{◌≡◌, ℕ, List, [], ◌∷◌, ◌++◌, Bool, true, false, refl, sym, ap, ◌∙◌, subst, arith}
 use Rattle.std.specs.Prelude.{◌&&◌}
 use Rattle.std.specs.Str.{chars, IsUtf8, IsAscii}

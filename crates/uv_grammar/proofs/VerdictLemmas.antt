@@ -113,7 +113,7 @@ pub parts_written : PartsAreTheText
 unfolding written
 parts_written profile base text parts valid = valid.whole
 
--- where no rule of the start is violated, a text that takes no memory has a host that takes none
+-- if no rule of the start is violated, a text that takes no memory has a host that takes none
 pub host_without_memory : (profile : Profile) (base : Option Url) (text : List ℕ) (cut : Cut) (setting : Setting)
     → IsCut base text cut → setting ≡ setting_of profile base cut.scheme → IsStarted setting text cut
     → TakesNoMemory (setting_of profile base (cut_of base text).scheme) text (cut_of base text)

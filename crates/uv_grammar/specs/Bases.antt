@@ -45,6 +45,6 @@ abbrev pub as_url : Base → Url
 as_url (Whole base) = base.now
 as_url (Kind kind) = url_of_kind kind
 
--- the same where there is a base
+-- the base by its record, or one of its kind, where there is a base
 abbrev pub as_base : Option Base → Option Url
 as_base base = option_map as_url base

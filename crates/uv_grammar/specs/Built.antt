@@ -38,6 +38,6 @@ built_as form cut host port = record {
   fragment = cut.fragment;
 }
 
--- the same, of the form that the cut has
+-- the parts of a cut text of the form that it has, with the values of its host and its port
 abbrev pub built : Cut → Option Host → Option ℕ → Parts
 built cut host port = built_as (form_of cut) cut host port

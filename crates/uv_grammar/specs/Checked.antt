@@ -6,7 +6,7 @@ use Rattle.uv_model.specs.declared.rule.Refusal.{Refusal}
 use Rattle.uv_model.specs.declared.rule.Rule.{Rule}
 use Rattle.uv_model.specs.Violations.Refusal.{IsLeast}
 
--- a value that fits where there is no violation, and else the least violation
+-- a value that fits if there is no violation, and otherwise the least violation
 abbrev pub IsChecked : {A : Type 0} → (A → Type 0) → (ℕ → Rule → Type 0) → Checked A → Type 0
 IsChecked fits violation (Valid value) = fits value × IsLeast violation None
 IsChecked fits violation (Refused refusal) = IsLeast violation (Some refusal)

@@ -32,7 +32,7 @@ end_of_path cut = end_of_port cut + extent 0 (Some cut.path_text)
 abbrev pub end_of_query : Cut → ℕ
 end_of_query cut = end_of_path cut + extent 1 cut.query
 
--- the end of the fragment, which is that of the text
+-- the end of the fragment, which is the text's end
 abbrev pub whole_extent : Cut → ℕ
 whole_extent cut = end_of_query cut + extent 1 cut.fragment
 

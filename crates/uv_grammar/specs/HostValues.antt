@@ -15,8 +15,8 @@ use Rattle.uv_model.specs.Violations.Violation.{ShouldBeDomain}
 use Rattle.uv_model.specs.Path.{starts_with_slash}
 use Rattle.uv_model.specs.Valid.{IsFileHostText, IsHostText, IsOpaqueHostText}
 
--- A valid host that isn't empty, by the class, with the value that it gives: an opaque host gives none. At that of a
--- special or a file URL the parser doesn't stop, where the profile asks for that.
+-- A valid host that isn't empty, by the class, with the value that it gives: an opaque host gives none. The parser
+-- doesn't stop at the host of a special or a file URL, if the profile requires that.
 abbrev pub FitsSomeHost : Profile → Class → Bool → List ℕ → Option Host → Type 0
 FitsSomeHost profile SpecialNotFile last text None = ⊥
 FitsSomeHost profile SpecialNotFile last text (Some host) =

@@ -15,12 +15,12 @@ use Rattle.uv_model.specs.Records.Url.{Url}
 use Rattle.uv_model.specs.Setting.{Setting, setting_of}
 use Rattle.uv_host.specs.Domains.{is_plain_name}
 
--- a plain name that is by the parser's profile a domain, which is its own form
+-- a plain name that is under the parser's profile a domain, which is its own form
 abbrev pub IsPlainDomain : List ℕ → Type 0
 IsPlainDomain text = (is_plain_name text ≡ true) × IsDomain Parser text text
 
 -- the text begins with `[`, is an IPv4 text, has a code point that no domain of the profile holds, or is a plain name;
--- by the parser's profile a plain domain
+-- under the parser's profile a plain domain
 abbrev pub MakesNoForm : Profile → List ℕ → Type 0
 MakesNoForm Parser text =
     (starts_with_bracket text ≡ true)

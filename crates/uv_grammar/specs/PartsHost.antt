@@ -32,7 +32,7 @@ FitsPartsHost fits host = fits (option_map as_host host)
 abbrev pub IsPartsHostText : Profile → List ℕ → PartsHost → Type 0
 IsPartsHostText profile text host = IsHostText profile text (as_host host)
 
--- the same of a host at which the parser doesn't stop
+-- a valid host string of a host of parts, at which the parser doesn't stop
 abbrev pub IsUnstoppedHostText : Profile → Class → Bool → List ℕ → PartsHost → Type 0
 IsUnstoppedHostText profile class last text host =
     (is_stopped profile class last text ≡ false) × IsPartsHostText profile text host

@@ -43,19 +43,20 @@ pub record IsSpecialCut (text scheme rest : List ℕ) : Type 0 where
   pub named : is_scheme scheme ≡ true
   pub special : scheme_class scheme ≡ SpecialNotFile
 
--- the text is a domain of this form by each profile, and a rest
+-- the text is a domain of this form under each profile, and a rest
 pub record IsNameCut (text name form rest : List ℕ) : Type 0 where
   pub joined : text ≡ name ++ rest
   pub domain : (profile : Profile) → IsDomain profile name form
 
--- the text is `:` and a valid port, or none, with the number that it gives beside a default port, and a rest
+-- the text is `:` and a valid port, or none, with the number that it gives if the scheme has that default port, and a
+-- rest
 pub record IsPortCut (default : Option ℕ) (text : List ℕ) (port_text : Option (List ℕ)) (port : Option ℕ)
     (rest : List ℕ) : Type 0 where
   pub joined : text ≡ written_after colon port_text ++ rest
   pub valid : MayBePortText port_text
   pub given : port ≡ port_given default port_text
 
--- URL units, which hold no `#`, and a `?` only where it is asked for
+-- URL units, which hold no `#`, and a `?` only when it is asked for
 pub record AreUnits (has_question_marks : Bool) (text : List ℕ) : Type 0 where
   pub units : is_faultless text ≡ true
   pub no_number_sign : is_without number_sign text ≡ true

@@ -4,18 +4,12 @@ use Rattle.uv_model.specs.declared.profile.Profile.TheVariants.{Parser}
 use Rattle.uv_grammar.specs.declared.scan.Scan.{Scan}
 use Rattle.uv_grammar.specs.declared.scan.Scan.TheVariants.{Units, SpacedUnits, OpaqueHost, Digits}
 use Rattle.uv_model.specs.declared.rule.Rule.{Rule}
-use Rattle.uv_model.specs.declared.rule.Rule.TheVariants.{HostCodePoint, Percent, PortDigit}
+use Rattle.uv_model.specs.declared.rule.Rule.TheVariants.{PortDigit}
 use Rattle.uv_model.specs.Violations.Violation.{HasForeignDigit}
-use Rattle.uv_model.specs.Violations.OpaqueHostViolation.{HasForeignHostCodePoint}
-use Rattle.uv_model.specs.Violations.UnitViolation.{HasBarePercent, PathUnitViolation, UnitViolation}
+use Rattle.uv_model.specs.Violations.UnitViolation.{PathUnitViolation, UnitViolation}
+use Rattle.uv_host.specs.OpaqueHosts.{HostUnitViolation}
 
--- a code point that no opaque host holds, or a `%` without two hex digits
-abbrev pub HostUnitViolation : List ℕ → ℕ → Rule → Type 0
-HostUnitViolation text place HostCodePoint = HasForeignHostCodePoint text place
-HostUnitViolation text place Percent = HasBarePercent text place
-HostUnitViolation text place _ = ⊥
-
--- a code point that is no digit
+-- a code point that isn't a digit
 abbrev pub DigitViolation : List ℕ → ℕ → Rule → Type 0
 DigitViolation text place PortDigit = HasForeignDigit text place
 DigitViolation text place _ = ⊥

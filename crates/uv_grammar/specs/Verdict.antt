@@ -18,7 +18,7 @@ use Rattle.uv_model.specs.Records.Url.{Url}
 use Rattle.uv_model.specs.Setting.{Setting}
 use Rattle.uv_model.specs.Valid.{Valid}
 
--- the text is valid by the profile with these parts and with no others, and no violation of it holds
+-- the text is valid under the profile with these parts and with no others, and no violation of it holds
 pub record IsAccepted (profile : Profile) (base : Option Url) (text : List ℕ) (parts : Parts) : Type 0 where
   pub valid : Valid profile base text parts
   pub only : (other : Parts) → Valid profile base text other → other ≡ parts

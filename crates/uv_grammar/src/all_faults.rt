@@ -14,17 +14,16 @@ use crate::authority::{check_host_part, check_port_part};
 use crate::bases::{Base, BaseKind};
 use crate::cut::{Cut, cut_text};
 use crate::marks::beginnings::{are_digits, has_bracket};
-use crate::parser_paths::{is_followed, takes_spaces};
 use crate::places::{fragment_place, host_place, path_place, port_place, query_place};
-use crate::scan::{Scan, push_scan};
+use crate::scan::{Scan, path_scan, push_scan};
 use crate::setting::Setting;
 use crate::start_rules::{path_start_fault, start_fault};
 use std::alloc::{AllocError, Global};
 use uv_model::{Class, Profile, Record, Refusal};
 
-/// All that is wrong with a text by the profile, alone or against a base: each rule at each place where it is violated,
-/// once, by place and at one place by the rule's number (URL Standard, section 4.3). The first is the refusal of
-/// `check`, and there is none exactly where `check` says yes. Where the start of the text violates a rule, as a special
+/// All that is wrong with a text under the profile, alone or against a base: each rule at each place where it is
+/// violated, once, by place and at one place by the rule's number (URL Standard, section 4.3). The first is the refusal
+/// of `check`, and there is none exactly when `check` says yes. If the start of the text violates a rule, as a special
 /// scheme without `//`, no host, no port and no start of a path is checked. The error is out of memory.
 pub fn faults(
     alloc: Global,
@@ -37,7 +36,8 @@ pub fn faults(
     faults_against(alloc, text, Base::whole(base), profile)
 }
 
-/// The same against every base of a kind.
+/// All that is wrong with a text under the profile against a base of this kind, whichever it is, in the order that
+/// `faults` has. The error is out of memory.
 pub fn faults_of_kind(
     alloc: Global,
     text: &str,
@@ -66,7 +66,7 @@ fn faults_against(
     Ok(found)
 }
 
-// The fault of the start, or else those of the host, the port and the path's start.
+// The fault of the start, or otherwise the faults of the host, the port and the path's start.
 fn push_first_faults(
     alloc: Global,
     found: &mut Vec<Refusal>,
@@ -100,7 +100,7 @@ fn push_checked_faults(
     push_fault(found, path_start_fault(cut, setting))
 }
 
-// The faults of the host: those of each code point of an opaque host without brackets, and else one at most.
+// The faults of the host: one for each wrong code point of an opaque host without brackets, and otherwise one at most.
 fn push_host_faults(
     alloc: Global,
     found: &mut Vec<Refusal>,
@@ -130,7 +130,7 @@ fn is_scanned(class: Class, host_text: &str) -> bool
     }
 }
 
-// The faults of the port: each code point that is no digit, or its number.
+// The faults of the port: each code point that isn't a digit, or its number.
 fn push_port_faults(
     found: &mut Vec<Refusal>,
     cut: &Cut,
@@ -174,12 +174,12 @@ fn push_path_faults(
     requires { IsCountable cut.now }
     ensures { OnOk result (AddsViolations (OfPath setting.now cut.now) found.old.items found.new.items) }
 {
-    let start = path_place(cut);
-    if takes_spaces(cut, setting) {
-        let scan = Scan::SpacedUnits(is_followed(cut));
-        return push_scan(found, scan, start, cut.path_text);
-    }
-    push_scan(found, Scan::Units, start, cut.path_text)
+    push_scan(
+        found,
+        path_scan(cut, setting),
+        path_place(cut),
+        cut.path_text,
+    )
 }
 
 // The faults of the query.

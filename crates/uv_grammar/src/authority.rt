@@ -69,6 +69,7 @@ fn is_blank(text: &str) -> bool
 }
 
 /// The port of a cut text, a refusal counted from the text's start.
+#[inline(always)]
 pub(crate) fn check_port_part(cut: &Cut, setting: &Setting) -> Checked<Option<u16>>
     requires { IsCountable cut.now }
     ensures { IsChecked (FitsPortPart setting.now cut.now) (PortPartViolation cut.now) result }

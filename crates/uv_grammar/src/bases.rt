@@ -90,17 +90,10 @@ fn denotes_empty_host(parts: &Parts<'_>) -> bool
     ensures { IsTrue result ↔ (denoted_host None parts.now.form parts.now ≡ Some Host.Empty) }
 {
     match parts.form() {
-        Form::SchemeAuthority | Form::Authority => is_empty_value(parts.host()),
+        Form::SchemeAuthority | Form::Authority => matches!(parts.host(), Some(HostRef::Empty)),
         Form::SchemePath | Form::SchemeOpaque => false,
         Form::PathAbsolute | Form::PathRelative | Form::NoPath => false,
     }
-}
-
-// The value of a host is the empty one.
-fn is_empty_value(host: Option<HostRef<'_>>) -> bool
-    ensures { IsTrue result ↔ (option_map referred host.entry ≡ Some Host.Empty) }
-{
-    matches!(host, Some(HostRef::Empty))
 }
 
 impl BaseScheme {

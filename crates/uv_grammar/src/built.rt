@@ -1,5 +1,5 @@
 //! The parts of a text, built from its cut and the values of its host and its port.
-ghost use Rattle.std.specs.Prelude.{◌≡◌, Option, false, option_map, true};
+ghost use Rattle.std.specs.Prelude.{◌≡◌, Option, false, option_map};
 ghost use Rattle.std.specs.Str.{chars};
 ghost use Rattle.uv_model.specs.Cut.{IsCut};
 ghost use Rattle.uv_model.specs.Records.Url.{Url};
@@ -37,29 +37,24 @@ pub(crate) fn build<'t>(
 }
 
 // The form of a cut text.
+#[inline(always)]
 fn form_of(cut: &Cut) -> Form
     ensures { seen_form result ≡ form_of cut.now }
 {
     match (cut.scheme, cut.host_text) {
         (Some(_), Some(_)) => Form::SchemeAuthority,
         (None, Some(_)) => Form::Authority,
-        (Some(_), None) => scheme_form(cut.path_text),
+        (Some(_), None) => if has_slash(cut.path_text) {
+            Form::SchemePath
+        } else {
+            Form::SchemeOpaque
+        },
         (None, None) => reference_form(cut.path_text),
     }
 }
 
-// The form of a text with a scheme and without an authority.
-fn scheme_form(path_text: &str) -> Form
-    ensures { seen_form result ≡ form_with true false (chars path_text.now) }
-{
-    if has_slash(path_text) {
-        Form::SchemePath
-    } else {
-        Form::SchemeOpaque
-    }
-}
-
 // The form of a text with neither a scheme nor an authority.
+#[inline(always)]
 fn reference_form(path_text: &str) -> Form
     ensures { seen_form result ≡ form_with false false (chars path_text.now) }
 {

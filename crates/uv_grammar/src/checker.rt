@@ -27,8 +27,8 @@ pub enum Verdict<'t> {
     No(Refusal),
 }
 
-/// Whether a text is a valid URL string by the profile, alone or against a base (URL Standard, section 4.3), with its
-/// parts or its least refusal. The error is out of memory, which is asked for where a domain's form is made alone.
+/// Whether a text is a valid URL string under the profile, alone or against a base (URL Standard, section 4.3), with
+/// its parts or its least refusal. The error is out of memory, which is asked for where a domain's form is made alone.
 pub fn check<'t>(
     alloc: Global,
     text: &'t str,
@@ -46,7 +46,8 @@ pub fn check<'t>(
     check_otherwise(alloc, text, Base::whole(base), profile)
 }
 
-/// The same of a text alone. A program that calls it in one place gets it there, and the parts aren't copied.
+/// Whether a text alone is a valid URL string under the profile, with its parts or its least refusal. The error is out
+/// of memory. A program that calls it in one place gets it there, and the parts aren't copied.
 pub fn check_alone<'t>(
     alloc: Global,
     text: &'t str,
@@ -63,7 +64,8 @@ pub fn check_alone<'t>(
     check_otherwise(alloc, text, None, profile)
 }
 
-/// The same against every base of a kind.
+/// Whether a text is a valid URL string under the profile against a base of this kind, whichever it is, with its parts
+/// or its least refusal. The error is out of memory.
 pub fn check_of_kind<'t>(
     alloc: Global,
     text: &'t str,
@@ -127,7 +129,7 @@ fn check_by_parts<'t>(
     }
 }
 
-// The verdict that refuses a text. It is inlined, so that its place is filled with zeros only where a text is refused.
+// The verdict that refuses a text. It is inlined, so that its place is filled with zeros only when a text is refused.
 #[inline(always)]
 fn refused<'t>(refusal: Refusal) -> Result<Verdict<'t>, AllocError>
     ensures { result ≡ Ok (Verdict.No refusal) }

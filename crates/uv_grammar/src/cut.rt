@@ -70,6 +70,7 @@ pub(crate) fn cut_text<'t, 'b>(
 }
 
 // The texts of the host and the port, where there is an authority, and of the path.
+#[inline(always)]
 fn split_middle<'t>(text: &'t str, class: Class) -> (Option<&'t str>, Option<&'t str>, &'t str)
     ensures { SplitsMiddle class (chars text.now) (chars_of_option result.0) (chars_of_option result.1)
         (chars_of result.2) }
@@ -84,6 +85,7 @@ fn split_middle<'t>(text: &'t str, class: Class) -> (Option<&'t str>, Option<&'t
 }
 
 /// The scheme, where the text begins with one and `:`, and the rest.
+#[inline(always)]
 pub(crate) fn split_scheme<'t>(text: &'t str) -> (Option<&'t str>, &'t str)
     ensures { SplitsScheme (chars text.now) (chars_of_option result.0) (chars_of result.1) }
 {
@@ -94,6 +96,7 @@ pub(crate) fn split_scheme<'t>(text: &'t str) -> (Option<&'t str>, &'t str)
 }
 
 // The authority and the path, where the text begins with `//`.
+#[inline(always)]
 fn split_authority<'t>(text: &'t str) -> Option<(&'t str, &'t str)>
     ensures { MatchOption result (starts_with_two_slashes (chars text.now) ≡ false)
         (λ r. SplitsAuthority (chars text.now) (chars_of r.0) (chars_of r.1)) }
@@ -108,6 +111,7 @@ fn split_authority<'t>(text: &'t str) -> Option<(&'t str, &'t str)>
 }
 
 // The host of an authority and the text of its port, by the class.
+#[inline(always)]
 fn split_host<'t>(authority: &'t str, class: Class) -> (&'t str, Option<&'t str>)
     ensures { SplitsHost class (chars authority.now) (chars_of result.0) (chars_of_option result.1) }
 {
@@ -117,7 +121,8 @@ fn split_host<'t>(authority: &'t str, class: Class) -> (&'t str, Option<&'t str>
     }
 }
 
-// The host of an authority and the text of its port, where it isn't the authority of a file URL.
+// The host of an authority and the text of its port, if it isn't the authority of a file URL.
+#[inline(always)]
 fn split_port<'t>(authority: &'t str) -> (&'t str, Option<&'t str>)
     ensures host { chars_of result.0 ≡ host_before false (chars authority.now) }
     ensures port { chars_of_option result.1 ≡ port_after false (chars authority.now) }
@@ -144,8 +149,8 @@ fn port_mark(bytes: &[u8]) -> Option<usize>
     }
 }
 
-// The same, where the authority begins with `[`: no `:` before the first `]` is that of a port, so the many in an IPv6
-// address are passed by one search.
+// The index of the `:` of a port, where the authority begins with `[`: no `:` before the first `]` begins a port, so
+// the many in an IPv6 address are passed by one search.
 fn port_mark_after_bracket(bytes: &[u8]) -> Option<usize>
     requires { starts_with_bracket bytes.now ≡ true }
     ensures { IsPortMark bytes.now result }
@@ -159,7 +164,7 @@ fn port_mark_after_bracket(bytes: &[u8]) -> Option<usize>
     }
 }
 
-// The same, where brackets may be before it.
+// The index of the `:` of a port, where brackets may be before it: the first `:` that isn't within brackets.
 fn port_mark_by_brackets(bytes: &[u8]) -> Option<usize>
     ensures { IsPortMark bytes.now result }
 {

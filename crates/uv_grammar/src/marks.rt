@@ -15,6 +15,7 @@ use crate::marks::search::first_mark;
 use memchr::memchr2;
 
 /// What is before the first such mark, and what follows it where there is one.
+#[inline(always)]
 pub(crate) fn split_at_mark<'t>(text: &'t str, mark: char) -> (&'t str, Option<&'t str>)
     requires { mark < 128 }
     ensures joined { chars text.now ≡ chars_of result.0 ++ written_after mark (chars_of_option result.1) }
@@ -28,6 +29,7 @@ pub(crate) fn split_at_mark<'t>(text: &'t str, mark: char) -> (&'t str, Option<&
 
 /// What is before the first `?` or `#`, the query where `?` comes first, and the fragment after the first `#`. In
 /// a text of 32 bytes or more both are searched for at once, since most texts have neither.
+#[inline(always)]
 pub(crate) fn split_marks<'t>(text: &'t str) -> (&'t str, Option<&'t str>, Option<&'t str>)
     ensures { SplitsMarks (chars text.now) (chars_of result.0) (chars_of_option result.1) (chars_of_option result.2) }
 {
@@ -40,7 +42,9 @@ pub(crate) fn split_marks<'t>(text: &'t str) -> (&'t str, Option<&'t str>, Optio
     }
 }
 
-// The same by a search for each.
+// What is before the first `?` or `#`, the query and the fragment, by a search for each mark: two searches are cheaper
+// for a short text.
+#[inline(always)]
 fn split_marks_in_turn<'t>(text: &'t str) -> (&'t str, Option<&'t str>, Option<&'t str>)
     ensures { SplitsMarks (chars text.now) (chars_of result.0) (chars_of_option result.1) (chars_of_option result.2) }
 {
@@ -49,7 +53,8 @@ fn split_marks_in_turn<'t>(text: &'t str) -> (&'t str, Option<&'t str>, Option<&
     (start, query, fragment)
 }
 
-// The same, where this is the place of the first of both.
+// What is before the first `?` or `#`, the query and the fragment, where this is the place of the first of both.
+#[inline(always)]
 fn split_after_mark<'t>(text: &'t str, end: usize) -> (&'t str, Option<&'t str>, Option<&'t str>)
     requires { IsFirstByte (is_byte2 question_mark number_sign) text.now (Some end) }
     ensures { SplitsMarks (chars text.now) (chars_of result.0) (chars_of_option result.1) (chars_of_option result.2) }
@@ -71,6 +76,7 @@ fn has_question_mark(bytes: &[u8], place: usize) -> bool
 }
 
 /// What is before the first `/`, and what begins with it.
+#[inline(always)]
 pub(crate) fn split_at_slash<'t>(text: &'t str) -> (&'t str, &'t str)
     ensures { SplitsAtSlash (chars text.now) (chars_of result.0) (chars_of result.1) }
 {
@@ -81,6 +87,7 @@ pub(crate) fn split_at_slash<'t>(text: &'t str) -> (&'t str, &'t str)
 }
 
 /// What follows a `/` at the text's start.
+#[inline(always)]
 pub(crate) fn after_slash<'t>(text: &'t str) -> Option<&'t str>
     ensures { MatchOption result (starts_with_slash (chars text.now) ≡ false)
         (λ r. chars text.now ≡ slash ∷ chars_of r) }

@@ -6,38 +6,15 @@ ghost use Rattle.uv_model.specs.declared.profile.Profile.TheVariants.{Parser};
 ghost use Rattle.uv_model.specs.Cut.{is_followed};
 ghost use Rattle.uv_model.specs.Violations.Refusal.{IsLeast};
 ghost use Rattle.uv_model.specs.Violations.UnitViolation.{PathUnitViolation};
-ghost use Rattle.uv_model.specs.Violations.Violation.{has_opaque_path};
-ghost use Rattle.uv_grammar.specs.SpacedPaths.{IsTakenRun, is_space, takes_spaces};
+ghost use Rattle.uv_grammar.specs.SpacedPaths.{IsTakenRun, is_space};
 
 use crate::cut::Cut;
-use crate::marks::beginnings::has_slash;
-use crate::setting::Setting;
 use crate::start_rules::holds_any;
-use uv_model::{Class, Profile, Refusal, after_code_points, first_code_point};
+use uv_model::{Refusal, after_code_points, first_code_point};
 use uv_text::first_fault;
 
-/// The path of the cut text may hold spaces: the profile is the parser's, and the path is opaque.
-pub(crate) fn takes_spaces(cut: &Cut, setting: &Setting) -> bool
-    ensures { result ≡ takes_spaces setting.now cut.now }
-{
-    match setting.profile {
-        Profile::Standard | Profile::Wide => false,
-        Profile::Parser => has_opaque_path(cut, setting.class),
-    }
-}
-
-// The path is opaque: after a scheme of class Other without an authority, and it doesn't begin with `/`.
-fn has_opaque_path(cut: &Cut, class: Class) -> bool
-    ensures { result ≡ has_opaque_path class cut.now }
-{
-    match class {
-        Class::SpecialNotFile | Class::File => false,
-        Class::Other => cut.scheme.is_some()
-            && !(cut.host_text.is_some() || has_slash(cut.path_text)),
-    }
-}
-
 /// A query or a fragment follows the path.
+#[inline(always)]
 pub(crate) fn is_followed(cut: &Cut) -> bool
     ensures { result ≡ is_followed cut.now }
 {
@@ -66,8 +43,8 @@ pub(crate) fn first_spaced_fault(text: &str, followed: bool) -> Option<Refusal>
     None
 }
 
-// How many spaces at the text's start the parser takes: all of them, but none where they end the text and neither a
-// query nor a fragment follows.
+// How many spaces at the text's start the parser takes: all of them, but none if they end the text and neither a query
+// nor a fragment follows.
 fn taken_spaces(text: &str, followed: bool) -> usize
     ensures { IsTakenRun followed (chars text.now) result }
 {

@@ -1,5 +1,5 @@
 //! Hosts of special and file URLs at which the URL parser stops before its host parser reads them (URL Standard,
-//! section 4.4): by the parser's profile they are refused. By the other profiles no such text is a host anyway.
+//! section 4.4): under the parser's profile they are refused. Under the other profiles no such text is a host anyway.
 ghost use Rattle.std.specs.List.{list_any};
 ghost use Rattle.std.specs.Prelude.{◌≡◌};
 ghost use Rattle.std.specs.Str.{chars};
@@ -13,19 +13,11 @@ use uv_model::{Class, Profile, first_code_point};
 pub(crate) fn is_stopped(text: &str, class: Class, last: bool, profile: Profile) -> bool
     ensures { result ≡ spec.is_stopped profile class last (chars text.now) }
 {
-    match profile {
-        Profile::Standard | Profile::Wide => false,
-        Profile::Parser => is_stopped_by_class(text, class, last),
-    }
-}
-
-fn is_stopped_by_class(text: &str, class: Class, last: bool) -> bool
-    ensures { result ≡ spec.is_stopped Profile.Parser class last (chars text.now) }
-{
-    match class {
-        Class::SpecialNotFile => has_stop(text, class, last),
-        Class::File => is_drive(text) || has_stop(text, class, last),
-        Class::Other => false,
+    match (profile, class) {
+        (Profile::Standard | Profile::Wide, _) => false,
+        (Profile::Parser, Class::SpecialNotFile) => has_stop(text, class, last),
+        (Profile::Parser, Class::File) => is_drive(text) || has_stop(text, class, last),
+        (Profile::Parser, Class::Other) => false,
     }
 }
 

@@ -73,7 +73,8 @@ impl<'t> Parts<'t> {
         }
     }
 
-    /// The same host given back, copied only where it is a slice of the text. The error is out of memory.
+    /// The host given back, where its value isn't its text. It is copied only when it is a slice of the text. The error
+    /// is out of memory.
     pub fn into_host(self, alloc: Global) -> Result<Option<Host>, AllocError>
         ensures { IfOk result (λ host. host ≡ self.entry.host) }
     {
@@ -90,7 +91,7 @@ impl<'t> Parts<'t> {
         part_between(self.text, 1, self.ends.host, self.ends.port)
     }
 
-    /// The port, where it isn't the scheme's default.
+    /// The port, if it isn't the scheme's default.
     pub fn port(&self) -> Option<u16>
         ensures { result ≡ self.now.port }
     {
@@ -150,19 +151,12 @@ impl<'p, 't> Segments<'p, 't> {
         ensures { result ≡ segments_in (seen_form form) (chars path_text.now) }
     {
         Segments {
-            left: segments_text(form, path_text),
+            left: match form {
+                Form::SchemeOpaque => None,
+                _ => after_first(path_text),
+            },
             path: PhantomData,
         }
-    }
-}
-
-// The text of the segments of a path by its form: what is after a `/` at its start, where there are any.
-fn segments_text<'t>(form: Form, path_text: &'t str) -> Option<&'t str>
-    ensures { left_segments (chars_of_option result) ≡ segments_in (seen_form form) (chars path_text.now) }
-{
-    match form {
-        Form::SchemeOpaque => None,
-        _ => after_first(path_text),
     }
 }
 

@@ -69,7 +69,7 @@ impl<'t> PartsHost<'t> {
         }
     }
 
-    /// The host given back, copied only where it is a slice of the text. The error is out of memory.
+    /// The host given back, copied only when it is a slice of the text. The error is out of memory.
     pub(crate) fn into_host(self, alloc: Global) -> Result<Host, AllocError>
         ensures { IfOk result (λ host. host ≡ as_host self.entry) }
     {

@@ -22,6 +22,7 @@ fn count(text: &str) -> usize
 }
 
 /// The place after a scheme and `:`.
+#[inline(always)]
 pub(crate) fn scheme_end(cut: &Cut) -> usize
     requires { IsCountable cut.now }
     ensures { result ≡ scheme_end cut.now }
@@ -33,6 +34,7 @@ pub(crate) fn scheme_end(cut: &Cut) -> usize
 }
 
 /// The first of the two code points after a scheme and `:` that isn't `/`, or the text's end.
+#[inline(always)]
 pub(crate) fn slashes_place(cut: &Cut) -> usize
     requires { IsCountable cut.now }
     ensures { result ≡ slashes_place cut.now }
@@ -45,6 +47,7 @@ pub(crate) fn slashes_place(cut: &Cut) -> usize
 }
 
 /// The place of the host.
+#[inline(always)]
 pub(crate) fn host_place(cut: &Cut) -> usize
     requires count { IsCountable cut.now }
     requires host { IsSome cut.now.host_text }
@@ -54,6 +57,7 @@ pub(crate) fn host_place(cut: &Cut) -> usize
 }
 
 /// The place of the port after a host.
+#[inline(always)]
 pub(crate) fn port_place(cut: &Cut, host_text: &str) -> usize
     requires count { IsCountable cut.now }
     requires host { cut.now.host_text ≡ Some (chars host_text.now) }
@@ -64,26 +68,21 @@ pub(crate) fn port_place(cut: &Cut, host_text: &str) -> usize
 }
 
 /// The place of the path.
+#[inline(always)]
 pub(crate) fn path_place(cut: &Cut) -> usize
     requires { IsCountable cut.now }
     ensures { result ≡ path_place cut.now }
 {
-    scheme_end(cut) + authority_length(cut)
-}
-
-// How many code points `//`, the host, and `:` and the port have.
-fn authority_length(cut: &Cut) -> usize
-    requires { IsCountable cut.now }
-    ensures { result ≡ length (written_authority cut.now.host_text cut.now.port_text) }
-{
+    let before = scheme_end(cut);
     match (cut.host_text, cut.port_text) {
-        (Some(host_text), Some(port_text)) => 2 + count(host_text) + 1 + count(port_text),
-        (Some(host_text), None) => 2 + count(host_text),
-        (None, _) => 0,
+        (Some(host_text), Some(port_text)) => before + 2 + count(host_text) + 1 + count(port_text),
+        (Some(host_text), None) => before + 2 + count(host_text),
+        (None, _) => before,
     }
 }
 
 /// The place of the query.
+#[inline(always)]
 pub(crate) fn query_place(cut: &Cut) -> usize
     requires count { IsCountable cut.now }
     requires query { IsSome cut.now.query }
@@ -93,6 +92,7 @@ pub(crate) fn query_place(cut: &Cut) -> usize
 }
 
 /// The place of the fragment.
+#[inline(always)]
 pub(crate) fn fragment_place(cut: &Cut) -> usize
     requires count { IsCountable cut.now }
     requires fragment { IsSome cut.now.fragment }
@@ -105,6 +105,7 @@ pub(crate) fn fragment_place(cut: &Cut) -> usize
 }
 
 /// The refusal of a part, counted from the text's start.
+#[inline(always)]
 pub(crate) fn refusal_after(start: usize, refusal: Refusal) -> Refusal
     requires { start + refusal.place < 2 ^ 64 }
     ensures { result ≡ refusal_after start refusal }

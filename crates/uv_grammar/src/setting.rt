@@ -10,7 +10,7 @@ use crate::bases::Base;
 use std::marker::Model;
 use uv_model::{Class, Profile, default_port, is_name};
 
-/// The profile, the base, and the class and the default port of the text's scheme, or else of the base's. A text's
+/// The profile, the base, and the class and the default port of the text's scheme, or otherwise of the base's. A text's
 /// setting is made once and handed down.
 #[derive(Drop)]
 pub(crate) struct Setting<'b> {
@@ -36,6 +36,7 @@ impl<'b> Model for Setting<'b> {
 
 impl<'b> Setting<'b> {
     /// The setting of a text with this scheme, or without one.
+    #[inline(always)]
     pub(crate) fn of(base: Option<Base<'b>>, scheme: Option<&str>, profile: Profile) -> Setting<'b>
         ensures { result ≡ setting_of profile (as_base base.entry) (chars_of_option scheme.entry) }
     {
@@ -50,7 +51,8 @@ impl<'b> Setting<'b> {
     }
 }
 
-// The scheme, or else the base's, or else nothing.
+// The scheme, or otherwise the base's, or otherwise nothing.
+#[inline(always)]
 fn scheme_against<'s>(base: Option<Base<'s>>, scheme: Option<&'s str>) -> &'s str
     ensures { chars result.now ≡ scheme_or (as_base base.entry) (chars_of_option scheme.entry) }
 {
@@ -84,21 +86,12 @@ fn class_beside(scheme: &str, port: Option<u16>) -> Class
 {
     match port {
         Some(_) => Class::SpecialNotFile,
-        None => class_without_port(scheme),
-    }
-}
-
-// The class of a scheme that has no default port.
-fn class_without_port(scheme: &str) -> Class
-    requires { None ≡ default_port (chars scheme.now) }
-    ensures { result ≡ scheme_class (chars scheme.now) }
-{
-    if scheme == "file" {
-        return Class::File;
-    }
-    if is_name(scheme, "file") {
-        Class::File
-    } else {
-        Class::Other
+        None => if scheme == "file" {
+            Class::File
+        } else if is_name(scheme, "file") {
+            Class::File
+        } else {
+            Class::Other
+        },
     }
 }

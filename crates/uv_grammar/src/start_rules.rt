@@ -17,6 +17,7 @@ use uv_model::{Class, Profile, Refusal, Rule};
 
 /// The least refusal under which no host, port and start of a path is checked: a text without a scheme against no base
 /// or an opaque one, and a special scheme without `//`.
+#[inline(always)]
 pub(crate) fn start_fault(text: &str, cut: &Cut, setting: &Setting) -> Option<Refusal>
     requires { IsCountable cut.now }
     ensures { IsLeast (StartViolation setting.now (chars text.now) cut.now) result }
@@ -32,6 +33,7 @@ pub(crate) fn start_fault(text: &str, cut: &Cut, setting: &Setting) -> Option<Re
 }
 
 // A special scheme has no authority.
+#[inline(always)]
 fn lacks_slashes(cut: &Cut, setting: &Setting) -> bool
     ensures { IsTrue result ↔ ((setting.now.class ≢ Class.Other) × (cut.now.host_text ≡ None)) }
 {
@@ -43,6 +45,7 @@ fn lacks_slashes(cut: &Cut, setting: &Setting) -> bool
 }
 
 // The refusal of a text without a scheme.
+#[inline(always)]
 fn base_fault(text: &str, base: Option<Base<'_>>) -> Option<Refusal>
     ensures { result ≡ base_fault (as_base base.entry) (chars text.now) }
 {
@@ -71,7 +74,7 @@ pub(crate) fn path_start_fault(cut: &Cut, setting: &Setting) -> Option<Refusal>
     }
 }
 
-// The same, its place counted in code points from the path's start.
+// The least refusal of the start of the path, its place counted in code points from the path's start.
 #[inline(always)]
 fn first_segment_fault(cut: &Cut, setting: &Setting) -> Option<Refusal>
     ensures { IsLeast (PathStartViolation setting.now cut.now) result }
@@ -112,25 +115,18 @@ fn has_forbidden_drive(path_text: &str, profile: Profile) -> bool
     }
 }
 
-// A file URL has a host, so that no drive letter may begin its path.
+// A file URL has a host, so that no drive letter may begin its path: a host in the text, or without a scheme and an
+// authority in the base.
+#[inline(always)]
 fn keeps_drive_out(cut: &Cut, setting: &Setting) -> bool
     ensures { IsTrue result ↔ ((setting.now.class ≡ Class.File)
         × HasHost setting.now.base cut.now.scheme cut.now.host_text) }
 {
-    match setting.class {
-        Class::File => has_host(cut, setting.base),
-        Class::SpecialNotFile | Class::Other => false,
-    }
-}
-
-// There is a host in the text, or without a scheme and an authority in the base.
-fn has_host(cut: &Cut, base: Option<Base<'_>>) -> bool
-    ensures { IsTrue result ↔ HasHost (as_base base.entry) cut.now.scheme cut.now.host_text }
-{
-    match (cut.host_text, cut.scheme, base) {
-        (Some(host_text), _, _) => holds_any(host_text),
-        (None, None, Some(base)) => !base.has_empty_host(),
-        (None, _, _) => false,
+    match (setting.class, cut.host_text, cut.scheme, setting.base) {
+        (Class::SpecialNotFile | Class::Other, _, _, _) => false,
+        (Class::File, Some(host_text), _, _) => holds_any(host_text),
+        (Class::File, None, None, Some(base)) => !base.has_empty_host(),
+        (Class::File, None, _, _) => false,
     }
 }
 

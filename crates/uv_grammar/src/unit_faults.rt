@@ -2,12 +2,11 @@
 ghost use Rattle.std.specs.Prelude.{◌+◌, ◌<◌, ◌^◌, length};
 ghost use Rattle.std.specs.Str.{chars};
 ghost use Rattle.uv_model.specs.Violations.Refusal.{IsLeast};
-ghost use Rattle.uv_model.specs.Violations.Violation.{PathContentViolation};
 ghost use Rattle.uv_grammar.specs.PartViolations.{AfterAuthority, IsCountable, OfFragment, OfPath, OfQuery};
 
 use crate::cut::Cut;
-use crate::parser_paths::{first_spaced_fault, is_followed, takes_spaces};
 use crate::places::{fragment_place, path_place, query_place, refusal_after};
+use crate::scan::{next_fault, path_scan};
 use crate::setting::Setting;
 use crate::start_rules::path_start_fault;
 use uv_model::Refusal;
@@ -37,21 +36,9 @@ fn path_fault(cut: &Cut, setting: &Setting) -> Option<Refusal>
     requires { IsCountable cut.now }
     ensures { IsLeast (OfPath setting.now cut.now) result }
 {
-    match path_text_fault(cut, setting) {
+    match next_fault(path_scan(cut, setting), cut.path_text) {
         Some(refusal) => Some(refusal_after(path_place(cut), refusal)),
         None => None,
-    }
-}
-
-// The same, its place counted from the path's start.
-#[inline(always)]
-fn path_text_fault(cut: &Cut, setting: &Setting) -> Option<Refusal>
-    ensures { IsLeast (PathContentViolation setting.now cut.now) result }
-{
-    if takes_spaces(cut, setting) {
-        first_spaced_fault(cut.path_text, is_followed(cut))
-    } else {
-        first_fault(cut.path_text)
     }
 }
 

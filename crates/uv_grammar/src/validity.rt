@@ -12,7 +12,7 @@ use crate::checker::{Verdict, check, check_of_kind};
 use std::alloc::{AllocError, Global};
 use uv_model::{Profile, Record};
 
-/// Whether a text is a valid URL string by the profile, alone or against a base (URL Standard, section 4.3): what
+/// Whether a text is a valid URL string under the profile, alone or against a base (URL Standard, section 4.3): what
 /// `check` says, without the parts. The error is out of memory, which is asked for where a domain's form is made alone.
 pub fn is_valid(
     alloc: Global,
@@ -26,7 +26,8 @@ pub fn is_valid(
     Ok(says_yes(&check(alloc, text, base, profile)?))
 }
 
-/// The same against every base of a kind.
+/// Whether a text is a valid URL string under the profile against a base of this kind, whichever it is. The error is
+/// out of memory.
 pub fn is_valid_of_kind(
     alloc: Global,
     text: &str,

@@ -136,7 +136,7 @@ from_none c h = elim (cases_Bool (is_sign c)) [
   | inr none ↦ absurd (false≢true (rw none at h))
 ]
 
--- the last code point is no mark
+-- the last code point isn't a mark
 last_other : (signed : Bool) (c : ℕ) (rest : List ℕ) (mark : ℕ) → is_sign mark ≡ false
     → is_chain signed (c ∷ rest) ≡ true
     → (slice_index (c ∷ rest) (length rest) == mark) ≡ false

@@ -111,7 +111,7 @@ taken_is_form text form utf8 plain e =
     } in
     (plain, parsed)
 
--- and where nothing is taken, it has none
+-- and if nothing is taken, it has none
 not_taken : (text : List ℕ) → IsUtf8 text → taken_form (percent_decode text) ≡ None → HasNoForm Parser (chars text)
 not_taken text utf8 e form (plain, is) =
     let bytes : List ℕ = percent_decode text in

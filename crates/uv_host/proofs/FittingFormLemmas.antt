@@ -165,7 +165,7 @@ pub fitting_parts : (deny : AsciiDenyList) (hyphens : Hyphens) (text form : List
 fitting_parts deny hyphens text form fits =
     filtered has_lengths (to_ascii deny hyphens Ignore (encode_utf8_all text)) form fits
 
--- the form of a text by the standard profile is the one that fits at the strict settings
+-- the form of a text under the standard profile is the one that fits at the strict settings
 pub standard_form : {A E : Type 0} (bytes : A → List ℕ) (text : List ℕ) (result : Result (Option A) E)
     → has_permitted Standard text ≡ true
     → IfOk result (λ form. option_map bytes form ≡ fitting_form STD3 Check text)
@@ -178,7 +178,7 @@ standard_form bytes text (Ok (Some some)) permitted fits =
     IsForm-from text (bytes some) permitted parts.0 parts.1
     (allowed_form (encode_utf8_all text) (bytes some) parts.0)
 
--- by the wide profile there is none where none fits at the settings of the URL parser
+-- under the wide profile there is none if none fits at the settings of the URL parser
 pub no_wide_form : (text : List ℕ) → fitting_form EMPTY Allow text ≡ None → HasNoForm Wide text
 no_wide_form text none form h =
     none-some form (sym none ∙ fitting_from EMPTY Allow text form (sym (parser_form-is text) ∙ h.parsed) h.lengths)

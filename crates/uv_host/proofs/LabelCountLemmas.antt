@@ -15,7 +15,7 @@ is_long_after count [] = nat_lt 63 count
 is_long_after count (c ∷ rest) =
     if is_full_stop c then nat_lt 63 count || is_long_after 0 rest else is_long_after (count + 1) rest
 
--- the same of labels, the first of which goes on after so many code points
+-- one of these labels is too long, where so many code points of the first are before what is given of it
 abbrev goes_long : ℕ → List (List ℕ) → Bool
 goes_long count [] = false
 goes_long count (first ∷ others) = nat_lt 63 (count + length first) || list_any is_long_label others
@@ -105,7 +105,7 @@ long_here name before c count so_far within read full other left =
     sym (long_from_start name) ∙ ap (is_long_after 0) parts ∙ left (c ∷ rest)
     ∙ cond-false (is_full_stop c) _ _ other ∙ long_already (count + 1) rest (omega arith)
 
--- and where no label had so many, none is too long
+-- and if no label had so many, none is too long
 pub none_long : (name before : List ℕ) (count : ℕ) → before ≡ name → count ≤ 63 → LeavesCount before count
     → has_long_label name ≡ false
 none_long name before count whole few left =

@@ -67,7 +67,7 @@ form_plain profile name letters placed = record {
   placed = placed;
 }
 
--- so it does by the wide profile
+-- so it does under the wide profile
 pub wide_plain : (name : List ℕ) → IsOwnForm Wide name → IsPlain EMPTY Allow name
 wide_plain name own = form_plain Wide name own.0 own.1
 
@@ -79,7 +79,7 @@ lower_is_ascii text ascii = IsAscii-map to_ascii_lowercase text lowercase_ascii 
 lower_chars : (text : List ℕ) → IsAscii text → lowercase (chars text) ≡ lowercase text
 lower_chars text ascii = ap lowercase (chars-IsAscii text ascii)
 
--- such a lower case is the text's form by the parser's profile, where it isn't empty
+-- such a lower case is the text's form under the parser's profile, if it isn't empty
 parser_lower : (text : List ℕ) → IsUtf8 text → IsAscii text → IsOwnForm Parser (lowercase text)
     → HasFormByLengths Parser (chars text) (lowercase text)
 parser_lower text utf8 ascii own =

@@ -31,7 +31,7 @@ same_map : (p q : ℕ → Bool) (xs : List ℕ) → ((b : ℕ) → p b ≡ q b) 
 same_map p q [] h = refl
 same_map p q (x ∷ xs) h = rw (h x, same_map p q xs h) refl
 
--- so their bits are those of letters and digits
+-- so they have the bits of letters and digits
 pub sign_bits : (xs : List ℕ) → mask_l (map (is_in_rows SIGN_ROWS) xs) ≡ mask_l (map is_sign xs)
 sign_bits xs = ap mask_l (same_map (is_in_rows SIGN_ROWS) is_sign xs sign_rows)
 
@@ -101,7 +101,7 @@ module _ (signed : Bool) (xs : List ℕ) (few : length xs ≤ 32) where
       let less = and_le_l joints after in
       or_lt 32 signs (bit_and joints after) (mask-small is_sign xs few) (omega arith)
 
-  -- a bit of them is that of a byte that goes on
+  -- one of their bits is the bit of a byte that goes on
   goes : (k : ℕ) → bit_at joined k ≡ 1
       → (k < length xs) × (goes_on (signed_before signed xs k) (get_or xs k 0) ≡ true)
   goes k set = elim (either signs joints (bit_or (signs * 2 ^ 1 % 2 ^ 64) (cond signed 1 0)) k set) [
@@ -161,7 +161,7 @@ module _ (signed : Bool) (xs : List ℕ) (few : length xs ≤ 32) where
         },
       )
 
--- the same of the first 32 bytes of a text
+-- the set bits of the first 32 bytes of a text below the first that isn't set are bytes that go on
 pub joined_prefix : (signed : Bool) (rest : List ℕ) (n : ℕ)
     → n ≡ trailing_ones w64 (joined_bits signed (take 32 rest))
     → (n ≤ 32) × IsJoined signed rest n

@@ -143,7 +143,7 @@ permitted_ascii profile text all =
 
 -- ---- hyphens
 
--- no byte is a hyphen where none is of its kind
+-- no byte is a hyphen if none is of its kind
 no_hyphen : (c : ℕ) → not (c == hyphen) ≡ true → c ≢ hyphen
 no_hyphen c h = grind (arith, nat_tests)
 
@@ -177,7 +177,7 @@ without_x label h =
           | inr past ↦ ap (λ x. x == 120) (get_or_past label 0 0 past)
         ]
 
--- so no label does where no byte is an `x`
+-- so no label does if no byte is an `x`
 pub seen_no_x : (name : List ℕ) (seen : ℕ) → AreSeen name seen → (bit_and seen 64 == 0) ≡ true
     → list_all (passes_hyphens Allow) (labels_of name) ≡ true
 seen_no_x name seen are none =

@@ -58,7 +58,7 @@ parsed_byte bytes number shortest parses =
     (first_asked bytes shortest) small in
     (omega (arith, is.0.1, is.1), sym (ap decimal is.1 ∙ same))
 
--- what isn't read is no number
+-- what isn't read isn't a number
 pub unparsed_byte : (bytes : List ℕ) → ParsesUnsigned {E = ℕ} 8 10 bytes (Err 0) → (n : ℕ) → ¬ (IsByteText bytes n)
 unparsed_byte bytes parses n (small, spelled) =
     let read = parse-decimal {E = ℕ} 8 n bytes (Err 0) (omega arith) (omega arith) spelled parses in
@@ -95,7 +95,7 @@ shortest_decimal (suc n) small =
     shortest_from (decimal (suc n)) numeral.0 (digits_list (decimal (suc n)) numeral.1)
     (λ same. absurd (first_above (suc n) (omega arith) small same))
 
--- so another text is no number
+-- so another text isn't a number
 pub not_shortest : (bytes : List ℕ) → is_shortest bytes ≡ false → (n : ℕ) → ¬ (IsByteText bytes n)
 not_shortest bytes other n (small, spelled) =
     false≢true (sym other ∙ ap is_shortest spelled ∙ shortest_decimal n small)
@@ -263,7 +263,7 @@ weight_small (suc (suc zero)) few = omega arith
 weight_small (suc (suc (suc zero))) few = omega arith
 weight_small (suc (suc (suc (suc more)))) few = absurd (omega (arith, few))
 
--- that of a text
+-- the form of a text
 pub weighed_small : (more : ℕ) (text : List ℕ) (value : ℕ) → IsWeighedText more text value
     → value < 256 * weight_of more
 weighed_small more text value is =

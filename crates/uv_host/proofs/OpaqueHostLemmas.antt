@@ -9,15 +9,14 @@ use Rattle.uv_model.specs.declared.rule.Refusal.{Refusal}
 use Rattle.uv_model.specs.Hosts.Address.{IsBracketedIpv6}
 use Rattle.uv_model.specs.Ascii.{percent_sign}
 use Rattle.uv_model.specs.Hosts.OpaqueHost.{is_forbidden_host, starts_with_bracket}
-use Rattle.uv_model.specs.Violations.OpaqueHostViolation.{HasForeignHostCodePoint, OpaqueHostViolation}
+use Rattle.uv_model.specs.Violations.OpaqueHostViolation.{OpaqueHostViolation}
 use Rattle.uv_model.specs.Violations.Refusal.{IsLeast}
 use Rattle.uv_model.specs.Violations.Rule.{rule_number}
-use Rattle.uv_model.specs.Violations.UnitViolation.{HasBarePercent}
 use Rattle.uv_model.specs.Units.{is_url_code_point, starts_with_two_hex, is_unit_at, is_faultless}
 use Rattle.uv_model.proofs.Addresses.AddressUniqueness.{bracketed_bracket}
 use Rattle.uv_model.proofs.Violations.RefusalLemmas.{IsLeast-like}
 use Rattle.uv_model.proofs.Texts.UnitsLemmas.{is_faultless-units, IsUnits-faultless}
-use Rattle.uv_host.specs.OpaqueHosts.{host_fault, fault_at_or, first_host_fault, IsOpaqueHostOrEmpty}
+use Rattle.uv_host.specs.OpaqueHosts.{HostUnitViolation, IsOpaqueHostOrEmpty, fault_at_or, first_host_fault, host_fault}
 use Rattle.uv_model.proofs.Violations.UnitViolationLemmas.{head_same, tail_same, nothing_at}
 use Rattle.uv_model.proofs.Violations.FaultlessHosts.{opaque_no_bracket}
 
@@ -36,30 +35,24 @@ bracketed_silent text pieces bracket is = none
 
 -- ---- the first code point of any other text
 
--- the violations of a text that doesn't begin with `[`
-abbrev Unbracketed : List ℕ → ℕ → Rule → Type 0
-Unbracketed text place HostCodePoint = HasForeignHostCodePoint text place
-Unbracketed text place Percent = HasBarePercent text place
-Unbracketed text place _ = ⊥
-
 -- a violation is one place later after one more code point
-later : (c : ℕ) (rest : List ℕ) (place : ℕ) (rule : Rule) → Unbracketed rest place rule
-    → Unbracketed (c ∷ rest) (suc place) rule
+later : (c : ℕ) (rest : List ℕ) (place : ℕ) (rule : Rule) → HostUnitViolation rest place rule
+    → HostUnitViolation (c ∷ rest) (suc place) rule
 later c rest place HostCodePoint h =
     record { code_point = h.code_point; rest = h.rest; here = h.here; foreign = h.foreign }
 later c rest place Percent h = record { rest = h.rest; here = h.here; bare = h.bare }
 later c rest place _ h = absurd h
 
 -- and one place earlier in the text without its first code point
-earlier : (c : ℕ) (rest : List ℕ) (place : ℕ) (rule : Rule) → Unbracketed (c ∷ rest) (suc place) rule
-    → Unbracketed rest place rule
+earlier : (c : ℕ) (rest : List ℕ) (place : ℕ) (rule : Rule) → HostUnitViolation (c ∷ rest) (suc place) rule
+    → HostUnitViolation rest place rule
 earlier c rest place HostCodePoint h =
     record { code_point = h.code_point; rest = h.rest; here = h.here; foreign = h.foreign }
 earlier c rest place Percent h = record { rest = h.rest; here = h.here; bare = h.bare }
 earlier c rest place _ h = absurd h
 
 -- the empty text has no violation
-empty_silent : (place : ℕ) (rule : Rule) → Unbracketed [] place rule → ⊥
+empty_silent : (place : ℕ) (rule : Rule) → HostUnitViolation [] place rule → ⊥
 empty_silent place HostCodePoint h = nothing_at place _ _ h.here
 empty_silent place Percent h = nothing_at place _ _ h.here
 empty_silent place _ h = h
@@ -80,7 +73,7 @@ foreign_fault c rest (inr (foreign, other)) =
     ]
 
 -- a violation of the first code point is its fault
-said : (c : ℕ) (rest : List ℕ) (rule : Rule) → Unbracketed (c ∷ rest) 0 rule → host_fault c rest ≡ Some rule
+said : (c : ℕ) (rest : List ℕ) (rule : Rule) → HostUnitViolation (c ∷ rest) 0 rule → host_fault c rest ≡ Some rule
 said c rest HostCodePoint h =
     let same = head_same c h.code_point rest h.rest h.here in
     foreign_fault c rest (rw same at h.foreign)
@@ -92,7 +85,7 @@ said c rest Percent h =
 said c rest _ h = absurd h
 
 -- its fault is a violation
-stands : (c : ℕ) (rest : List ℕ) (rule : Rule) → host_fault c rest ≡ Some rule → Unbracketed (c ∷ rest) 0 rule
+stands : (c : ℕ) (rest : List ℕ) (rule : Rule) → host_fault c rest ≡ Some rule → HostUnitViolation (c ∷ rest) 0 rule
 stands c rest rule fault =
     elim (cases_eq c percent_sign) [
       | inl same ↦
@@ -124,7 +117,7 @@ stands c rest rule fault =
 
 -- the violations of a text before which so many code points are
 abbrev From : ℕ → List ℕ → ℕ → Rule → Type 0
-From start text place rule = (inner : ℕ) × (place ≡ start + inner) × Unbracketed text inner rule
+From start text place rule = (inner : ℕ) × (place ≡ start + inner) × HostUnitViolation text inner rule
 
 -- the least violation after one more code point, by that code point's fault
 step : (start c : ℕ) (rest : List ℕ) (fault : Option Rule) → host_fault c rest ≡ fault
@@ -158,6 +151,18 @@ first_least : (start : ℕ) (text : List ℕ) → IsLeast (From start text) (fir
 first_least start [] = λ place rule (inner, at, h). empty_silent inner rule h
 first_least start (c ∷ rest) = step start c rest (host_fault c rest) refl (first_least (start + 1) rest)
 
+-- the first fault is the least violation of a code point
+pub units_least : (text : List ℕ) (fault : Option Refusal) → fault ≡ first_host_fault 0 text
+    → IsLeast (HostUnitViolation text) fault
+units_least text fault is =
+    rw is (IsLeast-like (From 0 text) (HostUnitViolation text) to from (first_host_fault 0 text) (first_least 0 text))
+  where
+    to : (place : ℕ) (rule : Rule) → From 0 text place rule → HostUnitViolation text place rule
+    to place rule (inner, at, h) = let same : place ≡ inner = omega arith in rw same h
+
+    from : (place : ℕ) (rule : Rule) → HostUnitViolation text place rule → From 0 text place rule
+    from place rule h = (place, omega arith, h)
+
 -- the first fault of a text that doesn't begin with `[` is its least violation
 pub unbracketed_least : (text : List ℕ) → starts_with_bracket text ≡ false
     → IsLeast (OpaqueHostViolation text) (first_host_fault 0 text)
@@ -177,7 +182,7 @@ unbracketed_least text no_bracket =
 
 -- ---- texts without a violation
 
--- a code point without a fault is no fault of units, and no forbidden host code point
+-- a code point without a fault isn't a fault of units, and no forbidden host code point
 allowed_here : (c : ℕ) (rest : List ℕ) → host_fault c rest ≡ None
     → (is_unit_at c rest ≡ true) × (not (is_forbidden_host c) ≡ true)
 unfolding is_unit_at
@@ -243,7 +248,7 @@ units_silent start (c ∷ rest) units permitted =
     let here = silent_here c rest unit.0 permit.0 in
     rw here (units_silent (start + 1) rest unit.1 permit.1)
 
--- a text that doesn't begin with `[` has no fault exactly where it is empty or an opaque host
+-- a text that doesn't begin with `[` has no fault exactly when it is empty or an opaque host
 pub unbracketed_silent : (text : List ℕ) → starts_with_bracket text ≡ false
     → (first_host_fault 0 text ≡ None) ↔ IsOpaqueHostOrEmpty text
 unbracketed_silent text no_bracket = (to text, from)
@@ -260,7 +265,7 @@ unbracketed_silent text no_bracket = (to text, from)
     from (inr (inl (pieces, is))) = absurd (false≢true (sym no_bracket ∙ bracketed_bracket text pieces is))
     from (inr (inr is)) = units_silent 0 text (is_faultless-units text is.units) is.permitted
 
--- a text that begins with `[` is such a text only where it is an IPv6 text in brackets
+-- a text that begins with `[` is such a text only when it is an IPv6 text in brackets
 pub bracket_only : (text : List ℕ) → starts_with_bracket text ≡ true → IsOpaqueHostOrEmpty text
     → (pieces : List ℕ) × IsBracketedIpv6 text pieces
 bracket_only text bracket (inl empty) = absurd (false≢true (rw empty at bracket))

@@ -17,7 +17,7 @@ use Rattle.uv_text.specs.Splits.{IsUnitSplit, begins_unit, unit_length}
 use Rattle.uv_text.proofs.SplitsLemmas.{unit_length-le}
 use Rattle.uv_host.specs.OpaqueHosts.{first_host_fault, host_fault, host_rule}
 
--- `%` is no URL code point
+-- `%` isn't a URL code point
 no_percent_unit : (is_ascii percent_sign && (is_url_code_point percent_sign && not (is_forbidden_host percent_sign)))
     ≡ false
 unfolding is_url_code_point
@@ -36,13 +36,13 @@ either true false = refl
 either false true = refl
 either false false = refl
 
--- and one beyond ASCII where it is no URL code point
+-- and one beyond ASCII if it isn't a URL code point
 either_beyond : (url : Bool) → (if not url then Some HostCodePoint else None)
     ≡ (if url then None else Some HostCodePoint)
 either_beyond true = refl
 either_beyond false = refl
 
--- a code point and what follows it begin a unit of the class exactly where they violate no rule
+-- a code point and what follows it begin a unit of the class exactly when they violate no rule
 begins_host : (held : ℕ → Bool) → HoldsOpaqueHostBytes held → (c : ℕ) (rest : List ℕ)
     → host_fault c rest ≡ (if begins_unit held c rest then None else Some (host_rule c))
 begins_host held holds c rest =

@@ -113,7 +113,7 @@ hyphens_no_form Parser name utf8 lower placed = absurd (false≢true (sym placed
 
 -- ---- plain names
 
--- a plain name consists of a form's code points by each profile
+-- a plain name consists of a form's code points under each profile
 form_code_point : (profile : Profile) (c : ℕ) → is_form_code_point Standard c ≡ true
     → is_form_code_point profile c ≡ true
 form_code_point Standard c h = h

@@ -54,7 +54,7 @@ pub no_form_left : (form : List ℕ) → fits_lengths Parser form ≡ false → 
 no_form_left [] wrong = refl
 no_form_left (c ∷ rest) wrong = absurd (false≢true (sym wrong ∙ fits_some c rest))
 
--- what has the lengths of a domain has them by each profile
+-- what has the lengths of a domain has them under each profile
 pub fits_from_lengths : (profile : Profile) (form : List ℕ) → has_lengths form ≡ true
     → fits_lengths profile form ≡ true
 fits_from_lengths Standard form lengths = lengths
@@ -80,7 +80,7 @@ second_one : (a b : Bool) → (a || b) ≡ true → a ≡ false → b ≡ true
 second_one true b h none = absurd (false≢true (sym none))
 second_one false b h none = h
 
--- a letter, a digit and any other mark of a form is no forbidden domain code point
+-- a letter, a digit and any other mark of a form isn't a forbidden domain code point
 allowed_letter : (c : ℕ) → is_ascii_lowercase c ≡ true → is_forbidden_domain c ≡ false
 allowed_letter c is = grind (arith, nat_tests)
 
@@ -140,7 +140,7 @@ lower_no_bracket (c ∷ rest) is =
     (list_all (is_form_code_point Parser) (lowercase rest)) is in
     ne_eqb c left_bracket (no_bracket c parts.0)
 
--- a text is empty where its lower case is
+-- a text is empty when its lower case is
 pub lower_nothing : (text : List ℕ) → lowercase text ≡ [] → text ≡ []
 lower_nothing [] nothing = refl
 lower_nothing (c ∷ rest) nothing = absurd cc

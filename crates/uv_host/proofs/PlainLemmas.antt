@@ -132,7 +132,7 @@ standard_is_form name utf8 p lengths =
     IsForm-from (chars name) name (standard_permitted name p) (plain_strict name utf8 p) lengths
     (plain_to_ascii name utf8 p)
 
--- a byte of a plain name is a code point of a form by the parser's profile
+-- a byte of a plain name is a code point of a form under the parser's profile
 parser_byte : (b : ℕ) → (b < 128) × (is_valid_char STD3 b ≡ true) → is_form_code_point Parser b ≡ true
 parser_byte b h =
     let strict = sym (is_valid_char-ascii STD3 b h.0) ∙ h.1 in

@@ -1,4 +1,4 @@
--- ToASCII at its strict settings beside that of the URL parser, after UTS #46, section 4.
+-- ToASCII at its strict settings compared with the URL parser's, after UTS #46, section 4.
 use Rattle.std.proofs.Common.{◌≡◌, ℕ, Bool, true, false, not, ◌&&◌, List, [], ◌∷◌, Option, Some, None, refl, sym, ap}
 use Rattle.std.proofs.Common.{◌∙◌, ◌⊎◌, inl, inr, chars, option_map, option_and_then, if◌then◌else◌}
 use Rattle.std.specs.List.{list_all, list_any}

@@ -24,7 +24,7 @@ all_but_last p (b ∷ prefix) c fails = rw (all_but_last p prefix c fails) (elim
   | inr other ↦ rw other refl
 ])
 
--- a label that ends with such a letter is no number
+-- a label that ends with such a letter isn't a number
 no_number : (prefix : List ℕ) (c : ℕ) → is_word_letter c ≡ true
     → (is_digits (prefix ++ c ∷ []) || is_hexadecimal (prefix ++ c ∷ [])) ≡ false
 no_number prefix c word =

@@ -17,7 +17,7 @@ use Rattle.uv_host.specs.declared.domains.PlainAnswer.{PlainAnswer}
 use Rattle.uv_host.specs.declared.domains.PlainAnswer.TheVariants as plain
 use Rattle.uv_model.specs.Hosts.Domain.{HasNoForm, IsDomain, IsForm, IsNumberText, has_lengths, is_form_code_point}
 
--- the answer on a text by the profile: the form of a valid domain, a number, or neither
+-- the answer on a text under the profile: the form of a valid domain, a number, or neither
 abbrev pub IsAnswer : Profile → List ℕ → DomainAnswer → Type 0
 IsAnswer profile text (Ascii form) = IsDomain profile text (string_bytes form)
 IsAnswer profile text Number = IsNumberText profile text
@@ -32,35 +32,35 @@ is_simple b = is_ascii_lowercase b || (is_ascii_digit b || (b == full_stop))
 abbrev pub is_plain_name : List ℕ → Bool
 is_plain_name text = list_all (is_form_code_point Standard) text && list_all (passes_hyphens Check) (labels_of text)
 
--- lower-case letters, digits and the marks of a domain by the profile, and no label begins with `xn--`
+-- lower-case letters, digits and the marks of a domain under the profile, and no label begins with `xn--`
 abbrev pub is_lower_name : Profile → List ℕ → Bool
 is_lower_name profile name =
     list_all (is_form_code_point profile) name && list_all (passes_hyphens Allow) (labels_of name)
 
--- the profile takes the hyphens of a name as they are: the strict settings of ToASCII do by the standard profile
+-- the profile takes the hyphens of a name as they are: the strict settings of ToASCII do under the standard profile
 abbrev pub takes_hyphens : Profile → List ℕ → Bool
 takes_hyphens Standard name = list_all (passes_hyphens Check) (labels_of name)
 takes_hyphens _ name = true
 
--- what a name is as a domain by the profile, where it is its own form: the answer on its text and these bytes
+-- what a name is as a domain under the profile, where it is its own form: the answer on its text and these bytes
 abbrev pub IsPlainAnswer : Profile → List ℕ → List ℕ → PlainAnswer → Type 0
 IsPlainAnswer profile text bytes plain.Domain = IsDomain profile text bytes
 IsPlainAnswer profile text bytes plain.Number = IsNumberText profile text
 IsPlainAnswer profile text bytes plain.Not = HasNoForm profile text
 
--- the form has the lengths of a domain; by the parser's profile it only isn't empty
+-- the form has the lengths of a domain; under the parser's profile it only isn't empty
 abbrev pub fits_lengths : Profile → List ℕ → Bool
 fits_lengths Parser form = not (length form == 0)
 fits_lengths _ form = has_lengths form
 
--- the form is that of the text where its lengths are right, and else the text has none
+-- the form is the text's if its lengths are right, and otherwise the text has none
 pub record HasFormByLengths (profile : Profile) (text form : List ℕ) : Type 0 where
   pub ascii : IsAscii form
   pub fits : fits_lengths profile form ≡ true → IsForm profile text form
   pub wrong : fits_lengths profile form ≡ false → HasNoForm profile text
 
--- ToASCII leaves the name as it is: at its strict settings by the standard profile, and at those of the URL parser, of
--- code points of a form, by the others
+-- ToASCII leaves the name as it is: at its strict settings under the standard profile, and at those of the URL parser,
+-- of code points of a form, by the others
 abbrev pub IsOwnForm : Profile → List ℕ → Type 0
 IsOwnForm Standard name = IsPlain STD3 Check name
 IsOwnForm profile name =

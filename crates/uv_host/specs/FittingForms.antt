@@ -22,7 +22,7 @@ is_long_label label = nat_lt 63 (length label)
 abbrev pub has_long_label : List ℕ → Bool
 has_long_label name = list_any is_long_label (labels_of name)
 
--- the name is too long to be that of a form in Unicode: it has a label that is, or more than 253 code points and a full
--- stop at its end
+-- the name is too long for a form in Unicode: it has a label that is, or more than 253 code points and a full stop at
+-- its end
 abbrev pub is_long_name : List ℕ → Bool
 is_long_name name = nat_lt 254 (length name) || has_long_label name

@@ -7,8 +7,16 @@ use Rattle.uv_model.specs.Hosts.Address.{IsBracketedIpv6}
 use Rattle.uv_model.specs.Ascii.{percent_sign}
 use Rattle.uv_model.specs.Hosts.OpaqueHost.{is_forbidden_host, IsOpaqueHost}
 use Rattle.uv_model.specs.Units.{is_url_code_point, starts_with_two_hex}
+use Rattle.uv_model.specs.Violations.OpaqueHostViolation.{HasForeignHostCodePoint}
+use Rattle.uv_model.specs.Violations.UnitViolation.{HasBarePercent}
 
--- the rule that a code point violates where no unit of an opaque host begins
+-- a code point that no opaque host holds, or a `%` without two hex digits
+abbrev pub HostUnitViolation : List ℕ → ℕ → Rule → Type 0
+HostUnitViolation text place HostCodePoint = HasForeignHostCodePoint text place
+HostUnitViolation text place Percent = HasBarePercent text place
+HostUnitViolation text place _ = ⊥
+
+-- the rule that a code point violates if no unit of an opaque host begins
 abbrev pub host_rule : ℕ → Rule
 host_rule c = if c == percent_sign then Percent else HostCodePoint
 

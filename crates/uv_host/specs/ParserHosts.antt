@@ -12,7 +12,7 @@ use Rattle.uv_model.specs.Ascii.{full_stop}
 use Rattle.uv_model.specs.Hosts.Domain.{HasNoForm, IsDomain, IsNumberText, is_forbidden_domain}
 use Rattle.uv_model.specs.Hosts.Numbers.{AreBytes, IsIpv4Text, value_from}
 
--- the answer on a text: the form of a valid domain, the value of an address, a number that is no address, or no form
+-- the answer on a text: the form of a valid domain, the value of an address, a number that isn't an address, or no form
 abbrev pub IsParserAnswer : List ℕ → ParserHost → Type 0
 IsParserAnswer text (Domain form) = IsDomain Parser text (string_bytes form)
 IsParserAnswer text (Address value) = IsIpv4Text Parser text value
@@ -36,7 +36,7 @@ taken_form bytes = taken (domain_to_ascii EMPTY bytes)
 abbrev pub IsByteText : List ℕ → ℕ → Type 0
 IsByteText text n = (n < 256) × (text ≡ decimal n)
 
--- digits alone, of which the first is `0` only where it is the only one
+-- digits alone, of which the first is `0` only when it is the only one
 abbrev pub is_shortest : List ℕ → Bool
 is_shortest [] = false
 is_shortest (only ∷ []) = is_ascii_digit only

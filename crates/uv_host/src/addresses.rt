@@ -5,8 +5,8 @@ ghost use Rattle.uv_model.specs.Hosts.Address.{Reads, IsIpv4, IsIpv6, IsBrackete
 use crate::plain_names::ends_in_word;
 use std::net::{Ipv4Addr, Ipv6Addr};
 
-/// The value of an IPv4 text, or `None` where the text is no IPv4 text (URL Standard, section 3.4). The first number
-/// is the highest byte.
+/// The value of an IPv4 text, or `None` if the text isn't an IPv4 text (URL Standard, section 3.4). The first number is
+/// the highest byte.
 pub fn ipv4(text: &str) -> Option<u32>
     ensures { Reads IsIpv4 (chars text.now) result }
 {
@@ -19,7 +19,7 @@ pub fn ipv4(text: &str) -> Option<u32>
     }
 }
 
-/// The eight pieces of an IPv6 text, or `None` where the text is no IPv6 text (URL Standard, section 3.4). It is
+/// The eight pieces of an IPv6 text, or `None` if the text isn't an IPv6 text (URL Standard, section 3.4). It is
 /// without brackets.
 pub fn ipv6(text: &str) -> Option<[u16; 8]>
     ensures { Reads IsIpv6 (chars text.now) result }
@@ -27,7 +27,7 @@ pub fn ipv6(text: &str) -> Option<[u16; 8]>
     ipv6_of(text.as_bytes())
 }
 
-/// The eight pieces of an IPv6 text in brackets, or `None` where the text is none (URL Standard, sections 3.4 and 3.5).
+/// The eight pieces of an IPv6 text in brackets, or `None` if the text isn't one (URL Standard, sections 3.4 and 3.5).
 pub fn bracketed_ipv6(text: &str) -> Option<[u16; 8]>
     ensures { Reads IsBracketedIpv6 (chars text.now) result }
 {
@@ -37,7 +37,7 @@ pub fn bracketed_ipv6(text: &str) -> Option<[u16; 8]>
     }
 }
 
-// The eight pieces of an IPv6 text, or `None` where the bytes are no IPv6 text.
+// The eight pieces of an IPv6 text, or `None` if the bytes aren't IPv6 text.
 fn ipv6_of(bytes: &[u8]) -> Option<[u16; 8]>
     ensures { Reads IsIpv6 bytes.now result }
 {

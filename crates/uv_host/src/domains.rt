@@ -32,11 +32,11 @@ pub enum DomainAnswer {
 
 /// Whether the text is a valid domain of the profile, and its ASCII form (URL Standard, section 3.3): ToASCII with the
 /// settings of the URL parser gives the form, its labels have 1 to 63 code points and the whole 1 to 253, and it
-/// doesn't end in a number. By the standard profile ToASCII with the strict settings of UTS #46 gives the same form; by
-/// the wide profile the form holds letters, digits, `-`, `.` and `_` alone. A text with an ASCII code point other than
-/// these, or by the standard profile with `_`, is none, and that takes no memory. By the parser's profile the text is
-/// percent-decoded before it, and any form will do that isn't empty and holds no forbidden domain code point. The error
-/// is out of memory.
+/// doesn't end in a number. Under the standard profile ToASCII with the strict settings of UTS #46 gives the same form;
+/// under the wide profile the form holds letters, digits, `-`, `.` and `_` alone. A text with an ASCII code point other
+/// than these, or under the standard profile with `_`, isn't one, and that takes no memory. Under the parser's profile
+/// the text is percent-decoded before it, and any form will do that isn't empty and holds no forbidden domain code
+/// point. The error is out of memory.
 pub fn domain(alloc: Global, text: &str, profile: Profile) -> Result<DomainAnswer, AllocError>
     ensures answer { IfOk result (IsAnswer profile (chars text.now)) }
     ensures refused { IsWritten profile → spec.has_permitted profile (chars text.now) ≡ false
@@ -81,7 +81,7 @@ fn mapped_domain(alloc: Global, text: &str, profile: Profile) -> Result<DomainAn
 }
 
 /// The lower case of a permitted text, where that is its form but for the lengths: the text is ASCII, and ToASCII
-/// leaves its lower case as it is. Where there is none, that says nothing.
+/// leaves its lower case as it is. If there is none, that says nothing.
 pub(crate) fn lower_form(
     alloc: Global,
     text: &str,
@@ -104,8 +104,8 @@ pub(crate) fn lower_form(
     }
 }
 
-/// Whether the lower case of an ASCII text is no form: by the standard profile for its hyphens, by the others for its
-/// code points. No verdict rests on the answer, and only the time of one does.
+/// Whether the lower case of an ASCII text isn't a form: under the standard profile for its hyphens, by the others for
+/// its code points. No verdict rests on the answer, and only the time of one does.
 fn is_mapped_in_vain(name: &Name<'_>, profile: Profile) -> bool {
     match profile {
         Profile::Standard => !name.has_placed_hyphens(),
@@ -145,14 +145,14 @@ pub enum PlainAnswer {
     Domain,
     /// Not a valid domain, and only since it ends in a number.
     Number,
-    /// Not a valid domain, since its lengths or, by the standard profile, its hyphens are wrong: by the parser's
+    /// Not a valid domain, since its lengths or, under the standard profile, its hyphens are wrong: under the parser's
     /// profile, since it is empty.
     Not,
 }
 
 /// What a name is as a domain of the profile (URL Standard, section 3.3), where that is known without ToASCII: a name
 /// of lower-case letters, digits and the marks of a domain, no label of which begins with `xn--`. It is its own form,
-/// but by the standard profile it has none where the strict settings of ToASCII refuse its hyphens. `None` for every
+/// but under the standard profile it has none if the strict settings of ToASCII refuse its hyphens. `None` for every
 /// other text. No memory is taken.
 pub fn plain_answer(name: &str, profile: Profile) -> Option<PlainAnswer>
     ensures answer { IfSome result (IsPlainAnswer profile (chars name.now) name.now) }
@@ -179,7 +179,7 @@ fn is_lower_name(name: &Name<'_>, profile: Profile) -> bool
     name.is_form(profile) && name.is_without_punycode()
 }
 
-/// Whether the profile takes the hyphens of a name as they are, where no label begins with `xn--`.
+/// Whether the profile takes the hyphens of a name as they are, if no label begins with `xn--`.
 fn takes_hyphens(name: &Name<'_>, profile: Profile) -> bool
     ensures { result ≡ takes_hyphens profile name.now }
 {
@@ -214,7 +214,7 @@ fn has_permitted(text: &str, name: &Name<'_>, profile: Profile) -> bool
     has_permitted_beyond(text, profile)
 }
 
-/// The same of a text beyond ASCII.
+/// Whether all ASCII code points of a text that isn't all ASCII are letters, digits and marks of a domain.
 #[tactic(auto, unfolding(uv_model::specs::Hosts::Domain::has_permitted))]
 fn has_permitted_beyond(text: &str, profile: Profile) -> bool
     ensures { result ≡ spec.has_permitted profile (chars text.now) }
@@ -271,7 +271,8 @@ fn wide_form(alloc: Global, text: &str) -> Result<Option<CowStr<'_>>, AllocError
     }
 }
 
-/// Whether a form has the lengths that the profile asks for: by the parser's profile it needn't be but some code point.
+/// Whether a form has the lengths that the profile asks for: under the parser's profile it needn't be but some code
+/// point.
 pub(crate) fn fits_lengths(form: &str, profile: Profile) -> bool
     ensures { result ≡ fits_lengths profile form.now }
 {

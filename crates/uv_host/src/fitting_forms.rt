@@ -58,7 +58,7 @@ fn is_misfit(
     }
 }
 
-/// ToUnicode (UTS #46, section 4.3); `None` where it has an error. With a policy by which each label stays in Unicode
+/// ToUnicode (UTS #46, section 4.3); `None` if it has an error. With a policy by which each label stays in Unicode
 /// `Uts46::process` gives that, and ends at the first error. `Uts46::to_unicode` would go on to mark each error.
 fn unicode_name<'a>(
     alloc: Global,
@@ -87,8 +87,7 @@ fn unicode_name<'a>(
     }
 }
 
-/// Whether a name in Unicode, or a label of it, has more code points than that of any domain. A full stop may be at
-/// its end.
+/// Whether a name in Unicode, or a label of it, has more code points than any domain's. A full stop may be at its end.
 fn is_long_name(name: &str) -> bool
     ensures { result ≡ is_long_name (chars name.now) }
 {

@@ -22,7 +22,7 @@ const CAPITAL: u8 = 2;
 
 const LOW_LINE: u8 = 4;
 
-// Any other mark that a form by the parser's profile may hold.
+// Any other mark that a form under the parser's profile may hold.
 const OTHER_MARK: u8 = 8;
 
 // A forbidden domain code point.
@@ -48,14 +48,14 @@ const KINDS: [u8; 256] = byte_table! {
 // The kinds beyond letters in lower case, digits and full stops.
 const BEYOND_SIMPLE: u8 = HYPHEN | BEYOND_STANDARD_FORM;
 
-// The kinds beyond a form's code points, by each profile.
+// The kinds beyond a form's code points, under each profile.
 const BEYOND_STANDARD_FORM: u8 = BEYOND_WIDE_FORM | LOW_LINE;
 
 const BEYOND_WIDE_FORM: u8 = BEYOND_PARSER_FORM | OTHER_MARK;
 
 const BEYOND_PARSER_FORM: u8 = CAPITAL | FORBIDDEN | BEYOND_ASCII;
 
-// The kinds that a domain doesn't hold in any case of its letters, by each profile.
+// The kinds that a domain doesn't hold in any case of its letters, under each profile.
 const BEYOND_STANDARD: u8 = BEYOND_WIDE | LOW_LINE;
 
 const BEYOND_WIDE: u8 = BEYOND_PARSER | OTHER_MARK;

@@ -15,7 +15,8 @@ pub fn numbers_value(text: &str) -> Option<u32>
     weighed_value(text, 3)
 }
 
-// The same of at most so many numbers and one more.
+// The value of one number from 0 to 255 in shortest decimal form and at most so many more, with `.` between each two:
+// the first counts `weight_of(more)`, each after it 256 times less, but the last always once.
 fn weighed_value(text: &str, more: usize) -> Option<u32>
     requires { more ≤ 3 }
     ensures { Reads (IsWeighedText more) text.now result }
@@ -64,7 +65,7 @@ fn byte_value(text: &str) -> Option<u8>
     }
 }
 
-// Digits alone, of which the first is `0` only where it is the only one.
+// Digits alone, of which the first is `0` only when it is the only one.
 fn is_shortest(text: &[u8]) -> bool
     ensures { result ≡ is_shortest text.now }
 {

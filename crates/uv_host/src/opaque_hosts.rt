@@ -3,7 +3,7 @@ ghost use Rattle.std.specs.Prelude.{◌≡◌, ◌↔◌, true, None, chars};
 ghost use Rattle.uv_model.specs.Hosts.OpaqueHost as spec;
 ghost use Rattle.uv_model.specs.Violations.OpaqueHostViolation.{OpaqueHostViolation};
 ghost use Rattle.uv_model.specs.Violations.Refusal.{IsLeast, StandsWithin};
-ghost use Rattle.uv_host.specs.OpaqueHosts.{first_host_fault, host_rule, IsOpaqueHostOrEmpty};
+ghost use Rattle.uv_host.specs.OpaqueHosts.{HostUnitViolation, IsOpaqueHostOrEmpty, first_host_fault, host_rule};
 
 use crate::addresses::bracketed_ipv6;
 use uv_model::{Refusal, Rule, first_code_point};
@@ -19,7 +19,7 @@ pub fn opaque_fault(text: &str) -> Option<Refusal>
     if starts_with_bracket(text) {
         bracket_fault(text)
     } else {
-        first_fault(text)
+        opaque_unit_fault(text)
     }
 }
 
@@ -49,9 +49,11 @@ fn bracket_fault(text: &str) -> Option<Refusal>
     }
 }
 
-/// The first code point that an opaque host can't hold there, in a text without brackets.
-fn first_fault(text: &str) -> Option<Refusal>
-    ensures { result ≡ first_host_fault 0 (chars text.now) }
+/// The first code point that no opaque host holds, brackets among them, or the first `%` that begins no percent-encoded
+/// byte, with the rule that it violates. `None` if there is neither. The place is in code points from the text's start.
+pub fn opaque_unit_fault(text: &str) -> Option<Refusal>
+    ensures first { result ≡ first_host_fault 0 (chars text.now) }
+    ensures least { IsLeast (HostUnitViolation (chars text.now)) result }
 {
     let (prefix, rest) = split_units(text, UnitClass::OpaqueHost);
     match first_code_point(rest) {
@@ -63,7 +65,7 @@ fn first_fault(text: &str) -> Option<Refusal>
     }
 }
 
-/// The rule that a code point violates where no unit of an opaque host begins.
+/// The rule that a code point violates if no unit of an opaque host begins.
 fn host_rule(c: char) -> Rule
     ensures { result ≡ host_rule c }
 {

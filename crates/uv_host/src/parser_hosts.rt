@@ -26,7 +26,7 @@ pub enum ParserHost {
     Domain(String),
     /// An IPv4 address, with its value.
     Address(u32),
-    /// A form that ends in a number and is no address on which the host parser is silent.
+    /// A form that ends in a number and isn't an address on which the host parser is silent.
     Number,
     /// No form.
     Not,
@@ -83,7 +83,7 @@ pub(crate) fn parser_form(alloc: Global, text: &str) -> Result<Option<String>, A
     taken_form(alloc, decoded)
 }
 
-// What ToASCII gives, where that isn't empty and holds no forbidden domain code point. Bytes that it leaves as they are
+// What ToASCII gives, if that isn't empty and holds no forbidden domain code point. Bytes that it leaves as they are
 // are not copied.
 fn taken_form(alloc: Global, decoded: CowSlice<'_, u8>) -> Result<Option<String>, AllocError>
     ensures { IfOk result (λ form. option_map string_bytes form ≡ taken_form (cow_slice_items decoded.entry)) }

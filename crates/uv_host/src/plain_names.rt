@@ -15,7 +15,7 @@ const SIGN_ROWS: [u8; 16] = byte_rows!(b'a'..=b'z' | b'0'..=b'9');
 const JOINT_ROWS: [u8; 16] = byte_rows!(b'-' | b'.');
 
 /// How many bytes a name has at the start of a text: lower-case letters and digits, with single hyphens and full stops
-/// between them, and the root's full stop at its end or none. It ends where none of these follows; no verdict rests on
+/// between them, and the root's full stop at its end or none. It ends if none of these follows; no verdict rests on
 /// that, and only the time of one does, since a text whose name was missed or cut short is checked by its parts.
 #[inline(always)]
 pub fn name_prefix(text: &Tail<'_>) -> Option<usize>
@@ -72,7 +72,19 @@ pub fn is_plain_domain(name: &str) -> bool
     if ends_in_word(name.as_bytes()) {
         return true;
     }
+    if ends_in_digit(name.as_bytes()) {
+        return false;
+    }
     !is_number(name)
+}
+
+// Whether the last byte is a digit, as an address's is, the last label of which then isn't read.
+#[inline(always)]
+fn ends_in_digit(name: &[u8]) -> bool {
+    match name {
+        [.., last] => last.is_ascii_digit(),
+        [] => false,
+    }
 }
 
 // Whether the last label ends with a letter that is in no number, as most do. Where the answer is no, that says

@@ -7,7 +7,8 @@ use Rattle.std.proofs.Math.Seq.{drop-append_seam, drop-nil, take-append-add, tak
 use Rattle.std.proofs.KnownBytes.{Appends-trans}
 use Rattle.std.specs.Io.KnownBytes.{Appends}
 use Rattle.uv_lines.specs.declared.fault.LineFault.{LineFault}
-use Rattle.uv_lines.specs.declared.fault.LineFault.TheVariants.{Report, Memory, Read, Write, TooManyLines, Endless}
+use Rattle.uv_lines.specs.declared.fault.LineFault.TheVariants.{Own, Stop}
+use Rattle.uv_lines.specs.declared.fault.StopFault.TheVariants.{Memory, Read, Write, TooManyLines, Endless}
 use Rattle.uv_lines.specs.declared.limits.LineLimits.{LineLimits}
 use Rattle.uv_lines.specs.Fault.{is_write, may_write}
 use Rattle.uv_lines.specs.Lines.{closed_lines, lines_of}
@@ -26,17 +27,17 @@ pub Leaves-map : {S T F : Type 0} (P P' : List (List ℕ) → List ℕ → S →
     → (is_write e ≡ false → (lines : List (List ℕ)) → Wrote P' lines a b s → Wrote Q' lines c d t)
     → (is_write e ≡ true → (lines : List (List ℕ)) → Cut P' lines a b s → Cut Q' lines c d t)
     → Leaves P P' limits e a read at_end s b → Leaves Q Q' limits e c read at_end t d
-Leaves-map P P' Q Q' limits (Report fault) a b c d read at_end s t whole part cut left =
+Leaves-map P P' Q Q' limits (Own fault) a b c d read at_end s t whole part cut left =
     (left.0, left.1, left.2, part refl (take left.0 (lines_of read)) left.3)
-Leaves-map P P' Q Q' limits Memory a b c d read at_end s t whole part cut left =
+Leaves-map P P' Q Q' limits (Stop Memory) a b c d read at_end s t whole part cut left =
     (left.0, left.1, left.2, whole refl (take left.0 (lines_of read)) left.3)
-Leaves-map P P' Q Q' limits Read a b c d read at_end s t whole part cut left =
+Leaves-map P P' Q Q' limits (Stop Read) a b c d read at_end s t whole part cut left =
     whole refl (take (length (closed_lines read)) (lines_of read)) left
-Leaves-map P P' Q Q' limits Write a b c d read at_end s t whole part cut left =
+Leaves-map P P' Q Q' limits (Stop Write) a b c d read at_end s t whole part cut left =
     (left.0, left.1, cut refl (take left.0 (lines_of read)) left.2)
-Leaves-map P P' Q Q' limits TooManyLines a b c d read at_end s t whole part cut left =
+Leaves-map P P' Q Q' limits (Stop TooManyLines) a b c d read at_end s t whole part cut left =
     (whole refl (take limits.lines (lines_of read)) left.0, left.1)
-Leaves-map P P' Q Q' limits Endless a b c d read at_end s t whole part cut left =
+Leaves-map P P' Q Q' limits (Stop Endless) a b c d read at_end s t whole part cut left =
     (whole refl (take (length (closed_lines read)) (lines_of read)) left.0, left.1)
 
 -- one report was written where another was
@@ -80,19 +81,19 @@ some_first : {S F : Type 0} (P P' : List (List ℕ) → List ℕ → S → Type 
     → ((lines : List (List ℕ)) (text : List ℕ) → P lines text s → P' lines text s) → is_write e ≡ false
     → Leaves P P' limits e old read at_end s new
     → (count : ℕ) × (count ≤ length (lines_of read)) × WroteFirst P' old read count s new
-some_first P P' limits (Report fault) old new read at_end s lift is left = (left.0, left.1, left.3)
-some_first P P' limits Memory old new read at_end s lift is left =
+some_first P P' limits (Own fault) old new read at_end s lift is left = (left.0, left.1, left.3)
+some_first P P' limits (Stop Memory) old new read at_end s lift is left =
     (left.0, left.1, Wrote-map P P' (take left.0 (lines_of read)) old new s s lift left.3)
-some_first P P' limits Read old new read at_end s lift is left =
+some_first P P' limits (Stop Read) old new read at_end s lift is left =
     let count = length (closed_lines read) in
     (count, closed_few read, Wrote-map P P' (take count (lines_of read)) old new s s lift left)
-some_first P P' limits Write old new read at_end s lift is left = cc
-some_first P P' limits TooManyLines old new read at_end s lift is left = (
+some_first P P' limits (Stop Write) old new read at_end s lift is left = cc
+some_first P P' limits (Stop TooManyLines) old new read at_end s lift is left = (
   limits.lines,
   (let more = left.1 in omega (arith, more)),
   Wrote-map P P' (take limits.lines (lines_of read)) old new s s lift left.0,
 )
-some_first P P' limits Endless old new read at_end s lift is left =
+some_first P P' limits (Stop Endless) old new read at_end s lift is left =
     let count = length (closed_lines read) in
     (count, closed_few read, Wrote-map P P' (take count (lines_of read)) old new s s lift left.0)
 
@@ -190,7 +191,7 @@ follows_more first piece reported result old now new before between after wrote 
 -- after one that was cut nothing is written
 pub follows_cut : {F : Type 0} (first piece : List ℕ) (reported : Result (Unit {0}) (LineFault F))
     (old new : Option (List ℕ)) (before after n : ℕ) → first ≢ [] → Appends old new (take n first)
-    → after ≡ before + 1 → Follows (first ++ piece) reported (Err Write) old new before after
+    → after ≡ before + 1 → Follows (first ++ piece) reported (Err (Stop Write)) old new before after
 follows_cut first piece reported old new before after n some cut failed =
     let prefix = prefix_of n first piece in
     inr (record {
@@ -300,7 +301,7 @@ ended_unsaid : {S F : Type 0} (P P' : List (List ℕ) → List ℕ → S → Typ
     (q : S) (before after : ℕ)
     → ((lines : List (List ℕ)) (text : List ℕ) → P lines text q → P' lines text q)
     → Appends old mid begin → at_end × WroteAll P limits mid read q now
-    → Follows end (Err (Report fault)) result now new before after
+    → Follows end (Err (Own fault)) result now new before after
     → Ended (Framed P begin (λ _. end)) (Framed P' begin (λ _. end)) W limits result old read at_end q new
 ended_unsaid P P' limits begin end W fault result old mid now new read at_end q before after lift begun ran
     (inl writes) =
@@ -356,31 +357,31 @@ abbrev pub Fails : {F : Type 0} → List ℕ → Result (Unit {0}) (LineFault F)
 Fails end (Ok u) reads reads' writes writes' = (reads' ≡ reads) × (writes' ≡ writes)
 Fails end (Err e) reads reads' writes writes' = FailsReads end e reads reads' × (writes' ≡ writes + writes_failed e)
 
--- a further write may come where none has failed
+-- a further write may come if none has failed
 pub may_go_on : {F : Type 0} (answer : Result (Unit {0}) (LineFault F)) (reads reads' writes writes' most : ℕ)
     → Stops answer reads reads' writes writes' → writes < most → may_write answer ≡ true → writes' < most
 may_go_on (Ok u) reads reads' writes writes' most stop below may = rw stop.1 below
-may_go_on (Err Write) reads reads' writes writes' most stop below may = cc
-may_go_on (Err (Report fault)) reads reads' writes writes' most stop below may =
+may_go_on (Err (Stop Write)) reads reads' writes writes' most stop below may = cc
+may_go_on (Err (Own fault)) reads reads' writes writes' most stop below may =
     let same = stop.1 in omega (arith, same, below)
-may_go_on (Err Memory) reads reads' writes writes' most stop below may =
+may_go_on (Err (Stop Memory)) reads reads' writes writes' most stop below may =
     let same = stop.1 in omega (arith, same, below)
-may_go_on (Err Read) reads reads' writes writes' most stop below may =
+may_go_on (Err (Stop Read)) reads reads' writes writes' most stop below may =
     let same = stop.1 in omega (arith, same, below)
-may_go_on (Err TooManyLines) reads reads' writes writes' most stop below may =
+may_go_on (Err (Stop TooManyLines)) reads reads' writes writes' most stop below may =
     let same = stop.1 in omega (arith, same, below)
-may_go_on (Err Endless) reads reads' writes writes' most stop below may =
+may_go_on (Err (Stop Endless)) reads reads' writes writes' most stop below may =
     let same = stop.1 in omega (arith, same, below)
 
 -- the failed reads of a run over lines, and those after a further write that failed, where that has a piece
 reads_of : {F : Type 0} (end : List ℕ) (e : LineFault F) (reads reads' : ℕ) → reads' ≡ reads + reads_failed e
-    → FailsReads end e reads reads' × (end ≢ [] → FailsReads {F = F} end Write reads reads')
-reads_of end (Report fault) reads reads' r = (omega (arith, r), λ some. inl (omega (arith, r)))
-reads_of end Memory reads reads' r = (omega (arith, r), λ some. inl (omega (arith, r)))
-reads_of end Read reads reads' r = (r, λ some. inr (some, r))
-reads_of end Write reads reads' r = (inl (omega (arith, r)), λ some. inl (omega (arith, r)))
-reads_of end TooManyLines reads reads' r = (omega (arith, r), λ some. inl (omega (arith, r)))
-reads_of end Endless reads reads' r = (omega (arith, r), λ some. inl (omega (arith, r)))
+    → FailsReads end e reads reads' × (end ≢ [] → FailsReads {F = F} end (Stop Write) reads reads')
+reads_of end (Own fault) reads reads' r = (omega (arith, r), λ some. inl (omega (arith, r)))
+reads_of end (Stop Memory) reads reads' r = (omega (arith, r), λ some. inl (omega (arith, r)))
+reads_of end (Stop Read) reads reads' r = (r, λ some. inr (some, r))
+reads_of end (Stop Write) reads reads' r = (inl (omega (arith, r)), λ some. inl (omega (arith, r)))
+reads_of end (Stop TooManyLines) reads reads' r = (omega (arith, r), λ some. inl (omega (arith, r)))
+reads_of end (Stop Endless) reads reads' r = (omega (arith, r), λ some. inl (omega (arith, r)))
 
 -- after a fault
 fails_after : {F : Type 0} (end : List ℕ) (e : LineFault F) (result : Result (Unit {0}) (LineFault F))

@@ -4,7 +4,7 @@ use Rattle.std.proofs.Common.{drop, map, refl, sym, ap, ◌∙◌, subst, arith,
 use Rattle.std.proofs.Common.{length-append, slice_index, take_all, Some, None}
 use Rattle.std.proofs.lemmas.Grind.{common_steps}
 use Rattle.std.proofs.lemmas.List.{map-append, length-map, length-take, get_or-take, length-drop, drop_more}
-use Rattle.std.proofs.lemmas.List.{take-append-drop}
+use Rattle.std.proofs.lemmas.List.{drop-drop, take-append-drop}
 use Rattle.std.proofs.Math.Seq.{take-add}
 use Rattle.memchr.specs.Find.{IsFirstByte, is_byte}
 use Rattle.std.proofs.lemmas.Bool.{eqb-true}
@@ -187,22 +187,31 @@ pub rest_is : (piece : List ℕ) (start : ℕ) → take (length piece - start) (
 rest_is piece start =
     take_all (length piece - start) (drop start piece) (let size = length-drop start piece in omega (arith, size))
 
--- a line in it has as many bytes as are between its ends
-pub prefix_is : (piece : List ℕ) (start size : ℕ)
-    → take (start + size - start) (drop start piece) ≡ take size (drop start piece)
-prefix_is piece start size = ap (λ n. take n (drop start piece)) (omega arith)
-
 -- a line with its LF
 pub part_is : (piece : List ℕ) (start size : ℕ)
     → drop size (drop start piece) ≡ line_feed ∷ drop (size + 1) (drop start piece)
-    → take (start + size + 1 - start) (drop start piece)
-    ≡ take (start + size - start) (drop start piece) ++ line_feed ∷ []
+    → take (start + size + 1 - start) (drop start piece) ≡ take size (drop start piece) ++ line_feed ∷ []
 part_is piece start size at =
     let rest = drop start piece in
     let more : start + size + 1 - start ≡ size + 1 = omega arith in
-    let same : size ≡ start + size - start = omega arith in
     ap (λ n. take n rest) more ∙ take-add size 1 rest ∙ ap (λ l. take size rest ++ take 1 l) at
-    ∙ ap (λ n. take n rest ++ line_feed ∷ []) same
+
+-- a text with which bytes begin goes on as they do
+pub known_after : (size : ℕ) (text bytes : List ℕ) → text ≡ take (length text) bytes
+    → drop size text ≡ take (length (drop size text)) (drop size bytes)
+known_after zero text bytes is = is
+known_after (suc size) [] bytes is = refl
+known_after (suc size) (x ∷ text) [] is = let none : ⊥ = omega (arith, ap length is) in absurd none
+known_after (suc size) (x ∷ text) (y ∷ bytes) is = known_after size text bytes (ap (λ l. drop 1 l) is)
+
+-- and so after a line of a piece
+pub known_on : (piece text after : List ℕ) (start size : ℕ)
+    → text ≡ take (length text) (take (length piece - start) (drop start piece)) → after ≡ drop (size + 1) text
+    → after ≡ take (length after) (drop (start + (size + 1)) piece)
+known_on piece text after start size is left =
+    rw left (known_after (size + 1) text (drop start piece)
+    (is ∙ ap (λ l. take (length text) l) (rest_is piece start))
+    ∙ ap (λ l. take (length (drop (size + 1) text)) l) (drop-drop (size + 1) start piece))
 
 -- a piece is what was taken of it, a line with its LF, and the rest
 pub piece_joined : (read piece : List ℕ) (start size : ℕ)

@@ -6,9 +6,8 @@ use Rattle.std.proofs.Math.Seq.{take-length}
 use Rattle.std.proofs.KnownBytes.{Appends-nil}
 use Rattle.std.specs.Io.KnownBytes.{Appends}
 use Rattle.uv_lines.specs.declared.fault.LineFault.{LineFault}
-use Rattle.uv_lines.specs.declared.fault.LineFault.TheVariants.{Report, Memory, Read, Write, TooManyLines, Endless}
-use Rattle.uv_lines.specs.declared.fault.ListFault.{ListFault}
-use Rattle.uv_lines.specs.declared.fault.ListFault.TheVariants as list
+use Rattle.uv_lines.specs.declared.fault.LineFault.TheVariants.{Own, Stop}
+use Rattle.uv_lines.specs.declared.fault.StopFault.TheVariants.{Memory, Read, Write, TooManyLines, Endless}
 use Rattle.uv_lines.specs.declared.fault.ReportFault.{ReportFault}
 use Rattle.uv_lines.specs.declared.fault.ReportFault.TheVariants as within
 use Rattle.uv_lines.specs.declared.limits.LineLimits.{LineLimits}
@@ -18,7 +17,7 @@ use Rattle.uv_lines.specs.Progress.{Stands, IsPartOfFirst, IsReportOfFirst, Take
 use Rattle.uv_lines.specs.Reported.{Reported, ReportedPart, Wrote}
 use Rattle.uv_lines.specs.Run.{EndFault, WaitFault, Waits, WroteFirst, WrotePrefix, WroteLines, Leaves, PassFault}
 use Rattle.uv_lines.specs.Run.{FinishFault, reads_failed, writes_failed}
-use Rattle.uv_lines.specs.Taking.{Left, Way, reads_of, writes_of}
+use Rattle.uv_lines.specs.Taking.{Left, Way, writes_of}
 use Rattle.uv_lines.specs.Waiting.{Adds, AreFirstParts, CutsOff, LeavesLine, Passes}
 use Rattle.uv_lines.proofs.StandsLemmas.{Ends-begun, Ends-empty, Stands-closed, Stands-growing, Stands-start, closing}
 use Rattle.uv_lines.proofs.StandsLemmas.{closing-left, end-left, many-left, prefix_count, prefix_report, room-left}
@@ -153,7 +152,7 @@ Waits-growing reports lines n start old now read rest p q begun kept text waits 
   stands = rw same (Stands-growing reports lines n start all.said read rest p begun kept none all.stands is);
 }
 
--- ---- the last line, where no LF ends it
+-- ---- the last line, if no LF ends it
 
 -- there is none
 pub end-empty : {S : Type 0} (reports : S → Option (List ℕ) → List ℕ → S → Type 0) (lines : S → ℕ) (n : ℕ)
@@ -237,15 +236,15 @@ pub waits_faulty : {S F : Type 0} (reports : S → Option (List ℕ) → List �
     (begins : S → Option (List ℕ) → List ℕ → Type 0) (limits : LineLimits) (start : S) (fault : LineFault F)
     (read : List ℕ) (q : S) (text : List ℕ) → TakeFault reports begins limits start fault read q text
     → IsPartOfSome reports begins limits.line_bytes start read q text
-waits_faulty reports begins limits start (Report fault) read q text left =
+waits_faulty reports begins limits start (Own fault) read q text left =
     (left.0, (let few = closed_few read in let below = left.1 in omega (arith, few, below)), left.2)
-waits_faulty reports begins limits start Memory read q text left =
+waits_faulty reports begins limits start (Stop Memory) read q text left =
     (left.0, (let few = closed_few read in let below = left.1 in omega (arith, few, below)), inl left.2)
-waits_faulty reports begins limits start TooManyLines read q text left =
+waits_faulty reports begins limits start (Stop TooManyLines) read q text left =
     (limits.lines, (let below = left.1 in omega (arith, below)), inl left.0)
-waits_faulty reports begins limits start Read read q text left = absurd left
-waits_faulty reports begins limits start Write read q text left = absurd left
-waits_faulty reports begins limits start Endless read q text left = absurd left
+waits_faulty reports begins limits start (Stop Read) read q text left = absurd left
+waits_faulty reports begins limits start (Stop Write) read q text left = absurd left
+waits_faulty reports begins limits start (Stop Endless) read q text left = absurd left
 
 -- at the end all lines are the first of them
 pub waits_ended : {S : Type 0} (reports : S → Option (List ℕ) → List ℕ → S → Type 0)
@@ -258,12 +257,12 @@ waits_ended reports begins n start read q text all =
 
 -- a fault but one of a write fails none
 pub quiet_writes : {F : Type 0} (e : LineFault F) → is_write e ≡ false → writes_failed e ≡ 0
-quiet_writes (Report fault) is = refl
-quiet_writes Memory is = refl
-quiet_writes Read is = refl
-quiet_writes Write is = cc
-quiet_writes TooManyLines is = refl
-quiet_writes Endless is = refl
+quiet_writes (Own fault) is = refl
+quiet_writes (Stop Memory) is = refl
+quiet_writes (Stop Read) is = refl
+quiet_writes (Stop Write) is = cc
+quiet_writes (Stop TooManyLines) is = refl
+quiet_writes (Stop Endless) is = refl
 
 -- a write failed
 pub write-left : {S : Type 0} (reports : S → Option (List ℕ) → List ℕ → S → Type 0)
@@ -278,7 +277,7 @@ write-left reports begins n start old now new said read text q r passes report s
       record { text = said; reported = rw same report.2; prefix = prefix.0; wrote = prefix.1 },
     )
 
--- the same in the midst of a piece
+-- a write failed in the midst of a piece
 pub write-cut : {S : Type 0} (reports : S → Option (List ℕ) → List ℕ → S → Type 0)
     (begins : S → Option (List ℕ) → List ℕ → Type 0) (lines : S → ℕ) (n : ℕ) (start : S)
     (old now new : Option (List ℕ)) (read rest : List ℕ) (p q : S) (begun text : List ℕ)
@@ -311,50 +310,50 @@ pub pass-left : {S F : Type 0} (reports : S → Option (List ℕ) → List ℕ �
     (old now new : Option (List ℕ)) (said read text : List ℕ) (q r : S) → Passes said old now text
     → TakeFault reports begins limits start fault read q said → r ≡ q
     → Appends now new text → PassFault reports begins limits start fault old read r new
-pass-left reports begins limits start (Report fault) old now new said read text q r passes left same wrote = (
+pass-left reports begins limits start (Own fault) old now new said read text q r passes left same wrote = (
   left.0,
   left.1,
   wrote_waiting (ReportedPart reports begins limits.line_bytes start) (take left.0 (lines_of read)) old now new said
       text q r passes left.2 same wrote,
 )
-pass-left reports begins limits start Memory old now new said read text q r passes left same wrote = (
+pass-left reports begins limits start (Stop Memory) old now new said read text q r passes left same wrote = (
   left.0,
   left.1,
   wrote_waiting (Reported reports limits.line_bytes start) (take left.0 (lines_of read)) old now new said
       text q r passes left.2 same wrote,
 )
-pass-left reports begins limits start TooManyLines old now new said read text q r passes left same wrote = (
+pass-left reports begins limits start (Stop TooManyLines) old now new said read text q r passes left same wrote = (
   wrote_waiting (Reported reports limits.line_bytes start) (take limits.lines (lines_of read)) old now new said
       text q r passes left.0 same wrote,
   left.1,
 )
-pass-left reports begins limits start Read old now new said read text q r passes left same wrote = absurd left
-pass-left reports begins limits start Write old now new said read text q r passes left same wrote = absurd left
-pass-left reports begins limits start Endless old now new said read text q r passes left same wrote = absurd left
+pass-left reports begins limits start (Stop Read) old now new said read text q r passes left same wrote = absurd left
+pass-left reports begins limits start (Stop Write) old now new said read text q r passes left same wrote = absurd left
+pass-left reports begins limits start (Stop Endless) old now new said read text q r passes left same wrote = absurd left
 
--- such a fault is no failed read
+-- such a fault isn't a failed read
 pub passing_reads : {S F : Type 0} (reports : S → Option (List ℕ) → List ℕ → S → Type 0)
     (begins : S → Option (List ℕ) → List ℕ → Type 0) (limits : LineLimits) (start : S) (fault : LineFault F)
     (old : Option (List ℕ)) (read : List ℕ) (q : S) (new : Option (List ℕ))
     → PassFault reports begins limits start fault old read q new → reads_failed fault ≡ 0
-passing_reads reports begins limits start (Report fault) old read q new left = refl
-passing_reads reports begins limits start Memory old read q new left = refl
-passing_reads reports begins limits start TooManyLines old read q new left = refl
-passing_reads reports begins limits start Read old read q new left = absurd left
-passing_reads reports begins limits start Write old read q new left = refl
-passing_reads reports begins limits start Endless old read q new left = refl
+passing_reads reports begins limits start (Own fault) old read q new left = refl
+passing_reads reports begins limits start (Stop Memory) old read q new left = refl
+passing_reads reports begins limits start (Stop TooManyLines) old read q new left = refl
+passing_reads reports begins limits start (Stop Read) old read q new left = absurd left
+passing_reads reports begins limits start (Stop Write) old read q new left = refl
+passing_reads reports begins limits start (Stop Endless) old read q new left = refl
 
 -- nor is one after the last piece
 pub finishing_reads : {S F : Type 0} (reports : S → Option (List ℕ) → List ℕ → S → Type 0)
     (begins : S → Option (List ℕ) → List ℕ → Type 0) (limits : LineLimits) (start : S) (fault : LineFault F)
     (old : Option (List ℕ)) (read : List ℕ) (q : S) (new : Option (List ℕ))
     → FinishFault reports begins limits start fault old read q new → reads_failed fault ≡ 0
-finishing_reads reports begins limits start (Report fault) old read q new left = refl
-finishing_reads reports begins limits start Memory old read q new left = refl
-finishing_reads reports begins limits start TooManyLines old read q new left = refl
-finishing_reads reports begins limits start Read old read q new left = absurd left
-finishing_reads reports begins limits start Write old read q new left = refl
-finishing_reads reports begins limits start Endless old read q new left = refl
+finishing_reads reports begins limits start (Own fault) old read q new left = refl
+finishing_reads reports begins limits start (Stop Memory) old read q new left = refl
+finishing_reads reports begins limits start (Stop TooManyLines) old read q new left = refl
+finishing_reads reports begins limits start (Stop Read) old read q new left = absurd left
+finishing_reads reports begins limits start (Stop Write) old read q new left = refl
+finishing_reads reports begins limits start (Stop Endless) old read q new left = refl
 
 -- ---- a run
 
@@ -365,29 +364,29 @@ pub pass_to_run : {S F : Type 0} (reports : S → Option (List ℕ) → List ℕ
     → PassFault reports begins limits start fault old read q new
     → Leaves (Reported reports limits.line_bytes start) (ReportedPart reports begins limits.line_bytes start) limits
     fault old read at_end q new
-pass_to_run reports begins limits start (Report fault) old read at_end q new left =
+pass_to_run reports begins limits start (Own fault) old read at_end q new left =
     (left.0, (let few = closed_few read in let below = left.1 in omega (arith, few, below)), inl left.1, left.2)
-pass_to_run reports begins limits start Memory old read at_end q new left =
+pass_to_run reports begins limits start (Stop Memory) old read at_end q new left =
     (left.0, (let few = closed_few read in let below = left.1 in omega (arith, few, below)), inl left.1, left.2)
-pass_to_run reports begins limits start TooManyLines old read at_end q new left = left
-pass_to_run reports begins limits start Write old read at_end q new left = left
-pass_to_run reports begins limits start Read old read at_end q new left = absurd left
-pass_to_run reports begins limits start Endless old read at_end q new left = absurd left
+pass_to_run reports begins limits start (Stop TooManyLines) old read at_end q new left = left
+pass_to_run reports begins limits start (Stop Write) old read at_end q new left = left
+pass_to_run reports begins limits start (Stop Read) old read at_end q new left = absurd left
+pass_to_run reports begins limits start (Stop Endless) old read at_end q new left = absurd left
 
--- and so at the end, where no byte is left to come
+-- and so at the end, if no byte is left to come
 pub finish_to_run : {S F : Type 0} (reports : S → Option (List ℕ) → List ℕ → S → Type 0)
     (begins : S → Option (List ℕ) → List ℕ → Type 0) (limits : LineLimits) (start : S) (fault : LineFault F)
     (old : Option (List ℕ)) (read : List ℕ) (at_end : Type 0) (q : S) (new : Option (List ℕ)) → at_end
     → FinishFault reports begins limits start fault old read q new
     → Leaves (Reported reports limits.line_bytes start) (ReportedPart reports begins limits.line_bytes start) limits
     fault old read at_end q new
-finish_to_run reports begins limits start (Report fault) old read at_end q new is left =
+finish_to_run reports begins limits start (Own fault) old read at_end q new is left =
     (left.0, left.1, inr is, left.2)
-finish_to_run reports begins limits start Write old read at_end q new is left = left
-finish_to_run reports begins limits start Memory old read at_end q new is left = absurd left
-finish_to_run reports begins limits start TooManyLines old read at_end q new is left = absurd left
-finish_to_run reports begins limits start Read old read at_end q new is left = absurd left
-finish_to_run reports begins limits start Endless old read at_end q new is left = absurd left
+finish_to_run reports begins limits start (Stop Write) old read at_end q new is left = left
+finish_to_run reports begins limits start (Stop Memory) old read at_end q new is left = absurd left
+finish_to_run reports begins limits start (Stop TooManyLines) old read at_end q new is left = absurd left
+finish_to_run reports begins limits start (Stop Read) old read at_end q new is left = absurd left
+finish_to_run reports begins limits start (Stop Endless) old read at_end q new is left = absurd left
 
 -- before the first read nothing is reported
 pub nothing_written : {S : Type 0} (reports : S → Option (List ℕ) → List ℕ → S → Type 0) (limits : LineLimits)
@@ -400,7 +399,7 @@ nothing_written reports limits start old at_end = (
   record { text = []; reported = (refl, refl); wrote = Appends-nil old },
 )
 
--- where nothing waits the report on the closed lines was written
+-- if nothing waits the report on the closed lines was written
 pub waits_first : {S : Type 0} (reports : S → Option (List ℕ) → List ℕ → S → Type 0) (lines : S → ℕ)
     (limits : LineLimits) (start : S) (old new : Option (List ℕ)) (read : List ℕ) (p : S) (begun text : List ℕ)
     → Waits reports lines limits.line_bytes start old read p begun text new → text ≡ []
@@ -414,7 +413,7 @@ waits_first reports lines limits start old new read p begun text waits none = re
 -- what is left where a list is taken by a run over lines is what the run's fault leaves
 pub list_to_run : {P S F : Type 0} (p : P) (of : P → S) (stands : Way P) (rests : P → Type 0)
     (stops fails : LineFault F → Way P) (reports : S → Option (List ℕ) → List ℕ → S → Type 0)
-    (begins : S → Option (List ℕ) → List ℕ → Type 0) (limits : LineLimits) (e : ListFault (LineFault F))
+    (begins : S → Option (List ℕ) → List ℕ → Type 0) (limits : LineLimits) (e : LineFault (LineFault F))
     (old : Option (List ℕ)) (read : List ℕ) (at_end : Type 0) (q : P) (new : Option (List ℕ))
     → ((fault : LineFault F) → stops fault p old read q new
     → PassFault reports begins limits (of p) fault old read (of q) new)
@@ -425,35 +424,39 @@ pub list_to_run : {P S F : Type 0} (p : P) (of : P → S) (stands : Way P) (rest
     → Left stands rests stops fails e p old read at_end q new
     → Leaves (Reported reports limits.line_bytes (of p)) (ReportedPart reports begins limits.line_bytes (of p)) limits
     (fault_of_list e) old read at_end (of q) new
-    × (reads_failed (fault_of_list e) ≡ reads_of e) × (writes_failed (fault_of_list e) ≡ writes_of writes_failed e)
-list_to_run p of stands rests stops fails reports begins limits (list.Taken fault) old read at_end q new stopped failed
+    × (reads_failed (fault_of_list e) ≡ reads_failed e) × (writes_failed (fault_of_list e) ≡ writes_of writes_failed e)
+list_to_run p of stands rests stops fails reports begins limits (Own fault) old read at_end q new stopped failed
     first (inl left) =
     let is = stopped fault left in (
       pass_to_run reports begins limits (of p) fault old read at_end (of q) new is,
       passing_reads reports begins limits (of p) fault old read (of q) new is,
       refl,
     )
-list_to_run p of stands rests stops fails reports begins limits (list.Taken fault) old read at_end q new stopped failed
+list_to_run p of stands rests stops fails reports begins limits (Own fault) old read at_end q new stopped failed
     first (inr left) =
     let is = failed fault left.1 in (
       finish_to_run reports begins limits (of p) fault old read at_end (of q) new left.0 is,
       finishing_reads reports begins limits (of p) fault old read (of q) new is,
       refl,
     )
-list_to_run p of stands rests stops fails reports begins limits list.Memory old read at_end q new stopped failed first
-    left = (
+list_to_run p of stands rests stops fails reports begins limits (Stop Memory) old read at_end q new stopped failed
+    first left = (
       rw (left.0, left.1, left.2) (nothing_written reports limits (of p) old at_end),
       refl,
       refl,
     )
-list_to_run p of stands rests stops fails reports begins limits list.Read old read at_end q new stopped failed first
+list_to_run p of stands rests stops fails reports begins limits (Stop Read) old read at_end q new stopped failed first
     left = (first left.0 left.1, refl, refl)
-list_to_run p of stands rests stops fails reports begins limits list.Endless old read at_end q new stopped failed first
-    left = ((first left.0 left.1, left.2), refl, refl)
+list_to_run p of stands rests stops fails reports begins limits (Stop Endless) old read at_end q new stopped failed
+    first left = ((first left.0 left.1, left.2), refl, refl)
+list_to_run p of stands rests stops fails reports begins limits (Stop Write) old read at_end q new stopped failed first
+    left = absurd left
+list_to_run p of stands rests stops fails reports begins limits (Stop TooManyLines) old read at_end q new stopped failed
+    first left = absurd left
 
 -- ---- what is written where a fault came
 
--- none was that of a write, and what waited was written
+-- no write failed, and what waited was written
 pub stop-wrote : {S F : Type 0} (reports : S → Option (List ℕ) → List ℕ → S → Type 0)
     (begins : S → Option (List ℕ) → List ℕ → Type 0) (limits : LineLimits) (start : S) (fault : LineFault F)
     (old now new : Option (List ℕ)) (read text : List ℕ) (q r : S) → is_write fault ≡ false
@@ -480,9 +483,9 @@ pub stop-write : {S F : Type 0} (reports : S → Option (List ℕ) → List ℕ 
     (old now : Option (List ℕ)) (read text : List ℕ) (q : S) → is_write fault ≡ true
     → WaitFault (is_write fault) reports begins limits start fault old read q text now
     → PassFault reports begins limits start fault old read q now
-stop-write reports begins limits start Write old now read text q is left = left
-stop-write reports begins limits start (Report fault) old now read text q is left = cc
-stop-write reports begins limits start Memory old now read text q is left = cc
-stop-write reports begins limits start Read old now read text q is left = cc
-stop-write reports begins limits start TooManyLines old now read text q is left = cc
-stop-write reports begins limits start Endless old now read text q is left = cc
+stop-write reports begins limits start (Stop Write) old now read text q is left = left
+stop-write reports begins limits start (Own fault) old now read text q is left = cc
+stop-write reports begins limits start (Stop Memory) old now read text q is left = cc
+stop-write reports begins limits start (Stop Read) old now read text q is left = cc
+stop-write reports begins limits start (Stop TooManyLines) old now read text q is left = cc
+stop-write reports begins limits start (Stop Endless) old now read text q is left = cc

@@ -32,7 +32,7 @@ Reported-snoc reports n p (l ∷ ls) line text said q r all one =
       ap (λ t. t ++ said) all.5 ∙ append_assoc all.0 rest said,
     )
 
--- a line that is too long is no short line
+-- a line that is too long isn't a short line
 short_line-long : (n : ℕ) (line : List ℕ) → n < length line → short_line n line ≡ None
 short_line-long n line long =
     let over : nat_le (length line) n ≡ false = grind (arith, common_steps, long) in

@@ -36,7 +36,7 @@ Stands-start reports lines n p begun count none = record {
 abbrev pub closing : List ℕ → List ℕ → List ℕ
 closing read prefix = strip_carriage_return ((split read).1 ++ prefix)
 
--- where nothing of it had come
+-- if nothing of it had come
 pub whole_line : {S : Type 0} (reports : S → Option (List ℕ) → List ℕ → S → Type 0) (lines : S → ℕ) (n : ℕ)
     (start : S) (said read prefix : List ℕ) (p : S) (begun : List ℕ)
     → Stands reports lines n start said read p begun → begun ≡ []
@@ -194,7 +194,7 @@ closing-left reports begins lines n start said parts read prefix rest p begun no
 
 -- ---- the end of the list
 
--- where no line has begun
+-- if no line has begun
 pub Ends-empty : {S : Type 0} (reports : S → Option (List ℕ) → List ℕ → S → Type 0) (lines : S → ℕ) (n : ℕ)
     (start : S) (said read : List ℕ) (p : S) (begun : List ℕ)
     → Stands reports lines n start said read p begun → begun ≡ []

@@ -1,9 +1,10 @@
--- A run whose report is in a frame: what the frame begins with, what is said of the lines, what the reporter says
--- after the last of them where no fault came, and what the frame ends with, after each fault but one of a write.
+-- A run whose report is in a frame: what the frame begins with, what is said of the lines, what the reporter says after
+-- the last of them if no fault came, and what the frame ends with, after each fault but one of a write.
 use Rattle.std.specs.Prelude.{◌≡◌, ◌≢◌, ℕ, ◌+◌, ◌⊎◌, Bool, true, false, List, [], ◌++◌, Option, Result, Ok, Err, take}
 use Rattle.std.specs.Io.KnownBytes.{Appends}
 use Rattle.uv_lines.specs.declared.fault.LineFault.{LineFault}
-use Rattle.uv_lines.specs.declared.fault.LineFault.TheVariants.{Report, Read, Write}
+use Rattle.uv_lines.specs.declared.fault.LineFault.TheVariants.{Own, Stop}
+use Rattle.uv_lines.specs.declared.fault.StopFault.TheVariants.{Read, Write}
 use Rattle.uv_lines.specs.declared.limits.LineLimits.{LineLimits}
 use Rattle.uv_lines.specs.Fault.{is_write}
 use Rattle.uv_lines.specs.Lines.{lines_of}
@@ -24,13 +25,13 @@ abbrev pub LeavesPart : {S F : Type 0} → (List (List ℕ) → List ℕ → S �
     → Option (List ℕ) → List ℕ → Type 0 → S → Option (List ℕ) → Type 0
 LeavesPart IsReport IsPart IsWhole limits fault old read at_end now new =
     Leaves IsReport IsPart limits fault old read at_end now new
-    ⊎ ((fault ≡ Write) × Cut IsWhole (lines_of read) old new now)
+    ⊎ ((fault ≡ Stop Write) × Cut IsWhole (lines_of read) old new now)
 
--- How many reads have failed after a fault, of so many before: one more for a read. A failed write comes after a
--- failed read only where the frame has an end.
+-- How many reads have failed after a fault, of so many before: one more for a read. A failed write comes after a failed
+-- read only when the frame has an end.
 abbrev pub FailsReads : {F : Type 0} → List ℕ → LineFault F → ℕ → ℕ → Type 0
-FailsReads end Read old new = new ≡ old + 1
-FailsReads end Write old new = (new ≡ old) ⊎ ((end ≢ []) × (new ≡ old + 1))
+FailsReads end (Stop Read) old new = new ≡ old + 1
+FailsReads end (Stop Write) old new = (new ≡ old) ⊎ ((end ≢ []) × (new ≡ old + 1))
 FailsReads end _ old new = new ≡ old
 
 -- ---- what comes after the lines
@@ -45,7 +46,7 @@ pub record Writes {F : Type 0} (piece : List ℕ) (answer result : Result (Unit 
 -- a prefix of it was, and the failed write is reported
 pub record Cuts {F : Type 0} (piece : List ℕ) (result : Result (Unit {0}) (LineFault F))
     (old new : Option (List ℕ)) (before after : ℕ) : Type 0 where
-  pub reported : result ≡ Err Write
+  pub reported : result ≡ Err (Stop Write)
   pub some : piece ≢ []
   pub prefix : ℕ
   pub wrote : Appends old new (take prefix piece)
@@ -63,12 +64,12 @@ abbrev pub FollowsFault : {F : Type 0} → Bool → List ℕ → LineFault F →
 FollowsFault true end fault result old new before after = (result ≡ Err fault) × (new ≡ old) × (after ≡ before)
 FollowsFault false end fault result old new before after = Follows end (Err fault) result old new before after
 
--- What comes after the lines: where no fault came what the reporter says after the last of them, unless it can't say
--- that, and then the end.
+-- What comes after the lines: if no fault came what the reporter says after the last of them, unless it can't say that,
+-- and then the end.
 abbrev pub Ends : {F : Type 0} → List ℕ → List ℕ → Result (Unit {0}) (LineFault F) → Result (Unit {0}) (LineFault F)
     → Option (List ℕ) → Option (List ℕ) → ℕ → ℕ → Type 0
 Ends {F} last end (Ok u) result old new before after =
     Follows (last ++ end) (Ok u) result old new before after
-    ⊎ ((fault : F) × Follows end (Err (Report fault)) result old new before after)
+    ⊎ ((fault : F) × Follows end (Err (Own fault)) result old new before after)
 Ends last end (Err fault) result old new before after =
     FollowsFault (is_write fault) end fault result old new before after

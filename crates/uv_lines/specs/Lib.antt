@@ -1,4 +1,5 @@
 pub mod Fault
+pub mod Line
 pub mod Lines
 pub mod Waiting
 pub mod Reported

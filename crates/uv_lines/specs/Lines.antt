@@ -1,5 +1,5 @@
--- The lines of a list. A line ends with LF, and one CR before that LF is no part of it; what follows the last
--- LF is a line where it isn't empty, and a CR at its end stays.
+-- The lines of a list. A line ends with LF, and one CR before that LF isn't a part of it; what follows the last LF is a
+-- line if it isn't empty, and a CR at its end stays.
 use Rattle.std.specs.Prelude.{ℕ, List, [], ◌∷◌, ◌++◌, Option, Some, None, drop, length, map, nat_le, take, ◌==◌}
 use Rattle.std.specs.Prelude.{if◌then◌else◌}
 use Rattle.std.specs.Str.{bytes_eq}

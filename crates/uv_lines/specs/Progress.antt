@@ -2,7 +2,8 @@
 use Rattle.std.specs.Prelude.{◌≡◌, ℕ, ◌+◌, ◌≤◌, ◌<◌, Bool, true, false, List, Option, length, take}
 use Rattle.std.specs.Str.Lines.{strip_carriage_return}
 use Rattle.uv_lines.specs.declared.fault.LineFault.{LineFault}
-use Rattle.uv_lines.specs.declared.fault.LineFault.TheVariants.{Report, Memory, TooManyLines}
+use Rattle.uv_lines.specs.declared.fault.LineFault.TheVariants.{Own, Stop}
+use Rattle.uv_lines.specs.declared.fault.StopFault.TheVariants.{Memory, TooManyLines}
 use Rattle.uv_lines.specs.declared.limits.LineLimits.{LineLimits}
 use Rattle.uv_lines.specs.Lines.{split, closed_lines, lines_of}
 use Rattle.uv_lines.specs.Reported.{Reported, ReportedPart}
@@ -26,7 +27,7 @@ abbrev pub IsReportOfFirst : {S : Type 0} → (S → Option (List ℕ) → List 
 IsReportOfFirst reports line_bytes start read count now text =
     Reported reports line_bytes start (take count (lines_of read)) text now
 
--- the same, or the last of these lines was begun
+-- the report on so many of the first lines, of which the last may only be begun, in this state
 abbrev pub IsPartOfFirst : {S : Type 0} → (S → Option (List ℕ) → List ℕ → S → Type 0)
     → (S → Option (List ℕ) → List ℕ → Type 0) → ℕ → S → List ℕ → ℕ → S → List ℕ → Type 0
 IsPartOfFirst reports begins line_bytes start read count now text =
@@ -36,13 +37,13 @@ IsPartOfFirst reports begins line_bytes start read count now text =
 -- it on a further one, and on as many as may come where there are too many
 abbrev pub TakeFault : {S F : Type 0} → (S → Option (List ℕ) → List ℕ → S → Type 0)
     → (S → Option (List ℕ) → List ℕ → Type 0) → LineLimits → S → LineFault F → List ℕ → S → List ℕ → Type 0
-TakeFault reports begins limits start (Report fault) read now text =
+TakeFault reports begins limits start (Own fault) read now text =
     (count : ℕ) × (count ≤ length (closed_lines read))
     × IsPartOfFirst reports begins limits.line_bytes start read count now text
-TakeFault reports begins limits start Memory read now text =
+TakeFault reports begins limits start (Stop Memory) read now text =
     (count : ℕ) × (count ≤ length (closed_lines read))
     × IsReportOfFirst reports limits.line_bytes start read count now text
-TakeFault reports begins limits start TooManyLines read now text =
+TakeFault reports begins limits start (Stop TooManyLines) read now text =
     IsReportOfFirst reports limits.line_bytes start read limits.lines now text
     × (limits.lines < length (lines_of read))
 TakeFault reports begins limits start _ read now text = ⊥

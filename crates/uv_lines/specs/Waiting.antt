@@ -37,7 +37,7 @@ LeavesParts AreParts (Reporter fault) waited old waits new =
 LeavesParts AreParts Write waited old waits new =
     (parts : List ℕ) × AreParts parts × CutsOff (waited ++ parts) old new
 
--- the same of the first parts of what is said of a line
+-- what a fault leaves of what waited before and of the first parts of what is said of a line
 abbrev pub LeavesLine : {S F : Type 0} → (S → Option (List ℕ) → List ℕ → Type 0) → ReportFault F → S → List ℕ
     → Option (List ℕ) → Option (List ℕ) → List ℕ → Option (List ℕ) → Type 0
 LeavesLine begins fault before waited old line waits new =

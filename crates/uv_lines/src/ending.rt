@@ -1,4 +1,4 @@
-//! The end of a list: the last line, where no LF ends it.
+//! The end of a list: the last line, if no LF ends it.
 ghost use Rattle.std.specs.Prelude.{◌≡◌, ◌+◌, ◌-◌, ◌^◌, ◌<◌, IfErr, OnOk};
 ghost use Rattle.uv_lines.specs.Fault.{failed_within};
 ghost use Rattle.uv_lines.specs.Taking.{Turns};

@@ -7,7 +7,7 @@ ghost use Rattle.uv_lines.specs.Framed.{Ends, FailsReads, Follows, Framed, Leave
 ghost use Rattle.uv_lines.specs.Reported.{Reported, ReportedPart};
 ghost use Rattle.uv_lines.specs.Run.{WroteAll, writes_failed};
 
-use crate::fault::LineFault;
+use crate::fault::{LineFault, StopFault};
 use crate::limits::LineLimits;
 use crate::reporter::Reporter;
 use crate::run::run_between;
@@ -39,11 +39,11 @@ impl Frame<'static> {
 /// Has a reporter report on each line of a list, in a frame, and gives the reporter back, as the last line on which it
 /// reported left it.
 ///
-/// A line ends with LF, and one CR before that is no part of it; a last part without LF is a line where it isn't empty.
+/// A line ends with LF, and one CR before that isn't a part of it; a last part without LF is a line if it isn't empty.
 /// What is said of the lines that a read has ended is written before the next read, and no more than 262,143 bytes wait
-/// where a line or a part has ended. What the reporter says after the last line is written where no fault came, and the
-/// frame's end after each fault but one of a write, also where the reporter's came between two parts of a line. The
-/// writer isn't flushed. After a fault nothing is tried again, and how far the reader was read is open.
+/// where a line or a part has ended. What the reporter says after the last line is written if no fault came, and the
+/// frame's end after each fault but one of a write, even if the reporter's came between two parts of a line. The writer
+/// isn't flushed. After a fault nothing is tried again, and how far the reader was read is open.
 #[tactic(none)]
 pub fn run_lines<R: Source, W: Sink, T: Reporter>(
     alloc: Global,
@@ -79,7 +79,7 @@ pub fn run_lines<R: Source, W: Sink, T: Reporter>(
         × (W.failed writer.new ≡ W.failed writer.old)) }
 {
     if let Err(DeviceFault) = write_whole(writer, frame.begin) {
-        return (reporter, Err(LineFault::Write));
+        return (reporter, Err(LineFault::Stop(StopFault::Write)));
     }
     let (reporter, answer) = run_between(alloc, reader, writer, reporter, limits);
     let answer = write_end(alloc, writer, &reporter, frame.end, answer);
@@ -101,9 +101,9 @@ fn write_end<W: Sink, T: Reporter>(
     match answer {
         Ok(()) => match reporter.last(alloc) {
             Ok(last) => write_last(writer, last.as_bytes(), end),
-            Err(fault) => follow(writer, end, Err(LineFault::Report(fault))),
+            Err(fault) => follow(writer, end, Err(LineFault::Own(fault))),
         },
-        Err(LineFault::Write) => Err(LineFault::Write),
+        Err(LineFault::Stop(StopFault::Write)) => Err(LineFault::Stop(StopFault::Write)),
         Err(fault) => follow(writer, end, Err(fault)),
     }
 }
@@ -116,7 +116,7 @@ fn write_last<W: Sink, F: Drop>(writer: &mut W, last: &[u8], end: &[u8]) -> Resu
 {
     match write_some(writer, last) {
         Ok(()) => follow(writer, end, Ok(())),
-        Err(DeviceFault) => Err(LineFault::Write),
+        Err(DeviceFault) => Err(LineFault::Stop(StopFault::Write)),
     }
 }
 
@@ -132,7 +132,7 @@ fn follow<W: Sink, F: Drop>(
 {
     match write_some(writer, piece) {
         Ok(()) => reported,
-        Err(DeviceFault) => Err(LineFault::Write),
+        Err(DeviceFault) => Err(LineFault::Stop(StopFault::Write)),
     }
 }
 

@@ -7,7 +7,8 @@ ghost use Rattle.uv_lines.specs.Run.{FinishFault, WroteAll, writes_failed};
 ghost use Rattle.uv_lines.specs.Taking.{Turns};
 ghost use Rattle.uv_lines.specs.Ways.{PassingFault, Waiting, WaitingFault};
 
-use crate::fault::{LineFault, ReportFault, is_write};
+use crate::fault::{LineFault, ReportFault, StopFault, is_write};
+use crate::line::Line;
 use crate::progress::Progress;
 use crate::reporter::Reporter;
 use crate::taker::Taker;
@@ -37,7 +38,7 @@ impl<R: Reporter> Taker for Progress<R> {
         &mut self,
         alloc: Global,
         writer: &mut W,
-        line: &[u8],
+        line: Line<'_>,
         _whole: &[u8],
     ) -> Result<(), LineFault<R::Fault>> {
         if let Err(fault) = self.close_line(alloc, writer, line) {
@@ -45,7 +46,7 @@ impl<R: Reporter> Taker for Progress<R> {
         }
         match end_part(&mut self.text, writer) {
             Ok(()) => Ok(()),
-            Err(DeviceFault) => Err(LineFault::Write),
+            Err(DeviceFault) => Err(LineFault::Stop(StopFault::Write)),
         }
     }
 
@@ -63,11 +64,11 @@ impl<R: Reporter> Taker for Progress<R> {
     fn end_piece<W: Sink>(&mut self, writer: &mut W) -> Result<(), LineFault<R::Fault>> {
         match write_out(&mut self.text, writer) {
             Ok(()) => Ok(()),
-            Err(DeviceFault) => Err(LineFault::Write),
+            Err(DeviceFault) => Err(LineFault::Stop(StopFault::Write)),
         }
     }
 
-    // What is said of the last line is written also where it can't be reported on whole.
+    // What is said of the last line is written even if it can't be reported on whole.
     fn end_list<W: Sink>(
         &mut self,
         alloc: Global,
@@ -76,13 +77,13 @@ impl<R: Reporter> Taker for Progress<R> {
         match self.take_end(alloc, writer) {
             Ok(()) => match write_out(&mut self.text, writer) {
                 Ok(()) => Ok(()),
-                Err(DeviceFault) => Err(LineFault::Write),
+                Err(DeviceFault) => Err(LineFault::Stop(StopFault::Write)),
             },
             Err(ReportFault::Reporter(fault)) => match write_out(&mut self.text, writer) {
-                Ok(()) => Err(LineFault::Report(fault)),
-                Err(DeviceFault) => Err(LineFault::Write),
+                Ok(()) => Err(LineFault::Own(fault)),
+                Err(DeviceFault) => Err(LineFault::Stop(StopFault::Write)),
             },
-            Err(ReportFault::Write) => Err(LineFault::Write),
+            Err(ReportFault::Write) => Err(LineFault::Stop(StopFault::Write)),
         }
     }
 }
@@ -101,7 +102,7 @@ impl<R: Reporter> Progress<R> {
         }
         match write_out(&mut self.text, writer) {
             Ok(()) => fault,
-            Err(DeviceFault) => LineFault::Write,
+            Err(DeviceFault) => LineFault::Stop(StopFault::Write),
         }
     }
 }

@@ -1,9 +1,11 @@
 //! The pieces of a list, each cut into lines.
 ghost use Rattle.std.specs.Prelude.{◌≡◌, ℕ, ◌+◌, ◌-◌, ◌^◌, ◌<◌, List, [], IfErr, IfOk, OnOk, length, vec_len};
 ghost use Rattle.std.specs.Io.KnownBytes.{Consumes, IsAtEnd};
-ghost use Rattle.uv_lines.specs.Taking.{Keeps, Leads, Left, reads_of, writes_of};
+ghost use Rattle.uv_lines.specs.Run.{reads_failed};
+ghost use Rattle.uv_lines.specs.Taking.{Keeps, Leads, Left, writes_of};
 
-use crate::fault::ListFault;
+use crate::fault::{LineFault, StopFault};
+use crate::line::{line_before, text_after, text_beyond};
 use crate::line_parts::line_end;
 use crate::taker::Taker;
 use std::alloc::{AllocError, Global};
@@ -20,7 +22,7 @@ pub fn take_list<R: Source, W: Sink, T: Taker>(
     reader: &mut R,
     writer: &mut W,
     taker: &mut T,
-) -> Result<(), ListFault<T::Fault>>
+) -> Result<(), LineFault<T::Fault>>
     requires reads { R.failed reader.old < 2 ^ 64 - 1 }
     requires writes { W.failed writer.old < 2 ^ 64 - 1 }
     requires start { T.stands taker.old (W.contents writer.old) [] taker.old (W.contents writer.old) }
@@ -32,13 +34,13 @@ pub fn take_list<R: Source, W: Sink, T: Taker>(
         × Consumes (R.remaining reader.old) (R.remaining reader.new) read
         × Left T.stands T.rests T.stops T.fails e taker.old (W.contents writer.old) read
         (IsAtEnd (R.remaining reader.new)) taker.new (W.contents writer.new)
-        × (R.failed reader.new ≡ R.failed reader.old + reads_of e)
+        × (R.failed reader.new ≡ R.failed reader.old + reads_failed e)
         × (W.failed writer.new ≡ W.failed writer.old + writes_of T.writes e)) }
     ensures quiet { OnOk result ((R.failed reader.new ≡ R.failed reader.old)
         × (W.failed writer.new ≡ W.failed writer.old)) }
 {
     let Ok(mut piece) = empty_piece(alloc) else {
-        return Err(ListFault::Memory);
+        return Err(LineFault::Stop(StopFault::Memory));
     };
     take_pieces(alloc, reader, writer, taker, piece.as_mut_slice())
 }
@@ -58,7 +60,7 @@ fn take_pieces<R: Source, W: Sink, T: Taker>(
     writer: &mut W,
     taker: &mut T,
     piece: &mut [u8],
-) -> Result<(), ListFault<T::Fault>>
+) -> Result<(), LineFault<T::Fault>>
     requires reads { R.failed reader.old < 2 ^ 64 - 1 }
     requires writes { W.failed writer.old < 2 ^ 64 - 1 }
     requires room { 0 < length piece.old }
@@ -71,26 +73,26 @@ fn take_pieces<R: Source, W: Sink, T: Taker>(
         × Consumes (R.remaining reader.old) (R.remaining reader.new) read
         × Left T.stands T.rests T.stops T.fails e taker.old (W.contents writer.old) read
         (IsAtEnd (R.remaining reader.new)) taker.new (W.contents writer.new)
-        × (R.failed reader.new ≡ R.failed reader.old + reads_of e)
+        × (R.failed reader.new ≡ R.failed reader.old + reads_failed e)
         × (W.failed writer.new ≡ W.failed writer.old + writes_of T.writes e)) }
     ensures quiet { OnOk result ((R.failed reader.new ≡ R.failed reader.old)
         × (W.failed writer.new ≡ W.failed writer.old)) }
 {
     for _turn in 0..u64::MAX {
         let Ok(count) = reader.read(piece) else {
-            return Err(ListFault::Read);
+            return Err(LineFault::Stop(StopFault::Read));
         };
         if count == 0 {
             return match taker.end_list(alloc, writer) {
                 Ok(()) => Ok(()),
-                Err(fault) => Err(ListFault::Taken(fault)),
+                Err(fault) => Err(LineFault::Own(fault)),
             };
         }
         if let Err(fault) = take_piece(alloc, writer, taker, &piece[..count]) {
-            return Err(ListFault::Taken(fault));
+            return Err(LineFault::Own(fault));
         }
     }
-    Err(ListFault::Endless)
+    Err(LineFault::Stop(StopFault::Endless))
 }
 
 // Has each line that ends in a piece taken, and what the piece has of a further one, and then what waits written.
@@ -110,10 +112,13 @@ fn take_piece<W: Sink, T: Taker>(
     ensures failed { IfErr result (λ e. W.failed writer.new ≡ W.failed writer.old + T.writes e) }
 {
     let mut start = 0;
+    let mut text = "";
     while let Some(length) = line_end(&piece[start..]) {
-        let line = &piece[start..start + length];
+        text = text_beyond(&piece[start..], text, length);
+        let line = line_before(&piece[start..], text, length);
         let whole = &piece[start..start + length + 1];
         taker.take_line(alloc, writer, line, whole)?;
+        text = text_after(text, length);
         start += length + 1;
     }
     taker.take_part(writer, &piece[start..])?;

@@ -1,14 +1,16 @@
 //! What takes a list, line by line.
 ghost use Rattle.std.specs.Prelude.{◌≡◌, ℕ, ◌+◌, ◌-◌, ◌^◌, ◌<◌, List, [], ◌∷◌, ◌++◌, IfErr, OnOk};
+ghost use Rattle.uv_lines.specs.Line.{bytes_of};
 ghost use Rattle.uv_lines.specs.Lines.{line_feed, split};
 ghost use Rattle.uv_lines.specs.Taking.{Keeps, Leads, Turns, Way};
 
+use crate::line::Line;
 use std::alloc::Global;
 use uv_io::Sink;
 
 /// What takes the lines of a list and the parts of lines that end in no piece, and writes what comes of them.
 ///
-/// A fault leaves nothing that waits to be written, unless it is that of a write.
+/// A fault leaves nothing that waits to be written, unless a write failed.
 pub trait Taker {
     /// Why it takes no more.
     type Fault: Drop;
@@ -23,13 +25,13 @@ pub trait Taker {
     // Nothing waits to be written.
     ghost rests: { Self → Type 0 };
 
-    // The same where a fault came while it took these bytes.
+    // A fault came while it took these bytes, from the first state and contents of the writer to the second ones.
     ghost stops: { Self.Fault → Way Self };
 
-    // The same where these bytes are the whole list.
+    // It has taken these bytes, which are the whole list, from the first state and contents to the second ones.
     ghost ends: { Way Self };
 
-    // The same where a fault came at the end of the list.
+    // A fault came at the end of the list, which is these bytes, from the first state and contents to the second ones.
     ghost fails: { Self.Fault → Way Self };
 
     /// Takes the rest of a line, which an LF ends: without the LF, and with it.
@@ -37,17 +39,17 @@ pub trait Taker {
         &mut self,
         alloc: Global,
         writer: &mut W,
-        line: &[u8],
+        line: Line<'_>,
         whole: &[u8],
     ) -> Result<(), Self::Fault>
         requires writes { W.failed writer.old < 2 ^ 64 - 1 }
-        requires line { split line.now ≡ ([], line.now) }
-        requires whole { whole.now ≡ line.now ++ line_feed ∷ [] }
-        ensures stands { OnOk result (Keeps stands self.old (W.contents writer.old) (line.now ++ line_feed ∷ [])
-            self.new (W.contents writer.new)) }
+        requires line { split (bytes_of line) ≡ ([], bytes_of line) }
+        requires whole { whole.now ≡ bytes_of line ++ line_feed ∷ [] }
+        ensures stands { OnOk result (Keeps stands self.old (W.contents writer.old)
+            (bytes_of line.entry ++ line_feed ∷ []) self.new (W.contents writer.new)) }
         ensures quiet { OnOk result (W.failed writer.new ≡ W.failed writer.old) }
         ensures fault { IfErr result (λ e. (rest : List ℕ) → Leads stands (stops e) self.old (W.contents writer.old)
-            (line.now ++ line_feed ∷ rest) self.new (W.contents writer.new)) }
+            (bytes_of line.entry ++ line_feed ∷ rest) self.new (W.contents writer.new)) }
         ensures failed { IfErr result (λ e. W.failed writer.new ≡ W.failed writer.old + writes e) };
 
     /// Takes a part of a line, with which a piece ends.

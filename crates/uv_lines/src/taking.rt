@@ -1,6 +1,7 @@
 //! The lines of a list, each reported on where it ends.
 ghost use Rattle.std.specs.Prelude.{◌≡◌, ℕ, ◌+◌, ◌-◌, ◌^◌, ◌<◌, List, [], ◌∷◌, ◌++◌, IfErr, OnOk, OnErr};
 ghost use Rattle.std.specs.Prelude.{Option, false, take, vec_len};
+ghost use Rattle.uv_lines.specs.Line.{bytes_of};
 ghost use Rattle.uv_lines.specs.Lines.{line_feed, short_line, split};
 ghost use Rattle.uv_lines.specs.Fault.{failed_within, is_write};
 ghost use Rattle.uv_lines.specs.Progress.{ended};
@@ -9,8 +10,9 @@ ghost use Rattle.uv_lines.specs.Taking.{Keeps, Leads};
 ghost use Rattle.uv_lines.specs.Waiting.{Adds, LeavesLine};
 ghost use Rattle.uv_lines.specs.Ways.{Waiting, WaitingFault};
 
-use crate::fault::{LineFault, ReportFault};
-use crate::line_parts::{line_text, without_return};
+use crate::fault::{LineFault, ReportFault, StopFault};
+use crate::line::Line;
+use crate::line_parts::line_text;
 use crate::progress::Progress;
 use crate::reporter::Reporter;
 use std::alloc::{AllocError, Global};
@@ -22,27 +24,27 @@ impl<R: Reporter> Progress<R> {
         &mut self,
         alloc: Global,
         writer: &mut W,
-        prefix: &[u8],
+        prefix: Line<'_>,
     ) -> Result<(), LineFault<R::Fault>>
-        requires line { split prefix.now ≡ ([], prefix.now) }
+        requires line { split (bytes_of prefix) ≡ ([], bytes_of prefix) }
         requires writes { W.failed writer.old < 2 ^ 64 - 1 }
         ensures setting { self.new.limits ≡ self.old.limits }
         ensures waits { OnOk result (Keeps (Waiting self.old.limits) self.old (W.contents writer.old)
-            (prefix.now ++ line_feed ∷ []) self.new (W.contents writer.new)) }
+            (bytes_of prefix.entry ++ line_feed ∷ []) self.new (W.contents writer.new)) }
         ensures quiet { OnOk result (W.failed writer.new ≡ W.failed writer.old) }
         ensures fault { IfErr result (λ e. (rest : List ℕ) → Leads (Waiting self.old.limits)
-            (WaitingFault self.old.limits e) self.old (W.contents writer.old) (prefix.now ++ line_feed ∷ rest)
-            self.new (W.contents writer.new)) }
+            (WaitingFault self.old.limits e) self.old (W.contents writer.old)
+            (bytes_of prefix.entry ++ line_feed ∷ rest) self.new (W.contents writer.new)) }
         ensures failed { IfErr result (λ e. W.failed writer.new ≡ W.failed writer.old + writes_failed e) }
     {
         if !self.begun.is_empty() {
-            return self.close_begun_line(alloc, writer, prefix);
+            return self.close_begun_line(alloc, writer, prefix.as_bytes());
         }
         if self.reporter.line_count() == self.limits.lines {
-            return Err(LineFault::TooManyLines);
+            return Err(LineFault::Stop(StopFault::TooManyLines));
         }
         let line_bytes = self.limits.line_bytes;
-        let line = without_return(prefix);
+        let line = prefix.without_return();
         match report_on(
             alloc,
             &mut self.reporter,
@@ -56,7 +58,7 @@ impl<R: Reporter> Progress<R> {
         }
     }
 
-    // The same where a line has begun.
+    // Reports on the line that has begun and that an LF ends after this prefix of a piece.
     fn close_begun_line<W: Sink>(
         &mut self,
         alloc: Global,
@@ -76,7 +78,7 @@ impl<R: Reporter> Progress<R> {
         ensures failed { IfErr result (λ e. W.failed writer.new ≡ W.failed writer.old + writes_failed e) }
     {
         if let Err(AllocError) = self.keep(prefix) {
-            return Err(LineFault::Memory);
+            return Err(LineFault::Stop(StopFault::Memory));
         }
         match self.report_begun(alloc, writer, true) {
             Ok(()) => Ok(()),
@@ -98,11 +100,11 @@ impl<R: Reporter> Progress<R> {
             return Ok(());
         }
         if self.begun.is_empty() && self.reporter.line_count() == self.limits.lines {
-            return Err(LineFault::TooManyLines);
+            return Err(LineFault::Stop(StopFault::TooManyLines));
         }
         match self.keep(rest) {
             Ok(()) => Ok(()),
-            Err(AllocError) => Err(LineFault::Memory),
+            Err(AllocError) => Err(LineFault::Stop(StopFault::Memory)),
         }
     }
 
@@ -146,7 +148,7 @@ impl<R: Reporter> Progress<R> {
         ensures failed { IfErr result (λ e. W.failed writer.new ≡ W.failed writer.old + failed_within e) }
     {
         let line_bytes = self.limits.line_bytes;
-        let line = line_text(self.begun.as_slice(), is_closed);
+        let line = Line::Bytes(line_text(self.begun.as_slice(), is_closed));
         report_on(
             alloc,
             &mut self.reporter,
@@ -165,21 +167,21 @@ fn report_on<R: Reporter, W: Sink>(
     alloc: Global,
     reporter: &mut R,
     line_bytes: usize,
-    line: &[u8],
+    line: Line<'_>,
     text: &mut Vec<u8>,
     writer: &mut W,
 ) -> Result<(), ReportFault<R::Fault>>
     requires few { R.lines reporter.old < 2 ^ 64 - 1 }
     requires writes { W.failed writer.old < 2 ^ 64 - 1 }
     ensures added { OnOk result (Adds R.reports R.lines reporter.old text.old.items (W.contents writer.old)
-        (short_line line_bytes line.now) reporter.new text.new.items (W.contents writer.new)) }
+        (short_line line_bytes (bytes_of line.entry)) reporter.new text.new.items (W.contents writer.new)) }
     ensures quiet { OnOk result (W.failed writer.new ≡ W.failed writer.old) }
     ensures same { OnErr result (reporter.new ≡ reporter.old) }
     ensures fault { IfErr result (λ e. LeavesLine R.begins e reporter.old text.old.items (W.contents writer.old)
-        (short_line line_bytes line.now) text.new.items (W.contents writer.new)) }
+        (short_line line_bytes (bytes_of line.entry)) text.new.items (W.contents writer.new)) }
     ensures failed { IfErr result (λ e. W.failed writer.new ≡ W.failed writer.old + failed_within e) }
 {
-    if line.len() <= line_bytes {
+    if line.as_bytes().len() <= line_bytes {
         reporter.report(alloc, Some(line), text, writer)
     } else {
         reporter.report(alloc, None, text, writer)

@@ -8,8 +8,8 @@ use uv_io::{DeviceFault, Sink, write_whole};
 // How many bytes may wait to be written where a part has ended, less than so many.
 const MUCH_BYTES: usize = 262_144;
 
-/// Ends a part of what is said of a line, or of a list: writes what waits to be written, where that has 262,144 bytes
-/// or more.
+/// Ends a part of what the report says of a line, or of a list: writes what waits to be written, where that has 262,144
+/// bytes or more.
 ///
 /// A reporter may end a part between any two bytes of what it says of a line. After a fault a prefix of what waited was
 /// written.

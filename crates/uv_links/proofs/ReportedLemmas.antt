@@ -16,10 +16,10 @@ use Rattle.uv_lines.specs.Run as run
 use Rattle.uv_lines.proofs.FramedLemmas.{Wrote-map}
 use Rattle.uv_links.specs.declared.counts.Counts.{Counts}
 use Rattle.uv_links.specs.declared.fault.LinkFault.{LinkFault}
-use Rattle.uv_links.specs.declared.fault.LinkFault.TheVariants.{Memory, Read, Write, Overflow, BaseDiffers}
-use Rattle.uv_links.specs.declared.fault.LinkFault.TheVariants.{TooManyLines, Endless}
-use Rattle.uv_second.specs.declared.fault.RoomFault.{RoomFault}
-use Rattle.uv_second.specs.declared.fault.RoomFault.TheVariants as room
+use Rattle.uv_links.specs.declared.fault.LinkFault.TheVariants.{Stop, Overflow, BaseDiffers}
+use Rattle.uv_lines.specs.declared.fault.StopFault.TheVariants.{Memory, Read, Write, TooManyLines, Endless}
+use Rattle.uv_compare.specs.declared.fault.RoomFault.{RoomFault}
+use Rattle.uv_compare.specs.declared.fault.RoomFault.TheVariants as room
 use Rattle.uv_links.specs.Fault.{IsBaseFault}
 use Rattle.uv_links.specs.Report.{ListSetting, Said, TooLong, IsSaid, AreSaid, IsReport, IsReportOfFirst, report_line}
 use Rattle.uv_links.specs.Report.{report_lines, count_line, counted, tally, ok_of, bad_of, differs_of}
@@ -27,9 +27,9 @@ use Rattle.uv_links.specs.Reporting.{Reporting, IsSaidOf, Says, none_counted}
 use Rattle.uv_links.specs.Run.{WroteFirst, WroteLines, Reports, Leaves, fault_of_run, reads_failed}
 use Rattle.uv_links.specs.Run.{writes_failed}
 
--- ---- what is said of each line
+-- ---- what the report says of each line
 
--- what is said of a line within its limit or of a longer one is said of the line
+-- what the report says of a line within its limit or of a longer one is said of the line
 short_line_said : (s : ListSetting) (line : List ℕ) (said : Said) → IsSaidOf s (short_line s.line_bytes line) said
     → IsSaid s line said
 short_line_said s line said is =
@@ -138,7 +138,7 @@ begins_none before line parts = ⊥
 abbrev pub Parts : ListSetting → List (List ℕ) → List ℕ → Reporting → Type 0
 Parts s = Framed (ReportedPart Says begins_none s.line_bytes (fresh s)) [] (λ _. [])
 
--- the same with the line of counts
+-- the report on lines, in a frame that ends with the line of counts
 abbrev pub Whole : ListSetting → List (List ℕ) → List ℕ → Reporting → Type 0
 Whole s = Framed (Reported Says s.line_bytes (fresh s)) [] (λ r. count_line r.counts ++ [])
 
@@ -151,7 +151,7 @@ LeavesBy limits begin end start e old read at_end q new =
     (Framed (Reported Says limits.line_bytes start) begin (λ r. count_line r.counts ++ end)) limits e old read at_end q
     new
 
--- the same by what these are
+-- what a fault leaves of a run, with the limits, the frame and the state put as what they are
 pub leaves_by : (given limits : LineLimits) (begin end : List ℕ) (start p : Reporting) (e : LineFault RoomFault)
     (old : Option (List ℕ)) (read : List ℕ) (at_end : Type 0) (q : Reporting) (new : Option (List ℕ))
     → given ≡ limits → begin ≡ [] → end ≡ [] → start ≡ p
@@ -232,12 +232,12 @@ part-left : (e : LineFault RoomFault) (s : ListSetting) (most : ℕ) (old : Opti
     (at_end : Type 0) (q : Reporting) (new : Option (List ℕ))
     → run.Leaves (Lines s) (Parts s) (record { line_bytes = s.line_bytes; lines = most }) e old read at_end q new
     → Leaves (fault_of_run e) s most old read at_end new
-part-left (stopped.Report room.Memory) s most old read at_end q new left = wrote_parts s old new read at_end q left
-part-left (stopped.Report room.Overflow) s most old read at_end q new left = wrote_parts s old new read at_end q left
-part-left stopped.Memory s most old read at_end q new left = wrote_some s old new read at_end q left
-part-left stopped.Read s most old read at_end q new left =
+part-left (stopped.Own room.Memory) s most old read at_end q new left = wrote_parts s old new read at_end q left
+part-left (stopped.Own room.Overflow) s most old read at_end q new left = wrote_parts s old new read at_end q left
+part-left (stopped.Stop Memory) s most old read at_end q new left = wrote_some s old new read at_end q left
+part-left (stopped.Stop Read) s most old read at_end q new left =
     wrote_first s old new read (length (closed_lines read)) q left
-part-left stopped.Write s most old read at_end q new left =
+part-left (stopped.Stop Write) s most old read at_end q new left =
     let cut = left.2 in
     record {
       text = cut.text;
@@ -250,8 +250,9 @@ part-left stopped.Write s most old read at_end q new left =
       prefix = cut.prefix;
       wrote = cut.wrote;
     }
-part-left stopped.TooManyLines s most old read at_end q new left = (wrote_first s old new read most q left.0, left.1)
-part-left stopped.Endless s most old read at_end q new left =
+part-left (stopped.Stop TooManyLines) s most old read at_end q new left =
+    (wrote_first s old new read most q left.0, left.1)
+part-left (stopped.Stop Endless) s most old read at_end q new left =
     (wrote_first s old new read (length (closed_lines read)) q left.0, left.1)
 
 -- or of the whole report
@@ -273,14 +274,14 @@ run-left e s most old read at_end q new (inr (is, cut)) =
 pub run-failed : (e : LineFault RoomFault) (reads reads' writes writes' : ℕ)
     → FailsReads [] e reads reads' × (writes' ≡ writes + run.writes_failed e)
     → (reads' ≡ reads + reads_failed (fault_of_run e)) × (writes' ≡ writes + writes_failed (fault_of_run e))
-run-failed (stopped.Report room.Memory) reads reads' writes writes' (same, one) = (same ∙ sym (add-zero reads), one)
-run-failed (stopped.Report room.Overflow) reads reads' writes writes' (same, one) = (same ∙ sym (add-zero reads), one)
-run-failed stopped.Memory reads reads' writes writes' (same, one) = (same ∙ sym (add-zero reads), one)
-run-failed stopped.Read reads reads' writes writes' fails = fails
-run-failed stopped.Write reads reads' writes writes' (inl same, one) = (same ∙ sym (add-zero reads), one)
-run-failed stopped.Write reads reads' writes writes' (inr some, one) = absurd (some.0 refl)
-run-failed stopped.TooManyLines reads reads' writes writes' (same, one) = (same ∙ sym (add-zero reads), one)
-run-failed stopped.Endless reads reads' writes writes' (same, one) = (same ∙ sym (add-zero reads), one)
+run-failed (stopped.Own room.Memory) reads reads' writes writes' (same, one) = (same ∙ sym (add-zero reads), one)
+run-failed (stopped.Own room.Overflow) reads reads' writes writes' (same, one) = (same ∙ sym (add-zero reads), one)
+run-failed (stopped.Stop Memory) reads reads' writes writes' (same, one) = (same ∙ sym (add-zero reads), one)
+run-failed (stopped.Stop Read) reads reads' writes writes' fails = fails
+run-failed (stopped.Stop Write) reads reads' writes writes' (inl same, one) = (same ∙ sym (add-zero reads), one)
+run-failed (stopped.Stop Write) reads reads' writes writes' (inr some, one) = absurd (some.0 refl)
+run-failed (stopped.Stop TooManyLines) reads reads' writes writes' (same, one) = (same ∙ sym (add-zero reads), one)
+run-failed (stopped.Stop Endless) reads reads' writes writes' (same, one) = (same ∙ sym (add-zero reads), one)
 
 -- ---- before the first read
 
@@ -300,10 +301,10 @@ nothing_written s old at_end = (
 pub base-left : (fault : LinkFault) (setting : ListSetting) (most : ℕ) (old : Option (List ℕ)) (at_end : Type 0)
     → IsBaseFault setting.base fault → Leaves fault setting most old [] at_end old × (reads_failed fault ≡ 0)
     × (writes_failed fault ≡ 0)
-base-left Memory setting most old at_end is = (nothing_written setting old at_end, refl, refl)
+base-left (Stop Memory) setting most old at_end is = (nothing_written setting old at_end, refl, refl)
 base-left Overflow setting most old at_end is = (nothing_written setting old at_end, refl, refl)
 base-left BaseDiffers setting most old at_end is = ((refl, Keeps-refl old, is), refl, refl)
-base-left Read setting most old at_end is = absurd is
-base-left Write setting most old at_end is = absurd is
-base-left TooManyLines setting most old at_end is = absurd is
-base-left Endless setting most old at_end is = absurd is
+base-left (Stop Read) setting most old at_end is = absurd is
+base-left (Stop Write) setting most old at_end is = absurd is
+base-left (Stop TooManyLines) setting most old at_end is = absurd is
+base-left (Stop Endless) setting most old at_end is = absurd is

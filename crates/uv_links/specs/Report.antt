@@ -11,7 +11,7 @@ use Rattle.uv_grammar.specs.Verdict.{IsRefused}
 use Rattle.uv_resolve.specs.Resolve.{DenotesText}
 use Rattle.uv_links.specs.declared.counts.Counts.{Counts}
 use Rattle.uv_lines.specs.Lines.{lines_of}
-use Rattle.uv_second.specs.Second.{second_text}
+use Rattle.uv_compare.specs.Second.{second_text}
 
 -- what the lines are checked against: the profile, the base, and how many bytes a line may have
 pub record ListSetting : Type 0 where
@@ -32,8 +32,8 @@ pub record IsText (setting : ListSetting) (line : List ℕ) : Type 0 where
   pub short : length line ≤ setting.line_bytes
   pub utf8 : IsUtf8 line
 
--- What is said of a line: it is too long; else it isn't UTF-8; else it is refused, by its least violation; else it is
--- accepted, and the second parser gives the same text or doesn't.
+-- What is said of a line: it is too long; otherwise it isn't UTF-8; otherwise it is refused, by its least violation;
+-- otherwise it is accepted, and the second parser gives the same text or doesn't.
 abbrev pub IsSaid : ListSetting → List ℕ → Said → Type 0
 IsSaid setting line TooLong = setting.line_bytes < length line
 IsSaid setting line NotUtf8 = (length line ≤ setting.line_bytes) × ¬ (IsUtf8 line)
@@ -46,7 +46,7 @@ IsSaid setting line Differs =
     IsText setting line × ((text : List ℕ) × DenotesText setting.profile setting.base line text
     × (second_text setting.base line ≢ Some text))
 
--- what is said of each of the lines
+-- what the report says of each of the lines
 abbrev pub AreSaid : ListSetting → List (List ℕ) → List Said → Type 0
 AreSaid setting [] [] = Unit {0}
 AreSaid setting (line ∷ lines) (said ∷ rest) = IsSaid setting line said × AreSaid setting lines rest

@@ -22,7 +22,7 @@ pub record LineRows : Type 0 where
   pub closed_end : lines_of (codes "abcd\nabc" ++ carriage_return_line_feed) ≡ codes "abcd" ∷ codes "abc" ∷ []
   pub kept_return : lines_of (codes "a" ++ (13 ∷ [])) ≡ (codes "a" ++ (13 ∷ [])) ∷ []
 
--- what is said of lines of each kind, written out
+-- what the report says of lines of each kind, written out
 pub record ReportRows : Type 0 where
   pub standard : report_text (Same (codes "http://h/a") ∷ Same (codes "http://h/")
       ∷ Refused (record { place = 7; rule = HostDomain }) ∷ [])

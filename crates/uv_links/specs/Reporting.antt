@@ -8,7 +8,7 @@ pub record Reporting : Type 0 where
   pub setting : ListSetting
   pub counts : Counts
 
--- what is said of a line; none stands for one that has more bytes than a line may have
+-- what the report says of a line; none stands for one that has more bytes than a line may have
 abbrev pub IsSaidOf : ListSetting → Option (List ℕ) → Said → Type 0
 IsSaidOf setting None said = said ≡ TooLong
 IsSaidOf setting (Some line) said = IsSaid setting line said

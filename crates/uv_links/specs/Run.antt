@@ -3,15 +3,16 @@ use Rattle.std.specs.Prelude.{◌≡◌, ℕ, ◌-◌, ◌^◌, ◌≤◌, ◌<�
 use Rattle.std.specs.Io.KnownBytes.{Appends, Keeps}
 use Rattle.uv_links.specs.declared.counts.Counts.{Counts}
 use Rattle.uv_links.specs.declared.fault.LinkFault.{LinkFault}
-use Rattle.uv_links.specs.declared.fault.LinkFault.TheVariants.{Memory, Read, Write, Overflow, BaseDiffers}
-use Rattle.uv_links.specs.declared.fault.LinkFault.TheVariants.{TooManyLines, Endless}
+use Rattle.uv_links.specs.declared.fault.LinkFault.TheVariants.{Stop, Overflow, BaseDiffers}
+use Rattle.uv_lines.specs.declared.fault.StopFault.TheVariants.{Memory, Read, Write, TooManyLines, Endless}
 use Rattle.uv_lines.specs.Lines.{closed_lines, lines_of}
 use Rattle.uv_lines.specs.declared.fault.LineFault.{LineFault}
 use Rattle.uv_lines.specs.declared.fault.LineFault.TheVariants as stopped
-use Rattle.uv_second.specs.declared.fault.RoomFault.{RoomFault}
+use Rattle.uv_compare.specs.declared.fault.RoomFault.{RoomFault}
+use Rattle.uv_lines.specs.Fault as stop
 use Rattle.uv_links.specs.Fault.{fault_of_room}
 use Rattle.uv_links.specs.Report.{ListSetting, IsReport, IsReportOfFirst}
-use Rattle.uv_second.specs.Second.{AgreesOnBase}
+use Rattle.uv_compare.specs.Second.{AgreesOnBase}
 
 -- the whole report on the bytes was written, on no more lines than may come, and these are its counts
 pub record Reports (setting : ListSetting) (most : ℕ) (old : Option (List ℕ)) (read : List ℕ) (counts : Counts)
@@ -44,7 +45,7 @@ pub record WrotePrefix (setting : ListSetting) (old : Option (List ℕ)) (read :
   pub wrote : Appends old new (take prefix text)
 
 -- The report's lines on the first lines were written, and no line of counts. They are lines that an LF has ended, but
--- for a last one without LF where no byte is left to come.
+-- for a last one without LF if no byte is left to come.
 abbrev pub WroteLines : ListSetting → Option (List ℕ) → List ℕ → Type 0 → Option (List ℕ) → Type 0
 WroteLines setting old read at_end new =
     (count : ℕ) × (count ≤ length (lines_of read)) × ((count ≤ length (closed_lines read)) ⊎ at_end)
@@ -52,31 +53,27 @@ WroteLines setting old read at_end new =
 
 -- What a fault of a run leaves, when these bytes were read.
 abbrev pub Leaves : LinkFault → ListSetting → ℕ → Option (List ℕ) → List ℕ → Type 0 → Option (List ℕ) → Type 0
-Leaves Memory setting most old read at_end new = WroteLines setting old read at_end new
+Leaves (Stop Memory) setting most old read at_end new = WroteLines setting old read at_end new
 Leaves Overflow setting most old read at_end new = WroteLines setting old read at_end new
-Leaves Read setting most old read at_end new = WroteFirst setting old read (length (closed_lines read)) new
-Leaves Write setting most old read at_end new = WrotePrefix setting old read new
+Leaves (Stop Read) setting most old read at_end new = WroteFirst setting old read (length (closed_lines read)) new
+Leaves (Stop Write) setting most old read at_end new = WrotePrefix setting old read new
 Leaves BaseDiffers setting most old read at_end new = (read ≡ []) × Keeps old new × ¬ (AgreesOnBase setting.base)
-Leaves TooManyLines setting most old read at_end new =
+Leaves (Stop TooManyLines) setting most old read at_end new =
     WroteFirst setting old read most new × (most < length (lines_of read))
-Leaves Endless setting most old read at_end new =
+Leaves (Stop Endless) setting most old read at_end new =
     WroteFirst setting old read (length (closed_lines read)) new × (2 ^ 64 - 1 ≤ length read)
 
--- how many failed reads and writes a fault stands for
+-- how many failed reads a fault stands for
 abbrev pub reads_failed : LinkFault → ℕ
-reads_failed Read = 1
+reads_failed (Stop fault) = stop.reads_failed fault
 reads_failed _ = 0
 
--- the same of writes
+-- how many failed writes a fault stands for
 abbrev pub writes_failed : LinkFault → ℕ
-writes_failed Write = 1
+writes_failed (Stop fault) = stop.writes_failed fault
 writes_failed _ = 0
 
--- the same fault of a run over lines
+-- the fault of a run over links, by the fault of its run over lines
 abbrev pub fault_of_run : LineFault RoomFault → LinkFault
-fault_of_run (stopped.Report fault) = fault_of_room fault
-fault_of_run stopped.Memory = Memory
-fault_of_run stopped.Read = Read
-fault_of_run stopped.Write = Write
-fault_of_run stopped.TooManyLines = TooManyLines
-fault_of_run stopped.Endless = Endless
+fault_of_run (stopped.Own fault) = fault_of_room fault
+fault_of_run (stopped.Stop fault) = Stop fault

@@ -4,7 +4,7 @@ use Rattle.uv_links.specs.declared.said.Said as declared
 use Rattle.uv_links.specs.declared.said.Said.TheVariants as said
 use Rattle.uv_links.specs.Report.{Said, Same, Refused, NotUtf8, TooLong, Differs}
 
--- the same text, borrowed or owned, as its bytes
+-- what the report says of a line, with a text that is borrowed or owned as its bytes
 abbrev pub said_of : declared.Said → Said
 said_of (said.Same text) = Same (cow_str_bytes text)
 said_of (said.Refused refusal) = Refused refusal

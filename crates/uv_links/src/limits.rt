@@ -28,7 +28,7 @@ impl LinkLimits {
         }
     }
 
-    /// These limits, or none where a number is above the largest one. Either may be 0.
+    /// These limits, or none if a number is above the largest one. Either may be 0.
     pub fn new(line_bytes: usize, lines: u64) -> Option<LinkLimits>
         ensures taken { is_some result ≡ are_limits line_bytes lines }
         ensures value { IfSome result (λ limits. (limits.line_bytes ≡ line_bytes) × (limits.lines ≡ lines)) }

@@ -3,23 +3,24 @@ ghost use Rattle.std.specs.Cow.{cow_str_bytes};
 ghost use Rattle.std.specs.Prelude.{◌≡◌, ◌≤◌, ◌↔◌, IfOk, IfErr, IsTrue, None, Some, length, option_copied};
 ghost use Rattle.std.specs.Str.{IsUtf8, chars};
 ghost use Rattle.uv_grammar.specs.Verdict.{IsVerdict};
+ghost use Rattle.uv_lines.specs.Line.{bytes_of};
 ghost use Rattle.uv_links.specs.Fault.{IsBaseFault};
 ghost use Rattle.uv_links.specs.Report.{IsSaid};
 ghost use Rattle.uv_links.specs.Said.{said_of};
 ghost use Rattle.uv_resolve.specs.Resolve.{DenotesText};
-ghost use Rattle.uv_second.specs.Second.{AgreesOnBase, second_base, second_text};
+ghost use Rattle.uv_compare.specs.Second.{AgreesOnBase, second_base, second_text};
 
 use crate::fault::{LinkFault, fault_of_room};
 use crate::said::Said;
 use std::alloc::{AllocError, Global};
 use std::borrow::CowStr;
 use std::marker::Model;
-use std::str::from_utf8;
 use url::Url;
+use uv_compare::{RoomFault, read_as, reads_as};
 use uv_grammar::{Verdict, check, check_alone};
+use uv_lines::Line;
 use uv_model::{Profile, Record};
 use uv_resolve::serialized_text;
-use uv_second::{RoomFault, read_as, reads_as};
 
 /// What the lines are checked against: the profile, the base, the base as the second parser reads it, and how many
 /// bytes a line may have.
@@ -34,7 +35,7 @@ pub(crate) struct LineChecker<'b> {
 impl<'b> Model for LineChecker<'b> {
     ghost use Rattle.std.specs.Prelude.{◌≡◌, ◌≤◌, option_copied};
     ghost use Rattle.uv_links.specs.Report.{ListSetting};
-    ghost use Rattle.uv_second.specs.Second.{second_base};
+    ghost use Rattle.uv_compare.specs.Second.{second_base};
 
     ghost Value = { ListSetting };
 
@@ -78,13 +79,13 @@ impl<'b> LineChecker<'b> {
     }
 
     /// What is said of a line.
-    pub(crate) fn check<'l>(&self, alloc: Global, line: &'l [u8]) -> Result<Said<'l>, RoomFault>
-        ensures { IfOk result (λ said. IsSaid self.now line.now (said_of said)) }
+    pub(crate) fn check<'l>(&self, alloc: Global, line: Line<'l>) -> Result<Said<'l>, RoomFault>
+        ensures { IfOk result (λ said. IsSaid self.now (bytes_of line.entry) (said_of said)) }
     {
-        if line.len() > self.line_bytes {
+        if line.as_bytes().len() > self.line_bytes {
             return Ok(Said::TooLong);
         }
-        match from_utf8(line) {
+        match line.text() {
             Ok(text) => self.check_text(alloc, text),
             Err(_) => Ok(Said::NotUtf8),
         }
@@ -101,7 +102,8 @@ impl<'b> LineChecker<'b> {
         }
     }
 
-    // The same without a base. No one else calls `check_alone`, so the compiler puts it here.
+    // What is said without a base of a line that isn't too long and is UTF-8. No one else calls `check_alone`, so the
+    // compiler puts it here.
     fn check_text_alone<'l>(&self, alloc: Global, text: &'l str) -> Result<Said<'l>, RoomFault>
         requires short { length text.now ≤ self.now.line_bytes }
         requires alone { self.now.base ≡ None }
@@ -110,7 +112,7 @@ impl<'b> LineChecker<'b> {
         self.check_answer(alloc, text, &check_alone(alloc, text, self.profile))
     }
 
-    // The same against a base.
+    // What is said against a base of a line that isn't too long and is UTF-8.
     fn check_text_against<'l>(
         &self,
         alloc: Global,
@@ -138,7 +140,7 @@ impl<'b> LineChecker<'b> {
         match answer {
             Ok(Verdict::Yes(parts)) => {
                 let written = serialized_text(alloc, text, parts, self.base)?;
-                self.compare(alloc, text, written)
+                self.compare(alloc, text, CowStr::Owned(written))
             }
             Ok(Verdict::No(refusal)) => Ok(Said::Refused(*refusal)),
             Err(AllocError) => Err(RoomFault::Memory),

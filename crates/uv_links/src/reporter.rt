@@ -1,6 +1,7 @@
 //! The report on the lines of a list.
-ghost use Rattle.std.specs.Prelude.{◌≡◌, ℕ, ◌+◌, ◌-◌, ◌^◌, ◌<◌, ◌++◌, List, OnOk, IfErr, IfOk, OnErr, option_copied};
+ghost use Rattle.std.specs.Prelude.{◌≡◌, ℕ, ◌+◌, ◌-◌, ◌^◌, ◌<◌, ◌++◌, List, OnOk, IfErr, IfOk, OnErr, option_map};
 ghost use Rattle.std.specs.Prelude.{string_bytes};
+ghost use Rattle.uv_lines.specs.Line.{bytes_of};
 ghost use Rattle.uv_links.specs.Report.{counted, report_line};
 ghost use Rattle.uv_links.specs.Reporting.{IsSaidOf, Says, none_counted};
 ghost use Rattle.uv_links.specs.Said.{said_of};
@@ -10,9 +11,9 @@ use crate::line_checker::LineChecker;
 use crate::said::{Said, push_line};
 use std::alloc::{AllocError, Global};
 use std::marker::Model;
+use uv_compare::RoomFault;
 use uv_io::Sink;
-use uv_lines::{ReportFault, Reporter};
-use uv_second::RoomFault;
+use uv_lines::{Line, ReportFault, Reporter};
 
 /// What reports on a list of links: the checker of its lines, and the counts of the lines before.
 #[derive(Drop)]
@@ -57,11 +58,11 @@ impl<'b> LinkReporter<'b> {
     fn say(
         &mut self,
         alloc: Global,
-        line: Option<&[u8]>,
+        line: Option<Line<'_>>,
         text: &mut Vec<u8>,
     ) -> Result<(), RoomFault>
         requires { self.old.counts.lines < 2 ^ 64 - 1 }
-        ensures said { OnOk result ((said : List ℕ) × Says self.old (option_copied line.entry) said self.new
+        ensures said { OnOk result ((said : List ℕ) × Says self.old (option_map bytes_of line.entry) said self.new
             × (text.new.items ≡ text.old.items ++ said)) }
         ensures none { OnErr result ((self.new ≡ self.old) × (text.new.items ≡ text.old.items)) }
     {
@@ -111,7 +112,7 @@ impl<'b> Reporter for LinkReporter<'b> {
     fn report<W: Sink>(
         &mut self,
         alloc: Global,
-        line: Option<&[u8]>,
+        line: Option<Line<'_>>,
         text: &mut Vec<u8>,
         _writer: &mut W,
     ) -> Result<(), ReportFault<RoomFault>> {
@@ -139,9 +140,9 @@ impl<'b> Reporter for LinkReporter<'b> {
 fn check_line<'l>(
     alloc: Global,
     checker: &LineChecker<'_>,
-    line: Option<&'l [u8]>,
+    line: Option<Line<'l>>,
 ) -> Result<Said<'l>, RoomFault>
-    ensures { IfOk result (λ said. IsSaidOf checker.now (option_copied line.entry) (said_of said)) }
+    ensures { IfOk result (λ said. IsSaidOf checker.now (option_map bytes_of line.entry) (said_of said)) }
 {
     match line {
         Some(line) => checker.check(alloc, line),

@@ -3,7 +3,7 @@ ghost use Rattle.std.specs.Prelude.{◌≡◌, ℕ, ◌+◌, ◌-◌, ◌^◌, �
 ghost use Rattle.std.specs.Io.KnownBytes.{Consumes, IsAtEnd};
 ghost use Rattle.uv_links.specs.Run as spec;
 ghost use Rattle.uv_links.specs.Run.{Leaves, Reports, reads_failed, writes_failed};
-ghost use Rattle.uv_second.specs.Second.{AgreesOnBase};
+ghost use Rattle.uv_compare.specs.Second.{AgreesOnBase};
 
 use crate::counts::Counts;
 use crate::fault::{LinkFault, fault_of_room};
@@ -11,15 +11,15 @@ use crate::limits::LinkLimits;
 use crate::line_checker::LineChecker;
 use crate::reporter::LinkReporter;
 use std::alloc::Global;
+use uv_compare::RoomFault;
 use uv_io::{Sink, Source};
 use uv_lines::{Frame, LineFault, LineLimits, run_lines};
 use uv_model::{Profile, Record};
-use uv_second::RoomFault;
 
-/// Reports on a list of links: each of its lines is checked by the profile, against the base where there is one, and
+/// Reports on a list of links: each of its lines is checked under the profile, against the base where there is one, and
 /// each accepted line compared with the crate `url`.
 ///
-/// A line ends with LF, and one CR before that is no part of it; a last part without LF is a line where it isn't empty.
+/// A line ends with LF, and one CR before that isn't a part of it; a last part without LF is a line if it isn't empty.
 /// The base's text is compared before the first read. What is reported of the lines that a read has ended is written
 /// before the next read. The writer isn't flushed. After a fault nothing is tried again, and how far the reader was
 /// read is open.
@@ -72,16 +72,12 @@ pub fn run_links<R: Source, W: Sink>(
     }
 }
 
-// The same fault of a run over links.
+// The fault of a run over links, by the fault of its run over lines.
 fn fault_of_run(fault: LineFault<RoomFault>) -> LinkFault
     ensures { result ≡ spec.fault_of_run fault }
 {
     match fault {
-        LineFault::Report(fault) => fault_of_room(fault),
-        LineFault::Memory => LinkFault::Memory,
-        LineFault::Read => LinkFault::Read,
-        LineFault::Write => LinkFault::Write,
-        LineFault::TooManyLines => LinkFault::TooManyLines,
-        LineFault::Endless => LinkFault::Endless,
+        LineFault::Own(fault) => fault_of_room(fault),
+        LineFault::Stop(fault) => LinkFault::Stop(fault),
     }
 }

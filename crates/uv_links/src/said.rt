@@ -24,7 +24,7 @@ pub(crate) enum Said<'l> {
     Differs,
 }
 
-/// Appends one line of the report, with its LF. The number is that of the line in its list, from 1. The error is out of
+/// Appends one line of the report, with its LF. The number is the line's in its list, from 1. The error is out of
 /// memory: `out` then still begins with what it held.
 #[tactic(auto, unfolding(crate::specs::Report::report_line))]
 pub(crate) fn push_line(out: &mut Vec<u8>, number: u64, said: &Said<'_>) -> Result<(), AllocError>

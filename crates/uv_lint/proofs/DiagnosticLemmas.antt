@@ -5,10 +5,11 @@ use Rattle.std.proofs.Common.{◌+◌, ◌<◌, append_assoc, append-nil, drop, 
 use Rattle.std.specs.Str.{chars}
 use Rattle.std.proofs.lemmas.List.{take-append-drop, take_more}
 use Rattle.uv_report.specs.declared.places.column.Columns.{Columns}
-use Rattle.uv_report.specs.declared.line_violation.LineViolation.{LineViolation}
+use Rattle.uv_sentences.specs.declared.line_violation.LineViolation.{LineViolation}
 use Rattle.uv_report.specs.declared.format.Format.{Format}
-use Rattle.uv_report.specs.Diagnostic.{FixView, IsMessage}
-use Rattle.uv_report.specs.Escaping.Escapes.{escaped}
+use Rattle.uv_report.specs.Diagnostic.{FixView}
+use Rattle.uv_sentences.specs.Sentences.Message.{IsMessage}
+use Rattle.uv_sentences.specs.Escaping.Escapes.{escaped}
 use Rattle.uv_lint.specs.declared.mended_line.MendedLine.{MendedLine}
 use Rattle.uv_lint.specs.declared.reported_line.ReportedLine.{ReportedLine}
 use Rattle.uv_lint.specs.declared.setting.LineForm.{LineForm}
@@ -30,7 +31,7 @@ are_more (b ∷ before) [] violation message are is = absurd are
 are_more (b ∷ before) (first ∷ messages) violation message are is =
     (are.0, are_more before messages violation message are.1 is)
 
--- the same of the next violation of a list
+-- one message more, on the next violation of a list
 pub are_next : (violations : List LineViolation) (i : ℕ) (none : LineViolation) (messages : List (List ℕ))
     (message : List ℕ) → i < length violations → AreMessages (take i violations) messages → IsMessage message
     → AreMessages (take (i + 1) violations) (messages ++ message ∷ [])
@@ -74,7 +75,7 @@ IsSaidBefore form format columns reported is_first fix before messages said now_
     → said ++ diagnostics_text form format columns reported now_first told rest more
     ≡ diagnostics_text form format columns reported is_first fix (before ++ rest) (messages ++ more)
 
--- where none is said
+-- if none is said
 pub said_none : (form : LineForm) (format : Format) (columns : Columns) (reported : ReportedText)
     (is_first : Bool) (fix : Option FixView)
     → IsSaidBefore form format columns reported is_first fix [] [] [] is_first fix
@@ -108,7 +109,7 @@ said_more form format columns reported is_first now_first fix told before messag
     ∙ ap (λ ms. diagnostics_text form format columns reported is_first fix ((before ++ violation ∷ []) ++ rest) ms)
     (sym (append_assoc messages (message ∷ []) more))
 
--- the same of the next violation of a list
+-- one diagnostic more, on the next violation of a list
 pub said_next : (form : LineForm) (format : Format) (columns : Columns) (reported : ReportedText)
     (is_first now_first : Bool) (fix told : Option FixView) (violations : List LineViolation) (i : ℕ)
     (none : LineViolation) (messages : List (List ℕ)) (message said : List ℕ)
@@ -122,7 +123,7 @@ said_next form format columns reported is_first now_first fix told violations i 
     (said_more form format columns reported is_first now_first fix told (take i violations) messages
     (get_or violations i none) message said is)
 
--- the same of a line
+-- the diagnostics on a line's violations before this one were said
 abbrev pub IsSaidOf : ReportedLine → LintSetting → Bool → Option MendedLine → List LineViolation → List (List ℕ)
     → List ℕ → Bool → Option FixView → Type 0
 IsSaidOf line setting is_first mended before messages said now_first told =

@@ -21,7 +21,7 @@ valid-utf8 : (bytes : List ℕ) → IsUtf8 (take (utf8_valid_len bytes) bytes)
 unfolding utf8_valid_len
 valid-utf8 bytes = up_to-utf8 bytes (length bytes)
 
--- it isn't all of them, where they aren't UTF-8
+-- it isn't all of them, if they aren't UTF-8
 valid-short : (bytes : List ℕ) → ¬ (IsUtf8 bytes) → ¬ (utf8_valid_len bytes ≡ length bytes)
 valid-short bytes foreign all =
     foreign (subst IsUtf8 (ap (λ n. take n bytes) all ∙ take-length bytes) (valid-utf8 bytes))

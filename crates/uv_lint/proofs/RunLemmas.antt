@@ -4,8 +4,11 @@ use Rattle.std.proofs.Common.{◌∙◌, subst, arith, sum_by, inl, inr, zero-ad
 use Rattle.std.proofs.lemmas.List.Sums.{sum_by-append}
 use Rattle.std.specs.declared.alloc.AllocError.{AllocError}
 use Rattle.uv_lines.specs.declared.fault.LineFault.{LineFault}
-use Rattle.uv_lines.specs.declared.fault.LineFault.TheVariants as stopped
+use Rattle.uv_lines.specs.declared.fault.LineFault.TheVariants.{Own, Stop}
+use Rattle.uv_lines.specs.declared.fault.StopFault.{StopFault}
+use Rattle.uv_lines.specs.declared.fault.StopFault.TheVariants.{Memory, Read, Write, TooManyLines, Endless}
 use Rattle.uv_lines.specs.declared.limits.LineLimits.{LineLimits}
+use Rattle.uv_lines.specs.Fault.{writes_failed}
 use Rattle.uv_lines.specs.Framed as framed
 use Rattle.uv_lines.specs.Framed.{Framed}
 use Rattle.uv_lines.specs.Lines.{short_line}
@@ -13,7 +16,6 @@ use Rattle.uv_lines.specs.Reported.{Reported, ReportedBegun, ReportedPart}
 use Rattle.uv_lines.specs.Run as run
 use Rattle.uv_lines.proofs.FramedLemmas.{Wrote-map}
 use Rattle.uv_lint.specs.declared.counts.LintCounts.{LintCounts}
-use Rattle.uv_lint.specs.declared.fault.LintFault.{LintFault}
 use Rattle.uv_lint.specs.Findings.{AreAllFindings, Findings}
 use Rattle.uv_lint.specs.LineViolations.{FileSetting}
 use Rattle.uv_lint.specs.Report.{IsReport, IsReportBegun, first_found}
@@ -21,9 +23,8 @@ use Rattle.uv_lint.specs.Report.{checked_line, checked_lines, checked_of, counte
 use Rattle.uv_lint.specs.Report.{lines_within, list_begin_text, list_end_text, none_counted, refused_in, tally}
 use Rattle.uv_lint.specs.Reporting.{Begins, Linting, Says, with_line}
 use Rattle.uv_lint.specs.Run.{FailsReads, IsPartWithin, IsReportWithin, Leaves, answer_of_run, fault_of_run}
-use Rattle.uv_lint.specs.Run.{writes_failed}
 
--- ---- what is said of lines
+-- ---- what the report says of lines
 
 -- the counts of two reports
 abbrev plus : LintCounts → LintCounts → LintCounts
@@ -82,7 +83,7 @@ was_reported n p q (l ∷ ls) text all =
           (checked_lines (p.lines + 1) (map (short_line n) ls)) more.findings;
     }
 
--- the same, and of a further line the first diagnostics alone
+-- what was said of lines, one after the other, and of a further line the first diagnostics alone
 record WasBegun (n : ℕ) (p : Linting) (ls : List (List ℕ)) (l : List ℕ) (text : List ℕ) (q : Linting) : Type 0 where
   findings : List Findings
   last : Findings
@@ -195,13 +196,13 @@ is_part s limits is_first begin end p q ls text starts begins ends framed =
 
 -- ---- the answer
 
--- what a fault of a run over lines leaves is what that of a run over a file does
+-- a fault of a run over lines leaves what the fault of a run over a file leaves
 pub left : (e : LineFault AllocError) (s : FileSetting) (limits : LineLimits) (is_first : Bool)
     (old : Option (List ℕ)) (read : List ℕ) (at_end : Type 0) (counts : LintCounts) (new : Option (List ℕ))
     → run.Leaves (IsReportWithin s limits is_first) (IsPartWithin s limits is_first) limits e old read at_end counts new
     → Leaves (fault_of_run e) s limits is_first old read at_end counts new
-left (stopped.Report fault) s limits is_first old read at_end counts new leaves = inr leaves
-left stopped.Memory s limits is_first old read at_end counts new leaves =
+left (Own fault) s limits is_first old read at_end counts new leaves = inr leaves
+left (Stop Memory) s limits is_first old read at_end counts new leaves =
     inr (
       leaves.0,
       leaves.1,
@@ -209,22 +210,22 @@ left stopped.Memory s limits is_first old read at_end counts new leaves =
       Wrote-map (IsReportWithin s limits is_first) (IsPartWithin s limits is_first) _ old
           new counts counts (λ lines text all. inl all) leaves.3,
     )
-left stopped.Read s limits is_first old read at_end counts new leaves = leaves
-left stopped.Write s limits is_first old read at_end counts new leaves = leaves
-left stopped.TooManyLines s limits is_first old read at_end counts new leaves = leaves
-left stopped.Endless s limits is_first old read at_end counts new leaves = leaves
+left (Stop Read) s limits is_first old read at_end counts new leaves = leaves
+left (Stop Write) s limits is_first old read at_end counts new leaves = leaves
+left (Stop TooManyLines) s limits is_first old read at_end counts new leaves = leaves
+left (Stop Endless) s limits is_first old read at_end counts new leaves = leaves
 
 -- and so are the reads and writes that have failed
 pub failed : (e : LineFault AllocError) (end : List ℕ) (reads reads' writes writes' : ℕ)
     → framed.FailsReads end e reads reads' × (writes' ≡ writes + run.writes_failed e)
     → FailsReads (fault_of_run e) reads reads' × (writes' ≡ writes + writes_failed (fault_of_run e))
-failed (stopped.Report fault) end reads reads' writes writes' fails = fails
-failed stopped.Memory end reads reads' writes writes' fails = fails
-failed stopped.Read end reads reads' writes writes' fails = fails
-failed stopped.Write end reads reads' writes writes' (inl same, one) = (inl same, one)
-failed stopped.Write end reads reads' writes writes' (inr more, one) = (inr more.1, one)
-failed stopped.TooManyLines end reads reads' writes writes' fails = fails
-failed stopped.Endless end reads reads' writes writes' fails = fails
+failed (Own fault) end reads reads' writes writes' fails = fails
+failed (Stop Memory) end reads reads' writes writes' fails = fails
+failed (Stop Read) end reads reads' writes writes' fails = fails
+failed (Stop Write) end reads reads' writes writes' (inl same, one) = (inl same, one)
+failed (Stop Write) end reads reads' writes writes' (inr more, one) = (inr more.1, one)
+failed (Stop TooManyLines) end reads reads' writes writes' fails = fails
+failed (Stop Endless) end reads reads' writes writes' fails = fails
 
 -- what holds where a run over lines answers no fault holds where one over a file does
 pub answers_ok : (answer : Result (Unit {0}) (LineFault AllocError)) (A B : Type 0) → (A → B) → OnOk answer A
@@ -234,7 +235,7 @@ answers_ok (Err e) A B is holds = tt {0}
 
 -- and of a fault
 pub answers_err : (answer : Result (Unit {0}) (LineFault AllocError)) (A : LineFault AllocError → Type 0)
-    (B : LintFault → Type 0) → ((e : LineFault AllocError) → A e → B (fault_of_run e)) → IfErr answer A
+    (B : StopFault → Type 0) → ((e : LineFault AllocError) → A e → B (fault_of_run e)) → IfErr answer A
     → IfErr (answer_of_run answer) B
 answers_err (Ok u) A B is holds = tt {0}
 answers_err (Err e) A B is holds = is e holds

@@ -12,9 +12,9 @@ use Rattle.uv_mend.specs.declared.answer.Mending.{Mending}
 use Rattle.uv_mend.specs.declared.answer.Mending.TheVariants as answer
 use Rattle.uv_mend.specs.Mending.{IsMending}
 use Rattle.uv_report.specs.declared.format.Format.{Format}
-use Rattle.uv_report.specs.declared.line_violation.LineViolation.{LineViolation}
-use Rattle.uv_report.specs.declared.line_violation.LineViolation.TheVariants.{Refused}
-use Rattle.uv_report.specs.Diagnostic.{IsMessage}
+use Rattle.uv_sentences.specs.declared.line_violation.LineViolation.{LineViolation}
+use Rattle.uv_sentences.specs.declared.line_violation.LineViolation.TheVariants.{Refused}
+use Rattle.uv_sentences.specs.Sentences.Message.{IsMessage}
 use Rattle.uv_report.specs.Format.{shows_mended}
 use Rattle.uv_lint.specs.LineViolations.{AreViolations, FileSetting, link_of}
 use Rattle.uv_lint.specs.Located.{LocatedLink}
@@ -59,7 +59,7 @@ abbrev pub text_by : Option LocatedLink → Option (List ℕ) → List ℕ
 text_by (Some link) line = shown (Some link.link)
 text_by None line = shown line
 
--- the same by what a line of the file is
+-- the text that a line of the file is checked by: its link's, where it says where that is
 abbrev pub text_of : FileSetting → Option (List ℕ) → List ℕ
 text_of setting line = text_by (link_of setting.form line) line
 
@@ -71,7 +71,7 @@ mended_of answer.Valid = None
 mended_of (answer.Mended text kind) = Some (record { text = string_bytes text; kind = kind })
 mended_of (answer.Refused refusal) = None
 
--- what is answered of the text by the profile, alone or against the base
+-- what is answered of the text under the profile, alone or against the base
 abbrev pub IsAnswered : Profile → Option Url → List ℕ → Option MendedText → Type 0
 IsAnswered profile base text mended =
     (answer : Mending) × IsMending profile base text answer × (mended ≡ mended_of answer)
@@ -95,7 +95,7 @@ abbrev pub IsRefusedFirst : Profile → Option Url → List LineViolation → Li
 IsRefusedFirst profile base violations text =
     IfSome (first_refusal violations) (λ refusal. IsRefused profile base (chars text) refusal)
 
--- that, where it is asked for, else nothing
+-- that, where it is asked for, otherwise nothing
 abbrev pub IsMendedWhere : Bool → Profile → Option Url → List ℕ → Option MendedText → Type 0
 IsMendedWhere true profile base text mended = IsAnswered profile base text mended
 IsMendedWhere false profile base text mended = mended ≡ None

@@ -13,8 +13,8 @@ use Rattle.uv_model.specs.Records.Url.{Url}
 use Rattle.uv_model.specs.Valid.{Valid}
 use Rattle.uv_grammar.specs.Verdict.{IsRefused}
 use Rattle.uv_report.specs.declared.places.column.Columns.{Columns}
-use Rattle.uv_report.specs.declared.line_violation.LineViolation.{LineViolation}
-use Rattle.uv_report.specs.declared.line_violation.LineViolation.TheVariants.{Refused, NotUtf8, TooLong, NotLocated}
+use Rattle.uv_sentences.specs.declared.line_violation.LineViolation.{LineViolation}
+use Rattle.uv_sentences.specs.declared.line_violation.LineViolation.TheVariants.{Refused, NotUtf8, TooLong, NotLocated}
 use Rattle.uv_report.specs.declared.format.Format.{Format}
 use Rattle.uv_lint.specs.declared.line_violations.LineViolations.{LineViolations}
 use Rattle.uv_lint.specs.declared.line_violations.LineViolations.TheVariants.{Nothing, One}
@@ -68,7 +68,7 @@ abbrev pub AreReported : Extent → Profile → Option Url → List ℕ → List
 AreReported First profile base text refusals = HasOneAtMost refusals
 AreReported All profile base text refusals = AreFaults profile base text refusals
 
--- what is wrong with a text: nothing where it is valid, else the violations of it that are reported
+-- what is wrong with a text: nothing where it is valid, otherwise the violations of it that are reported
 pub record AreTextViolations (setting : FileSetting) (text : List ℕ) (violations : List LineViolation) : Type 0 where
   pub refusals : List Refusal
   pub checks : Checks setting.profile setting.base text refusals
@@ -79,7 +79,7 @@ pub record AreTextViolations (setting : FileSetting) (text : List ℕ) (violatio
 abbrev pub foreign_place : List ℕ → ℕ
 foreign_place bytes = length (chars (take (utf8_valid_len bytes) bytes))
 
--- what is wrong with bytes: that they aren't UTF-8, else what is wrong with their text
+-- what is wrong with bytes: that they aren't UTF-8, otherwise what is wrong with their text
 abbrev pub AreBytesViolations : FileSetting → List ℕ → List LineViolation → Type 0
 AreBytesViolations setting bytes violations =
     (IsUtf8 bytes × AreTextViolations setting (chars bytes) violations)
@@ -109,6 +109,6 @@ AreViolationsBy setting None None violations = violations ≡ TooLong ∷ []
 AreViolationsBy setting None (Some []) violations = violations ≡ []
 AreViolationsBy setting None (Some (x ∷ xs)) violations = AreWholeViolations setting.form setting (x ∷ xs) violations
 
--- the same by what a line of the file is
+-- what is wrong with a line of the file, and with its link where the line says where that is
 abbrev pub AreViolations : FileSetting → Option (List ℕ) → List LineViolation → Type 0
 AreViolations setting line violations = AreViolationsBy setting (link_of setting.form line) line violations

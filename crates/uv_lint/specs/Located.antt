@@ -81,7 +81,7 @@ link_in file run = option_and_then (λ name. option_and_then (λ line. option_ma
     (λ column. record { file = name; line = line; column = column; link = run.link }) run.column) run.line)
     (name_of file)
 
--- The link of a line, and where it is. FILE is all before the first run. Where that is no name, or one of the run's
+-- The link of a line, and where it is. FILE is all before the first run. If that isn't a name, or one of the run's
 -- numbers is out of range, the line isn't of the form, whatever is after.
 abbrev pub located : List ℕ → Option LocatedLink
 located line = option_and_then (link_in (take (file_length line) line)) (run_of (drop (file_length line) line))

@@ -6,14 +6,14 @@ use Rattle.std.specs.Str.{IsUtf8, chars}
 use Rattle.std.specs.Str.Lossy.{utf8_valid_len}
 use Rattle.uv_report.specs.declared.places.column.Columns.{Columns}
 use Rattle.uv_report.specs.declared.diagnostic.Region.{Region}
-use Rattle.uv_report.specs.declared.line_violation.LineViolation.{LineViolation}
+use Rattle.uv_sentences.specs.declared.line_violation.LineViolation.{LineViolation}
 use Rattle.uv_report.specs.declared.format.Format.{Format}
 use Rattle.uv_report.specs.Places.Column.{column_at, width}
 use Rattle.uv_report.specs.Diagnostic.{DiagnosticView, FixView}
-use Rattle.uv_report.specs.LineViolation.{violation_address, violation_end, violation_name}
-use Rattle.uv_report.specs.LineViolation.{violation_place}
+use Rattle.uv_sentences.specs.LineViolation.{violation_address, violation_end, violation_name}
+use Rattle.uv_sentences.specs.LineViolation.{violation_place}
 use Rattle.uv_report.specs.Report.{diagnostic_text, file_begin_text, file_end_text}
-use Rattle.uv_report.specs.Sentences.Intention.{is_offered}
+use Rattle.uv_sentences.specs.Sentences.Intention.{is_offered}
 use Rattle.uv_lines.specs.Lines.{short_line, without_mark}
 use Rattle.uv_lint.specs.declared.counts.LintCounts.{LintCounts}
 use Rattle.uv_lint.specs.declared.setting.LineForm.{LineForm}
@@ -24,8 +24,8 @@ use Rattle.uv_lint.specs.Located.{LocatedLink}
 
 -- ---- the diagnostics
 
--- What is before the diagnostics of a file. Where lines say where their links are, each diagnostic is about a
--- file of its own, and this is before each diagnostic.
+-- What is before the diagnostics of a file. If lines say where their links are, each diagnostic is about a file of its
+-- own, and this is before each diagnostic.
 abbrev pub list_begin_text : LineForm → Format → List ℕ → List ℕ
 list_begin_text Plain format file = file_begin_text format file
 list_begin_text Located format file = []
@@ -84,7 +84,8 @@ diagnostic_in reported region fix violation message = record {
   fix = fix;
 }
 
--- the same from the column of the place of the violation up to that of the place at which what is wrong ends
+-- a diagnostic on a text of which this is said, from the column of the violation's place up to the column at which it
+-- ends
 abbrev pub diagnostic_on : Columns → ReportedText → Option FixView → LineViolation → List ℕ → DiagnosticView
 diagnostic_on columns reported fix violation message =
     diagnostic_in reported
@@ -118,7 +119,7 @@ text_diagnostics setting reported is_first findings =
     diagnostics_text setting.form setting.format setting.columns reported is_first
     (fix_on setting.columns reported findings.mended) findings.violations findings.messages
 
--- what the diagnostics on a line tell: its link, where the line says that it is, else the line with this number
+-- what the diagnostics on a line tell: its link, where the line says that it is, otherwise the line with this number
 abbrev pub reported_by : List ℕ → ℕ → Option (List ℕ) → Option LocatedLink → ReportedText
 reported_by file number line (Some link) =
     record { file = link.file; line = link.line; start = link.column; text = shown (Some link.link) }
@@ -147,7 +148,7 @@ lines_text setting number is_first _ _ = []
 
 -- ---- the lines as they are checked
 
--- A line as it is checked after so many others: a byte order mark at the file's start is no part of the first one. It
+-- A line as it is checked after so many others: a byte order mark at the file's start isn't a part of the first one. It
 -- is among the bytes that a line may have.
 abbrev pub checked_line : ℕ → Option (List ℕ) → Option (List ℕ)
 checked_line before line = if before == 0 then option_map without_mark line else line
@@ -157,7 +158,7 @@ abbrev pub checked_lines : ℕ → List (Option (List ℕ)) → List (Option (Li
 checked_lines before [] = []
 checked_lines before (line ∷ lines) = checked_line before line ∷ checked_lines (before + 1) lines
 
--- the lines of a file as they are checked, where none may have more than so many bytes
+-- the lines of a file as they are checked, if none may have more than so many bytes
 abbrev pub lines_within : ℕ → List (List ℕ) → List (Option (List ℕ))
 lines_within line_bytes lines = checked_lines 0 (map (short_line line_bytes) lines)
 
@@ -173,7 +174,7 @@ abbrev pub refused_of : List LineViolation → ℕ
 refused_of [] = 0
 refused_of (violation ∷ rest) = 1
 
--- the same of what was found
+-- a line of which something was found counts once, by its findings
 abbrev pub refused_in : Findings → ℕ
 refused_in findings = refused_of findings.violations
 

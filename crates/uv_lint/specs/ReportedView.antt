@@ -1,6 +1,6 @@
 -- What the code's values of a text and its place denote.
 use Rattle.std.specs.Prelude.{◌≡◌, ℕ, Bool, List, Option, option_copied, option_map, string_bytes, take}
-use Rattle.uv_report.specs.declared.line_violation.LineViolation.{LineViolation}
+use Rattle.uv_sentences.specs.declared.line_violation.LineViolation.{LineViolation}
 use Rattle.uv_lint.specs.declared.mended_line.MendedLine.{MendedLine}
 use Rattle.uv_lint.specs.declared.reported_line.Place.{Place}
 use Rattle.uv_lint.specs.declared.reported_line.ReportedLine.{ReportedLine}

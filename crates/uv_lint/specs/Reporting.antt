@@ -1,6 +1,6 @@
 -- What reports on the lines of a file: what it is between two lines, and what it says of the next one.
 use Rattle.std.specs.Prelude.{◌≡◌, ℕ, ◌+◌, ◌⊎◌, Bool, List, [], ◌++◌, Option}
-use Rattle.uv_report.specs.declared.line_violation.LineViolation.{LineViolation}
+use Rattle.uv_sentences.specs.declared.line_violation.LineViolation.{LineViolation}
 use Rattle.uv_lines.specs.Waiting.{Passes}
 use Rattle.uv_lint.specs.declared.counts.LintCounts.{LintCounts}
 use Rattle.uv_lint.specs.Findings.{AreFindings, AreMessages, Findings, IsMended, MendedText}
@@ -47,7 +47,7 @@ HasBegun before reported violations parts =
     × ((count : ℕ) × (parts ≡ text_diagnostics before.setting reported before.is_first
     (first_found count (record { violations = violations; messages = messages; mended = mended }))))))
 
--- the same of the next line
+-- the diagnostics on the next line, of which this was found, came to what waited, with what to write in its place
 abbrev pub HasReportedLine : Linting → Option (List ℕ) → List LineViolation → List ℕ → Option (List ℕ)
     → Option (List ℕ) → List ℕ → Type 0
 HasReportedLine before line violations waited old new waits =

@@ -3,13 +3,13 @@ use Rattle.std.specs.Prelude.{◌≡◌, ℕ, ◌+◌, ◌-◌, ◌^◌, ◌≤�
 use Rattle.std.specs.Io.KnownBytes.{Keeps}
 use Rattle.std.specs.declared.alloc.AllocError.{AllocError}
 use Rattle.uv_lines.specs.declared.fault.LineFault.{LineFault}
-use Rattle.uv_lines.specs.declared.fault.LineFault.TheVariants as stopped
+use Rattle.uv_lines.specs.declared.fault.LineFault.TheVariants.{Own, Stop}
+use Rattle.uv_lines.specs.declared.fault.StopFault.{StopFault}
+use Rattle.uv_lines.specs.declared.fault.StopFault.TheVariants.{Memory, Read, Write, TooManyLines, Endless}
 use Rattle.uv_lines.specs.declared.limits.LineLimits.{LineLimits}
 use Rattle.uv_lines.specs.Lines.{closed_lines, lines_of}
 use Rattle.uv_lines.specs.Run.{WroteAll, WroteFirst, WrotePrefix, WroteLines}
 use Rattle.uv_lint.specs.declared.counts.LintCounts.{LintCounts}
-use Rattle.uv_lint.specs.declared.fault.LintFault.{LintFault}
-use Rattle.uv_lint.specs.declared.fault.LintFault.TheVariants.{Memory, Read, Write, TooManyLines, Endless}
 use Rattle.uv_lint.specs.LineViolations.{FileSetting}
 use Rattle.uv_lint.specs.Report.{IsReport, IsReportBegun, none_counted}
 
@@ -21,7 +21,7 @@ line_limits = record { line_bytes = 65536; lines = 1000000000 }
 abbrev pub IsReportWithin : FileSetting → LineLimits → Bool → List (List ℕ) → List ℕ → LintCounts → Type 0
 IsReportWithin setting limits is_first = IsReport setting limits.line_bytes is_first
 
--- the same, or of the last of the lines it has only some of the first diagnostics
+-- what a part of the report on a file is: of the last of the lines it may have only some of the first diagnostics
 abbrev pub IsPartWithin : FileSetting → LineLimits → Bool → List (List ℕ) → List ℕ → LintCounts → Type 0
 IsPartWithin setting limits is_first lines text counts =
     IsReport setting limits.line_bytes is_first lines text counts
@@ -41,10 +41,10 @@ pub record WroteNothing (old : Option (List ℕ)) (read : List ℕ) (counts : Li
   pub none : counts ≡ none_counted
 
 -- What a fault of a run leaves, when these bytes were read. What was written is the report on some of the first lines
--- with its end, or a prefix of that after a failed write. Where memory ran out, or a write failed, that report may
--- have only some of the first diagnostics on the last of these lines; each of those is whole, but for the one that a
--- failed write has cut.
-abbrev pub Leaves : LintFault → FileSetting → LineLimits → Bool → Option (List ℕ) → List ℕ → Type 0 → LintCounts
+-- with its end, or a prefix of that after a failed write. If memory ran out, or a write failed, that report may have
+-- only some of the first diagnostics on the last of these lines; each of those is whole, but for the one that a failed
+-- write has cut.
+abbrev pub Leaves : StopFault → FileSetting → LineLimits → Bool → Option (List ℕ) → List ℕ → Type 0 → LintCounts
     → Option (List ℕ) → Type 0
 Leaves Memory setting limits is_first old read at_end counts new =
     WroteNothing old read counts new
@@ -62,26 +62,17 @@ Leaves Endless setting limits is_first old read at_end counts new =
 
 -- how many reads have failed after a fault, of so many before: one more for a read, and perhaps for a write, since
 -- what is after the diagnostics is written after a failed read too
-abbrev pub FailsReads : LintFault → ℕ → ℕ → Type 0
+abbrev pub FailsReads : StopFault → ℕ → ℕ → Type 0
 FailsReads Read old new = new ≡ old + 1
 FailsReads Write old new = (new ≡ old) ⊎ (new ≡ old + 1)
 FailsReads _ old new = new ≡ old
 
--- how many failed writes a fault stands for
-abbrev pub writes_failed : LintFault → ℕ
-writes_failed Write = 1
-writes_failed _ = 0
-
--- the same fault of a run over lines
-abbrev pub fault_of_run : LineFault AllocError → LintFault
-fault_of_run (stopped.Report fault) = Memory
-fault_of_run stopped.Memory = Memory
-fault_of_run stopped.Read = Read
-fault_of_run stopped.Write = Write
-fault_of_run stopped.TooManyLines = TooManyLines
-fault_of_run stopped.Endless = Endless
+-- the fault of a run over a file, by the fault of its run over lines
+abbrev pub fault_of_run : LineFault AllocError → StopFault
+fault_of_run (Own fault) = Memory
+fault_of_run (Stop fault) = fault
 
 -- what a run over lines answers, as a run over a file does
-abbrev pub answer_of_run : Result (Unit {0}) (LineFault AllocError) → Result (Unit {0}) LintFault
+abbrev pub answer_of_run : Result (Unit {0}) (LineFault AllocError) → Result (Unit {0}) StopFault
 answer_of_run (Ok u) = Ok u
 answer_of_run (Err fault) = Err (fault_of_run fault)

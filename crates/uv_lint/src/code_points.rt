@@ -13,7 +13,7 @@ pub(crate) fn count(text: &str) -> usize
     }
 }
 
-// The same code point by code point.
+// How many code points a text has, counted one by one.
 fn count_walked(text: &str) -> usize
     ensures { result ≡ length (chars text.now) }
 {

@@ -3,7 +3,6 @@
 
 mod code_points;
 mod counts;
-mod fault;
 pub mod laws;
 mod line_violations;
 mod located;
@@ -15,6 +14,5 @@ mod run;
 mod setting;
 
 pub use counts::LintCounts;
-pub use fault::LintFault;
 pub use run::{run_lint, run_within};
 pub use setting::{LineForm, LintSetting};

@@ -1,15 +1,16 @@
 //! What is wrong with a line.
-ghost use Rattle.std.specs.Prelude.{◌≡◌, ◌∷◌, [], IfOk, IsUtf8, None, length, map, option_copied, take};
+ghost use Rattle.std.specs.Prelude.{◌≡◌, ◌≢◌, ◌∷◌, [], IfOk, IsUtf8, Some, length, map, option_map, take};
 ghost use Rattle.std.specs.Str.{chars};
 ghost use Rattle.std.specs.Str.Lossy.{utf8_valid_len};
-ghost use Rattle.uv_grammar.specs.Verdict.{IsRefused};
+ghost use Rattle.uv_grammar.specs.Verdict.{IsRefused, IsVerdict};
+ghost use Rattle.uv_lines.specs.Line.{bytes_of};
 ghost use Rattle.uv_lint.specs.LineViolations.{AreBytesViolations, AreStrayViolations, AreTextViolations};
-ghost use Rattle.uv_lint.specs.LineViolations.{AreViolations, AreViolationsBy, AreWholeViolations, foreign_place};
-ghost use Rattle.uv_lint.specs.LineViolations.{violations_in};
-ghost use Rattle.uv_report.specs.declared.line_violation.LineViolation.TheVariants.{NotUtf8, Refused};
+ghost use Rattle.uv_lint.specs.LineViolations.{AreViolations, foreign_place, violations_in};
+ghost use Rattle.uv_lint.specs.declared.setting.LineForm.TheVariants.{Located};
+ghost use Rattle.uv_sentences.specs.declared.line_violation.LineViolation.TheVariants.{NotUtf8, Refused};
 
 use crate::code_points::count;
-use crate::located::link_of;
+use crate::located::located;
 use crate::located_fault::located_fault;
 use crate::reporter::LintReporter;
 use crate::setting::LineForm;
@@ -17,8 +18,9 @@ use std::alloc::{AllocError, Global};
 use std::slice::from_ref;
 use std::str::from_utf8;
 use uv_grammar::{Verdict, check, faults};
+use uv_lines::Line;
 use uv_model::{Extent, Refusal};
-use uv_report::LineViolation;
+use uv_sentences::LineViolation;
 
 /// What is wrong with a line. Memory is taken for more than one violation alone, so most refused lines take none here.
 #[derive(Drop)]
@@ -58,72 +60,85 @@ impl LineViolations {
 impl<'a> LintReporter<'a> {
     /// What is wrong with a line, or with its link: nothing with an empty line or a valid text. None stands for a line
     /// that is too long. No memory is asked for a valid line but where a domain's form is made.
+    #[inline(always)]
     pub(crate) fn violations(
         &self,
         alloc: Global,
-        line: Option<&[u8]>,
+        line: Option<Line<'_>>,
     ) -> Result<LineViolations, AllocError>
         ensures { IfOk result (λ violations.
-            AreViolations self.now.setting (option_copied line.entry) (violations_in violations)) }
-    {
-        match link_of(self.form(), line) {
-            Some(link) => self.bytes_violations(alloc, link.link),
-            None => self.line_violations(alloc, line),
-        }
-    }
-
-    // What is wrong with a line that has no link.
-    fn line_violations(
-        &self,
-        alloc: Global,
-        line: Option<&[u8]>,
-    ) -> Result<LineViolations, AllocError>
-        ensures { IfOk result (λ violations.
-            AreViolationsBy self.now.setting None (option_copied line.entry) (violations_in violations)) }
+            AreViolations self.now.setting (option_map bytes_of line.entry) (violations_in violations)) }
     {
         let Some(line) = line else {
             return Ok(LineViolations::One(LineViolation::TooLong));
         };
-        if line.is_empty() {
+        if line.as_bytes().is_empty() {
             return Ok(LineViolations::Nothing);
         }
-        self.whole_violations(alloc, line)
-    }
-
-    // What is wrong with a line that isn't empty and has no link.
-    fn whole_violations(&self, alloc: Global, line: &[u8]) -> Result<LineViolations, AllocError>
-        ensures { IfOk result (λ violations.
-            AreWholeViolations self.now.setting.form self.now.setting line.now (violations_in violations)) }
-    {
         match self.form() {
-            LineForm::Plain => self.bytes_violations(alloc, line),
-            LineForm::Located => Ok(stray_violations(line)),
+            LineForm::Plain => self.plain_violations(alloc, line),
+            LineForm::Located => self.located_violations(alloc, line.as_bytes()),
         }
     }
 
-    // What is wrong with bytes.
-    fn bytes_violations(&self, alloc: Global, bytes: &[u8]) -> Result<LineViolations, AllocError>
+    // What is wrong with a line that is to say where its link is.
+    #[inline(never)]
+    fn located_violations(&self, alloc: Global, line: &[u8]) -> Result<LineViolations, AllocError>
+        requires form { self.now.setting.form ≡ Located }
+        requires some { line.now ≢ [] }
         ensures { IfOk result (λ violations.
-            AreBytesViolations self.now.setting bytes.now (violations_in violations)) }
+            AreViolations self.now.setting (Some line.now) (violations_in violations)) }
     {
-        match from_utf8(bytes) {
+        match located(line) {
+            Some(link) => self.plain_violations(alloc, Line::Bytes(link.link)),
+            None => Ok(stray_violations(line)),
+        }
+    }
+
+    // What is wrong with a line that is a text alone, or with a link.
+    #[inline(always)]
+    fn plain_violations(&self, alloc: Global, line: Line<'_>) -> Result<LineViolations, AllocError>
+        ensures { IfOk result (λ violations.
+            AreBytesViolations self.now.setting (bytes_of line.entry) (violations_in violations)) }
+    {
+        match line.text() {
             Ok(text) => self.text_violations(alloc, text),
-            Err(fault) => Ok(LineViolations::One(not_utf8(bytes, fault.valid_up_to()))),
+            Err(fault) => Ok(LineViolations::One(not_utf8(line.as_bytes(), fault.valid_up_to()))),
         }
     }
 
     // What is wrong with a text.
+    #[inline(always)]
     fn text_violations(&self, alloc: Global, text: &str) -> Result<LineViolations, AllocError>
         ensures { IfOk result (λ violations.
             AreTextViolations self.now.setting (chars text.now) (violations_in violations)) }
     {
-        match check(alloc, text, self.base(), self.profile())? {
-            Verdict::Yes(_) => Ok(LineViolations::Nothing),
-            Verdict::No(refusal) => self.refused_violations(alloc, text, refusal),
+        let answer = check(alloc, text, self.base(), self.profile());
+        self.violations_by(alloc, text, &answer)
+    }
+
+    // What is wrong with a text by the checker's answer, which is large and stays where it was written.
+    #[inline(always)]
+    #[tactic(auto, using(crate::proofs::LineViolationLemmas::valid_violations))]
+    fn violations_by(
+        &self,
+        alloc: Global,
+        text: &str,
+        answer: &Result<Verdict<'_>, AllocError>,
+    ) -> Result<LineViolations, AllocError>
+        requires { IfOk answer.now (IsVerdict self.now.setting.profile self.now.setting.base (chars text.now)) }
+        ensures { IfOk result (λ violations.
+            AreTextViolations self.now.setting (chars text.now) (violations_in violations)) }
+    {
+        match answer {
+            Ok(Verdict::Yes(_)) => Ok(LineViolations::Nothing),
+            Ok(Verdict::No(refusal)) => self.refused_violations(alloc, text, *refusal),
+            Err(AllocError) => Err(AllocError),
         }
     }
 
     // What is wrong with a text that is refused so.
+    #[inline(never)]
     fn refused_violations(
         &self,
         alloc: Global,

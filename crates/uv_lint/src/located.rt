@@ -83,7 +83,7 @@ fn link_in<'l>(file: &'l [u8], run: Run<'l>) -> Option<LocatedLink<'l>>
     })
 }
 
-// The name of a file, where it isn't empty and is UTF-8.
+// The name of a file, if it isn't empty and is UTF-8.
 fn name_of(file: &[u8]) -> Option<&str>
     ensures { option_map (λ name. name.now) result ≡ spec.name_of file.now }
 {
@@ -153,7 +153,7 @@ fn value_of(digits: &[u8]) -> Option<u32>
     }
 }
 
-// The same of a text.
+// The number that a text of digits writes, where it is from 1 to 2^32 - 1.
 fn value_of_text(text: &str) -> Option<u32>
     requires { list_all is_ascii_digit text.now ≡ true }
     ensures { result ≡ spec.in_range (digits_value 10 text.now) }

@@ -12,7 +12,8 @@ use crate::setting::LintSetting;
 use std::alloc::{AllocError, Global};
 use uv_mend::{MendKind, Mending, mend_refused};
 use uv_model::Refusal;
-use uv_report::{ColumnCounter, Columns, Fix, LineViolation, SeenText, is_offered};
+use uv_report::{ColumnCounter, Columns, Fix};
+use uv_sentences::{LineViolation, SeenText, is_offered};
 
 /// A valid text, and how it is to the refused one.
 #[derive(Drop)]
@@ -86,7 +87,7 @@ pub(crate) fn fix_in_place<'l>(
     }
 }
 
-// The column after a text that begins in this one. Where columns count code points, it isn't walked by them.
+// The column after a text that begins in this one. If columns count code points, it isn't walked by them.
 fn end_column(columns: Columns, start: u64, text: &str) -> u64
     ensures { result ≡ end_column columns start text.now }
 {

@@ -4,7 +4,8 @@ ghost use Rattle.std.specs.Prelude.{◌≡◌, ℕ, ◌+◌, ◌-◌, ◌^◌, �
 ghost use Rattle.std.specs.Prelude.{option_map, string_bytes};
 ghost use Rattle.uv_lines.specs.Fault.{failed_within};
 ghost use Rattle.uv_lines.specs.Waiting.{LeavesParts, Passes};
-ghost use Rattle.uv_report.specs.Diagnostic.{IsMessage, diagnostic_view, fix_view};
+ghost use Rattle.uv_report.specs.Diagnostic.{diagnostic_view, fix_view};
+ghost use Rattle.uv_sentences.specs.Sentences.Message.{IsMessage};
 ghost use Rattle.uv_lint.specs.LocatedViews.{link_view};
 ghost use Rattle.uv_lint.specs.Findings.{AreMessages, IsUtf8WhereRefused, bytes_by, is_refused, shown};
 ghost use Rattle.uv_lint.specs.Report.{diagnostic_in, one_text, region_in, reported_by};
@@ -21,10 +22,8 @@ use uv_grammar::wider_profile;
 use uv_io::{DeviceFault, Sink};
 use uv_lines::{ReportFault, end_part};
 use uv_model::Profile;
-use uv_report::{
-    Checked, ColumnCounter, Diagnostic, Fix, LineViolation, Region, SeenText, Wording, message,
-    push, push_file_begin, push_file_end,
-};
+use uv_report::{ColumnCounter, Diagnostic, Fix, Region, push, push_file_begin, push_file_end};
+use uv_sentences::{Checked, LineViolation, SeenText, Wording, message};
 
 /// A line, or the link of one, with the place where it is.
 #[derive(Clone, Copy)]
@@ -292,8 +291,8 @@ fn append_framed(
     text.extend_from_slice(reported.as_bytes())
 }
 
-// Puts a diagnostic in the place of what a text has. Where lines say where their links are, what is round the
-// diagnostics of its file is round it.
+// Puts a diagnostic in place of what a text has. If lines say where their links are, what is round the diagnostics of
+// its file is round it.
 fn put_framed(
     alloc: Global,
     reported: &mut String,

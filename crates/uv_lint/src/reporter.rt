@@ -1,7 +1,8 @@
 //! What reports on the lines of a file.
 ghost use Rattle.std.specs.Prelude.{◌≡◌, ◌+◌, ◌-◌, ◌^◌, ◌<◌, ◌++◌, [], IfErr, IfOk, OnOk, if◌then◌else◌, option_copied};
-ghost use Rattle.std.specs.Prelude.{string_bytes};
+ghost use Rattle.std.specs.Prelude.{option_map, string_bytes};
 ghost use Rattle.uv_lines.specs.Fault.{failed_within};
+ghost use Rattle.uv_lines.specs.Line.{bytes_of};
 ghost use Rattle.uv_lines.specs.Waiting.{LeavesParts};
 ghost use Rattle.uv_lint.specs.Findings.{IsRefusedFirst};
 ghost use Rattle.uv_lint.specs.LineViolations.{AreViolations, file_setting};
@@ -18,9 +19,9 @@ use crate::setting::{LineForm, LintSetting};
 use std::alloc::{AllocError, Global};
 use std::marker::Model;
 use uv_io::Sink;
-use uv_lines::{ReportFault, Reporter, without_mark};
+use uv_lines::{Line, ReportFault, Reporter, without_mark};
 use uv_model::{Extent, Profile, Record};
-use uv_report::LineViolation;
+use uv_sentences::LineViolation;
 
 /// What reports on the lines of a file: what they are checked by, whether no diagnostic of the report was written yet,
 /// and the counts of the lines before.
@@ -117,6 +118,7 @@ impl<'a> LintReporter<'a> {
     }
 
     // Says the diagnostics on the next line, if any.
+    #[inline(always)]
     fn report_line<W: Sink>(
         &mut self,
         alloc: Global,
@@ -139,6 +141,31 @@ impl<'a> LintReporter<'a> {
         if violations.is_empty() {
             return Ok(());
         }
+        self.report_refused(alloc, line, violations, text, writer)
+    }
+
+    // Says the diagnostics on the next line, of which something was found. It is never inlined, so that a valid line
+    // takes no room for them.
+    #[inline(never)]
+    fn report_refused<W: Sink>(
+        &mut self,
+        alloc: Global,
+        line: Option<&[u8]>,
+        violations: &[LineViolation],
+        text: &mut Vec<u8>,
+        writer: &mut W,
+    ) -> Result<(), ReportFault<AllocError>>
+        requires few { self.old.lines < 2 ^ 64 - 1 }
+        requires writes { W.failed writer.old < 2 ^ 64 - 1 }
+        requires found { AreViolations self.old.setting (option_copied line) violations.now }
+        ensures text { OnOk result (HasReportedLine self.old (option_copied line.entry) violations.now
+            text.old.items (W.contents writer.old) (W.contents writer.new) text.new.items) }
+        ensures same { self.new ≡ self.old }
+        ensures quiet { OnOk result (W.failed writer.new ≡ W.failed writer.old) }
+        ensures fault { IfErr result (λ e. LeavesParts (HasBegunLine self.old (option_copied line.entry)
+            violations.now) e text.old.items (W.contents writer.old) text.new.items (W.contents writer.new)) }
+        ensures failed { IfErr result (λ e. W.failed writer.new ≡ W.failed writer.old + failed_within e) }
+    {
         let link = link_of(self.setting.form, line);
         let place = Place::of(self.file, self.lines + 1, line, link);
         let Ok(shown) = shown_text(alloc, violations, place.bytes) else {
@@ -189,6 +216,7 @@ impl<'a> LintReporter<'a> {
     }
 
     // Counts a line of which this was found.
+    #[inline(always)]
     fn count(&mut self, line: Option<&[u8]>, violations: &[LineViolation])
         requires { self.old.lines < 2 ^ 64 - 1 }
         ensures { self.new ≡ with_line self.old (option_copied line.entry) violations.now }
@@ -215,10 +243,12 @@ impl<'a> Reporter for LintReporter<'a> {
 
     ghost begins = { Begins };
 
+    // It is inlined, as each line would else be copied once more.
+    #[inline(always)]
     fn report<W: Sink>(
         &mut self,
         alloc: Global,
-        line: Option<&[u8]>,
+        line: Option<Line<'_>>,
         text: &mut Vec<u8>,
         writer: &mut W,
     ) -> Result<(), ReportFault<AllocError>> {
@@ -226,6 +256,7 @@ impl<'a> Reporter for LintReporter<'a> {
         let Ok(violations) = self.violations(alloc, line) else {
             return Err(ReportFault::Reporter(AllocError));
         };
+        let line = line_bytes(line);
         match self.report_line(alloc, line, violations.as_slice(), text, writer) {
             Ok(()) => {
                 self.count(line, violations.as_slice());
@@ -256,12 +287,24 @@ fn is_checked(line: Option<&[u8]>) -> bool
     }
 }
 
-// A line as it is checked after so many others: a byte order mark at the file's start is no part of the first one.
-fn checked_line(before: u64, line: Option<&[u8]>) -> Option<&[u8]>
-    ensures { option_copied result ≡ spec.checked_line before (option_copied line.entry) }
+// A line as it is checked after so many others: a byte order mark at the file's start isn't a part of the first one.
+#[inline(always)]
+fn checked_line(before: u64, line: Option<Line<'_>>) -> Option<Line<'_>>
+    ensures { option_map bytes_of result ≡ spec.checked_line before (option_map bytes_of line.entry) }
 {
     match line {
-        Some(line) if before == 0 => Some(without_mark(line)),
+        Some(line) if before == 0 => Some(Line::Bytes(without_mark(line.as_bytes()))),
         _ => line,
+    }
+}
+
+// The bytes of a line that isn't too long.
+#[inline(always)]
+fn line_bytes(line: Option<Line<'_>>) -> Option<&[u8]>
+    ensures { option_copied result ≡ option_map bytes_of line.entry }
+{
+    match line {
+        Some(line) => Some(line.as_bytes()),
+        None => None,
     }
 }

@@ -3,15 +3,16 @@ ghost use Rattle.std.specs.Prelude.{◌≡◌, ℕ, ◌+◌, ◌-◌, ◌^◌, �
 ghost use Rattle.std.specs.Io.KnownBytes.{Consumes, IsAtEnd};
 ghost use Rattle.uv_lint.specs.LineViolations.{file_setting};
 ghost use Rattle.uv_lint.specs.Report.{list_begin_text, list_end_text};
-ghost use Rattle.uv_lint.specs.Run.{FailsReads, Leaves, Reports, line_limits, writes_failed};
+ghost use Rattle.uv_lines.specs.Fault.{writes_failed};
+ghost use Rattle.uv_lint.specs.Run as spec;
+ghost use Rattle.uv_lint.specs.Run.{FailsReads, Leaves, Reports, line_limits};
 
 use crate::counts::LintCounts;
-use crate::fault::{LintFault, answer_of_run};
 use crate::reporter::LintReporter;
 use crate::setting::{LineForm, LintSetting};
 use std::alloc::{AllocError, Global};
 use uv_io::{Sink, Source};
-use uv_lines::{Frame, LineLimits, run_lines};
+use uv_lines::{Frame, LineFault, LineLimits, StopFault, run_lines};
 use uv_report::{push_file_begin, push_file_end};
 
 // How many bytes a line may have, and how many lines may come.
@@ -28,13 +29,15 @@ const LINE_LIMITS: LineLimits = LineLimits {
 /// checked, also an empty one, and reported by that file and line and from that column on. What isn't of this form is
 /// reported by the name and number of the list's line. Each diagnostic then has round it what a file's have.
 ///
-/// A line ends with LF, and one CR before that is no part of it; a last part without LF is a line where it isn't empty.
-/// A byte order mark at the file's start is no part of the first line, though it is among the bytes that this may have.
-/// Lines are numbered from 1, and an empty line, which is numbered too, isn't checked. A line may have 65,536 bytes,
-/// and 1,000,000,000 lines may come. What is found with the lines that a read has ended is written before the next
-/// read, and sooner where 262,144 bytes or more wait after a diagnostic. What is after the diagnostics is written
-/// after each fault but one of a write. The writer isn't flushed. The counts are those of the lines that were reported
-/// on whole, also after a fault. After a fault nothing is tried again, and how far the reader was read is open.
+/// A line ends with LF, and one CR before that isn't a part of it; a last part without LF is a line if it isn't empty.
+/// A byte order mark at the file's start isn't a part of the first line, though it is among the bytes that this may
+/// have. Lines are numbered from 1, and an empty line, which is numbered too, isn't checked. A line may have 65,536
+/// bytes, and 1,000,000,000 lines may come. What is found with the lines that a read has ended is written before the
+/// next read, and sooner where 262,144 bytes or more wait after a diagnostic. What is after the diagnostics is written
+/// after each fault but one of a write. If memory ran out, nothing may have been written, and the last line that is
+/// reported on may have only its first diagnostics. The writer isn't flushed. The counts are those of the lines that
+/// were reported on whole, also after a fault. After a fault nothing is tried again, and how far the reader was read is
+/// open.
 pub fn run_lint<R: Source, W: Sink>(
     alloc: Global,
     reader: &mut R,
@@ -42,7 +45,7 @@ pub fn run_lint<R: Source, W: Sink>(
     file: &str,
     is_first: bool,
     setting: LintSetting<'_>,
-) -> (LintCounts, Result<(), LintFault>)
+) -> (LintCounts, Result<(), StopFault>)
     requires reads { R.failed reader.old < 2 ^ 64 - 1 }
     requires writes { W.failed writer.old < 2 ^ 64 - 1 }
     ensures report { OnOk result.1 ((read : List ℕ)
@@ -61,7 +64,8 @@ pub fn run_lint<R: Source, W: Sink>(
     run_within(alloc, reader, writer, file, is_first, setting, LINE_LIMITS)
 }
 
-/// The same within other limits: a line may have no more bytes than these say, and no more lines may come.
+/// Reports on a file as `run_lint` does, within other limits: a line may have no more bytes than these say, and no more
+/// lines may come.
 #[tactic(none)]
 pub fn run_within<R: Source, W: Sink>(
     alloc: Global,
@@ -71,7 +75,7 @@ pub fn run_within<R: Source, W: Sink>(
     is_first: bool,
     setting: LintSetting<'_>,
     limits: LineLimits,
-) -> (LintCounts, Result<(), LintFault>)
+) -> (LintCounts, Result<(), StopFault>)
     requires reads { R.failed reader.old < 2 ^ 64 - 1 }
     requires writes { W.failed writer.old < 2 ^ 64 - 1 }
     requires short { limits.line_bytes ≤ 65536 }
@@ -91,10 +95,10 @@ pub fn run_within<R: Source, W: Sink>(
 {
     let reporter = LintReporter::new(alloc, file, is_first, setting);
     let Ok(begin) = list_begin(alloc, setting, file) else {
-        return (reporter.counts(), Err(LintFault::Memory));
+        return (reporter.counts(), Err(StopFault::Memory));
     };
     let Ok(end) = list_end(alloc, setting) else {
-        return (reporter.counts(), Err(LintFault::Memory));
+        return (reporter.counts(), Err(StopFault::Memory));
     };
     let frame = Frame {
         begin: begin.as_bytes(),
@@ -102,6 +106,17 @@ pub fn run_within<R: Source, W: Sink>(
     };
     let (reporter, answer) = run_lines(alloc, reader, writer, reporter, limits, frame);
     (reporter.counts(), answer_of_run(answer))
+}
+
+// The answer of a run over a file, by the answer of its run over lines.
+fn answer_of_run(answer: Result<(), LineFault<AllocError>>) -> Result<(), StopFault>
+    ensures { result ≡ spec.answer_of_run answer }
+{
+    match answer {
+        Ok(()) => Ok(()),
+        Err(LineFault::Own(AllocError)) => Err(StopFault::Memory),
+        Err(LineFault::Stop(fault)) => Err(fault),
+    }
 }
 
 // What is before the diagnostics of a file: nothing where each of them is about a file of its own.

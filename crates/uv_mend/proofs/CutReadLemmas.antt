@@ -206,7 +206,7 @@ two_marks (c ∷ d ∷ rest) = elim (cases_Bool (stops Start c)) [
     and_none true y none = none
     and_none false y none = refl
 
--- ---- the slashes that are written anew
+-- ---- the slashes that are written again
 
 -- the text with new ones, each code point as it is
 abbrev pub renewed : Class → Bool → List ℕ → List ℕ

@@ -1,4 +1,4 @@
--- The edits of a text and those of its bytes: bytes beyond ASCII stay as they are.
+-- The edits of a text and of its bytes: bytes beyond ASCII stay as they are.
 use Rattle.std.proofs.Common.{◌≡◌, ◌∙◌, ℕ, ◌≤◌, false, List, [], ◌∷◌, ◌++◌, refl, sym, ap, subst, inl, inr}
 use Rattle.std.proofs.Common.{append_assoc, arith, encode_utf8_all, le-ltb, lt-ltb}
 use Rattle.std.specs.Char.{encode_utf8}

@@ -77,7 +77,7 @@ escaping_after [] rest other is = is
 escaping_after (c ∷ prefix) rest other is = (prefix ++ other, inl refl, escaping_after prefix rest other is)
 
 -- a code point stays or is written as its escapes
-unit_cases : (in_fragment : Bool) (c : ℕ) (rest : List ℕ)
+pub unit_cases : (in_fragment : Bool) (c : ℕ) (rest : List ℕ)
     → (as_unit in_fragment c rest ≡ c ∷ []) ⊎ (as_unit in_fragment c rest ≡ escape c)
 unfolding as_unit
 unit_cases in_fragment c rest =
@@ -90,7 +90,7 @@ unit_cases in_fragment c rest =
     ]
 
 -- and so do all of them
-units_escaping : (in_fragment : Bool) (text : List ℕ) → IsEscapingOf text (as_units in_fragment text)
+pub units_escaping : (in_fragment : Bool) (text : List ℕ) → IsEscapingOf text (as_units in_fragment text)
 units_escaping in_fragment [] = refl
 units_escaping in_fragment (c ∷ rest) = (
   as_units (in_fragment || (c == number_sign)) rest,

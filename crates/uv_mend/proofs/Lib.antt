@@ -13,3 +13,10 @@ mod CutReadLemmas
 mod RenewedLemmas
 mod SlashedLemmas
 mod ReadSlashed
+pub mod RestLemmas
+pub mod RestCutLemmas
+pub mod EscapedRest
+pub mod SlashedRest
+pub mod EditedRest
+pub mod RestHosts
+pub mod KeptRest

@@ -213,7 +213,7 @@ starts_renewed own bytes none = elim (cases_Bool (renews_slashes own false bytes
     new class.File renews = refl
     new class.Other renews = absurd (false≢true renews)
 
--- the front is empty where the text's front is
+-- the front is empty when the text's front is
 empty_renewed : (own : Class) (bytes : List ℕ) → is_empty (renewed own false bytes) ≡ is_empty bytes
 unfolding renews_slashes
 empty_renewed own bytes = elim (cases_Bool (renews_slashes own false bytes)) [

@@ -1,4 +1,4 @@
--- The second parser reads the slashes that are written anew as it reads the slash marks that was there.
+-- The second parser reads the slashes that are written again as it reads the slash marks that was there.
 use Rattle.std.proofs.Common.{◌≡◌, ◌∙◌, ℕ, ◌+◌, Bool, true, false, not, ◌&&◌, ◌||◌, ◌==◌, List, [], ◌∷◌, ◌++◌, refl}
 use Rattle.std.proofs.Common.{sym, ap}
 use Rattle.std.proofs.Common.{arith, inl, inr, drop, Option, Some, None, Ok, one-add}
@@ -145,7 +145,7 @@ IsKept has_scheme base body =
     (has_scheme ≡ true → is_some base ≡ true → starts_with_two_marks body ≡ true)
     × (has_scheme ≡ false → is_some base ≡ true)
 
--- a body with its slashes written anew is read alike
+-- a body with its slashes written again is read alike
 pub renewed_read : (kind : SchemeType) → is_special kind ≡ true → (scheme : List ℕ) → scheme_type scheme ≡ kind
     → (has_scheme : Bool) (base : Option Parts) → IfSome base (λ b. b.scheme ≡ scheme)
     → (body : List ℕ) → IsKept has_scheme base body → (query fragment : Option (List ℕ))

@@ -1,5 +1,6 @@
 -- A text that is refused, with its edit or without one.
 use Rattle.std.proofs.Common.{◌≡◌, ℕ, zero, suc, List, Option, Some, None, refl}
+use Rattle.std.specs.Prelude.{IfSome}
 use Rattle.uv_model.specs.declared.profile.Profile.{Profile}
 use Rattle.uv_model.specs.declared.rule.Refusal.{Refusal}
 use Rattle.uv_model.specs.Violations.Violation.{Violation}
@@ -33,3 +34,9 @@ pub repairs-valid : (edits : ℕ) (profile : Profile) (base : Option Url) (text 
     → Repairs edits profile base text (Some text)
 repairs-valid zero profile base text valid = (None, silent profile base text valid, refl)
 repairs-valid (suc edits) profile base text valid = (None, silent profile base text valid, refl)
+
+-- what a weaker fact says of the value, if there is one
+pub some_weaker : {X : Type 0} (value : Option X) (P Q : X → Type 0) → ((x : X) → P x → Q x) → IfSome value P
+    → IfSome value Q
+some_weaker None P Q weaker h = h
+some_weaker (Some x) P Q weaker h = weaker x h

@@ -120,7 +120,7 @@ and_false : (b c : Bool) → c ≡ false → (b && c) ≡ false
 and_false true c none = none
 and_false false c none = refl
 
--- the parser finds none where the text begins with none
+-- the parser finds none if the text begins with none
 pub split_none : (text : List ℕ) → starts_with_scheme text ≡ false → split_scheme text ≡ None
 unfolding split_scheme scheme_len
 split_none [] none = refl

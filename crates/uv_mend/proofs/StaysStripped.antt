@@ -10,7 +10,7 @@ use Rattle.uv_mend.specs.Stripped.{stripped}
 use Rattle.uv_mend.proofs.StrippedLemmas.{before_controls-none, before_controls-one, before_controls-other, from_ends}
 use Rattle.uv_mend.proofs.StepLemmas.{control_out, line_in, line_out, shown_in}
 
--- the code point is no control and no space, and no tab, LF or CR
+-- the code point isn't a control and no space, and no tab, LF or CR
 abbrev pub is_shown : ℕ → Bool
 is_shown c = not (is_control_or_space c)
 
@@ -131,7 +131,7 @@ start_in_line (c ∷ rest) starts = ap starts_shown (line_in c rest (shown_in_li
 tab_is_control : (c : ℕ) → is_tab_or_newline c ≡ true → is_shown c ≡ false
 tab_is_control c tab = grind (arith, nat_tests)
 
--- a last code point that is shown is no tab, LF or CR
+-- a last code point that is shown isn't a tab, LF or CR
 end_in_line : (known other : Bool) (text : List ℕ) → ends_shown known text ≡ true → (known ≡ true → other ≡ true)
     → ends_shown other (on_one_line text) ≡ true
 end_in_line known other [] ends more = more ends

@@ -30,6 +30,6 @@ edit_at base text place FirstSegmentEmpty = Some (dotted (place - 1) text)
 edit_at base text place DriveAfterHost = Some (dotted place text)
 edit_at base text place _ = None
 
--- the same of a refusal
+-- the edit of a text with this refusal, where there is one
 unfoldable pub edit_of : Option Url → List ℕ → Refusal → Option (List ℕ)
 edit_of base text refusal = edit_at base text refusal.place refusal.rule

@@ -1,4 +1,4 @@
--- Code points that are no URL units, written as the escapes of their UTF-8 (URL Standard, sections 1.3 and 4.3).
+-- Code points that aren't URL units, written as the escapes of their UTF-8 (URL Standard, sections 1.3 and 4.3).
 use Rattle.std.specs.Prelude.{◌≡◌, ◌⊎◌, ℕ, Bool, false, not, ◌&&◌, ◌||◌, ◌==◌, List, [], ◌∷◌, ◌++◌, flat_map}
 use Rattle.std.specs.Prelude.{if◌then◌else◌}
 use Rattle.std.specs.Char.{encode_utf8}
@@ -27,7 +27,7 @@ as_units in_fragment (c ∷ rest) =
 abbrev pub escaped_after : List ℕ → List ℕ
 escaped_after text = authority_prefix text ++ as_units false (after_authority text)
 
--- the text with each code point of the path, the query and the fragment that is no unit written as escapes
+-- the text with each code point of the path, the query and the fragment that isn't a unit written as escapes
 unfoldable pub escaped : List ℕ → List ℕ
 escaped text = scheme_prefix text ++ escaped_after (after_scheme text)
 

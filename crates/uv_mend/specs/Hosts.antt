@@ -11,7 +11,7 @@ use Rattle.uv_model.specs.Records.Url.{Url}
 use Rattle.uv_mend.specs.declared.prefixes.Stop.TheVariants.{Authority}
 use Rattle.uv_mend.specs.CodePoints.{after_one}
 use Rattle.uv_mend.specs.Prefixes.{after_scheme, class_against, scheme_prefix, stops}
-use Rattle.uv_second.specs.Second.{reading}
+use Rattle.uv_compare.specs.Second.{reading}
 
 -- the host of a URL that has one, and no user name and no password
 unfoldable pub plain_host : Parts → Option (List ℕ)

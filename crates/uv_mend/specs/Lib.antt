@@ -6,6 +6,7 @@ pub mod Stripped
 pub mod Slashes
 pub mod Hosts
 pub mod Edits
+pub mod Rest
 pub mod Repairs
 pub mod Kinds
 pub mod Readings

@@ -9,6 +9,7 @@ use Rattle.uv_model.specs.declared.mend_kind.MendKind.{MendKind}
 use Rattle.uv_mend.specs.Edits.{cleaned}
 use Rattle.uv_mend.specs.Kinds.{IsKind}
 use Rattle.uv_mend.specs.Repairs.{IsValid, Repairs}
+use Rattle.uv_mend.specs.Rest.{KeepsTheRest}
 
 -- what the cleaned text and at most two edits give, where any does
 abbrev pub IsRepaired : Profile → Option Url → List ℕ → Option (List ℕ) → Type 0
@@ -20,6 +21,7 @@ pub record IsMended (profile : Profile) (base : Option Url) (text mended : List 
   pub valid : IsValid profile base (chars mended)
   pub repaired : IsRepaired profile base (chars text) (Some (chars mended))
   pub kind_is : IsKind base text mended kind
+  pub rest : KeepsTheRest base (chars text) (chars mended)
 
 -- What is answered of a text, by its bytes: it is valid; or it isn't, and the edits give a valid text, of this kind; or
 -- they give none, and this is the least of what is wrong with the text.

@@ -35,7 +35,7 @@ scheme_of text = if starts_with_scheme text then Some (before Scheme text) else 
 abbrev pub class_of_base : Option Url → Class
 class_of_base base = class_in base None
 
--- the class of that scheme, else of the base's, else Other
+-- the class of that scheme, otherwise of the base's, otherwise Other
 abbrev pub class_against : Option Url → List ℕ → Class
 class_against base text = class_in base (scheme_of text)
 

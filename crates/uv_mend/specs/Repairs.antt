@@ -11,8 +11,9 @@ use Rattle.uv_model.specs.Valid.{Valid}
 use Rattle.uv_mend.specs.declared.repairs.Tried.{Tried}
 use Rattle.uv_mend.specs.declared.repairs.Tried.TheVariants as tried
 use Rattle.uv_mend.specs.Edits.{edit_of}
+use Rattle.uv_mend.specs.Rest.{HasRestOf}
 
--- the code points are a valid URL string by the profile, alone or against the base
+-- the code points are a valid URL string under the profile, alone or against the base
 abbrev pub IsValid : Profile → Option Url → List ℕ → Type 0
 IsValid profile base text = (parts : Parts) × Valid profile base text parts
 
@@ -27,7 +28,7 @@ EditsTo None more answer = answer ≡ None
 EditsTo (Some next) more answer = more next
 
 -- The answer is what at most so many edits make of the text, each by the least of what is wrong with what the one
--- before left: the first text with which nothing is wrong, or none where an edit is wanting.
+-- before left: the first text with which nothing is wrong, or none if an edit is wanting.
 abbrev pub Repairs : ℕ → Profile → Option Url → List ℕ → Option (List ℕ) → Type 0
 Repairs zero profile base text answer =
     (refusal : Option Refusal) × IsLeast (Violation profile base text) refusal
@@ -47,6 +48,6 @@ IsTried profile base text (tried.Valid same) =
     IsLeast (Violation profile base text) None × IsValid profile base text × (decoded same ≡ text)
 IsTried profile base text (tried.Edited next) =
     (refusal : Refusal) × IsLeast (Violation profile base text) (Some refusal)
-    × (edit_of base text refusal ≡ Some (decoded next))
+    × (edit_of base text refusal ≡ Some (decoded next)) × HasRestOf text (decoded next)
 IsTried profile base text tried.Stuck =
     (refusal : Refusal) × IsLeast (Violation profile base text) (Some refusal) × (edit_of base text refusal ≡ None)

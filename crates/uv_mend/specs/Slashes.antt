@@ -35,9 +35,9 @@ abbrev pub with_slashes : Class → List ℕ → List ℕ
 with_slashes class [] = []
 with_slashes class (c ∷ rest) = if stops Start c then c ∷ rest else as_slash class c ∷ with_slashes class rest
 
--- The slashes at the start of what follows a scheme, or of a text without one, are written anew: in class
--- SpecialNotFile
--- after a scheme, and where there are two or more; in class File where there are fewer than two after a scheme.
+-- The slashes at the start of what follows a scheme, or of a text without one, are written again: in class
+-- SpecialNotFile after a scheme, and where there are two or more; in class File where there are fewer than two after a
+-- scheme.
 unfoldable pub renews_slashes : Class → Bool → List ℕ → Bool
 renews_slashes SpecialNotFile has_scheme text = has_scheme || starts_with_two_marks text
 renews_slashes File has_scheme text = has_scheme && not (starts_with_two_marks text)

@@ -27,7 +27,7 @@ pub(crate) fn text_of(alloc: Global, list: &[char]) -> Result<String, AllocError
     Ok(text)
 }
 
-/// The first code point and those after it, or `None` where there is none.
+/// The first code point and those after it, or `None` if there is none.
 pub(crate) fn first_of(list: &[char]) -> Option<(char, &[char])>
     ensures { MatchOption result (list.now ≡ []) (λ first. list.now ≡ first.0 ∷ first.1.now) }
 {
@@ -37,7 +37,7 @@ pub(crate) fn first_of(list: &[char]) -> Option<(char, &[char])>
     }
 }
 
-/// The last code point and those before it, or `None` where there is none.
+/// The last code point and those before it, or `None` if there is none.
 pub(crate) fn last_of(list: &[char]) -> Option<(&[char], char)>
     ensures { MatchOption result (list.now ≡ []) (λ last. IsLastOf list.now last.0.now last.1) }
 {

@@ -1,6 +1,7 @@
 //! The edits of a text: what the URL parser passes over, and those by the rule that a text then still violates.
-ghost use Rattle.std.specs.Prelude.{◌≡◌, ◌≤◌, IfOk, chars, length, option_copied, option_map, string_bytes};
+ghost use Rattle.std.specs.Prelude.{◌≡◌, ◌≤◌, IfOk, IfSome, chars, length, option_copied, option_map, string_bytes};
 ghost use Rattle.uv_mend.specs.Edits as spec;
+ghost use Rattle.uv_mend.specs.Rest.{EditHasRestOf};
 
 use crate::code_points::{code_points, push_all, text_of};
 use crate::escapes::escaped;
@@ -28,7 +29,7 @@ pub(crate) fn cleaned(
     text_of(alloc, &list)
 }
 
-/// The edit of a text that is refused so, or `None` where its rule has none. The error is out of memory.
+/// The edit of a text that is refused so, or `None` if its rule has none. The error is out of memory.
 #[tactic(auto, unfolding(crate::specs::Edits::edit_of))]
 pub(crate) fn edit_of(
     alloc: Global,
@@ -37,8 +38,10 @@ pub(crate) fn edit_of(
     refusal: Refusal,
 ) -> Result<Option<Vec<char>>, AllocError>
     requires { refusal.place ≤ length text.now }
-    ensures { IfOk result (λ out. option_map (λ list. list.items) out
+    ensures edit { IfOk result (λ out. option_map (λ list. list.items) out
         ≡ spec.edit_of (option_copied base.entry) text.now refusal) }
+    ensures rest { IfOk result (λ out.
+        IfSome out (λ list. EditHasRestOf (option_copied base.entry) refusal text.now list.items)) }
 {
     match refusal.rule {
         Rule::HostDomain | Rule::HostNumber | Rule::HostIpv6 | Rule::HostCodePoint => {

@@ -1,4 +1,4 @@
-//! A text with what is no unit of its path, query and fragment written as the escapes of its UTF-8.
+//! A text with what isn't a unit of its path, query and fragment written as the escapes of its UTF-8.
 ghost use Rattle.std.specs.Prelude.{◌≡◌, ◌++◌, IfOk, OnOk, chars, false, flat_map, string_bytes};
 ghost use Rattle.percent_encoding.specs.Percent as percent;
 ghost use Rattle.uv_model.specs.Units as units;
@@ -10,8 +10,8 @@ use percent_encoding::percent_encode_byte;
 use std::alloc::{AllocError, Global};
 use uv_model::is_url_code_point;
 
-/// The text with each code point of the path, the query and the fragment that is no unit written as escapes. The scheme
-/// and the authority stay. The error is out of memory.
+/// The text with each code point of the path, the query and the fragment that isn't a unit written as escapes. The
+/// scheme and the authority stay. The error is out of memory.
 pub(crate) fn escaped_text(alloc: Global, text: &str) -> Result<String, AllocError>
     ensures { IfOk result (λ out. chars (string_bytes out) ≡ escaped (chars text.now)) }
 {
@@ -20,7 +20,8 @@ pub(crate) fn escaped_text(alloc: Global, text: &str) -> Result<String, AllocErr
     text_of(alloc, &list)
 }
 
-/// The same of a list of code points.
+/// The code points of a text, with each of the path, the query and the fragment that isn't a unit written as escapes.
+/// The scheme and the authority stay. The error is out of memory.
 #[tactic(auto, unfolding(crate::specs::Escapes::escaped))]
 pub(crate) fn escaped(alloc: Global, text: &[char]) -> Result<Vec<char>, AllocError>
     ensures { IfOk result (λ out. out.items ≡ escaped text.now) }
@@ -33,7 +34,7 @@ pub(crate) fn escaped(alloc: Global, text: &[char]) -> Result<Vec<char>, AllocEr
     Ok(out)
 }
 
-// Appends a path, a query and a fragment, with each code point that is no unit as its escapes.
+// Appends a path, a query and a fragment, with each code point that isn't a unit as its escapes.
 fn push_units(out: &mut Vec<char>, text: &[char]) -> Result<(), AllocError>
     ensures { OnOk result (out.new.items ≡ out.old.items ++ as_units false text.now) }
 {

@@ -1,7 +1,8 @@
 //! The host of a text, written as the crate `url` writes it.
-ghost use Rattle.std.specs.Prelude.{◌≡◌, ◌++◌, IfOk, OnOk, chars, false, option_copied, option_map};
+ghost use Rattle.std.specs.Prelude.{◌≡◌, ◌++◌, IfOk, IfSome, OnOk, chars, false, option_copied, option_map};
 ghost use Rattle.uv_model.specs.Cut.{is_port_mark, is_within};
 ghost use Rattle.uv_mend.specs.Hosts as spec;
+ghost use Rattle.uv_mend.specs.Rest.{KeepsRestAfterHost};
 
 use crate::code_points::{first_of, push_all, push_one, push_text, text_of};
 use crate::prefixes::{Stop, after_two, class_against, push_scheme};
@@ -10,15 +11,16 @@ use std::alloc::{AllocError, Global};
 use url::Url;
 use uv_model::{Class, Record};
 
-/// The text with the host of what the second parser reads; none where it reads none, no host, or a user name or a
+/// The text with the host of what the second parser reads; none if it reads none, no host, or a user name or a
 /// password. The error is out of memory.
 pub(crate) fn rehosted(
     alloc: Global,
     text: &[char],
     base: Option<&Record>,
 ) -> Result<Option<Vec<char>>, AllocError>
-    ensures { IfOk result (λ out. option_map (λ list. list.items) out
+    ensures edit { IfOk result (λ out. option_map (λ list. list.items) out
         ≡ spec.rehosted (option_copied base.entry) text.now) }
+    ensures rest { IfOk result (λ out. IfSome out (λ list. KeepsRestAfterHost text.now list.items)) }
 {
     let written = text_of(alloc, text)?;
     let Some(url) = reading(alloc, base, written.as_str())? else {
@@ -80,7 +82,7 @@ fn after_host(class: Class, text: &[char]) -> &[char]
     rest
 }
 
-// Whether a code point ends a host.
+// Whether a code point ends a host. A `:` within brackets doesn't: it is part of an IPv6 address.
 #[tactic(auto, unfolding(crate::specs::Hosts::ends_host))]
 fn ends_host(class: Class, within: bool, c: char) -> bool
     ensures { result ≡ spec.ends_host class within c }

@@ -26,7 +26,7 @@ pub(crate) fn kind_of(
     }
 }
 
-// Whether the mended text is the other with what is no unit written as escapes.
+// Whether the mended text is the other with what isn't a unit written as escapes.
 fn is_escaped(alloc: Global, text: &str, mended: &str) -> Result<bool, AllocError>
     ensures { IfOk result (λ is. IsTrue is ↔ (chars mended.now ≡ escaped (chars text.now))) }
 {

@@ -3,20 +3,20 @@
 ghost use Rattle.uv_mend.specs.Escapes.{EscapedTextsAreEscapings};
 ghost use Rattle.uv_mend.specs.Readings.{StrippedTextsAreReadAlike, SlashedTextsAreReadAlike};
 
-/// A text in which what is no unit is written as escapes is the text with some of its code points as the escapes of
+/// A text in which what isn't a unit is written as escapes is the text with some of its code points as the escapes of
 /// their UTF-8, and nothing else.
 pub fn escaped_texts_are_escapings()
     ensures { EscapedTextsAreEscapings }
 {}
 
-/// Of every text the crate `url`, alone or against any base of its own, makes what it makes of the text without C0
+/// The crate `url`, alone or against any base of its own, makes of every text what it makes of the text without C0
 /// controls and spaces at its ends, tabs, LF and CR: the same URL, or the same error (URL Standard, section 4.4, the
 /// first steps of the basic URL parser).
 pub fn stripped_texts_are_read_alike()
     ensures { StrippedTextsAreReadAlike }
 {}
 
-/// Of every text the crate `url`, alone or against any base of its own, makes what it makes of the text with its
+/// The crate `url`, alone or against any base of its own, makes of every text what it makes of the text with its
 /// slashes as they are read: the same URL, or the same error. The record by which the slashes are written has a scheme
 /// of the class that the base's scheme has. Excepted is a text that has the special scheme of its base and fewer than
 /// two slash marks after that: it is read as one without a scheme (URL Standard, section 4.4, the scheme state).

@@ -1,4 +1,5 @@
-//! What to write in place of a text that is no valid URL string: local edits, each by the rule that the text violates.
+//! What to write in place of a text that isn't a valid URL string: local edits, each by the rule that the text
+//! violates.
 #![tactic(auto)]
 
 mod answer;

@@ -11,8 +11,8 @@ use std::alloc::{AllocError, Global};
 use uv_grammar::{Verdict, check};
 use uv_model::{Profile, Record, Refusal};
 
-/// What to write in place of a text, by the profile, alone or against a base: local edits that keep all else of it as
-/// its author wrote it.
+/// What to write in place of a text, under the profile, alone or against a base: local edits that keep all else of it
+/// as its author wrote it.
 ///
 /// First the edits by what the URL parser passes over: C0 controls and spaces at both ends, tabs, LF and CR go; in a
 /// text of a special scheme or of `file` each `\` before the query becomes `/`, and the slashes after the scheme
@@ -37,7 +37,7 @@ pub fn mend(
     }
 }
 
-/// The same of a text that is known to be refused so, which isn't checked again.
+/// What `mend` says of a text whose refusal is known, so that it isn't checked again. The error is out of memory.
 pub fn mend_refused(
     alloc: Global,
     text: &str,

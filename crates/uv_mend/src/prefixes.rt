@@ -160,7 +160,7 @@ fn is_scheme_code_point(c: char) -> bool
     c.is_ascii_alphanumeric() || c == '+' || c == '-' || c == '.'
 }
 
-/// The class of the text's scheme, else of the base's, else `Other`. The error is out of memory.
+/// The class of the text's scheme, otherwise of the base's, otherwise `Other`. The error is out of memory.
 pub(crate) fn class_against(
     alloc: Global,
     text: &[char],
@@ -177,7 +177,7 @@ pub(crate) fn class_against(
     Ok(class_of(scheme.as_str()))
 }
 
-// The class of the base's scheme, or `Other` where there is no base.
+// The class of the base's scheme, or `Other` if there is no base.
 fn class_of_base(base: Option<&Record>) -> Class
     ensures { result ≡ spec.class_of_base (option_copied base.entry) }
 {

@@ -2,6 +2,7 @@
 ghost use Rattle.std.specs.Prelude.{◌≤◌, IfNone, IfOk, IfSome, chars, length, option_copied, option_map};
 ghost use Rattle.uv_model.specs.Violations.Violation.{Violation};
 ghost use Rattle.uv_model.specs.Violations.Refusal.{IsLeast};
+ghost use Rattle.uv_mend.specs.Rest.{HasRestOf};
 ghost use Rattle.uv_mend.specs.Repairs.{IsTried, IsValid, Repairs, decoded};
 
 use crate::code_points::{code_points, text_of};
@@ -21,8 +22,8 @@ pub(crate) enum Tried {
     Stuck,
 }
 
-/// What at most two edits make of a text, each by the least of what is wrong with what the one before left; none where
-/// an edit is wanting. The error is out of memory.
+/// What at most two edits make of a text, each by the least of what is wrong with what the one before left; none if an
+/// edit is wanting. The error is out of memory.
 pub(crate) fn repaired(
     alloc: Global,
     text: String,
@@ -33,6 +34,8 @@ pub(crate) fn repaired(
         IfSome answer (λ text. IsValid profile (option_copied base.entry) (decoded text))) }
     ensures repairs { IfOk result (λ answer.
         Repairs 2 profile (option_copied base.entry) (decoded text) (option_map decoded answer)) }
+    ensures rest { IfOk result (λ answer.
+        IfSome answer (λ mended. HasRestOf (decoded text) (decoded mended))) }
 {
     match once_edited(alloc, text, base, profile)? {
         Tried::Valid(text) => Ok(Some(text)),
@@ -41,7 +44,7 @@ pub(crate) fn repaired(
     }
 }
 
-// The same of one edit.
+// What at most one edit makes of a text, by the least of what is wrong with it, where that is valid.
 fn repaired_by_one(
     alloc: Global,
     text: String,
@@ -52,6 +55,8 @@ fn repaired_by_one(
         IfSome answer (λ text. IsValid profile (option_copied base.entry) (decoded text))) }
     ensures repairs { IfOk result (λ answer.
         Repairs 1 profile (option_copied base.entry) (decoded text) (option_map decoded answer)) }
+    ensures rest { IfOk result (λ answer.
+        IfSome answer (λ mended. HasRestOf (decoded text) (decoded mended))) }
 {
     match once_edited(alloc, text, base, profile)? {
         Tried::Valid(text) => Ok(Some(text)),
@@ -71,6 +76,8 @@ fn repaired_by_none(
         IfSome answer (λ text. IsValid profile (option_copied base.entry) (decoded text))) }
     ensures repairs { IfOk result (λ answer.
         Repairs 0 profile (option_copied base.entry) (decoded text) (option_map decoded answer)) }
+    ensures rest { IfOk result (λ answer.
+        IfSome answer (λ mended. HasRestOf (decoded text) (decoded mended))) }
 {
     match least(alloc, text.as_str(), base, profile)? {
         None => Ok(Some(text)),

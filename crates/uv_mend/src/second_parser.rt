@@ -1,13 +1,13 @@
 //! What the second parser reads a text as, where the one error is out of memory.
 ghost use Rattle.std.specs.Prelude.{◌≡◌, ◌↔◌, IfOk, IsTrue, option_copied};
-ghost use Rattle.uv_second.specs.Second as spec;
-ghost use Rattle.uv_second.specs.Second.{ReadsSame};
+ghost use Rattle.uv_compare.specs.Second as spec;
+ghost use Rattle.uv_compare.specs.Second.{ReadsSame};
 
 use std::alloc::{AllocError, Global};
 use url::Url;
 use uv_model::Record;
 
-/// The URL that it reads of a text, against the text of the base where there is one; none where it refuses either. The
+/// The URL that it reads of a text, against the text of the base where there is one; none if it refuses either. The
 /// error is out of memory, which also stands for a URL of 4 GiB or more.
 pub(crate) fn reading(
     alloc: Global,
@@ -16,7 +16,7 @@ pub(crate) fn reading(
 ) -> Result<Option<Url>, AllocError>
     ensures { IfOk result (λ url. url ≡ spec.reading (option_copied base.entry) text.now) }
 {
-    match uv_second::reading(alloc, base, text) {
+    match uv_compare::reading(alloc, base, text) {
         Ok(url) => Ok(url),
         Err(_) => Err(AllocError),
     }
@@ -31,7 +31,7 @@ pub(crate) fn reads_same(
 ) -> Result<bool, AllocError>
     ensures { IfOk result (λ same. IsTrue same ↔ ReadsSame (option_copied base.entry) text.now other.now) }
 {
-    match uv_second::reads_same(alloc, base, text, other) {
+    match uv_compare::reads_same(alloc, base, text, other) {
         Ok(same) => Ok(same),
         Err(_) => Err(AllocError),
     }

@@ -42,7 +42,7 @@ fn push_slashed(
     }
 }
 
-// Whether the slashes at the start of a text are written anew.
+// Whether the slashes at the start of a text are written again.
 #[tactic(auto, unfolding(crate::specs::Slashes::renews_slashes))]
 fn renews_slashes(class: Class, has_scheme: bool, text: &[char]) -> bool
     ensures { result ≡ renews_slashes class has_scheme text.now }

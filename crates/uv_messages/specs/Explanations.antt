@@ -6,7 +6,7 @@ use Rattle.std.specs.Str.{bytes_eq, str_to_ascii_lowercase}
 use Rattle.std.specs.declared.alloc.Global.{Global}
 use Rattle.uv_model.specs.declared.rule.Rule.{Rule}
 use Rattle.uv_model.specs.Violations.Rule.{named_rule, rule_number, rules_in_order}
-use Rattle.uv_report.specs.LineViolation.{named_violation}
+use Rattle.uv_sentences.specs.LineViolation.{named_violation}
 
 -- the text is the rule's number in decimal digits
 abbrev pub has_number : Rule → List ℕ → Bool
@@ -20,7 +20,8 @@ numbered text = find (λ rule. has_number rule text) rules_in_order
 abbrev pub is_of_documents : List ℕ → Bool
 is_of_documents name = bytes_eq name (codes "empty") || bytes_eq name (codes "no-link")
 
--- the name is that of a rule, of what else may be wrong with a line, or of a rule of documents, or it is a rule's number
+-- the name belongs to a rule, to what else may be wrong with a line, or to a rule of documents, or it is a rule's
+-- number
 abbrev pub is_explained : List ℕ → Bool
 is_explained name =
     is_some (named_rule name) || (is_some (named_violation name)

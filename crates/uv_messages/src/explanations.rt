@@ -1,14 +1,14 @@
-//! Explanations: what rules ask, their sections of the URL Standard, and an example, of some rules or of each; or the
-//! addresses of these sections.
+//! Explanations: what rules require, their sections of the URL Standard, and an example, of some rules or of each; or
+//! the addresses of these sections.
 ghost use Rattle.std.specs.Prelude.{◌≡◌, IfOk, find, is_some};
 ghost use Rattle.uv_messages.specs.Explanations.{are_explained, has_number, is_explained};
 
 use crate::report::{push_line, push_present, refused_line};
 use itoa::Buffer;
 use std::alloc::{AllocError, Global};
+use uv_arguments::Told;
 use uv_model::{Refusal, Rule};
-use uv_report::{LineViolation, explain};
-use uv_words::Told;
+use uv_sentences::{LineViolation, explain};
 
 // What is explained by a name.
 #[derive(Clone, Copy)]
@@ -21,7 +21,7 @@ enum Topic {
     NoLink,
 }
 
-// What a link of a document may be wrong by beside the rules of URL strings.
+// What a link of a document may be wrong by besides the rules of URL strings.
 const EMPTY: &str = "rule empty
 means this link is empty, which its format forbids here
 asks A link of an image, a script, a frame, a form's address or a link element isn't empty.
@@ -32,9 +32,9 @@ means a space ends a link's destination, so that this is text and no link
 asks A destination of Markdown has no space, unless < and > enclose it: it is percent-encoded as %20.
 ";
 
-/// What is written where the rules with these names, or each rule, are to be told of: what they ask, where they are
-/// and an example of each, or the addresses of their sections of the URL Standard, where they have one. It is `None`
-/// where one of the names is that of nothing that is explained.
+/// What is written where the rules with these names, or each rule, are to be told of: what they ask, where they are and
+/// an example of each, or the addresses of their sections of the URL Standard, where they have one. It is `None` if one
+/// of the names belongs to nothing that is explained.
 pub fn explained(alloc: Global, names: &[String], told: Told) -> Result<Option<String>, AllocError>
     ensures { IfOk result (λ text. is_some text ≡ are_explained names.now) }
 {
@@ -143,7 +143,7 @@ fn text_of(alloc: Global, topic: Topic, told: Told) -> Result<String, AllocError
     }
 }
 
-// The address of a violation's section of the URL Standard in a line, or nothing where it has none.
+// The address of a violation's section of the URL Standard in a line, or nothing if it has none.
 fn address_line(alloc: Global, violation: LineViolation) -> Result<String, AllocError> {
     let address = violation.address();
     let mut line = String::new(alloc);

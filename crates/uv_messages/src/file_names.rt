@@ -19,13 +19,13 @@ const DOCUMENT_ENDS: [&str; 11] = [
 ];
 
 /// Whether a text looks like the name of a file: it ends as the name of a list or of a document does, and has no `:`,
-/// `?`, `#` or space, which are in a URL, and seldom in the name of a file.
+/// `?`, `#` or space, which are in a URL, and rarely in the name of a file.
 pub(crate) fn names_file(text: &str) -> bool {
     (has_end(text, &LIST_ENDS) || has_document_end(text))
         && !text.as_bytes().iter().any(|byte| b":?# ".contains(byte))
 }
 
-/// Whether a name ends as that of a document does.
+/// Whether a name ends as a document's does.
 pub fn has_document_end(name: &str) -> bool {
     has_end(name, &DOCUMENT_ENDS)
 }

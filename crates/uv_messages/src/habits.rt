@@ -6,7 +6,7 @@ pub(crate) fn habit(name: &str) -> Option<&'static str> {
         "--fix" | "--fix-only" | "--unsafe-fixes" | "--write" | "-w" => {
             Some("urlcheck mend --in-place FILE mends the links of a list")
         }
-        "--diff" | "--dry-run" => Some(
+        "--diff" | "--dry-run" | "--fix-dry-run" => Some(
             "urlcheck mend -q <FILE | diff FILE - shows what mend changes",
         ),
         "--select" | "--ignore" | "--extend-select" | "--extend-ignore" | "--rule" | "--disable" =>
@@ -15,7 +15,12 @@ pub(crate) fn habit(name: &str) -> Option<&'static str> {
                     "lint reports every rule: grep -v '\\[percent\\]$' leaves out the lines of one",
                 )
             }
-        "--exclude" | "--include" | "--skip" => {
+        "--exclude"
+        | "--include"
+        | "--skip"
+        | "--ignore-pattern"
+        | "--ignore-url"
+        | "--ignore-urls" => {
             Some(
                 "lint reads the FILEs that it is given, and each of their lines: leave some out before",
             )
@@ -27,7 +32,7 @@ pub(crate) fn habit(name: &str) -> Option<&'static str> {
     }
 }
 
-// The same of options that say what is printed, and how.
+// What to write here in place of an option that says what is printed, and how.
 fn habit_of_output(name: &str) -> Option<&'static str> {
     match name {
         "--output-format" | "--reporter" | "--formatter" => Some(
@@ -35,10 +40,13 @@ fn habit_of_output(name: &str) -> Option<&'static str> {
         ),
         "--json" => Some("lint --format json writes an object a line"),
         "--sarif" => Some("lint --format sarif writes SARIF"),
-        "--color" | "--colour" | "--no-color" | "--colors" => {
-            Some("nothing here is written in colours")
+        "--colour" | "--no-color" | "--no-colour" | "--colors" | "--colours" => {
+            Some("lint --color WHEN takes auto, always and never")
         }
-        "--verbose" | "-v" | "-vv" | "--debug" | "--explain" | "--show-source" => {
+        "--verbose" | "-v" => Some(
+            "lint --format caret shows each line, and urlcheck --version the version",
+        ),
+        "--debug" | "--explain" | "--show-source" => {
             Some("lint --format caret shows each line; explain RULE explains a rule")
         }
         "--silent" | "-s" => Some("lint --quiet leaves out the counts"),
@@ -49,28 +57,49 @@ fn habit_of_output(name: &str) -> Option<&'static str> {
         "--exit-zero" | "--no-fail" => Some(
             "|| [ $? = 1 ] after the command goes on at a refused link",
         ),
+        "--max-warnings" | "--severity" | "--minAlertLevel" => Some(
+            "each refused link is an error",
+        ),
         _ => habit_of_run(name),
     }
 }
 
-// The same of options that say how a run goes.
+// What to write here in place of an option that says how a run goes.
 fn habit_of_run(name: &str) -> Option<&'static str> {
     match name {
-        "--jobs" | "-j" | "--watch" | "--cache" | "--no-cache" => {
+        "--jobs" | "-j" | "--threads" | "--parallel" | "--watch" | "--cache" | "--no-cache" => {
             Some("lint reads a million links in less than a second: once, on one processor")
         }
-        "--config" | "-c" | "--isolated" | "--no-config" => {
+        "--config" | "-c" | "--isolated" | "--no-config" | "--norc" | "--rcfile" => {
             Some("only urlcheck-documents reads a configuration")
         }
-        "--timeout" | "--offline" | "--online" | "--retries" | "--user-agent" | "--method" => {
-            Some("no connection is opened: only how a link is written is checked")
+        "--timeout"
+        | "--offline"
+        | "--online"
+        | "--retries"
+        | "--max-retries"
+        | "--max-redirects"
+        | "--user-agent"
+        | "--method"
+        | "--insecure"
+        | "--accept"
+        | "--check-extern"
+        | "--disable-external"
+        | "--recursion-level" => {
+            Some("no command fetches a link: only how it is written is checked")
         }
-        "--check" | "--gfm" | "--type" | "--list" => Some(
-            "this is an option of urlcheck-documents",
-        ),
+        "--check" => Some("check, lint and links check how links are written, and fetch none"),
+        "--list"
+        | "--type"
+        | "--gfm"
+        | "--git"
+        | "--no-empty"
+        | "--baseline"
+        | "--write-baseline" => Some("urlcheck-documents, which reads documents, has one"),
         "--strict" => Some("the standard profile is the strictest, and the one without --profile"),
         "--list-rules" | "--show-rules" | "--rules" => Some("urlcheck explain explains every rule"),
-        "--stdin" | "-" => Some("lint - reads standard input"),
+        "--base-url" => Some("--base URL is what relative links are resolved against"),
+        "--stdin" => Some("lint - reads standard input"),
         "--stdin-filename" | "--stdin-display-name" => {
             Some("lint --stdin-name NAME - names standard input")
         }

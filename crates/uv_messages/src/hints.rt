@@ -8,10 +8,12 @@ use std::io::ErrorKind;
 /// A hint at what was meant.
 #[derive(Clone, Copy, PartialEq, Eq)]
 pub enum Hint {
-    /// The first word is no command.
+    /// The first word isn't a command.
     NoCommand,
-    /// The first word is the name of an option.
+    /// The version is asked for by a word that isn't a command, or after a command.
     Version,
+    /// A word that is refused as an option looks like none.
+    NoOption,
     /// `check` is given a word too many.
     OneTextOfCheck,
     /// `mend` is.
@@ -43,7 +45,8 @@ impl Hint {
     pub fn text(self) -> &'static str {
         match self {
             Hint::NoCommand => "check TEXT checks one text, and lint FILE the lines of a file",
-            Hint::Version => "version is no command: write urlcheck --version",
+            Hint::Version => "urlcheck --version shows the version",
+            Hint::NoOption => "write -- before a word that begins with - and is no option",
             Hint::OneTextOfCheck => {
                 "check accepts one TEXT: put it in single quotes if it has spaces"
             }
@@ -71,7 +74,7 @@ impl Hint {
 }
 
 /// Pushes what is said of a refused text that was likely meant as something else, if it was: the first hint where it is
-/// `-`; and where there is no base and it looks like the name of a file the second, or that of a document.
+/// `-`; and if there is no base and it looks like the name of a file, the second one, or the one for a document.
 pub fn push_text_hint(
     alloc: Global,
     said: &mut Message,
@@ -96,8 +99,8 @@ pub fn push_text_hint(
     )
 }
 
-/// The hint after a file with this name that a lint couldn't read, if there is one: where it is a folder, and where
-/// there is no such file and its name looks like a link.
+/// The hint after a file with this name that a lint couldn't read, if there is one: where it is a folder, and if there
+/// is no such file and its name looks like a link.
 pub fn file_hint(name: &str, why: Option<ErrorKind>) -> Option<Hint> {
     match (why, name.split_once(':')) {
         (Some(ErrorKind::IsADirectory), _) => Some(Hint::Folder),

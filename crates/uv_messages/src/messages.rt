@@ -4,7 +4,7 @@ ghost use Rattle.uv_messages.specs.Messages.{IsSaid, message_line};
 
 use std::alloc::{AllocError, Global};
 use std::marker::Model;
-use uv_report::push_shown;
+use uv_sentences::push_shown;
 
 /// Lines that begin with the program's name, and have nothing that a terminal obeys; or nothing.
 #[derive(Drop)]

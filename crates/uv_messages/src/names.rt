@@ -2,7 +2,7 @@
 
 use std::alloc::{AllocError, Global};
 use strsim::osa_distance;
-use uv_words::arguments::without_hyphen;
+use uv_arguments::arguments::without_hyphen;
 
 /// The names of the commands, in the order of the help.
 pub(crate) const COMMANDS: [&str; 6] = ["check", "lint", "links", "mend", "vectors", "explain"];
@@ -23,8 +23,9 @@ pub(crate) fn longer_names<'n>(
     Ok(found)
 }
 
-/// The nearest of the names, where no more than a third of the word's letters, or one of a shorter word, have to be
-/// changed, taken away, added or swapped with the next one, whatever their case.
+/// The nearest of the names, if no more than a third of the word's letters, or one of a shorter word, have to be
+/// changed, taken away, added or swapped with the next one, whatever their case. Hyphens that an option begins with
+/// aren't letters.
 pub(crate) fn nearest<'n>(
     alloc: Global,
     word: &str,
@@ -32,7 +33,7 @@ pub(crate) fn nearest<'n>(
 ) -> Result<Option<&'n str>, AllocError> {
     let word = word.to_ascii_lowercase(alloc)?;
     let mut near = None;
-    let mut limit = (word.len() / 3).max(1) + 1;
+    let mut limit = (stem(word.as_str()).len() / 3).max(1) + 1;
     for name in names {
         let edits = osa_distance(alloc, word.as_str(), name)?;
         if edits < limit {
@@ -43,7 +44,7 @@ pub(crate) fn nearest<'n>(
     Ok(near)
 }
 
-/// The name that a word was likely meant as: the nearest one, and where none is near the only one that it abbreviates,
+/// The name that a word was likely meant as: the nearest one, and if none is near the only one that it abbreviates,
 /// whatever its case.
 pub(crate) fn meant<'n>(
     alloc: Global,

@@ -1,54 +1,89 @@
-//! Options that a command doesn't take: what is reported where it is given one of them.
+//! Options that a command doesn't take, and values of options: what is said where it is given one of them.
 
 use crate::habits::habit;
+use crate::hints::Hint;
 use crate::names::meant;
-use clap::error::ErrorKind;
 use std::alloc::{AllocError, Global};
+use uv_arguments::arguments::without_hyphen;
 
-/// The first word that is refused as an option that its command doesn't take: its name, without a value. The first of
-/// all words is the program's name, the second one the command.
-pub(crate) fn unknown_option<'w>(words: &[&'w str], kind: ErrorKind) -> Option<&'w str> {
-    match (words, kind) {
-        ([_, command, rest @ ..], ErrorKind::UnknownArgument) => {
-            if is_unknown(command, option_name(command)) {
-                return Some(option_name(command));
-            }
-            unknown_among(command, rest)
-        }
-        _ => None,
-    }
+// The long names of all options, in the order of the help.
+const NAMES: [&str; 14] = [
+    "--base",
+    "--all",
+    "--profile",
+    "--wide",
+    "--format",
+    "--columns",
+    "--located",
+    "--stdin-name",
+    "--color",
+    "--in-place",
+    "--only",
+    "--all-mended",
+    "--quiet",
+    "--url",
+];
+
+// The longest value that a hint repeats, in bytes.
+const MOST_SHOWN: usize = 64;
+
+/// An option that its command doesn't take.
+#[derive(Clone, Copy)]
+pub(crate) struct RefusedOption<'s, 'w> {
+    /// Its name, without a value.
+    name: &'s str,
+    /// The word that it is in.
+    word: &'w str,
 }
 
-// The same among the words after the command, of which those after `--` are no options.
-fn unknown_among<'w>(command: &str, words: &[&'w str]) -> Option<&'w str> {
+/// The option that these words are refused for, by what `clap` says of them, if they are refused for one. Words after
+/// `--` aren't options.
+pub(crate) fn refused_option<'s, 'w>(
+    words: &[&'w str],
+    said: &'s str,
+) -> Option<RefusedOption<'s, 'w>> {
+    let (_, named) = said.split_once("unexpected argument '")?;
+    let (name, _) = named.split_once("' found")?;
+    if !looks_like_option(name) {
+        return None;
+    }
     for word in words {
         if *word == "--" {
             return None;
         }
-        let name = option_name(word);
-        if is_unknown(command, name) {
-            return Some(name);
+        if is_in(name, word) {
+            return Some(RefusedOption { name, word });
         }
     }
     None
 }
 
+// Whether an option is in a word: by its long name, or by one of the letters after one hyphen.
+fn is_in(name: &str, word: &str) -> bool {
+    if name.starts_with("--") {
+        return before_value(word) == name;
+    }
+    looks_like_option(word) && !word.starts_with("--") && word.contains(without_hyphen(name))
+}
+
+/// Whether a word begins as an option does, and isn't `-` alone.
+pub(crate) fn looks_like_option(word: &str) -> bool {
+    matches!(word.as_bytes(), [b'-', _, ..])
+}
+
+// Whether a word may be an option: what is before its value, if it has one, has no other code points than names of
+// options have.
+fn may_be_option(word: &str) -> bool {
+    before_value(word).as_bytes().iter().all(|byte| byte.is_ascii_alphanumeric()
+        || b"-_".contains(byte))
+}
+
 // What is before the value of a word `--NAME=VALUE`, or the whole word.
-fn option_name<'w>(word: &'w str) -> &'w str {
+fn before_value(word: &str) -> &str {
     match word.split_once('=') {
         Some((name, _)) => name,
         None => word,
     }
-}
-
-// Whether a word looks like an option, and the command doesn't take it.
-fn is_unknown(command: &str, name: &str) -> bool {
-    looks_like_option(name) && !takers(name).contains(&command)
-}
-
-// Whether a word begins as an option does, and isn't `-` alone.
-fn looks_like_option(name: &str) -> bool {
-    matches!(name.as_bytes(), [b'-', _, ..])
 }
 
 // The commands that take the option with this name, in the order of the help.
@@ -56,7 +91,7 @@ fn takers(name: &str) -> &'static [&'static str] {
     match name {
         "--base" | "--profile" | "--wide" => &["check", "lint", "links", "mend"],
         "--all" => &["check", "lint"],
-        "--format" | "--columns" | "--located" | "--stdin-name" => &["lint"],
+        "--format" | "--columns" | "--located" | "--stdin-name" | "--color" => &["lint"],
         "--quiet" | "-q" => &["lint", "mend"],
         "--in-place" | "-i" | "--only" | "--all-mended" => &["mend"],
         "--url" => &["explain"],
@@ -64,45 +99,41 @@ fn takers(name: &str) -> &'static [&'static str] {
     }
 }
 
-// The names of what a command takes by name, in the order of the help.
-fn option_names(command: &str) -> &'static [&'static str] {
-    match command {
-        "check" => &["--base", "--all", "--profile", "--wide"],
-        "lint" => &[
-            "--base",
-            "--all",
-            "--profile",
-            "--wide",
-            "--format",
-            "--columns",
-            "--located",
-            "--stdin-name",
-            "--quiet",
-        ],
-        "links" => &["--base", "--profile", "--wide"],
-        "mend" => &[
-            "--base",
-            "--profile",
-            "--wide",
-            "--in-place",
-            "--only",
-            "--all-mended",
-            "--quiet",
-        ],
-        "explain" => &["--url"],
-        _ => &[],
-    }
+// Whether the word after the option with this name is its value.
+fn has_value(name: &str) -> bool {
+    matches!(
+        name,
+        "--base" | "--profile" | "--format" | "--columns" | "--stdin-name" | "--color" | "--only"
+    )
 }
 
-/// The hint at an option that a command doesn't take, if there is one: at the commands that take it, else at what to
-/// write in place of an option of another tool, else at the one of the command's own options that is likely meant.
+// The names of what a command takes by name, in the order of the help.
+fn names_of(alloc: Global, command: &str) -> Result<Vec<&'static str>, AllocError> {
+    let mut names = Vec::new(alloc);
+    for name in &NAMES {
+        if takers(name).contains(&command) {
+            names.push(*name)?;
+        }
+    }
+    Ok(names)
+}
+
+/// The hint at an option that a command doesn't take, if there is one: at `--`, which is before a text that looks like
+/// no option; at the commands that take it; or at what may have been meant.
 pub(crate) fn option_line(
     alloc: Global,
     command: &str,
-    name: &str,
+    option: RefusedOption<'_, '_>,
 ) -> Result<Option<String>, AllocError> {
+    if takes_texts(command) && !may_be_option(option.word) {
+        return Ok(Some(Hint::NoOption.text().to_string(alloc)?));
+    }
+    let name = option.name;
+    if matches!(name, "--version" | "-V") {
+        return Ok(Some(Hint::Version.text().to_string(alloc)?));
+    }
     let Some((last, others)) = takers(name).split_last() else {
-        return other_option_line(alloc, command, name);
+        return other_option_line(alloc, command, option);
     };
     let others = others.join(alloc, ", ")?;
     let and = if others.is_empty() { "" } else { " and " };
@@ -115,22 +146,57 @@ pub(crate) fn option_line(
     Ok(Some(line))
 }
 
+// Whether a command takes texts, which may begin as an option does.
+fn takes_texts(command: &str) -> bool {
+    matches!(command, "check" | "mend")
+}
+
 // The hint at an option that no command takes: at what other tools mean by it, or at the one of the command's own that
-// is likely meant.
+// is likely meant, which may be written with one hyphen.
 fn other_option_line(
     alloc: Global,
     command: &str,
-    name: &str,
+    option: RefusedOption<'_, '_>,
 ) -> Result<Option<String>, AllocError> {
-    if let Some(instead) = habit(name) {
-        let line = format!(in alloc; "there is no option {name}; {instead}")?;
-        return Ok(Some(line));
-    }
-    match meant(alloc, name, option_names(command))? {
-        Some(near) => {
-            let line = format!(in alloc; "{command} has no option {name}; the nearest is {near}")?;
+    let RefusedOption { name, word } = option;
+    let written = before_value(word);
+    let near = meant(alloc, written, names_of(alloc, command)?.as_slice())?;
+    match (habit(name), near) {
+        (Some(instead), near) if near.is_none() || written == name => {
+            Ok(Some(format!(in alloc; "there is no option {name}; {instead}")?))
+        }
+        (_, Some(near)) => {
+            let line = format!(in alloc;
+                "{command} has no option {written}; the nearest is {near}"
+            )?;
             Ok(Some(line))
         }
-        None => Ok(None),
+        _ => Ok(None),
     }
+}
+
+/// The hint where a command's text or file is missing, and its last word was taken as the value of an option, if it
+/// was.
+pub(crate) fn value_line(
+    alloc: Global,
+    command: &str,
+    words: &[&str],
+) -> Result<Option<String>, AllocError> {
+    let [.., option, value] = words else {
+        return Ok(None);
+    };
+    if !has_value(option) {
+        return Ok(None);
+    }
+    let value = if value.len() > MOST_SHOWN {
+        "the last word"
+    } else {
+        value
+    };
+    let missing = match command {
+        "lint" => "no FILE is named; - is standard input",
+        _ => "no TEXT is given",
+    };
+    let line = format!(in alloc; "{value} is the value of {option}, and {missing}")?;
+    Ok(Some(line))
 }

@@ -3,22 +3,28 @@
 use crate::hints::Hint;
 use crate::messages::Message;
 use crate::names::{COMMANDS, meant};
-use crate::options::{option_line, unknown_option};
+use crate::options::{looks_like_option, option_line, refused_option, value_line};
 use crate::unknown::unknown_line;
 use clap::error::ErrorKind;
 use std::alloc::{AllocError, Global};
 
 /// What is said of words that are refused, of which the first is the program's name: what `clap` says, and a hint at
-/// what was meant. Where that is a command or an option that is near, it is in place of `clap`'s tips.
+/// what was meant. Of `clap`'s tips it has those alone that are on no option, which they take for a text, and have no
+/// hint in their place.
 pub fn refused_words(
     alloc: Global,
     words: &[&str],
     error: &clap::Error,
 ) -> Result<Message, AllocError> {
+    let refusal = error.to_string(alloc)?;
     let command = command_of(words);
-    let option = unknown_option(words, error.kind());
-    let near = near_line(alloc, command, option, error.kind())?;
-    let mut said = of_clap(alloc, error.to_string(alloc)?.as_str(), near.is_some())?;
+    let option = refused_option(words, refusal.as_str());
+    let near = match (command, option) {
+        (Some(command), Some(option)) => option_line(alloc, command, option)?,
+        _ => near_line(alloc, command, words, error.kind())?,
+    };
+    let has_tips = option.is_none() && near.is_none();
+    let mut said = of_clap(alloc, refusal.as_str(), has_tips)?;
     if let Some(line) = near {
         said.push(alloc, line.as_str())?;
     } else if let (None, Some(hint)) = (
@@ -39,45 +45,45 @@ fn command_of<'w>(words: &[&'w str]) -> Option<&'w str> {
     }
 }
 
-// The lines of what `clap` says, but for those that are empty, and for its tips where there is a hint in their place.
-fn of_clap(alloc: Global, message: &str, has_hint: bool) -> Result<Message, AllocError> {
+// The lines of what `clap` says, but for those that are empty, with its tips or without them.
+fn of_clap(alloc: Global, message: &str, has_tips: bool) -> Result<Message, AllocError> {
     let mut said = Message::nothing(alloc);
     for line in message.lines() {
         let line = line.strip_prefix("error: ").unwrap_or(line);
-        if !line.is_empty() && !(has_hint && line.starts_with("  tip: ")) {
+        if !line.is_empty() && (has_tips || !line.starts_with("  tip: ")) {
             said.push(alloc, line)?;
         }
     }
     Ok(said)
 }
 
-// The line of the command or the option that is likely meant, if there is one.
+// The line of the command that is likely meant, or of the option whose value the last word is, if there is one.
 fn near_line(
     alloc: Global,
     command: Option<&str>,
-    option: Option<&str>,
+    words: &[&str],
     kind: ErrorKind,
 ) -> Result<Option<String>, AllocError> {
-    match (kind, command, option) {
-        (ErrorKind::InvalidSubcommand, Some("version"), _) => {
+    match (kind, command) {
+        (ErrorKind::InvalidSubcommand, Some("version")) => {
             Ok(Some(Hint::Version.text().to_string(alloc)?))
         }
-        (ErrorKind::InvalidSubcommand, Some(word), _) => {
+        (ErrorKind::InvalidSubcommand, Some(word)) => {
             match meant(alloc, word, &COMMANDS)? {
                 Some(near) => Ok(Some(unknown_line(alloc, "command", word, Some(near))?)),
                 None => Ok(None),
             }
         }
-        (_, Some(command), Some(option)) => option_line(alloc, command, option),
+        (ErrorKind::MissingRequiredArgument, Some(command)) => value_line(alloc, command, words),
         _ => Ok(None),
     }
 }
 
 // The hint where words of this command, with this last one, are refused for this reason, if there is one: of no
-// command; of `links`, `check` and `mend` with a word too many, whose last one doesn't look like an option; and of
-// `lint` without a file.
+// command; of `links` and `check` with a word too many, whose last one doesn't look like an option; and of `lint`
+// without a file.
 fn words_hint(command: Option<&str>, last: Option<&str>, kind: ErrorKind) -> Option<Hint> {
-    let is_word = matches!(last, Some(last) if !last.starts_with("-"));
+    let is_word = matches!(last, Some(last) if !looks_like_option(last));
     match (kind, command) {
         (ErrorKind::InvalidSubcommand, _) => Some(Hint::NoCommand),
         (ErrorKind::MissingRequiredArgument, Some("lint")) => Some(Hint::InputOfLint),

@@ -1,11 +1,14 @@
-//! Names that none has: of a rule, a format, a profile, a kind of mended texts or what columns count.
+//! Names that none has: of a rule, a format, a profile, a kind of mended texts, what columns count or when there are
+//! colours.
 
 use crate::explanations::is_explained;
 use crate::messages::Message;
 use crate::names::{longer_names, nearest};
 use std::alloc::{AllocError, Global};
+use uv_arguments::Colours;
 use uv_model::{MendKind, Profile, Rule};
-use uv_report::{Columns, Format, LineViolation, LocatedFault};
+use uv_report::{Columns, Format};
+use uv_sentences::{LineViolation, LocatedFault};
 
 // The formats in the order of docs and help.
 const FORMATS: [Format; 9] = [
@@ -59,6 +62,13 @@ pub fn unknown_unit(alloc: Global, name: &str) -> Result<Message, AllocError> {
     unknown(alloc, "column unit", &[name], names.as_slice())
 }
 
+/// What is said of a name that doesn't say when there are colours.
+pub fn unknown_colours(alloc: Global, name: &str) -> Result<Message, AllocError> {
+    let choices = Colours::in_order();
+    let names: Vec<&str> = choices.iter().map(|colours| colours.name()).collect(alloc)?;
+    unknown(alloc, "colour choice", &[name], names.as_slice())
+}
+
 /// What is said of what columns are to count where the format doesn't take it.
 pub fn refused_unit(alloc: Global, format: Format, name: &str) -> Result<Message, AllocError> {
     let mut names: Vec<&str> = Vec::new(alloc);
@@ -96,8 +106,8 @@ pub fn unknown_rules(alloc: Global, rules: &[String]) -> Result<Message, AllocEr
     unknown(alloc, "rule", none.as_slice(), names.as_slice())
 }
 
-// What is said of names that none has, by what is named: each with the nearest of the names, and where none is near
-// with those that begin so; and then the names that there are.
+// What is said of names that none has, by what is named: each with the nearest of the names, and if none is near with
+// those that begin so; and then the names that there are.
 fn unknown(
     alloc: Global,
     noun: &str,

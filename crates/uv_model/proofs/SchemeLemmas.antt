@@ -41,7 +41,7 @@ IsAscii-from_name (c ∷ rest) (d ∷ others) small e =
     let later : lowercase rest ≡ others = cc in
     IsAscii-cons c rest (ascii_code_point c d same first.0) (IsAscii-from_name rest others parts.1 later)
 
--- the test of the bytes is that of the code points
+-- the test gives the same on the bytes and on the code points
 pub same_by_bytes : (text name : List ℕ) (r : Bool) → IsUtf8 text → is_lowercase_ascii name ≡ true
     → ((r ≡ true) ↔ (lowercase text ≡ lowercase name)) → r ≡ bytes_eq (lowercase (chars text)) name
 same_by_bytes text name r utf8 small says =

@@ -40,7 +40,7 @@ is_followed cut = is_some cut.query || is_some cut.fragment
 abbrev pub ends_at_host : Cut → Bool
 ends_at_host cut = (length cut.path_text == 0) && not (is_some cut.port_text || is_followed cut)
 
--- the class of the cut's scheme, else of the base's, else Other
+-- the class of the cut's scheme, otherwise of the base's, otherwise Other
 abbrev pub class_in : Option Url → Option (List ℕ) → Class
 class_in base scheme = scheme_class (scheme_or base scheme)
 
@@ -64,7 +64,7 @@ written_cut cut = written_prefix cut ++ written_after number_sign cut.fragment
 
 -- ---- the places of the parts, each a number of code points before the part
 
--- of the authority, and of the path where there is no authority
+-- of the authority, and of the path if there is no authority
 abbrev pub scheme_end : Cut → ℕ
 scheme_end cut = length (written_scheme cut.scheme)
 
@@ -120,7 +120,7 @@ pub record EndsAtPort (host_text : List ℕ) (port_text : Option (List ℕ)) : T
   pub none_before : (prefix rest : List ℕ) → host_text ≡ prefix ++ colon ∷ rest → ends_within prefix ≡ true
   pub ends : IsSome port_text → ends_within host_text ≡ false
 
--- the host is the whole authority in class File, and else it ends at the `:` of a port
+-- the host is the whole authority in class File, and otherwise it ends at the `:` of a port
 abbrev pub IsHostCut : Class → List ℕ → Option (List ℕ) → Type 0
 IsHostCut File host_text port_text = port_text ≡ None
 IsHostCut _ host_text port_text = EndsAtPort host_text port_text
@@ -201,7 +201,7 @@ abbrev pub path_text_cut : List ℕ → List ℕ
 path_text_cut middle =
     if starts_with_two_slashes middle then drop (length (authority_in middle)) (drop 2 middle) else middle
 
--- the cut of what is before the query, beside a query and a fragment
+-- the cut of what is before the query, given a query and a fragment
 abbrev pub start_cut : Option Url → List ℕ → Option (List ℕ) → Option (List ℕ) → Cut
 start_cut base start query fragment =
     let class = class_in base (scheme_cut start) in

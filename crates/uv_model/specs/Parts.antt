@@ -13,8 +13,8 @@ pub data Form : Type 0 where
   PathRelative : Form
   NoPath : Form
 
--- The texts of the parts and the values that they denote. The host is that of a domain, an address or an empty host;
--- an opaque host has its text alone.
+-- The texts of the parts and the values that they denote. The host is a domain, an address or empty, with its value; an
+-- opaque host has only its text.
 pub record Parts : Type 0 where
   pub form : Form
   pub scheme : Option (List ℕ)

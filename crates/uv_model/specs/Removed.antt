@@ -18,7 +18,7 @@ removed_after p [] = None
 removed_after p (c ∷ rest) =
     if is_tab_or_newline c || (nat_le c 0x20 && are_controls rest) then Some p else removed_after (p + 1) rest
 
--- the least place from which the standard removes something, and none exactly where it removes nothing
+-- the least place from which the standard removes something, and none exactly when it removes nothing
 unfoldable pub first_removed : List ℕ → Option ℕ
 first_removed [] = None
 first_removed (c ∷ rest) = if is_tab_or_newline c || nat_le c 0x20 then Some 0 else removed_after 1 rest

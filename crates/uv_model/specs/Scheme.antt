@@ -40,7 +40,7 @@ abbrev pub special_schemes : List (List ℕ × ℕ)
 special_schemes =
     (codes "ftp", 21) ∷ (codes "http", 80) ∷ (codes "https", 443) ∷ (codes "ws", 80) ∷ (codes "wss", 443) ∷ []
 
--- the port beside the name in a table of schemes
+-- the port next to the name in a table of schemes
 abbrev pub port_beside : List ℕ → List (List ℕ × ℕ) → Option ℕ
 port_beside name [] = None
 port_beside name ((scheme, port) ∷ rest) = if bytes_eq name scheme then Some port else port_beside name rest

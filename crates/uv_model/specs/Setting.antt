@@ -6,7 +6,7 @@ use Rattle.uv_model.specs.declared.scheme.Class.{Class}
 use Rattle.uv_model.specs.Scheme.{scheme_class, default_port}
 use Rattle.uv_model.specs.Records.Url.{Url}
 
--- a scheme, else that of the base
+-- a scheme, otherwise the base's
 abbrev pub scheme_or : Option Url → Option (List ℕ) → List ℕ
 scheme_or base (Some scheme) = scheme
 scheme_or (Some url) None = url.scheme

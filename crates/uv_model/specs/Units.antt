@@ -43,7 +43,7 @@ pub record IsUnits (text : List ℕ) : Type 0 where
   pub each : list_all is_unit units ≡ true
   pub joined : text ≡ concat units
 
--- a code point with what follows it is no fault of units: it is a URL code point, or `%` before two hex digits
+-- a code point with what follows it isn't a fault of units: it is a URL code point, or `%` before two hex digits
 unfoldable pub is_unit_at : ℕ → List ℕ → Bool
 is_unit_at c rest = if c == percent_sign then starts_with_two_hex rest else is_url_code_point c
 

@@ -28,7 +28,7 @@ use Rattle.uv_model.specs.Parts.{PathRelative, NoPath, Parts, has_scheme, writte
 
 -- ---- hosts (section 3.4)
 
--- a valid host string: a domain, an IPv4 text, or an IPv6 text in brackets; by the parser's profile what the host
+-- a valid host string: a domain, an IPv4 text, or an IPv6 text in brackets; under the parser's profile what the host
 -- parser takes for a special URL
 abbrev pub IsHostText : Profile → List ℕ → Host → Type 0
 IsHostText profile text (Domain form) = IsDomain profile text form
@@ -72,7 +72,7 @@ is_default (Some default) port = port == default
 abbrev pub is_default_port : List ℕ → ℕ → Bool
 is_default_port scheme port = is_default (default_port scheme) port
 
--- the port that a port text gives beside a default port: none where it is empty, or denotes the default
+-- the port that a port text gives, given the scheme's default port: none where it is empty, or denotes the default
 abbrev pub port_given : Option ℕ → Option (List ℕ) → Option ℕ
 port_given default None = None
 port_given default (Some []) = None
@@ -119,7 +119,7 @@ pub record HasFileHost (profile : Profile) (host_text : List ℕ) (parts : Parts
   pub path : MayBePathAfter profile parts.segments parts.path_text
   pub no_drive : IsWithoutDrive profile parts.path_text
 
--- a path without a host before it; by the parser's profile there may be none
+-- a path without a host before it; under the parser's profile there may be none
 abbrev pub IsPathAlone : Profile → List (List ℕ) → List ℕ → Type 0
 IsPathAlone Parser segments text = MayBePathAfter Parser segments text
 IsPathAlone profile segments text = IsPathAfter profile segments text
@@ -148,7 +148,7 @@ FitsAuthority Other setting host_text parts = IsOtherAuthority setting host_text
 
 -- ---- the forms
 
--- the scheme of the text, else that of the base
+-- the scheme of the text, otherwise the base's
 abbrev pub scheme_in : Option Url → Parts → List ℕ
 scheme_in base parts = scheme_or base parts.scheme
 
@@ -175,7 +175,7 @@ pub record HasNoAuthority (parts : Parts) : Type 0 where
   pub port_text : parts.port_text ≡ None
   pub port : parts.port ≡ None
 
--- a path-relative string, also an empty one, which has no segments as an opaque path; by the parser's profile with
+-- a path-relative string, also an empty one, which has no segments as an opaque path; under the parser's profile with
 -- spaces too
 abbrev pub IsOpaquePath : Profile → Bool → List ℕ → Type 0
 IsOpaquePath Parser followed text = IsTakenSpacedPath followed text
@@ -204,7 +204,7 @@ FitsScheme true (Some scheme) = is_scheme scheme ≡ true
 FitsScheme true None = ⊥
 FitsScheme false scheme = scheme ≡ None
 
--- a text without a scheme has a base, which has a path of segments, or else the text is `#` and a fragment
+-- a text without a scheme has a base, which has a path of segments, or otherwise the text is `#` and a fragment
 abbrev pub FitsBase : Option Url → Parts → Type 0
 FitsBase None parts = IsSome parts.scheme
 FitsBase (Some base) parts =
@@ -216,12 +216,12 @@ abbrev pub MayBeUnits : Option (List ℕ) → Type 0
 MayBeUnits None = Unit {0}
 MayBeUnits (Some text) = IsUnits text
 
--- The parts of the parser's profile are those of the text's cut. By the other profiles they are so anyway.
+-- The parts of the parser's profile are those of the text's cut. Under the other profiles they are so anyway.
 abbrev pub FitsCut : Profile → Option Url → List ℕ → Parts → Type 0
 FitsCut Parser base text parts = IsCut base text (texts_of parts)
 FitsCut _ base text parts = Unit {0}
 
--- the text is valid by the profile, against the base, with these parts
+-- the text is valid under the profile, against the base, with these parts
 pub record Valid (profile : Profile) (base : Option Url) (text : List ℕ) (parts : Parts) : Type 0 where
   pub whole : text ≡ written parts
   pub cut : FitsCut profile base text parts

@@ -56,7 +56,7 @@ fn push_octet(text: &mut AddressText, number: u8)
     }
 }
 
-// ASCII bytes. Where a caller's number of them is fixed, they are written in a few instructions and without a call.
+// ASCII bytes. If a caller's number of them is fixed, they are written in a few instructions and without a call.
 #[tactic(auto, using(crate::proofs::Addresses::AddressTextLemmas::utf8_from_all))]
 #[inline(always)]
 fn push_ascii(text: &mut AddressText, bytes: &[u8])

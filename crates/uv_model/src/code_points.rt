@@ -3,7 +3,7 @@ ghost use Rattle.std.specs.Prelude.{◌≡◌, [], ◌∷◌, MatchOption, drop}
 ghost use Rattle.std.specs.Str.{chars};
 ghost use Rattle.uv_model.specs.Units as spec;
 
-/// The first code point of a text and the text after it, or `None` where the text is empty.
+/// The first code point of a text and the text after it, or `None` if the text is empty.
 pub fn first_code_point(text: &str) -> Option<(char, &str)>
     ensures { MatchOption result (chars text.now ≡ []) (λ first. chars text.now ≡ first.0 ∷ chars first.1.now) }
 {
@@ -14,7 +14,7 @@ pub fn first_code_point(text: &str) -> Option<(char, &str)>
     }
 }
 
-/// What is after so many code points of a text: nothing where it has no more.
+/// What is after so many code points of a text: nothing if it has no more.
 pub fn after_code_points(text: &str, count: usize) -> &str
     ensures { chars result.now ≡ drop count (chars text.now) }
 {

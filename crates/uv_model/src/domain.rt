@@ -6,8 +6,8 @@ ghost use Rattle.uv_model.specs.Hosts.Domain as spec;
 
 use crate::profile::Profile;
 
-/// Whether a code point is one of the marks that a domain of the profile may hold beside letters and digits: `-` and
-/// `.`, by the wide profile also `_`, and by the parser's all other ASCII code points that aren't forbidden.
+/// Whether a code point is one of the marks that a domain of the profile may hold besides letters and digits: `-` and
+/// `.`, under the wide profile also `_`, and by the parser's all other ASCII code points that aren't forbidden.
 pub fn is_domain_mark(c: char, profile: Profile) -> bool
     ensures { result ≡ spec.is_domain_mark profile c }
 {

@@ -10,7 +10,7 @@ ghost use Rattle.uv_model.specs.Laws.Wholes.{DenotedRecordsAreWellFormed, UnitsA
 ghost use Rattle.uv_model.specs.Laws.Wholes.{WideTextsAreParsers};
 ghost use Rattle.uv_model.specs.Records.WellFormed.{StandardRecordsAreWide, WideRecordsAreParsers};
 
-/// A text is a concatenation of URL units exactly where no code point of it is a fault of units.
+/// A text is a concatenation of URL units exactly when no code point of it is a fault of units.
 pub fn units_are_faultless()
     ensures { UnitsAreFaultless }
 {}
@@ -20,7 +20,7 @@ pub fn every_text_has_one_cut()
     ensures { EveryTextHasOneCut }
 {}
 
-/// A place of an authority is within brackets exactly where the nearest bracket before it is `[`.
+/// A place of an authority is within brackets exactly when the nearest bracket before it is `[`.
 pub fn nearest_brackets_decide()
     ensures { NearestBracketsDecide }
 {}
@@ -64,8 +64,8 @@ pub fn addresses_are_read_back()
     ensures { AddressesAreReadBack }
 {}
 
-/// The record that a valid text of any profile denotes, alone or against a base that is well formed by the same
-/// profile, is well formed by it (URL Standard, sections 4.1 and 4.3). Against any record it is well formed by the
+/// The record that a valid text of any profile denotes, alone or against a base that is well formed under the same
+/// profile, is well formed by it (URL Standard, sections 4.1 and 4.3). Against any record it is well formed under the
 /// parser's profile.
 pub fn denoted_records_are_well_formed()
     ensures { DenotedRecordsAreWellFormed }
@@ -73,7 +73,7 @@ pub fn denoted_records_are_well_formed()
 
 /// A valid text of the standard profile is one of the wide profile, alone or against the same base, with the same
 /// parts, and so it denotes the same record. A domain of the standard profile is one of the wide profile with the same
-/// form, and a record that is well formed by the standard profile is so by the wide profile.
+/// form, and a record that is well formed under the standard profile is so under the wide profile.
 pub fn standard_texts_are_wide()
     ensures texts { StandardTextsAreWide }
     ensures domains { StandardDomainsAreWide }
@@ -82,7 +82,7 @@ pub fn standard_texts_are_wide()
 
 /// A valid text of the wide profile is one of the parser's profile, alone or against the same base, with the same
 /// parts, and so it denotes the same record. A domain of the wide profile is one of the parser's profile with the same
-/// form, and a record that is well formed by the wide profile is so by the parser's profile.
+/// form, and a record that is well formed under the wide profile is so under the parser's profile.
 pub fn wide_texts_are_parsers()
     ensures texts { WideTextsAreParsers }
     ensures domains { WideDomainsAreParsers }

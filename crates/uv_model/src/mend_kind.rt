@@ -25,7 +25,7 @@ impl MendKind {
         }
     }
 
-    /// The kind with this name, or `None` where no kind has it.
+    /// The kind with this name, or `None` if no kind has it.
     pub fn of_name(name: &str) -> Option<MendKind>
         ensures { result ≡ named_kind name.now }
     {

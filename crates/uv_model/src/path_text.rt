@@ -66,7 +66,8 @@ impl PathText {
         Ok(made)
     }
 
-    /// The same of a string, without a copy where it begins with `/`.
+    /// The path of the segments of a path's text, which isn't copied where it begins with `/`. An error means that
+    /// memory ran out.
     pub fn of_string(alloc: Global, path: String) -> Result<PathText, AllocError>
         requires { IsAscii (string_bytes path) }
         ensures { IfOk result (λ made. made ≡ segments_of (string_bytes path)) }

@@ -8,7 +8,7 @@ ghost use Rattle.uv_model.specs.ProfileName.{named_profile, profile_name, profil
 #[derive(Clone, Copy, Debug, PartialEq, Eq)]
 pub enum Profile {
     /// The URL Standard's valid URL strings: a domain passes ToASCII and ToUnicode at the strict settings too, and a
-    /// path after an authority has an empty first segment only where it has no other.
+    /// path after an authority has an empty first segment only when it has no other.
     Standard,
     /// The standard profile's texts and more: a domain is checked by the URL parser's settings alone and may hold `_`,
     /// and a path after an authority is `/` and any segments.
@@ -38,7 +38,7 @@ impl Profile {
         }
     }
 
-    /// The profile with this name, or `None` where no profile has it.
+    /// The profile with this name, or `None` if no profile has it.
     pub fn of_name(name: &str) -> Option<Profile>
         ensures { result ≡ named_profile name.now }
     {

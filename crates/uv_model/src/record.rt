@@ -13,7 +13,7 @@ use std::alloc::{AllocError, Global};
 use std::borrow::CowStr;
 use std::marker::Model;
 
-/// A URL's record (URL Standard, section 4.1) without credentials. It is well formed by the parser's profile, and so
+/// A URL's record (URL Standard, section 4.1) without credentials. It is well formed under the parser's profile, and so
 /// may be one of any profile.
 #[derive(Debug, Drop)]
 pub struct Record {
@@ -54,7 +54,7 @@ impl Model for Record {
 }
 
 impl Record {
-    /// The record of these parts, without a copy. They have to be well formed by the parser's profile.
+    /// The record of these parts, without a copy. They have to be well formed under the parser's profile.
     pub fn make(
         scheme: String,
         host: Option<Host>,
@@ -85,7 +85,8 @@ impl Record {
         Record::make_with(CowStr::Owned(scheme), host, port, path, query, fragment)
     }
 
-    /// The same of texts, where the scheme may be a name that is in the program.
+    /// The record of these parts, without a copy, where the scheme may be a name that is in the program. They have to
+    /// be well formed under the parser's profile.
     #[inline(always)]
     pub fn make_with(
         scheme: CowStr<'static>,
@@ -159,7 +160,7 @@ impl Record {
         as_text(&self.query)
     }
 
-    /// The same as a text.
+    /// The query as a `Text`, without its `?`; it is absent where the URL has none.
     pub fn query_text(&self) -> Option<&Text>
         ensures { option_copied result ≡ self.now.query }
     {

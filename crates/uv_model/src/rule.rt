@@ -12,17 +12,17 @@ pub enum Rule {
     OpaqueBase,
     /// A special scheme and its `:` aren't followed by `//`.
     TwoSlashes,
-    /// The host is empty where one is needed.
+    /// The host is empty when one is needed.
     HostMissing,
-    /// The host is no valid domain.
+    /// The host isn't a valid domain.
     HostDomain,
     /// The host would be a valid domain, but ends in a number.
     HostNumber,
-    /// The host begins with `[` and is no bracketed IPv6 address.
+    /// The host begins with `[` and isn't a bracketed IPv6 address.
     HostIpv6,
     /// A code point that an opaque host can't hold.
     HostCodePoint,
-    /// A code point of the port that is no digit.
+    /// A code point of the port that isn't a digit.
     PortDigit,
     /// The port is above 65535.
     PortRange,
@@ -129,7 +129,7 @@ impl Rule {
         }
     }
 
-    /// The rule with this name, or `None` where no rule has it.
+    /// The rule with this name, or `None` if no rule has it.
     pub fn of_name(name: &str) -> Option<Rule>
         ensures search { result ≡ named_rule name.now }
         ensures exact { MatchOption result (IsNoName name.now) (λ rule. name.now ≡ rule_name rule) }

@@ -143,7 +143,7 @@ fn dot_prefix(path: &UrlPath) -> &'static str
     }
 }
 
-// The same before these segments.
+// `/.` before these segments, where they would begin with `//`, which would be read as an authority.
 fn dot_before(segments: ListedTexts<'_>) -> &'static str
     ensures { result.now ≡ serial_authority None None (Segments segments.entry) }
 {

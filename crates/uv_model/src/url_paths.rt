@@ -14,7 +14,7 @@ use crate::segments::{is_double_dot, is_single_dot};
 use crate::text::Text;
 use crate::text_list::ListedTexts;
 
-/// Whether a URL of this class with this host may have the path, by the profile.
+/// Whether a URL of this class with this host may have the path, under the profile.
 pub fn is_url_path(class: Class, host: Option<&Host>, path: &UrlPath, profile: Profile) -> bool
     ensures { IsTrue result ↔ IsUrlPath profile class (option_copied host.entry) path.now }
 {

@@ -15,8 +15,8 @@ use crate::scheme::{Class, class_of, default_port};
 use crate::url_hosts::is_url_host;
 use crate::url_paths::is_url_path;
 
-/// Whether these parts make a record that is well formed by the profile. Those that are by the wide one may be given to
-/// `Record::make`. A text that isn't ASCII makes none. It takes no memory.
+/// Whether these parts make a record that is well formed under the profile. Those that are by the wide one may be given
+/// to `Record::make`. A text that isn't ASCII makes none. It takes no memory.
 pub fn well_formed(
     scheme: &str,
     host: Option<&Host>,

@@ -1,4 +1,4 @@
--- Each text is valid by the parser's profile, or its run stops: part by part, with a scheme and without one.
+-- Each text is valid under the parser's profile, or its run stops: part by part, with a scheme and without one.
 pub mod CutTexts
 pub mod TailsDecided
 pub mod DecidedOpaque

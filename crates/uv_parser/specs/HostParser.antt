@@ -36,7 +36,7 @@ percent_decoded text =
     let bytes = percent_decode (encode_utf8_all text) in
     if is_utf8 bytes then Some (chars bytes) else None
 
--- the host of the ASCII form: an address where it ends in a number, else a domain
+-- the host of the ASCII form: an address where it ends in a number, otherwise a domain
 abbrev pub host_of_form : List ℕ → Option Host
 host_of_form form =
     if length form == 0 then None
@@ -67,7 +67,7 @@ abbrev pub DomainsAreParsed : Type 0
 DomainsAreParsed =
     (profile : Profile) (text form : List ℕ) → IsDomain profile text form → parse_host true text ≡ Some (Domain form)
 
--- the text of an IPv4 address by any profile is parsed, for a special URL, as the address of its value
+-- the text of an IPv4 address under any profile is parsed, for a special URL, as the address of its value
 abbrev pub Ipv4HostsAreParsed : Type 0
 Ipv4HostsAreParsed =
     (profile : Profile) (text : List ℕ) (value : ℕ) → IsIpv4Text profile text value

@@ -19,12 +19,12 @@ read_after (suc left) (c ∷ text) =
     (read_digits None text) in
     if c == full_stop then further else None
 
--- the numbers of the text, or none where the parser stops
+-- the numbers of the text, or none if the parser stops
 unfoldable pub read_numbers : List ℕ → Option (List ℕ)
 read_numbers text =
     option_and_then (λ (n, rest). option_map (λ numbers. n ∷ numbers) (read_after 3 rest)) (read_digits None text)
 
--- the value of the text, or none where the parser stops
+-- the value of the text, or none if the parser stops
 unfoldable pub parse_ipv4 : List ℕ → Option ℕ
 parse_ipv4 text = option_map numbers_value (read_numbers text)
 

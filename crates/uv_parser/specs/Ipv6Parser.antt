@@ -29,7 +29,7 @@ abbrev pub finished : Option ℕ → List ℕ → Option (ℕ × List ℕ)
 finished None text = None
 finished (Some n) text = Some (n, text)
 
--- digits one by one into the number, up to a code point that is no digit
+-- digits one by one into the number, up to a code point that isn't a digit
 unfoldable pub read_digits : Option ℕ → List ℕ → Option (ℕ × List ℕ)
 read_digits number [] = finished number []
 read_digits number (c ∷ text) =
@@ -90,12 +90,12 @@ move zero i compress pieces = pieces
 move (suc swaps) i compress pieces =
     if i == 0 then pieces else move swaps (i - 1) compress (swap i (compress + swaps) pieces)
 
--- after the loop: swaps where compress is set, and else eight pieces or a failure
+-- after the loop: swaps where compress is set, and otherwise eight pieces or a failure
 abbrev pub finish : List ℕ × ℕ × Option ℕ → Option (List ℕ)
 finish (pieces, i, None) = if i == 8 then Some pieces else None
 finish (pieces, i, Some compress) = Some (move (i - compress) 7 compress pieces)
 
--- the eight pieces of the text, or none where the parser fails; `:` at its start has to be `::`
+-- the eight pieces of the text, or none if the parser fails; `:` at its start has to be `::`
 unfoldable pub parse_ipv6 : List ℕ → Option (List ℕ)
 parse_ipv6 text =
     let zeros = replicate 8 0 in

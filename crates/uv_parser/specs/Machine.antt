@@ -47,7 +47,7 @@ pub data State : Type 0 where
   QueryState : State
   FragmentState : State
 
--- the parser's variables beside its state and its pointer
+-- the parser's variables besides its state and its pointer
 pub record Variables : Type 0 where
   pub buffer : List ℕ
   pub in_brackets : Bool
@@ -242,7 +242,7 @@ scheme_row base p v (c ∷ rest) =
 abbrev pub with_opaque_base : Url → Variables → Variables
 with_opaque_base base v = with_query base.query (with_path base.path (with_scheme base.scheme v))
 
--- No base, or one with an opaque path where no `#` comes, stops. An opaque base hands on scheme, path and query to the
+-- No base, or one with an opaque path if no `#` comes, stops. An opaque base hands on scheme, path and query to the
 -- fragment. Any other base leads to the relative state or, of scheme file, to the file state.
 abbrev pub no_scheme_row : Option Url → Variables → List ℕ → Turn
 no_scheme_row None v rest = stop
@@ -264,8 +264,8 @@ path_or_authority_row v rest = if begins slash rest then onward AuthorityState v
 abbrev pub with_base : Url → Variables → Variables
 with_base base v = with_query base.query (with_path base.path (with_base_host base v))
 
--- `/` leads to the relative slash state. Else host, port, path and query are the base's: `?` and
--- `#` begin anew from there, the end is done, and another code point drops the query and the path's last segment.
+-- `/` leads to the relative slash state. Else host, port, path and query are the base's: `?` and `#` begin again from
+-- there, the end is done, and another code point drops the query and the path's last segment.
 abbrev pub relative_at : Url → Variables → AtPointer → Turn
 relative_at base v slash_mark = onward RelativeSlashState v
 relative_at base v query_mark = to_query (with_base base v)
@@ -377,8 +377,8 @@ file_slash_row base v rest = if begins slash rest then onward FileHostState v el
     without_host None = again PathState v
     without_host (Some url) = again PathState (with_kept_drive (list_in url.path) rest (with_host url.host v))
 
--- `\` stops. A delimiter ends the host, which is no drive letter, and may be empty, and `localhost` is the empty host:
--- path start state, again. Any other code point goes into the buffer.
+-- `\` stops. A delimiter ends the host, which isn't a drive letter, and may be empty, and `localhost` is the empty
+-- host: path start state, again. Any other code point goes into the buffer.
 abbrev pub file_host_at : Variables → AtPointer → Turn
 file_host_at v (another c) = if c == backslash then stop else onward FileHostState (put c v)
 file_host_at v _ =
@@ -397,8 +397,8 @@ path_start_at false v fragment_mark = to_fragment v
 path_start_at false v end = onward PathStartState v
 path_start_at false v (another c) = again PathState v
 
--- The buffer is a segment. A double-dot segment shortens the path, and a single-dot segment adds nothing; either
--- leaves an empty segment where no `/` follows. Any other is added.
+-- The buffer is a segment. A double-dot segment shortens the path, and a single-dot segment adds nothing; either leaves
+-- an empty segment if no `/` follows. Any other is added.
 abbrev pub segment_ended : Bool → Variables → Variables
 segment_ended slash_follows v =
     if is_double_dot v.buffer
@@ -438,8 +438,8 @@ begins_tail rest = begins question_mark rest || begins number_sign rest
 abbrev pub opaque_space : List ℕ → List ℕ
 opaque_space rest = if begins_tail rest then codes "%20" else space ∷ []
 
--- `?` and `#` begin query and fragment, and the end is done. A space goes to the path, as `%20` where `?` or `#`
--- follows it. Any other code point, encoded, goes to the path.
+-- `?` and `#` begin query and fragment, and the end is done. A space goes to the path, as `%20` if `?` or `#` follows
+-- it. Any other code point, encoded, goes to the path.
 abbrev pub opaque_path_at : Variables → List ℕ → AtPointer → Turn
 opaque_path_at v rest query_mark = to_query v
 opaque_path_at v rest fragment_mark = to_fragment v

@@ -21,11 +21,11 @@ ghost use Rattle.uv_parser.specs.Rows.References.{ReferenceRows};
 ghost use Rattle.uv_parser.specs.Rows.Special.{SpecialRows};
 ghost use Rattle.uv_parser.specs.Laws.DecidedTexts.{TextsAreDecided};
 
-/// The run of the parser machine on a text, alone or against a base that is well formed by the parser's profile, is
-/// done, with the URL that the parts denote, exactly where the text is valid by the parser's profile with parts, and
-/// else it stops; within the bound on its steps. ToASCII is the definition of the crate `idna`, which gives nothing
-/// above limits of its own: 1,000 code points of a label beyond ASCII, and 2,000 bytes of a label's Punycode. There the
-/// machine stops, where the standard's parser may be silent.
+/// The run of the parser machine on a text, alone or against a base that is well formed under the parser's profile, is
+/// done, with the URL that the parts denote, exactly when the text is valid under the parser's profile with parts, and
+/// otherwise it stops; within the bound on its steps. ToASCII is the definition of the crate `idna`, which gives
+/// nothing above limits of its own: 1,000 code points of a label beyond ASCII, and 2,000 bytes of a label's Punycode.
+/// There the machine stops, where the standard's parser may be silent.
 pub fn texts_are_decided()
     ensures { TextsAreDecided }
 {}
@@ -63,8 +63,8 @@ pub fn domains_are_parsed()
     ensures { DomainsAreParsed }
 {}
 
-/// For a special URL the host parser makes of every text of an IPv4 address by any profile the address of exactly its
-/// value (URL Standard, section 3.5).
+/// For a special URL the host parser makes of every text of an IPv4 address under any profile the address of exactly
+/// its value (URL Standard, section 3.5).
 pub fn ipv4_hosts_are_parsed()
     ensures { Ipv4HostsAreParsed }
 {}
@@ -146,9 +146,9 @@ pub fn reference_matrix_rows()
     ensures { ReferenceMatrixRows }
 {}
 
-/// Texts that the parser's profile takes, most of them refused by the standard profile, and texts that it refuses too:
-/// what the parser machine does on them, and that they are valid, with parts that denote the machine's URL, or have no
-/// valid parts (URL Standard, sections 3.5 and 4.4).
+/// Texts that the parser's profile takes, most of them refused under the standard profile, and texts that it refuses
+/// too: what the parser machine does on them, and that they are valid, with parts that denote the machine's URL, or
+/// have no valid parts (URL Standard, sections 3.5 and 4.4).
 pub fn parser_profile_rows()
     ensures { ParserProfileRows }
 {}

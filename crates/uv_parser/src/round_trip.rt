@@ -2,16 +2,16 @@
 //! nothing: the law is its clause.
 ghost use Rattle.uv_parser.specs.Laws.RoundTrip.{DenotedUrlsAreReadBack, ParsedUrlsAreReadBack, StableUrlsAreReadBack};
 
-/// Of the serialized text of every stable URL that is well formed by the parser's profile the parser, without a base,
-/// makes exactly that URL, within the bound on its steps and without a validation error (URL Standard, sections 4.1,
+/// The parser, without a base, makes of the serialized text of every stable URL that is well formed under the parser's
+/// profile exactly that URL, within the bound on its steps and without a validation error (URL Standard, sections 4.1,
 /// 4.4 and 4.5). A URL is stable where the host parser makes of its domain itself: `xn--a` is no such domain.
 pub fn stable_urls_are_read_back()
     ensures { StableUrlsAreReadBack }
 {}
 
-/// The URL that the parser makes of a text without a validation error, alone or against a base that is well formed by
-/// the parser's profile, is well formed by that profile; it is stable where the base is, and so the parser makes of its
-/// serialized text that URL again (URL Standard, sections 4.4 and 4.5).
+/// The URL that the parser makes of a text without a validation error, alone or against a base that is well formed
+/// under the parser's profile, is well formed by that profile; it is stable where the base is, and so the parser makes
+/// of its serialized text that URL again (URL Standard, sections 4.4 and 4.5).
 pub fn parsed_urls_are_read_back()
     ensures { ParsedUrlsAreReadBack }
 {}

@@ -13,9 +13,9 @@ pub fn runs_keep_their_end()
     ensures { RunsKeepTheirEnd }
 {}
 
-/// Within any number of steps from `2n + 5` on the run of a text, alone or against a base that is well formed by the
-/// parser's profile, is done, with the URL that the parts denote, exactly where the text is valid by the parser's
-/// profile with parts, and else it has stopped.
+/// Within any number of steps from `2n + 5` on the run of a text, alone or against a base that is well formed under the
+/// parser's profile, is done, with the URL that the parts denote, exactly when the text is valid under the parser's
+/// profile with parts, and otherwise it has stopped.
 pub fn texts_are_decided_soon()
     ensures { TextsAreDecidedSoon }
 {}

@@ -94,7 +94,7 @@ next_is_mark columns start text rest c mark next is first place column after =
           ∙ ap (λ n. drop n (chars text)) (sym place)));
     }
 
--- the mark of the text's end is that of each place after it
+-- each place after the text's end has the mark of the end
 pub end_tells : (columns : Columns) (start : ℕ) (text : List ℕ) (place : ℕ) (mark : Mark)
     → IsMark columns start text mark → chars mark.rest.now ≡ [] → mark.place ≤ place
     → Tells columns start text place mark

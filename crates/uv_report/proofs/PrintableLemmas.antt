@@ -1,37 +1,22 @@
--- Printable ASCII is shown as it is, and takes a column of a screen for each byte.
-use Rattle.std.proofs.Common.{◌≡◌, ◌∙◌, ◌==◌, ℕ, zero, suc, ◌<◌, true, false, List, [], ◌∷◌, ◌++◌, Some, ap, arith}
-use Rattle.std.proofs.Common.{codes, drop, encode_utf8, flat_map, if◌then◌else◌, length, refl, replicate, take}
-use Rattle.std.proofs.Common.{take_at, unwrap_or}
+-- Printable ASCII takes a column of a screen for each byte.
+use Rattle.std.proofs.Common.{◌≡◌, ◌∙◌, ◌==◌, ℕ, zero, suc, true, false, List, [], ◌∷◌, ◌++◌, Some, ap, arith, codes}
+use Rattle.std.proofs.Common.{drop, if◌then◌else◌, length, refl, replicate, take, take_at, unwrap_or}
 use Rattle.std.specs.List.{list_all}
-use Rattle.std.specs.Str.{IsAscii, chars}
+use Rattle.std.specs.Str.{chars}
 use Rattle.std.proofs.lemmas.Bool.{and_parts}
 use Rattle.std.proofs.lemmas.Bool.Decides.{nat_tests}
-use Rattle.std.proofs.lemmas.Str.{chars-IsAscii, encode_ascii}
-use Rattle.std.proofs.lemmas.Str.Ascii.{IsAscii-cons, IsAscii-nil}
 use Rattle.unicode_width.specs.Width.{char_width}
-use Rattle.uv_report.specs.declared.escaping.escapes.Escapes.TheVariants.{Shown}
 use Rattle.uv_report.specs.Formats.Caret.{below, padding}
 use Rattle.uv_report.specs.Places.Column.{shown_width}
-use Rattle.uv_report.specs.Escaping.Escapes.{escape, escaped, is_hidden, replacement, shown_text}
-use Rattle.uv_report.specs.Escaping.Printable.{is_printable}
-use Rattle.uv_report.proofs.PlaceLemmas.{chars_of_ascii}
+use Rattle.uv_sentences.specs.Escaping.Printable.{is_printable}
+use Rattle.uv_sentences.proofs.PlaceLemmas.{chars_of_ascii}
+use Rattle.uv_sentences.proofs.PrintableLemmas.{ascii, seen}
 
 -- ---- a byte
-
-small : (c : ℕ) → is_printable c ≡ true → c < 128
-small c is = grind (arith, nat_tests)
-
-seen : (c : ℕ) → is_printable c ≡ true → is_hidden c ≡ false
-seen c is = grind (arith, nat_tests)
 
 narrow : (c : ℕ) → is_printable c ≡ true → char_width false c ≡ Some 1
 unfolding char_width
 narrow c is = grind (arith, nat_tests)
-
--- it is shown as it is
-stays : (c : ℕ) → is_printable c ≡ true → escape Shown c ≡ c ∷ []
-stays c is =
-    ap (λ hidden. if hidden then replacement else encode_utf8 c) (seen c is) ∙ encode_ascii c (small c is)
 
 -- a space is below it
 space_below : (c : ℕ) → is_printable c ≡ true → below c ≡ 32 ∷ []
@@ -43,23 +28,6 @@ space_below c is =
     ∙ ap (λ width. replicate (unwrap_or width 0) 32) (narrow c is)
 
 -- ---- a text
-
-pub ascii : (text : List ℕ) → list_all is_printable text ≡ true → IsAscii text
-ascii [] are = IsAscii-nil
-ascii (b ∷ rest) are =
-    let parts = and_parts (is_printable b) (list_all is_printable rest) are in
-    IsAscii-cons b rest (small b parts.0) (ascii rest parts.1)
-
-each_stays : (text : List ℕ) → list_all is_printable text ≡ true → flat_map (escape Shown) text ≡ text
-each_stays [] are = refl
-each_stays (b ∷ rest) are =
-    let parts = and_parts (is_printable b) (list_all is_printable rest) are in
-    λ i. stays b parts.0 i ++ each_stays rest parts.1 i
-
--- it is shown as it is
-pub shown_whole : (text : List ℕ) → list_all is_printable text ≡ true → shown_text text ≡ text
-unfolding escaped
-shown_whole text are = ap (flat_map (escape Shown)) (chars-IsAscii text (ascii text are)) ∙ each_stays text are
 
 spaces_below : (text : List ℕ) → list_all is_printable text ≡ true → padding text ≡ replicate (length text) 32
 spaces_below [] are = refl

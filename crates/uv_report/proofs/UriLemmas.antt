@@ -1,4 +1,4 @@
--- The set of bytes that the code hands to the library is that of the bytes that a path can't hold as they are.
+-- The set that the code hands to the library has the bytes that a path can't hold as they are.
 use Rattle.std.proofs.Common.{◌≡◌, ℕ, ◌<◌, ◌≤◌, Bool, true, false, not, List, [], ◌∷◌, ◌++◌}
 use Rattle.std.proofs.Common.{All, refl, ap, inl, inr, arith, lt-ltb, le-ltb, ne_eqb}
 use Rattle.std.specs.Prelude.{if◌then◌else◌, ◌≢◌, Option, Some, None, MatchOption, option_map}
@@ -8,8 +8,8 @@ use Rattle.std.proofs.lemmas.Bool.Decides.{nat_tests}
 use Rattle.std.proofs.lemmas.List.Elements.{All-head, All-tail}
 use Rattle.percent_encoding.specs.AsciiSet.{contains, should_percent_encode}
 use Rattle.percent_encoding.specs.Percent.{percent_encode_byte, encode_byte, percent_encode}
-use Rattle.uv_report.specs.declared.escaping.uri.TheConstants.{ESCAPED}
-use Rattle.uv_report.specs.Escaping.Uri.{after_slash, stays, uri_byte, uri_part}
+use Rattle.uv_report.specs.declared.formats.uri.TheConstants.{ESCAPED}
+use Rattle.uv_report.specs.Formats.Uri.{after_slash, stays, uri_byte, uri_part}
 
 -- below 128 the set holds just the bytes that don't stay
 escaped-ascii : (b : ℕ) → b < 128 → contains ESCAPED b ≡ not (stays b)

@@ -1,12 +1,11 @@
 -- A diagnostic as data: where something is wrong in a file, by which rule, what is said of it, and what to write there.
-use Rattle.std.specs.Prelude.{◌≡◌, ℕ, ◌==◌, Bool, List, ◌++◌, codes, Option, Some, None, if◌then◌else◌, length}
+use Rattle.std.specs.Prelude.{ℕ, ◌==◌, Bool, List, ◌++◌, codes, Option, Some, None, if◌then◌else◌, length}
 use Rattle.std.specs.Prelude.{option_map}
 use Rattle.uv_model.specs.declared.mend_kind.MendKind.{MendKind}
 use Rattle.uv_report.specs.declared.diagnostic.Diagnostic.{Diagnostic}
 use Rattle.uv_report.specs.declared.diagnostic.Fix.{Fix}
 use Rattle.uv_report.specs.declared.diagnostic.Region.{Region}
-use Rattle.uv_report.specs.Escaping.Escapes.{shown_text}
-use Rattle.uv_report.specs.Places.Window.{carried}
+use Rattle.uv_sentences.specs.Places.Window.{carried}
 
 -- what to write in place of a text: where that is, if a program may write there, how it is to that, and whether it is
 -- offered
@@ -59,10 +58,6 @@ edit_view edit = (edit.0, fix_view edit.1)
 
 -- ---- what is made of them
 
--- a message: what a terminal may be shown of some text, so it is one line
-abbrev pub IsMessage : List ℕ → Type 0
-IsMessage message = (text : List ℕ) × (message ≡ shown_text text)
-
 -- a message, and after it within what that is
 abbrev pub told : List ℕ → List ℕ → List ℕ
 told message within = if length within == 0 then message else message ++ (codes ", in " ++ within)
@@ -75,7 +70,7 @@ carried_text diagnostic = carried diagnostic.text diagnostic.place
 abbrev pub edit_at : FixView → Option (Region × FixView)
 edit_at fix = option_map (λ region. (region, fix)) fix.region
 
--- the same of what is offered
+-- what to write, and where, if that is offered and a program may write there
 abbrev pub edit_of : Option FixView → Option (Region × FixView)
 edit_of None = None
 edit_of (Some fix) = if fix.is_offered then edit_at fix else None

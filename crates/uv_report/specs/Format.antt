@@ -38,7 +38,7 @@ takes_columns Rdjson Bytes = true
 takes_columns Rdjson _ = false
 takes_columns _ columns = true
 
--- what columns count where nothing else is said
+-- what columns count if nothing else is said
 abbrev pub own_columns : Format → Columns
 own_columns Rdjson = Bytes
 own_columns _ = CodePoints

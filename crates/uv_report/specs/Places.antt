@@ -1,5 +1,3 @@
--- The places of a text: their columns, and what is shown round one of them.
+-- The places of a text: their columns.
 pub mod Column
 pub mod ColumnCounter
-pub mod Window
-pub mod SeenText

@@ -2,13 +2,12 @@
 ghost use Rattle.std.specs.Cow.{cow_str_bytes};
 ghost use Rattle.std.specs.Prelude.{◌≡◌, ◌++◌, IfOk, codes, option_map, string_bytes};
 ghost use Rattle.uv_report.specs.Diagnostic as spec;
-ghost use Rattle.uv_report.specs.Places.Window as shown;
+ghost use Rattle.uv_sentences.specs.Places.Window as shown;
 
-use crate::places::seen_text::SeenText;
-use crate::places::window::carried;
 use std::alloc::{AllocError, Global};
 use std::borrow::CowStr;
 use uv_model::MendKind;
+use uv_sentences::{SeenText, carried};
 
 /// Where something is in a file. Lines and columns are from 1. C hands it over as it is.
 #[repr(C)]
@@ -52,7 +51,7 @@ pub struct Diagnostic<'a> {
     pub message: &'a str,
     /// Where in the file it is besides, or nothing.
     pub within: &'a str,
-    /// The text, without the line's end. Where it isn't UTF-8, U+FFFD stands for what can't be read.
+    /// The text, without the line's end. If it isn't UTF-8, U+FFFD stands for what can't be read.
     pub text: &'a SeenText<'a>,
     /// The place at which it is wrong, in code points from 0.
     pub place: usize,
@@ -100,7 +99,7 @@ impl<'a> Diagnostic<'a> {
 }
 
 impl<'a> Fix<'a> {
-    // The same with where it may be written.
+    // What to write in place of the text, and where, if a program may write there.
     fn edit(self) -> Option<(Region, Fix<'a>)>
         ensures { option_map spec.edit_view result ≡ spec.edit_at (spec.fix_view self.entry) }
     {

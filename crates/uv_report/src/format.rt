@@ -10,9 +10,9 @@ use crate::places::column::Columns;
 pub enum Format {
     /// A line for each diagnostic, as compilers write it.
     Gnu,
-    /// The same, with the file's line and a caret below the place.
+    /// A line for each diagnostic, as compilers write it, with the file's line and a caret below the place.
     Caret,
-    /// An object of JSON for each diagnostic, one a line.
+    /// A JSON object per diagnostic, one per line.
     Json,
     /// Workflow commands of GitHub.
     Github,
@@ -58,7 +58,7 @@ impl Format {
         }
     }
 
-    /// The format with this name, or `None` where no format has it.
+    /// The format with this name, or `None` if no format has it.
     pub fn of_name(name: &str) -> Option<Format>
         ensures { result ≡ named_format name.now }
     {
@@ -88,7 +88,7 @@ impl Format {
         }
     }
 
-    /// What columns count in the format where nothing else is said: code points, and in reviewdog's bytes.
+    /// What columns count in the format if nothing else is said: code points, and in reviewdog's bytes.
     pub fn own_columns(self) -> Columns
         ensures { result ≡ own_columns self }
     {

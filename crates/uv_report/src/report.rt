@@ -20,7 +20,7 @@ use crate::formats::sarif::{push_sarif, push_sarif_begin, sarif_end};
 use crate::places::column::Columns;
 use std::alloc::{AllocError, Global};
 
-/// Pushes what a report begins with. In SARIF that says what columns count, where SARIF has a word for it. Where an
+/// Pushes what a report begins with. In SARIF that says what columns count, where SARIF has a word for it. If an
 /// allocation fails, the text stays as it was.
 pub fn push_begin(
     alloc: Global,
@@ -56,8 +56,7 @@ fn begin_of(alloc: Global, format: Format, columns: Columns) -> Result<String, A
 }
 
 /// Pushes what is before the diagnostics of a file: a start tag in the formats of Checkstyle and JUnit, with a test
-/// that passes in the latter, and nothing in another.
-/// Where an allocation fails, the text stays as it was.
+/// that passes in the latter, and nothing in another. If an allocation fails, the text stays as it was.
 pub fn push_file_begin(
     alloc: Global,
     text: &mut String,
@@ -90,10 +89,10 @@ fn file_begin_of(alloc: Global, format: Format, file: &str) -> Result<String, Al
     Ok(begin)
 }
 
-/// Pushes a diagnostic. In SARIF and in the formats of GitLab and reviewdog a comma is before each but the first
-/// one of the report. Where an allocation fails, the text stays as it was. Several diagnostics on one text take no more
-/// time than the text and what is written of it, where they come in the order of their places, and the text is led to
-/// each place before.
+/// Pushes a diagnostic. In SARIF and in the formats of GitLab and reviewdog a comma is before each but the first one of
+/// the report. If an allocation fails, the text stays as it was. Several diagnostics on one text take no more time than
+/// the text and what is written of it, where they come in the order of their places, and the text is led to each place
+/// before.
 pub fn push(
     alloc: Global,
     text: &mut String,
@@ -154,8 +153,8 @@ fn push_told(
     }
 }
 
-/// Pushes what is after the diagnostics of a file: an end tag in the formats of Checkstyle and JUnit, and nothing
-/// in another. Where an allocation fails, the text stays as it was.
+/// Pushes what is after the diagnostics of a file: an end tag in the formats of Checkstyle and JUnit, and nothing in
+/// another. If an allocation fails, the text stays as it was.
 pub fn push_file_end(text: &mut String, format: Format) -> Result<(), AllocError>
     ensures ok { OnOk result (string_bytes text.new ≡ string_bytes text.old ++ file_end_text format) }
     ensures err { OnErr result (string_bytes text.new ≡ string_bytes text.old) }

@@ -1,25 +1,16 @@
 -- Paths of which a walk keeps each segment: encoded at once they are their encoded segments, and ASCII stays as it is.
-use Rattle.std.proofs.Common.{◌≡◌, ℕ, ◌<◌, ◌==◌, false, true, List, [], ◌∷◌, ◌++◌, refl, sym, ap, ◌∙◌, subst}
-use Rattle.std.proofs.Common.{append-nil, arith, inl, inr}
-use Rattle.std.specs.Char.{is_ascii}
-use Rattle.uv_model.specs.declared.scheme.Class.{Class}
+use Rattle.std.proofs.Common.{◌≡◌, ℕ, false, true, List, [], ◌∷◌, ◌++◌, refl, sym, ap, ◌∙◌}
+use Rattle.std.proofs.Common.{append-nil}
 use Rattle.std.specs.List.{list_all}
-use Rattle.std.specs.Str.{IsAscii, chars}
-use Rattle.std.proofs.lemmas.Str.{IsAscii-drop, chars-IsAscii}
-use Rattle.std.proofs.lemmas.Bool.Decides.{nat_tests}
-use Rattle.std.proofs.lemmas.Bool.{and_from, and_parts, cases_Bool}
+use Rattle.std.proofs.lemmas.Bool.{and_from, and_parts}
 use Rattle.uv_model.specs.Ascii.{slash}
 use Rattle.uv_model.specs.Encoding.{encoded}
-use Rattle.uv_model.specs.Parts.{Form}
-use Rattle.uv_model.specs.Path.{is_without, pieces, segments_after, segments_of, walk}
+use Rattle.uv_model.specs.Path.{is_without, pieces, segments_after}
 use Rattle.uv_model.specs.Records.Serialize.{serial_segments}
 use Rattle.uv_model.proofs.Paths.PathTexts.{pieces-append, pieces-one, pieces-serial}
 use Rattle.uv_model.proofs.Records.WellFormedLemmas.{no_slash-encoded}
-use Rattle.uv_model.proofs.Texts.EncodingLemmas.{encoded_code_point-kept}
-use Rattle.uv_resolve.specs.Kept.{has_no_dots}
-use Rattle.uv_resolve.specs.Walk.{IsKeptPath, IsSegmented}
-use Rattle.uv_resolve.proofs.KeptPathLemmas.{encoded_each, kept-segments, serial_segments-encoded, walk-encoded}
-use Rattle.uv_resolve.proofs.PathTextLemmas.{second, unslashed_pieces}
+use Rattle.uv_resolve.proofs.KeptPathLemmas.{encoded_each, serial_segments-encoded}
+use Rattle.uv_resolve.proofs.PathTextLemmas.{unslashed_pieces}
 
 -- segments without `/` are after each `/` of what they are written as
 segments-serial : (segments : List (List ℕ)) → list_all (is_without slash) segments ≡ true
@@ -42,7 +33,7 @@ unslashed-encoded (segment ∷ rest) none =
     let each = and_parts (is_without slash segment) (list_all (is_without slash) rest) none in
     and_from _ _ (no_slash-encoded false segment each.0) (unslashed-encoded rest each.1)
 
--- the encoded texts between the slashes of a text are those of the encoded text
+-- the encoded texts between the slashes of a text are the texts between the slashes of the encoded text
 pub pieces-encoded : (text : List ℕ) → encoded_each (pieces text) ≡ pieces (encoded false text)
 unfolding encoded
 pieces-encoded text =

@@ -27,7 +27,7 @@ encoded_each segments = map (encoded false) segments
 
 -- ---- walks
 
--- a walk keeps a segment that is no dot segment
+-- a walk keeps a segment that isn't a dot segment
 walk_one-encoded : (class : Class) (last : Bool) (path : List (List ℕ)) (segment : List ℕ)
     → is_kept_segment segment ≡ true → walk_one class last path segment ≡ path ++ (encoded false segment ∷ [])
 walk_one-encoded class last path segment no_dots =
@@ -138,7 +138,7 @@ kept-segments (segment ∷ rest) h =
 
 -- ---- the bytes of a text
 
--- a code point beyond ASCII begins no dot segment, and is no `/`
+-- a code point beyond ASCII begins no dot segment, and isn't a `/`
 beyond_mark : (c : ℕ) → 128 ≤ c → is_dot_mark c ≡ false
 beyond_mark c h = grind (arith, nat_tests)
 
@@ -150,7 +150,7 @@ no_mark : (begins mark : Bool) → mark ≡ false → not (begins && mark) ≡ t
 no_mark false mark other = refl
 no_mark true mark other = ap not other
 
--- where no segment begins so in the bytes of a text, none does in its code points
+-- if no segment begins so in the bytes of a text, none does in its code points
 no_dots-encoded : (begins : Bool) (text : List ℕ) → has_no_dots begins (encodes text) ≡ true
     → has_no_dots begins text ≡ true
 no_dots-encoded begins [] h = refl

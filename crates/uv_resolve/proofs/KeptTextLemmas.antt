@@ -102,7 +102,7 @@ never_encoded-encoded quote text bytes =
 
 -- ---- paths without dots, seen by windows
 
--- none begins in the first so many bytes where none does in all
+-- none begins in the first so many bytes if none does in all
 none-taken : (begins : Bool) (n : ℕ) (path : List ℕ) → has_no_dots begins path ≡ true
     → has_no_dots begins (take n path) ≡ true
 none-taken begins zero path none = refl
@@ -121,7 +121,7 @@ grouped : (here taken left rest : Bool) → (taken && left) ≡ rest → ((here 
 grouped false taken left rest is = refl
 grouped true taken left rest is = is
 
--- none begins in a path where none does in its first so many bytes nor after so many, by which these overlap
+-- none begins in a path if none does in its first so many bytes nor after so many, by which these overlap
 pub windows-joined : (begins : Bool) (n k : ℕ) (path : List ℕ) → k < n
     → (has_no_dots begins (take n path) && has_no_dots false (drop k path)) ≡ has_no_dots begins path
 windows-joined begins zero k path over = absurd (omega (arith, over))

@@ -6,24 +6,17 @@ use Rattle.std.proofs.lemmas.Bool.{and_from, and_parts, cases_Bool, false_from_n
 use Rattle.std.proofs.lemmas.Bool.Decides.{nat_tests}
 use Rattle.std.proofs.lemmas.List.Splits.{join_with_byte-slice_split}
 use Rattle.std.specs.Prelude.{if◌then◌else◌}
-use Rattle.uv_model.specs.declared.scheme.Class.{Class}
-use Rattle.uv_model.specs.declared.scheme.Class.TheVariants.{File, Other, SpecialNotFile}
 use Rattle.uv_model.specs.Ascii.{slash}
 use Rattle.uv_model.specs.Parts.{Form, SchemeAuthority, SchemePath, SchemeOpaque, Authority, PathAbsolute}
 use Rattle.uv_model.specs.Parts.{PathRelative, NoPath}
 use Rattle.uv_model.specs.Path.{is_lone_drive, is_normalized_drive_letter, is_without, pieces, segments_after}
-use Rattle.uv_model.specs.Path.{segments_of, walk}
-use Rattle.uv_model.specs.Records.Denote.{authority_path}
+use Rattle.uv_model.specs.Path.{segments_of}
 use Rattle.uv_model.specs.Records.PathText.{IsPathText}
 use Rattle.uv_model.specs.Records.WellFormed.{AreUrlSegments}
 use Rattle.uv_model.proofs.Texts.MarkLemmas.{is_without-more}
 use Rattle.uv_model.proofs.Paths.PathPieces.{splits_first}
 use Rattle.uv_model.proofs.Paths.PathTexts.{pieces-one}
-use Rattle.uv_grammar.specs.declared.form.Form as form
-use Rattle.uv_grammar.specs.declared.form.Form.TheVariants as variant
 use Rattle.uv_grammar.specs.Built.{segments_in}
-use Rattle.uv_grammar.specs.Form.{seen_form}
-use Rattle.uv_resolve.specs.Walk.{IsSegmented}
 
 -- ---- paths that a walk keeps
 

@@ -1,4 +1,4 @@
--- The run of the URL parser on a valid text: with a scheme against every base, else against a well-formed one.
+-- The run of the URL parser on a valid text: with a scheme against every base, otherwise against a well-formed one.
 use Rattle.std.proofs.Common.{ℕ, ◌+◌, ◌*◌, List, length, Option, Some, Result, Ok, Err, arith, inl, inr}
 use Rattle.uv_model.specs.declared.profile.Profile.{Profile}
 use Rattle.uv_model.specs.declared.profile.Profile.TheVariants.{Standard, Wide, Parser}
@@ -28,7 +28,7 @@ runs_to_its_record profile base text well parts valid = record {
   by_profile = λ by_profile. denoted_records_are_well_formed.same profile base text parts by_profile valid;
 }
 
--- what is answered by the parser's profile is what the parser does
+-- what is answered under the parser's profile is what the parser does
 parser_answers : (base : Option Url) (text : List ℕ) (result : Result Url ResolveFault) → IsDecided base text
     → IsResolved Parser base text result → IsParserAnswer base text result
 parser_answers base text (Ok url) decided (parts, valid, same) = rw same (decided.silent parts valid)

@@ -26,7 +26,7 @@ space_encoded : (xs : List ℕ) → encoded false (end_escaped true (xs ++ (spac
 unfolding encoded
 space_encoded xs = ap (encoded false) (space_escaped xs) ∙ encoded-append false xs (codes "%20")
 
--- the bytes before a space are UTF-8 where the whole is
+-- the bytes before a space are UTF-8 if the whole is
 before_space : (bytes : List ℕ) → IsUtf8 (bytes ++ (space ∷ [])) → IsUtf8 bytes
 before_space bytes utf8 =
     let end = IsUtf8-from_ascii (space ∷ []) (IsAscii-cons space [] (lit< tt) IsAscii-nil) in

@@ -1,9 +1,8 @@
 -- Paths that are written as the encoding of a text.
-use Rattle.std.proofs.Common.{◌≡◌, ◌≢◌, ℕ, ◌==◌, Bool, true, false, List, [], ◌∷◌, Option, refl, sym, ap, ◌∙◌, subst}
-use Rattle.std.proofs.Common.{inl, inr, append-nil, None}
+use Rattle.std.proofs.Common.{◌≡◌, ◌≢◌, ℕ, true, false, List, [], ◌∷◌, Option, refl, sym, ap, ◌∙◌, subst}
+use Rattle.std.proofs.Common.{inl, inr, None}
 use Rattle.std.specs.List.{list_all}
 use Rattle.std.specs.Str.{IsAscii, chars}
-use Rattle.std.proofs.lemmas.Bool.{cases_Bool}
 use Rattle.std.proofs.lemmas.Str.{chars-IsAscii}
 use Rattle.uv_model.specs.declared.path.UrlPath.TheVariants.{Segments}
 use Rattle.uv_model.specs.declared.scheme.Class.{Class}
@@ -38,7 +37,7 @@ some_pieces text = let s = splits_first text in λ none. some s.first s.others (
     some : (first : List ℕ) (others : List (List ℕ)) → first ∷ others ≢ []
     some first others same = absurd cc
 
--- of a text that doesn't begin with `/` the first is empty only where it is the only one
+-- of a text that doesn't begin with `/` the first is empty only when it is the only one
 unmarked : (text : List ℕ) → starts_with_slash text ≡ false
     → serial_authority None None (Segments (pieces text)) ≡ []
 unmarked [] once = refl

@@ -15,7 +15,8 @@ SchemeTextsRunSilently =
     (profile : Profile) (base : Option Url) (text : List ℕ) (parts : Parts)
     → Valid profile base text parts → has_scheme parts.form ≡ true → RunsSilently base text parts
 
--- the same against each well-formed base of each valid text without a scheme, of whichever form
+-- against each well-formed base the parser is silent on each valid text of any profile that has no scheme, of whichever
+-- form, and gives the URL that its parts denote
 abbrev pub ReferencesRunSilently : Type 0
 ReferencesRunSilently =
     (profile : Profile) (base : Url) (text : List ℕ) (parts : Parts) → WellFormed Parser base

@@ -1,6 +1,7 @@
 pub mod Base
 pub mod Kept
 pub mod Laws
+pub mod Layout
 pub mod ParserAnswer
 pub mod Resolve
 pub mod Schemes

@@ -30,8 +30,8 @@ DenotesText profile base bytes text = (url : Url) × Denotes profile base (chars
 abbrev pub HaveValidText : Option Url → Parts → Type 0
 HaveValidText base parts = (profile : Profile) × (text : List ℕ) × Valid profile base text parts
 
--- the record that a valid text denotes, or the least violation of a text that is valid with no parts; of out of memory
--- nothing is said
+-- the record that a valid text denotes, or the least violation of a text that is valid with no parts; a call out of
+-- memory is left open
 abbrev pub IsResolved : Profile → Option Url → List ℕ → Result Url ResolveFault → Type 0
 IsResolved profile base text (Ok url) = Denotes profile base text url
 IsResolved profile base text (Err (Refused refusal)) = IsRefused profile base text refusal
@@ -49,13 +49,13 @@ IsRefusedWithoutMemory profile base text =
     TakesNoMemoryAgainst profile base text × ((parts : Parts) → ¬ (Valid profile base text parts))
 
 -- such a text is answered by a refusal, whatever memory there is
-abbrev pub RefusesWithoutMemory : Profile → Option Url → List ℕ → Result Url ResolveFault → Type 0
+abbrev pub RefusesWithoutMemory : {X : Type 0} → Profile → Option Url → List ℕ → Result X ResolveFault → Type 0
 RefusesWithoutMemory profile base text result =
     TakesNoMemoryAgainst profile base text → ((parts : Parts) → ¬ (Valid profile base text parts))
     → (refusal : Refusal) × (result ≡ Err (Refused refusal))
 
 -- The parser runs on the text to its end with no validation error and no failure, within the bound on its steps and
--- within the least such bound, and its record is the one that the parts denote. That is well formed by the parser's
+-- within the least such bound, and its record is the one that the parts denote. That is well formed under the parser's
 -- profile, and by the text's own profile where the base is.
 pub record RunsToRecordOf (profile : Profile) (base : Option Url) (text : List ℕ) (parts : Parts) : Type 0 where
   pub runs : RunsSilently base text parts

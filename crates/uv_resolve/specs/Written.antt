@@ -1,5 +1,6 @@
 -- The text of a URL, written part by part (URL Standard, section 4.5).
-use Rattle.std.specs.Prelude.{◌≡◌, ◌⊎◌, ℕ, Bool, true, false, List, [], ◌∷◌, ◌++◌, codes, Option, Some, None, is_some}
+use Rattle.std.specs.Prelude.{◌≡◌, ◌⊎◌, ℕ, ◌+◌, Bool, true, false, List, [], ◌∷◌, ◌++◌, Option, None, length}
+use Rattle.std.specs.Prelude.{option_map}
 use Rattle.std.specs.Str.{chars}
 use Rattle.uv_model.specs.declared.host.Host.{Host}
 use Rattle.uv_model.specs.declared.path.UrlPath.{UrlPath}
@@ -11,26 +12,21 @@ use Rattle.uv_model.specs.Parts.{Parts}
 use Rattle.uv_model.specs.Path.{starts_with_slash}
 use Rattle.uv_model.specs.Records.Denote.{authority_path, denoted_path}
 use Rattle.uv_model.specs.Records.PathText.{IsTextOf}
-use Rattle.uv_model.specs.Records.Serialize.{serial_authority, serial_host, serial_port}
-use Rattle.uv_model.specs.Records.Serialize.{serial_segments}
+use Rattle.uv_model.specs.Records.Serialize.{serial_authority, serial_path, serial_segments}
 use Rattle.uv_model.specs.Records.Url.{Url}
+use Rattle.uv_resolve.specs.declared.layout.HostKind.{HostKind}
 use Rattle.uv_resolve.specs.Kept.{has_no_dots}
+use Rattle.uv_resolve.specs.Layout.{dot_prefix, kind_of, marked_host}
 
--- `//`, the host and the port, where there is a host
-abbrev pub authority_text : Option Host → Option ℕ → List ℕ
-authority_text None port = []
-authority_text (Some host) port = codes "//" ++ serial_host host ++ serial_port port
+-- after what was written the scheme's `:` and the host are, and it is told of which kind the host is
+pub record IsWrittenHost (host : Option Host) (old new : List ℕ) (kind : Option HostKind) : Type 0 where
+  pub kind_is : kind ≡ option_map kind_of host
+  pub written : new ≡ old ++ (colon ∷ marked_host host)
 
--- `/.` before a path that would be read as an authority, where there is no host
-abbrev pub dot_prefix : Bool → UrlPath → List ℕ
-dot_prefix true path = []
-dot_prefix false path = serial_authority None None path
-
--- after what was written the scheme's `:` and the authority are, and it is told whether there is a host
-pub record IsWrittenAuthority (host : Option Host) (port : Option ℕ) (old new : List ℕ) (has_host : Bool)
-    : Type 0 where
-  pub has : has_host ≡ is_some host
-  pub written : new ≡ old ++ (colon ∷ authority_text host port)
+-- after what was written the path is, and it is told where it starts, after the `/.` that it may need
+pub record IsWrittenPath (has_host : Bool) (path : UrlPath) (old new : List ℕ) (start : ℕ) : Type 0 where
+  pub starts : start ≡ length old + length (dot_prefix has_host path)
+  pub written : new ≡ old ++ (dot_prefix has_host path ++ serial_path path)
 
 -- a text that begins with one `/`, and of which no segment begins as a dot segment does
 pub record IsSlashed (text : List ℕ) : Type 0 where

@@ -6,7 +6,7 @@ use crate::resolver::resolve;
 use std::alloc::Global;
 use uv_model::{Profile, Record};
 
-/// The record of a base's text, which is resolved alone by the profile, and none where there is no base. A refused base
+/// The record of a base's text, which is resolved alone under the profile, and none if there is no base. A refused base
 /// is refused as a text alone is.
 pub fn resolve_base(
     alloc: Global,

@@ -19,7 +19,7 @@ pub(crate) fn encoded_part(alloc: Global, text: &str, quote: bool) -> Result<Str
     encode(alloc, text, quote)
 }
 
-/// The same, as a record holds it.
+/// The text percent-encoded, and with `quote` also `'`, as a record holds it. An error is out of memory.
 pub(crate) fn encoded_text(alloc: Global, text: &str, quote: bool) -> Result<Text, AllocError>
     ensures { IfOk result (λ out. out ≡ encoded quote (chars text.now)) }
 {
@@ -29,7 +29,7 @@ pub(crate) fn encoded_text(alloc: Global, text: &str, quote: bool) -> Result<Tex
     Ok(Text::of(encode(alloc, text, quote)?))
 }
 
-/// The same, written after what is in a string.
+/// Writes the text percent-encoded, and with `quote` also `'`, after what is in a string. An error is out of memory.
 pub(crate) fn push_encoded_part(out: &mut String, text: &str, quote: bool) -> Result<(), AllocError>
     ensures { OnOk result (string_bytes out.new ≡ string_bytes out.old ++ encoded quote (chars text.now)) }
 {

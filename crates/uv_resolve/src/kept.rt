@@ -1,4 +1,4 @@
-//! What a URL keeps of a text: bytes that no part encodes, and segments that are no dot segments.
+//! What a URL keeps of a text: bytes that no part encodes, and segments that aren't dot segments.
 ghost use Rattle.std.specs.Prelude.{◌≡◌, ◌<◌, ◌≤◌, ◌+◌, IsTrue, chars, false, length, true};
 ghost use Rattle.std.specs.List.{list_all};
 ghost use Rattle.uv_resolve.specs.Kept.{KeepsSlashed, has_no_dots, is_dot_mark, is_kept_segment, is_never_encoded};
@@ -28,7 +28,7 @@ pub(crate) fn is_without_dots(path: &[u8]) -> bool
     }
 }
 
-// The same of the first so many bytes and of the last so many, which overlap.
+// Whether no `.` and no `%` follows a `/`, by the first so many bytes and the last so many, which overlap.
 #[inline(always)]
 fn are_windows_without_dots(path: &[u8], first: usize, last: usize) -> bool
     requires first { first ≤ length path.now }
@@ -39,8 +39,9 @@ fn are_windows_without_dots(path: &[u8], first: usize, last: usize) -> bool
     is_window_without_dots(&path[..first]) & is_window_without_dots(&path[path.len() - last..])
 }
 
-// The same of each byte in turn. No branch is taken for a byte, since those at a segment's start would be guessed
-// wrong, and no byte waits for what was found of the one before it, so that many are compared at once.
+// Whether no `.` and no `%` follows a `/`, by each byte in turn. No branch is taken for a byte, since those at a
+// segment's start would be guessed wrong, and no byte waits for what was found of the one before it, so that many are
+// compared at once.
 #[inline(always)]
 fn is_window_without_dots(path: &[u8]) -> bool
     ensures { result ≡ has_no_dots false path.now }

@@ -22,9 +22,10 @@ pub fn valid_text_runs_to_its_record(text: &str, base: Option<&Record>, profile:
     }
 }
 
-/// Alone, or against a record as base, a text is valid by the parser's profile exactly where the URL parser runs to its
-/// end with no validation error and no failure, within 3n + 16 steps where the text has n code points, and its record
-/// is the one that the text's parts denote. On each other text the run stops at an error (URL Standard, section 4.4).
+/// Alone, or against a record as base, a text is valid under the parser's profile exactly when the URL parser runs to
+/// its end with no validation error and no failure, within 3n + 16 steps where the text has n code points, and its
+/// record is the one that the text's parts denote. On each other text the run stops at an error (URL Standard, section
+/// 4.4).
 pub fn parser_decides(text: &str, base: Option<&Record>)
     ensures { IsDecided (option_copied base.entry) (chars text.now) }
 {
@@ -42,8 +43,9 @@ pub fn scheme_texts_run_silently()
     ensures { SchemeTextsRunSilently }
 {}
 
-/// The same on every valid text without a scheme, against every well-formed base: one that begins with `//`, with one
-/// `/` or with another path, or that is empty or begins with `?` or `#`.
+/// On every valid text without a scheme, against every well-formed base, the URL parser runs to its end with no
+/// validation error and no failure, and gives exactly the URL that the text's parts denote (URL Standard, section 4.4).
+/// The text begins with `//`, with one `/` or with another path, or it is empty or begins with `?` or `#`.
 pub fn references_run_silently()
     ensures { ReferencesRunSilently }
 {}

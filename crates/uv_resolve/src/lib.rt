@@ -7,6 +7,7 @@ mod encoded_parts;
 mod fault;
 mod kept;
 pub mod laws;
+mod layout;
 mod paths;
 mod records;
 mod resolver;
@@ -17,5 +18,6 @@ mod writer;
 
 pub use base::resolve_base;
 pub use fault::ResolveFault;
+pub use layout::{HostKind, LaidUrl, UrlLayout};
 pub use resolver::resolve;
-pub use serialized::{resolve_serialized, serialize_parts, serialized_text};
+pub use serialized::{resolve_laid, resolve_serialized, serialized_text};

@@ -36,8 +36,8 @@ pub(crate) fn path_of(
     }
 }
 
-/// The text whose encoding is that of the path, where the path begins anew at a `/`, after which no second one stands,
-/// and no segment begins as a dot segment does. So are the paths of most links. None says nothing.
+/// The text that is encoded as the path, where the path begins again at a `/`, after which no second one stands, and no
+/// segment begins as a dot segment does. So are the paths of most links. None says nothing.
 #[inline(always)]
 pub(crate) fn whole_path<'t>(class: Class, parts: &Parts<'t>) -> Option<&'t str>
     ensures { IfSome result (λ text. IsWholePath class parts.now (chars text.now)) }
@@ -58,7 +58,7 @@ pub(crate) fn whole_path<'t>(class: Class, parts: &Parts<'t>) -> Option<&'t str>
     }
 }
 
-// The same of the text of a path after an authority, which may be empty.
+// The text that is encoded as the path after an authority. Its own text may be empty. None says nothing.
 #[inline(always)]
 fn rooted<'t>(class: Class, text: &'t str) -> Option<&'t str>
     ensures { IfSome result (λ found. IsRooted class (chars text.now) found.now) }
@@ -158,7 +158,7 @@ fn root(alloc: Global, class: Class) -> Result<UrlPath, AllocError>
     Ok(UrlPath::Segments(TextList::of_path(path)))
 }
 
-// A path without segments, with room for those of the text.
+// A path without segments, with room for the text's.
 fn path_for(alloc: Global, parts: &Parts<'_>) -> Result<PathText, AllocError>
     ensures { IfOk result (λ path. path ≡ []) }
 {
@@ -187,7 +187,7 @@ fn has_tail(parts: &Parts<'_>) -> bool
     parts.query().is_some() || parts.fragment().is_some()
 }
 
-// An opaque path. By the parser's profile it may end with a space, which is `%20` where a query or a fragment follows.
+// An opaque path. Under the parser's profile it may end with a space, which is `%20` if a query or a fragment follows.
 fn opaque_path(alloc: Global, text: &str, followed: bool) -> Result<UrlPath, AllocError>
     ensures { IfOk result (λ path.
         path ≡ UrlPath.Opaque (encoded false (spec.end_escaped followed (chars text.now)))) }
@@ -247,7 +247,7 @@ fn first_segment<'b>(base: Option<&'b Record>) -> Option<&'b str>
     segments.next_text()
 }
 
-// The base's first segment, where it is a normalized drive letter and the text's first is no drive letter.
+// The base's first segment, where it is a normalized drive letter and the text's first isn't a drive letter.
 fn drive_or_none(alloc: Global, drive: &str, first: &str) -> Result<PathText, AllocError>
     ensures { IfOk result (λ path.
         path ≡ spec.kept_drive Class.File (drive.now ∷ []) (chars first.now ∷ [])) }
@@ -308,7 +308,7 @@ fn path_with(alloc: Global, list: &TextList, room: usize) -> Result<PathText, Al
     Ok(path)
 }
 
-// The same path, made segment by segment.
+// A path of these segments, with room for some more, made segment by segment.
 fn path_of_each(
     alloc: Global,
     segments: ListedTexts<'_>,

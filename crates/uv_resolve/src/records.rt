@@ -175,7 +175,7 @@ fn query_of(
     }
 }
 
-/// Whether a query encodes `'` too, as that of a URL of class SpecialNotFile or File does.
+/// Whether a query encodes `'` too, as the query of a URL of class SpecialNotFile or File does.
 pub(crate) fn quotes(class: Class) -> bool
     ensures { result ≡ spec.quotes class }
 {

@@ -11,10 +11,10 @@ use std::alloc::Global;
 use uv_grammar::{Verdict, check};
 use uv_model::{Profile, Record};
 
-/// The record that a text denotes by the profile, alone or against a base (URL Standard, sections 4.3 and 4.4).
+/// The record that a text denotes under the profile, alone or against a base (URL Standard, sections 4.3 and 4.4).
 ///
-/// A text that isn't a valid URL string of the profile is refused before any allocation for the record. By the parser's
-/// profile the answer is a record exactly where the URL parser's run ends in that record without an error.
+/// A text that isn't a valid URL string of the profile is refused before any allocation for the record. Under the
+/// parser's profile the answer is a record exactly when the URL parser's run ends in that record without an error.
 #[inline(always)]
 pub fn resolve(
     alloc: Global,

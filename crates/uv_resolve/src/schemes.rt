@@ -51,7 +51,7 @@ pub(crate) fn copied(alloc: Global, scheme: &str) -> Result<CowStr<'static>, All
     }
 }
 
-// The same, in whichever case the scheme is written.
+// The name of a special scheme in lower case, whatever case it is written in.
 fn special_name(scheme: &str) -> Option<&'static str>
     ensures { IfSome result (λ name. name.now ≡ lowercase (chars scheme.now)) }
 {

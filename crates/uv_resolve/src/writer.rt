@@ -1,48 +1,65 @@
 //! The text of the URL that the parts of a text denote, written into one string (URL Standard, section 4.5).
-ghost use Rattle.std.specs.Prelude.{◌≡◌, ◌∷◌, ◌++◌, IfOk, OnOk, None, is_some, option_copied, option_map};
-ghost use Rattle.std.specs.Prelude.{chars, false, string_bytes};
-ghost use Rattle.uv_model.specs.Ascii.{colon, number_sign, question_mark};
+ghost use Rattle.std.specs.Prelude.{◌≡◌, ◌∷◌, ◌++◌, IfOk, OnOk, None, false, option_copied, option_map, string_bytes};
+ghost use Rattle.uv_model.specs.Ascii.{number_sign, question_mark};
 ghost use Rattle.uv_model.specs.Encoding.{encoded};
 ghost use Rattle.uv_model.specs.Parts.{written_after};
 ghost use Rattle.uv_model.specs.Records.Denote as spec;
-ghost use Rattle.uv_model.specs.Records.Serialize.{serial, serial_authority, serial_host, serial_path};
-ghost use Rattle.uv_model.specs.Records.Serialize.{serial_segments};
+ghost use Rattle.uv_model.specs.Records.Serialize.{serial_authority, serial_host, serial_segments};
 ghost use Rattle.uv_model.specs.declared.path.UrlPath.TheVariants.{Segments};
 ghost use Rattle.uv_grammar.specs.PartsHost.{referred};
+ghost use Rattle.uv_resolve.specs.Layout.{IsLaid, kind_of, marked_port};
 ghost use Rattle.uv_resolve.specs.Resolve.{HaveValidText};
-ghost use Rattle.uv_resolve.specs.Written.{IsWrittenAuthority, authority_text, dot_prefix};
+ghost use Rattle.uv_resolve.specs.Written.{IsWrittenHost, IsWrittenPath};
 
 use crate::encoded_parts::push_encoded_part;
+use crate::layout::{HostKind, LaidUrl, UrlLayout, has_opaque_path};
 use crate::paths::{made_path, whole_path};
-use crate::records::{class_in, quotes};
+use crate::records::{class_in, port_of, quotes};
 use crate::schemes::lowered;
 use std::alloc::{AllocError, Global};
 use uv_grammar::{Form, HostRef, Parts};
-use uv_model::{Class, ListedTexts, Record, UrlPath, push_ipv4, push_ipv6, push_port};
+use uv_model::{Class, Host, ListedTexts, Record, UrlPath, push_ipv4, push_ipv6, push_port};
 
 /// The serialized URL that the parts of a text denote against the base, with room for all of it where the text is
-/// ASCII. An error is out of memory.
+/// ASCII, and its layout, which is read while it is written. An error is out of memory.
+#[inline(always)]
 pub(crate) fn write_url(
     alloc: Global,
     text: &str,
     parts: &Parts<'_>,
     base: Option<&Record>,
-) -> Result<String, AllocError>
+) -> Result<LaidUrl, AllocError>
     requires { HaveValidText (option_copied base) parts.now }
-    ensures { IfOk result (λ written.
-        string_bytes written ≡ serial (spec.denote (option_copied base.entry) parts.now)) }
+    ensures { IfOk result (IsLaid (spec.denote (option_copied base.entry) parts.now)) }
 {
     let class = class_in(parts, base);
     let mut out = String::with_capacity(alloc, room_for(text, base))?;
     push_scheme(alloc, &mut out, parts, base)?;
-    let has_host = push_authority(alloc, &mut out, parts, base)?;
-    push_path(alloc, &mut out, class, has_host, parts, base)?;
+    let scheme_end = out.as_str().len();
+    let host = push_host(&mut out, parts, base)?;
+    let has_host = host.is_some();
+    let host_end = out.as_str().len();
+    push_port_after(&mut out, has_host, parts, base)?;
+    let port_end = out.as_str().len();
+    let path_start = push_path(alloc, &mut out, class, has_host, parts, base)?;
+    let path_end = out.as_str().len();
     push_query(&mut out, class, parts, base)?;
+    let query_end = out.as_str().len();
     push_fragment(&mut out, parts)?;
-    Ok(out)
+    let layout = UrlLayout {
+        scheme_end,
+        host_end,
+        port_end,
+        path_start,
+        path_end,
+        query_end,
+        host,
+        has_opaque_path: has_opaque_path(parts, base),
+    };
+    Ok(LaidUrl { text: out, layout })
 }
 
-// The length of the text with that of a base, of which a URL may have all but the fragment, and of a `/`. No clause
+// The length of the text with the text of a base, of which a URL may have all but the fragment, and of a `/`. No clause
 // says it: a text that outgrows it is written all the same.
 fn room_for(text: &str, base: Option<&Record>) -> usize {
     text.len().saturating_add(base_room(base)).saturating_add(1)
@@ -84,89 +101,133 @@ fn push_base_scheme(out: &mut String, base: Option<&Record>) -> Result<(), Alloc
     }
 }
 
-// The scheme's `:`, and the host and the port after `//`, where there is a host. The answer says whether there is one.
-fn push_authority(
-    alloc: Global,
+// The scheme's `:`, and the host after `//`, where there is one. The answer is the host's kind.
+fn push_host(
     out: &mut String,
     parts: &Parts<'_>,
     base: Option<&Record>,
-) -> Result<bool, AllocError>
-    ensures { IfOk result (IsWrittenAuthority (spec.denoted_host (option_copied base.entry) parts.now.form parts.now)
-        (spec.denoted_port (option_copied base.entry) parts.now.form parts.now)
+) -> Result<Option<HostKind>, AllocError>
+    ensures { IfOk result (IsWrittenHost (spec.denoted_host (option_copied base.entry) parts.now.form parts.now)
         (string_bytes out.old) (string_bytes out.new)) }
 {
     match parts.form() {
-        Form::SchemeAuthority | Form::Authority => push_own_authority(out, parts),
+        Form::SchemeAuthority | Form::Authority => push_own_host(out, parts),
         Form::SchemePath | Form::SchemeOpaque => {
             out.push(':')?;
-            Ok(false)
+            Ok(None)
         }
-        Form::PathAbsolute | Form::PathRelative | Form::NoPath => {
-            push_base_authority(alloc, out, base)
-        }
+        Form::PathAbsolute | Form::PathRelative | Form::NoPath => push_base_host(out, base),
     }
 }
 
 #[inline(always)]
-fn push_own_authority(out: &mut String, parts: &Parts<'_>) -> Result<bool, AllocError>
-    ensures { IfOk result (IsWrittenAuthority (spec.authority_host parts.now) parts.now.port
-        (string_bytes out.old) (string_bytes out.new)) }
+fn push_own_host(out: &mut String, parts: &Parts<'_>) -> Result<Option<HostKind>, AllocError>
+    ensures { IfOk result (IsWrittenHost (spec.authority_host parts.now) (string_bytes out.old) (string_bytes out.new)) }
 {
     match (parts.host(), parts.host_text()) {
         (Some(host), _) => {
             out.push_str("://")?;
-            push_host(out, &host)?;
-            push_port(out, parts.port())?;
-            Ok(true)
+            Ok(Some(push_lent_host(out, &host)?))
         }
         (None, Some(text)) => {
             out.push_str("://")?;
             push_encoded_part(out, text, false)?;
-            push_port(out, parts.port())?;
-            Ok(true)
+            Ok(Some(HostKind::Opaque))
         }
         (None, None) => {
             out.push(':')?;
-            Ok(false)
+            Ok(None)
         }
     }
 }
 
 #[tactic(auto, unfolding(uv_model::specs::Records::Serialize::serial_host))]
 #[inline(always)]
-fn push_host(out: &mut String, host: &HostRef<'_>) -> Result<(), AllocError>
-    ensures { OnOk result (string_bytes out.new ≡ string_bytes out.old ++ serial_host (referred host.now)) }
+fn push_lent_host(out: &mut String, host: &HostRef<'_>) -> Result<HostKind, AllocError>
+    ensures written { OnOk result (string_bytes out.new ≡ string_bytes out.old ++ serial_host (referred host.now)) }
+    ensures kind { IfOk result (λ kind. kind ≡ kind_of (referred host.now)) }
 {
     match host {
-        HostRef::Domain(form) => out.push_str(form.as_str()),
-        HostRef::V4(value) => push_ipv4(out, *value),
-        HostRef::V6(pieces) => push_ipv6(out, pieces),
-        HostRef::Opaque(text) => out.push_str(text.as_str()),
-        HostRef::Empty => Ok(()),
+        HostRef::Domain(name) => {
+            out.push_str(name.as_str())?;
+            Ok(HostKind::Domain)
+        }
+        HostRef::V4(value) => {
+            push_ipv4(out, *value)?;
+            Ok(HostKind::V4)
+        }
+        HostRef::V6(pieces) => {
+            push_ipv6(out, pieces)?;
+            Ok(HostKind::V6)
+        }
+        HostRef::Opaque(text) => {
+            out.push_str(text.as_str())?;
+            Ok(HostKind::Opaque)
+        }
+        HostRef::Empty => Ok(HostKind::Empty),
     }
 }
 
-fn push_base_authority(
-    alloc: Global,
-    out: &mut String,
-    base: Option<&Record>,
-) -> Result<bool, AllocError>
-    ensures { IfOk result (IsWrittenAuthority (spec.base_host (option_copied base.entry))
-        (spec.base_port (option_copied base.entry)) (string_bytes out.old) (string_bytes out.new)) }
+fn push_base_host(out: &mut String, base: Option<&Record>) -> Result<Option<HostKind>, AllocError>
+    ensures { IfOk result (IsWrittenHost (spec.base_host (option_copied base.entry))
+        (string_bytes out.old) (string_bytes out.new)) }
 {
     if let Some(base) = base {
         if let Some(host) = base.host() {
             out.push_str("://")?;
-            out.push_str(host.text(alloc)?.as_str())?;
-            push_port(out, base.port())?;
-            return Ok(true);
+            return Ok(Some(push_record_host(out, host)?));
         }
     }
     out.push(':')?;
-    Ok(false)
+    Ok(None)
 }
 
-// The path, and before it `/.` where there is no host and it would be read as an authority.
+#[tactic(auto, unfolding(uv_model::specs::Records::Serialize::serial_host))]
+fn push_record_host(out: &mut String, host: &Host) -> Result<HostKind, AllocError>
+    ensures written { OnOk result (string_bytes out.new ≡ string_bytes out.old ++ serial_host host.now) }
+    ensures kind { IfOk result (λ kind. kind ≡ kind_of host.now) }
+{
+    match host {
+        Host::Domain(form) => {
+            out.push_str(form.as_str())?;
+            Ok(HostKind::Domain)
+        }
+        Host::V4(value) => {
+            push_ipv4(out, *value)?;
+            Ok(HostKind::V4)
+        }
+        Host::V6(pieces) => {
+            push_ipv6(out, pieces)?;
+            Ok(HostKind::V6)
+        }
+        Host::Opaque(text) => {
+            out.push_str(text.as_str())?;
+            Ok(HostKind::Opaque)
+        }
+        Host::Empty => Ok(HostKind::Empty),
+    }
+}
+
+// The port after its `:`, where there is a host.
+#[inline(always)]
+fn push_port_after(
+    out: &mut String,
+    has_host: bool,
+    parts: &Parts<'_>,
+    base: Option<&Record>,
+) -> Result<(), AllocError>
+    ensures { OnOk result (string_bytes out.new ≡ string_bytes out.old
+        ++ marked_port has_host (spec.denoted_port (option_copied base.entry) parts.now.form parts.now)) }
+{
+    if has_host {
+        push_port(out, port_of(parts, base))
+    } else {
+        Ok(())
+    }
+}
+
+// The path, and before it `/.` if there is no host and it would be read as an authority. The answer is where the path
+// starts.
 #[inline(always)]
 fn push_path(
     alloc: Global,
@@ -175,28 +236,37 @@ fn push_path(
     has_host: bool,
     parts: &Parts<'_>,
     base: Option<&Record>,
-) -> Result<(), AllocError>
-    ensures { OnOk result (string_bytes out.new ≡ string_bytes out.old
-        ++ (dot_prefix has_host (spec.denoted_path (option_copied base.entry) class parts.now.form parts.now)
-        ++ serial_path (spec.denoted_path (option_copied base.entry) class parts.now.form parts.now))) }
+) -> Result<usize, AllocError>
+    ensures { IfOk result (IsWrittenPath has_host
+        (spec.denoted_path (option_copied base.entry) class parts.now.form parts.now)
+        (string_bytes out.old) (string_bytes out.new)) }
 {
     match whole_path(class, parts) {
-        Some(text) => push_encoded_part(out, text, false),
+        Some(path) => {
+            let start = out.as_str().len();
+            push_encoded_part(out, path, false)?;
+            Ok(start)
+        }
         None => push_made(out, has_host, &made_path(alloc, class, parts, base)?),
     }
 }
 
-fn push_made(out: &mut String, has_host: bool, path: &UrlPath) -> Result<(), AllocError>
-    ensures { OnOk result (string_bytes out.new
-        ≡ string_bytes out.old ++ (dot_prefix has_host path.now ++ serial_path path.now)) }
+fn push_made(out: &mut String, has_host: bool, path: &UrlPath) -> Result<usize, AllocError>
+    ensures { IfOk result (IsWrittenPath has_host path.now (string_bytes out.old) (string_bytes out.new)) }
 {
     match path {
-        UrlPath::Opaque(text) => out.push_str(text.as_str()),
+        UrlPath::Opaque(text) => {
+            let start = out.as_str().len();
+            out.push_str(text.as_str())?;
+            Ok(start)
+        }
         UrlPath::Segments(list) => {
             if !has_host {
                 out.push_str(dot_before(list.iter()))?;
             }
-            push_segments(out, list.iter())
+            let start = out.as_str().len();
+            push_segments(out, list.iter())?;
+            Ok(start)
         }
     }
 }

@@ -20,12 +20,12 @@ pub url_rows : HoldClass URL_ROWS (class_has Url)
 unfolding is_url_code_point
 url_rows = λ byte small. agree_below_at (is_in_rows URL_ROWS) (class_has Url) 256 byte refl small
 
--- the same without `?`
+-- the ASCII URL code points without `?`
 pub path_rows : HoldClass PATH_ROWS (class_has Path)
 unfolding is_url_code_point
 path_rows = λ byte small. agree_below_at (is_in_rows PATH_ROWS) (class_has Path) 256 byte refl small
 
--- the same without the forbidden host code points
+-- the ASCII URL code points without the forbidden host code points
 pub opaque_host_rows : HoldClass OPAQUE_HOST_ROWS (class_has OpaqueHost)
 unfolding is_url_code_point
 opaque_host_rows = λ byte small. agree_below_at (is_in_rows OPAQUE_HOST_ROWS) (class_has OpaqueHost) 256 byte refl small

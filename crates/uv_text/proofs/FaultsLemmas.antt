@@ -43,7 +43,7 @@ least_here start c rest fault =
         let violation = subst (λ n. UnitViolation (c ∷ rest) n rule) here h.holds in
         rw (UnitViolation-said c rest rule violation).1 (omega arith)
 
--- a fault after a first code point that is none
+-- a fault after a first code point that isn't one
 to_whole : (start c : ℕ) (rest : List ℕ) (place : ℕ) (rule : Rule) → From (suc start) rest place rule
     → From start (c ∷ rest) place rule
 to_whole start c rest place rule h =
@@ -103,7 +103,7 @@ abbrev pub fault_at : ℕ → List ℕ → Option Refusal
 fault_at place [] = None
 fault_at place (c ∷ rest) = Some (record { place = place; rule = unit_rule c })
 
--- `%` is no URL code point
+-- `%` isn't a URL code point
 no_percent_unit : (is_ascii percent_sign && is_url_code_point percent_sign) ≡ false
 unfolding is_url_code_point
 no_percent_unit = refl

@@ -7,4 +7,3 @@ pub mod RowsLemmas
 pub mod SplitsLemmas
 pub mod StopLemmas
 pub mod UnitBitsLemmas
-pub mod WebLinkLemmas

@@ -2,7 +2,7 @@
 use Rattle.std.proofs.Common.{◌≡◌, ◌≢◌, ℕ, zero, suc, Bool, inl, inr, ◌+◌, ◌*◌, ◌/◌, ◌^◌, ◌%◌, ◌<◌, ◌≤◌, cond}
 use Rattle.std.proofs.Common.{[], ◌∷◌, List, length, map, get_or, take, take_all, drop, ◌++◌, replicate, bit_and, refl}
 use Rattle.std.proofs.Common.{sym, ap, ◌∙◌, arith, w8, Fits}
-use Rattle.std.proofs.lemmas.List.{get_or-map, length-map, length-take, ext_get_or}
+use Rattle.std.proofs.lemmas.List.{drop-take, get_or-map, length-map, length-take, ext_get_or, take-take}
 use Rattle.std.proofs.lemmas.List.Sums.{prefix_len-le-length}
 use Rattle.std.proofs.lemmas.Nat.{and_le_r}
 use Rattle.std.proofs.lemmas.Simd.{Each1-all, Each1-weaker, Each1-zip2, Each2-splat, Each1-get_or, below_from_Fits}
@@ -104,26 +104,44 @@ module _ (p : ℕ → Bool) where
   prefix_before [] ys none = none
   prefix_before (x ∷ xs) ys none = ap (λ k. cond (p x) (1 + k) 0) (prefix_before xs ys none)
 
--- a prefix of so many of the next 32
-module _ (p : ℕ → Bool) (rest : List ℕ) (ahead : ℕ) (is : ahead ≡ prefix_len p (take 32 rest)) where
+-- a prefix of so many of the next bytes
+module _ (p : ℕ → Bool) (n : ℕ) (rest : List ℕ) (ahead : ℕ) (is : ahead ≡ prefix_len p (take n rest)) where
   -- no more than are left
-  pub ahead_inside : (ahead ≤ 32) × (ahead ≤ length rest)
+  pub ahead_inside : (ahead ≤ n) × (ahead ≤ length rest)
   ahead_inside =
-      let bound = prefix_len-le-length p (take 32 rest) in
-      let long = length-take 32 rest in
+      let bound = prefix_len-le-length p (take n rest) in
+      let long = length-take n rest in
       (omega arith, omega arith)
 
   -- all of them
-  pub ahead_past : ahead ≡ 32 → prefix_len p rest ≡ ahead + prefix_len p (drop ahead rest)
+  pub ahead_past : ahead ≡ n → prefix_len p rest ≡ ahead + prefix_len p (drop ahead rest)
   ahead_past all =
       let room = ahead_inside.1 in
-      rw all (prefix_past p 32 rest (omega arith) (sym is ∙ all))
+      rw all (prefix_past p n rest (omega arith) (sym is ∙ all))
 
   -- fewer
-  pub ahead_ends : ahead ≢ 32 → prefix_len p rest ≡ ahead
+  pub ahead_ends : ahead ≢ n → prefix_len p rest ≡ ahead
   ahead_ends fewer =
       let fits = ahead_inside.0 in
-      elim (cases_lt (length rest) 32) [
-        | inl short ↦ ap (prefix_len p) (sym (take_all 32 rest (omega arith))) ∙ sym is
-        | inr room ↦ prefix_in p 32 rest room (omega arith) ∙ sym is
+      elim (cases_lt (length rest) n) [
+        | inl short ↦ ap (prefix_len p) (sym (take_all n rest (omega arith))) ∙ sym is
+        | inr room ↦ prefix_in p n rest room (omega arith) ∙ sym is
       ]
+
+-- the prefix of 64 bytes by the prefixes of the two halves
+module _ (p : ℕ → Bool) (rest : List ℕ) (ahead : ℕ) (is : ahead ≡ prefix_len p (take 32 rest)) where
+  -- the first half has it
+  half : ahead ≡ prefix_len p (take 32 (take 64 rest))
+  half = is ∙ ap (prefix_len p) (sym (take-take 32 64 rest (omega arith)))
+
+  -- in the first
+  pub near_ends : ahead ≢ 32 → prefix_len p (take 64 rest) ≡ ahead
+  near_ends fewer = ahead_ends p 32 (take 64 rest) ahead half fewer
+
+  -- in the second
+  pub near_past : ahead ≡ 32
+      → prefix_len p (take 64 rest) ≡ ahead + prefix_len p (take 32 (drop ahead rest))
+  near_past all =
+      let past = ahead_past p 32 (take 64 rest) ahead half all in
+      let second : drop ahead (take 64 rest) ≡ take 32 (drop ahead rest) = rw all (drop-take 32 32 rest) in
+      past ∙ ap (λ xs. ahead + prefix_len p xs) second

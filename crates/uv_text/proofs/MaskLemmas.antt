@@ -42,7 +42,7 @@ mask-drop (suc k) (m ∷ ms) =
     mask-drop k ms ∙ ap (λ n. n / 2 ^ k) (sym (half m (mask_l ms)))
     ∙ (div-div-eq-div-mul (cond m 1 0 + 2 * mask_l ms) 2 (2 ^ k) ∙ ap (λ n. (cond m 1 0 + 2 * mask_l ms) / n) two)
 
--- what 32 bytes have after their first so many, where no more than these 32 are left or none is passed over
+-- what 32 bytes have after their first so many, if no more than these 32 are left or none is passed over
 pub taken-after : (start k : ℕ) (xs : List ℕ) → (k ≢ 0 → length xs ≤ start + 32)
     → drop k (take 32 (drop start xs)) ≡ take 32 (drop (start + k) xs)
 taken-after start k xs last = elim (cases_eq k 0) [
@@ -55,7 +55,7 @@ taken-after start k xs last = elim (cases_eq k 0) [
       ∙ (drop-drop k start xs ∙ sym (take_all 32 (drop (start + k) xs) (omega arith)))
 ]
 
--- the bits of 32 bytes, shifted, are those of the bytes after
+-- the bits of 32 bytes, shifted, are the bits of the bytes after
 pub mask-after : (p : ℕ → Bool) (start k : ℕ) (xs : List ℕ) → (k ≢ 0 → length xs ≤ start + 32)
     → mask_l (map p (take 32 (drop start xs))) / 2 ^ k ≡ mask_l (map p (take 32 (drop (start + k) xs)))
 mask-after p start k xs last =

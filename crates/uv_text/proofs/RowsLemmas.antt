@@ -1,4 +1,5 @@
--- Classes by rows: what is beyond ASCII is in none, and the prefix by rows that hold a class is that of the class.
+-- Classes by rows: what is beyond ASCII is in none, and the prefix by rows that hold a class is the prefix by the
+-- class.
 use Rattle.std.proofs.Common.{◌≡◌, ◌∙◌, ℕ, suc, ◌/◌, ◌≤◌, Bool, true, false, List, [], ◌∷◌, get_or, refl, sym, inl, inr}
 use Rattle.std.proofs.Common.{arith, Fits, w8}
 use Rattle.std.proofs.lemmas.Bool.{cases_lt, true≢false}
@@ -28,7 +29,7 @@ of_rows held rows hold b in_rows = elim (cases_lt b 256) [
   | inr large ↦ absurd (true≢false (sym in_rows ∙ beyond rows b large))
 ]
 
--- the prefix by rows that hold a class is that of the class
+-- the prefix by rows that hold a class is the prefix by the class
 pub run_held : (held : ℕ → Bool) (rows bytes : List ℕ) → HoldClass rows held
     → ((k : ℕ) → Fits w8 (get_or bytes k 0)) → prefix_len (is_in_rows rows) bytes ≡ prefix_len held bytes
 run_held held rows [] hold fits = refl

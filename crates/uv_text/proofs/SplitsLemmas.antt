@@ -53,7 +53,7 @@ module _ (held : ℕ → Bool) where
     further = rw begins (omega (arith, more.further));
   }
 
-  -- where no more of it comes, it ends
+  -- if no more of it comes, it ends
   pub unit_length-stop : (rest : List ℕ) → starts_in held rest ≡ false → starts_with_mark rest ≡ false
       → unit_length held rest ≡ 0
   unit_length-stop [] class mark = refl

@@ -42,7 +42,7 @@ lowest ms few =
     let bits = ap mask_l (same (ended ms)) in
     ap (trailing_zeros w64) (sym bits) ∙ trailing_mask_l (λ m. m) 64 (ended ms) (omega arith) (omega arith)
 
--- is that of the first that fails, or the end
+-- is the bit of the first that fails, or the end
 stop-length : (p : ℕ → Bool) (xs : List ℕ) → prefix_len not (ended (map (λ x. not (p x)) xs)) ≡ prefix_len p xs
 stop-length p [] = refl
 stop-length p (x ∷ xs) = passed (p x) (stop-length p xs)
@@ -51,7 +51,7 @@ stop-length p (x ∷ xs) = passed (p x) (stop-length p xs)
     passed true even = ap (λ n. 1 + n) even
     passed false even = refl
 
--- the lowest bit of those of 32 bytes that fail and of the end, after the first so many, is the longest prefix there
+-- the lowest bit of the ones of 32 bytes that fail and of the end, after the first so many, is the longest prefix there
 pub first-stop : (p : ℕ → Bool) (k : ℕ) (xs : List ℕ) → length xs ≡ 32 → k ≤ 32
     → trailing_zeros w64 (bit_or (mask_l (map (λ x. not (p x)) xs)) (2 ^ 32) / 2 ^ k) ≡ prefix_len p (drop k xs)
 first-stop p k xs long within =
@@ -90,3 +90,25 @@ same-prefix p (x ∷ xs) [] even =
 same-prefix p (x ∷ xs) (y ∷ ys) even =
     further (p x) (p y) (mask_l (map p xs)) (mask_l (map p ys)) (prefix_len p xs) (prefix_len p ys) even
     (same-prefix p xs ys)
+
+-- a byte more without a stop
+clear_on : (b : Bool) (m n k : ℕ) → (m ≡ 0 → n ≡ k) → cond (not b) 1 0 + 2 * m ≡ 0 → cond b (1 + n) 0 ≡ suc k
+clear_on true m n k rest clear = omega (arith, rest (omega (arith, clear)))
+clear_on false m n k rest clear = absurd (omega (arith, clear))
+
+-- bytes without a stop all pass
+pub no_stop : (p : ℕ → Bool) (xs : List ℕ) → mask_l (map (λ x. not (p x)) xs) ≡ 0 → prefix_len p xs ≡ length xs
+no_stop p [] clear = refl
+no_stop p (x ∷ xs) clear =
+    clear_on (p x) (mask_l (map (λ y. not (p y)) xs)) (prefix_len p xs) (length xs) (no_stop p xs) clear
+
+-- a byte more that passes
+passing_on : (b : Bool) (m n k : ℕ) → (n ≡ k → m ≡ 0) → cond b (1 + n) 0 ≡ suc k → cond (not b) 1 0 + 2 * m ≡ 0
+passing_on true m n k rest whole = omega (arith, rest (omega (arith, whole)))
+passing_on false m n k rest whole = absurd (omega (arith, whole))
+
+-- and bytes that all pass have none
+pub all_pass : (p : ℕ → Bool) (xs : List ℕ) → prefix_len p xs ≡ length xs → mask_l (map (λ x. not (p x)) xs) ≡ 0
+all_pass p [] whole = refl
+all_pass p (x ∷ xs) whole =
+    passing_on (p x) (mask_l (map (λ y. not (p y)) xs)) (prefix_len p xs) (length xs) (all_pass p xs) whole

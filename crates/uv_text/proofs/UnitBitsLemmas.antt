@@ -66,7 +66,7 @@ module _ (held : ℕ → Bool) where
             rw (other, parts.0, two_hex_taken m rest parts.1) refl
       ]
 
-  -- the prefix of a piece is a part of that of the whole
+  -- the prefix of a piece is a part of the prefix of the whole
   pub ascii_unit_length-taken : (m : ℕ) (bytes : List ℕ)
       → ascii_unit_length held (take m bytes) ≤ ascii_unit_length held bytes
   ascii_unit_length-taken zero bytes = omega arith
@@ -87,7 +87,7 @@ module _ (held : ℕ → Bool) where
   stops_taken b (suc (suc m)) (high ∷ []) two = refl
   stops_taken b (suc (suc m)) (high ∷ low ∷ rest) two = refl
 
-  -- a prefix that ends before the last two bytes of a piece is that of the whole
+  -- a prefix that ends before the last two bytes of a piece is the prefix of the whole
   pub ascii_unit_length-ends : (m : ℕ) (bytes : List ℕ) → ascii_unit_length held (take m bytes) + 2 < m
       → ascii_unit_length held bytes ≡ ascii_unit_length held (take m bytes)
   ascii_unit_length-ends zero bytes room = absurd (omega (arith, room))
@@ -274,7 +274,7 @@ unit_bits-rows rows xs few fits =
       map_held is_ascii_hexdigit HEX_ROWS xs hex_rows fits,
     ) (unit_bits-run (is_in_rows rows) xs few)
 
--- the prefix by rows that hold a class is that of the class
+-- the prefix by rows that hold a class is the prefix by the class
 pub units_held : (held : ℕ → Bool) (rows bytes : List ℕ) → HoldClass rows held
     → ((k : ℕ) → Fits w8 (get_or bytes k 0)) → ascii_unit_length (is_in_rows rows) bytes ≡ ascii_unit_length held bytes
 units_held held rows [] hold fits = refl

@@ -3,4 +3,3 @@ pub mod Faults
 pub mod Rows
 pub mod Splits
 pub mod Tails
-pub mod WebLinks

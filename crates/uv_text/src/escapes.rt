@@ -9,7 +9,7 @@ use std::alloc::{AllocError, Global};
 // The code points beyond ASCII alone, which every percent-encode set holds.
 const BEYOND_ASCII: AsciiSet = ascii_set!(AsciiSet::EMPTY);
 
-// The same and `'`, which the special-query percent-encode set changes in a text of units.
+// The code points beyond ASCII and `'`, which the special-query percent-encode set changes in a text of units.
 const SPECIAL_QUERY: AsciiSet = ascii_set!(AsciiSet::EMPTY.add(b'\''));
 
 /// The text with each code point beyond ASCII as the escapes of its UTF-8 bytes, and with `quote` also `'` as `%27`
@@ -23,7 +23,8 @@ pub fn encode(alloc: Global, text: &str, quote: bool) -> Result<String, AllocErr
     Ok(out)
 }
 
-/// The same, written after what is in a string. An error is out of memory, and leaves the string as it was.
+/// Writes the text after what is in a string, with each code point beyond ASCII as the escapes of its UTF-8 bytes, and
+/// with `quote` also `'` as `%27`. An error is out of memory, and leaves the string as it was.
 pub fn push_encoded(out: &mut String, text: &str, quote: bool) -> Result<(), AllocError>
     ensures text { OnOk result (string_bytes out.new ≡ string_bytes out.old ++ encoded quote (chars text.now)) }
     ensures kept { OnErr result (string_bytes out.new ≡ string_bytes out.old) }

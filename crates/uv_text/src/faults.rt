@@ -10,8 +10,8 @@ use crate::splits::{count_code_points, split_units};
 use crate::units::UnitClass;
 use uv_model::{Refusal, Rule, first_code_point};
 
-/// The first code point that is no URL code point and begins no percent-encoded byte (URL Standard, section 4.3), with
-/// the rule that it violates: `CodePoint`, or at a `%` `Percent`. `None` where the text is URL units. The place is in
+/// The first code point that isn't a URL code point and begins no percent-encoded byte (URL Standard, section 4.3),
+/// with the rule that it violates: `CodePoint`, or at a `%` `Percent`. `None` if the text is URL units. The place is in
 /// code points from the text's start.
 pub fn first_fault(text: &str) -> Option<Refusal>
     ensures least { IsLeast (UnitViolation (chars text.now)) result }
@@ -28,7 +28,7 @@ pub fn first_fault(text: &str) -> Option<Refusal>
     }
 }
 
-// The rule that a code point violates where no unit begins.
+// The rule that a code point violates if no unit begins.
 fn unit_rule(c: char) -> Rule
     ensures { result ≡ spec.unit_rule c }
 {

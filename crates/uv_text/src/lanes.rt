@@ -1,5 +1,5 @@
-//! Prefixes of bytes by lanes, 32 bytes a turn: the longest whose bytes are all in a class, and the longest of a class
-//! and of percent-encoded bytes.
+//! Prefixes of bytes by lanes, 32 or 64 bytes a turn: the longest whose bytes are all in a class, and the longest of a
+//! class and of percent-encoded bytes.
 ghost use Rattle.std.specs.Prelude.{◌≡◌, ◌+◌, ◌≤◌, ◌==◌, drop, length, map, not, take};
 ghost use Rattle.std.specs.Simd.Lanes.{mask_l};
 ghost use Rattle.std.specs.List.{prefix_len};
@@ -49,7 +49,7 @@ fn bits_of(v: u8x32) -> u8x32
     twice(&HIGH_BITS).swizzle_dyn_within::<16>(v >> u8x32::splat(4))
 }
 
-// The bit of each high half in the row of the low half: 0 where the byte isn't in the rows.
+// The bit of each high half in the row of the low half: 0 if the byte isn't in the rows.
 #[inline(always)]
 fn row_bit_of(rows: &[u8; 16], v: u8x32) -> u8x32
     ensures { result ≡ map (row_bit rows.now) v }
@@ -65,7 +65,7 @@ fn lane_bits(v: u8x32, rows: &[u8; 16]) -> u64
     row_bit_of(rows, v).simd_ne(u8x32::splat(0)).to_bitmask()
 }
 
-// The same of the bytes that aren't in the rows.
+// At each lane a bit, the first the lowest, which is set where the byte isn't in the rows.
 #[inline(always)]
 fn stop_bits(v: u8x32, rows: &[u8; 16]) -> u64
     ensures { result ≡ mask_l (map (λ b. not (is_in_rows rows.now b)) v) }
@@ -92,7 +92,7 @@ impl Model for Load {
 }
 
 impl Load {
-    /// The bytes from a place on. Where fewer than 32 are left, the load begins before the place, since what is copied
+    /// The bytes from a place on. If fewer than 32 are left, the load begins before the place, since what is copied
     /// into a block and loaded at once has to be waited for.
     #[inline(always)]
     pub(crate) fn of(bytes: &[u8], place: usize) -> Load
@@ -109,7 +109,7 @@ impl Load {
         }
     }
 
-    // The same of at most 32 bytes, filled up.
+    // At most 32 bytes as a load, which is filled up after the last of them.
     #[inline(always)]
     fn filled(bytes: &[u8]) -> Load
         requires { length bytes.now ≤ 32 }
@@ -132,7 +132,7 @@ impl Load {
         lane_bits(self.lanes, rows) >> self.before
     }
 
-    // How many of the bytes are in the rows before one that isn't. Where all are, a bit after the lanes is the end.
+    // How many of the bytes are in the rows before one that isn't. If all are, a bit after the lanes is the end.
     #[inline(always)]
     fn row_prefix(&self, rows: &[u8; 16]) -> usize
         ensures { result ≡ prefix_len (is_in_rows rows.now) self.now }
@@ -157,36 +157,52 @@ pub fn row_end(bytes: &[u8], place: usize, rows: &[u8; 16]) -> usize
     requires { place ≤ length bytes.now }
     ensures { result ≡ place + prefix_len (is_in_rows rows.now) (drop place bytes.now) }
 {
+    let near = near_end(bytes, place, rows);
+    if near - place < 64 {
+        return near;
+    }
+    far_end(bytes, near, rows)
+}
+
+// The place after the run, where it ends within 64 bytes, and otherwise the place after these.
+#[inline(always)]
+fn near_end(bytes: &[u8], place: usize, rows: &[u8; 16]) -> usize
+    requires { place ≤ length bytes.now }
+    ensures { result ≡ place + prefix_len (is_in_rows rows.now) (take 64 (drop place bytes.now)) }
+{
     let ahead = row_prefix(bytes, place, rows);
     if ahead < 32 {
         return place + ahead;
     }
-    far_end(bytes, place + ahead, rows)
+    place + ahead + row_prefix(bytes, place + ahead, rows)
 }
 
-// The same of a run that goes on: where 32 bytes are left, a load begins at its place.
-#[inline(always)]
+// The place after the longest run of bytes in the rows that begins at a place, found 64 bytes a turn. It is never
+// inlined, since most runs are shorter.
+#[inline(never)]
 fn far_end(bytes: &[u8], place: usize, rows: &[u8; 16]) -> usize
     requires { place ≤ length bytes.now }
     ensures { result ≡ place + prefix_len (is_in_rows rows.now) (drop place bytes.now) }
 {
     let mut end = place;
     while is_whole(bytes, end, rows) {
-        end += 32;
+        end += 64;
     }
-    end + row_prefix(bytes, end, rows)
+    near_end(bytes, end, rows)
 }
 
-// Whether 32 bytes are left from a place on, and all of them are in the rows.
+// Whether 64 bytes are left from a place on, and all of them are in the rows.
 #[inline(always)]
 fn is_whole(bytes: &[u8], place: usize, rows: &[u8; 16]) -> bool
     requires { place ≤ length bytes.now }
-    ensures { result ≡ (prefix_len (is_in_rows rows.now) (take 32 (drop place bytes.now)) == 32) }
+    ensures { result ≡ (prefix_len (is_in_rows rows.now) (take 64 (drop place bytes.now)) == 64) }
 {
-    if bytes.len() - place < 32 {
+    if bytes.len() - place < 64 {
         return false;
     }
-    lane_bits(u8x32::from_slice(&bytes[place..]), rows).trailing_ones() == 32
+    let first = stop_bits(u8x32::from_slice(&bytes[place..]), rows);
+    let second = stop_bits(u8x32::from_slice(&bytes[place + 32..]), rows);
+    first | second == 0
 }
 
 // How many of the 32 bytes from a place on are in the rows, or `%` with two hex digits after it among the 32, before

@@ -1,4 +1,4 @@
-//! URL units in texts: the first fault, sets of bytes and their runs, links by their parts, and percent-encoding.
+//! URL units in texts: the first fault, sets of bytes and their runs, and percent-encoding.
 #![tactic(auto)]
 
 mod escapes;
@@ -8,7 +8,6 @@ mod rows;
 mod splits;
 mod tail;
 mod units;
-mod web_links;
 
 pub use escapes::{encode, push_encoded};
 pub use faults::first_fault;
@@ -16,4 +15,3 @@ pub use lanes::{Load, row_end};
 pub use splits::{count_code_points, split_tail, split_units};
 pub use tail::Tail;
 pub use units::UnitClass;
-pub use web_links::{WebLink, web_link};

@@ -1,4 +1,4 @@
-//! Classes of URL units: which ASCII code points are in them, beside escapes and URL code points beyond ASCII.
+//! Classes of URL units: which ASCII code points are in them, besides escapes and URL code points beyond ASCII.
 ghost use Rattle.std.specs.Prelude.{◌≡◌, ◌+◌, ◌≤◌, drop, length};
 ghost use Rattle.std.specs.List.{prefix_len};
 ghost use Rattle.uv_text.specs.Rows.{HoldClass};
@@ -27,9 +27,9 @@ const OPAQUE_HOST_ROWS: [u8; 16] = byte_rows!(
 pub enum UnitClass {
     /// The ASCII URL code points, of which queries and fragments consist.
     Url,
-    /// The same but `?`, of which a path consists that a query may follow.
+    /// The ASCII URL code points but `?`, of which a path consists that a query may follow.
     Path,
-    /// The same but the forbidden host code points, of which opaque hosts consist.
+    /// The ASCII URL code points but the forbidden host code points, of which opaque hosts consist.
     OpaqueHost,
 }
 

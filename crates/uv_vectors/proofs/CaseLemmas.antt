@@ -1,4 +1,4 @@
--- Members and items of a JSON value beside the lists that they come from.
+-- Members and items of a JSON value, and the lists that they come from.
 use Rattle.std.proofs.Common.{◌≡◌, ◌∙◌, ◌+◌, List, [], ◌∷◌, Some, None, ap, ap₂, sym, refl, map, nat_lt, cond, not}
 use Rattle.std.proofs.Common.{◌<◌, ℕ, Bool, true, false, String, Global, get_or, length, option_map, slice_get}
 use Rattle.std.proofs.Common.{string_bytes}
@@ -51,13 +51,13 @@ position-map : {X Y : Type 0} (p : Y → Bool) (f : X → Y) (xs : List X)
 position-map p f xs =
     ap₂ (λ n len. cond (nat_lt n len) (Some n) None) (prefix_len-map (λ y. not (p y)) f xs) (sym (length-map xs f))
 
--- the first value that is no case, as the code finds it
+-- the first value that isn't a case, as the code finds it
 pub position-items_view : (values : List Value)
     → position (λ value. is_malformed (view value)) values ≡ position is_malformed (list_of (items_view values))
 position-items_view values =
     position-map is_malformed view values ∙ ap (position is_malformed) (sym (list_of-items_of (map view values)))
 
--- why the value at a place is no case, as the code reads it
+-- why the value at a place isn't a case, as the code reads it
 pub fault-items_view : (values : List Value) (at : ℕ) (value : Value) (fault : CaseFault)
     → at < length values → value ≡ get_or values at value → fault ≡ case_fault (view value)
     → option_map case_fault (slice_get (list_of (items_view values)) at) ≡ Some fault

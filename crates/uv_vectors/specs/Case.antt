@@ -93,7 +93,7 @@ vector_of value =
     (option_and_then as_str (get (codes "input") value))
     else None) (as_object value)
 
--- the value is no case
+-- the value isn't a case
 abbrev pub is_malformed : Data → Bool
 is_malformed value = is_none (vector_of value)
 

@@ -1,4 +1,4 @@
--- How a run over a vector file ends: with why the bytes are no JSON text, or a value is no case, and without.
+-- How a run over a vector file ends: with why the bytes aren't JSON text, or a value isn't a case, and without.
 use Rattle.std.specs.Prelude.{◌≡◌}
 use Rattle.uv_vectors.specs.declared.ends.CasesEnd.{CasesEnd}
 use Rattle.uv_vectors.specs.declared.ends.CasesEnd.TheVariants as ends

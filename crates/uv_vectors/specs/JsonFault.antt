@@ -1,4 +1,4 @@
--- Why bytes are no JSON text, and where.
+-- Why bytes aren't JSON text, and where.
 use Rattle.std.specs.Prelude.{◌≡◌, ◌≢◌, ℕ, ◌+◌, ◌<◌, ◌==◌, ◌⊎◌, Bool, IsUtf8, List, count_by, length, take}
 use Rattle.std.specs.Fmt.{is_char_start}
 use Rattle.std.specs.List.{after_last}
@@ -31,11 +31,11 @@ code_points bytes = count_by is_char_start bytes
 abbrev pub place_after : List ℕ → FilePlace
 place_after bytes = record { line = 1 + line_feeds bytes; column = 1 + code_points (last_line bytes) }
 
--- the same, where columns count bytes
+-- the place after these bytes, where columns count bytes
 abbrev pub byte_place_after : List ℕ → BytePlace
 byte_place_after bytes = record { line = 1 + line_feeds bytes; column = 1 + length (last_line bytes) }
 
--- so many bytes are before the one at this place; or all of them, where none of them is there
+-- so many bytes are before the one at this place; or all of them, if none of them is there
 abbrev pub IsOffsetOf : List ℕ → BytePlace → ℕ → Type 0
 IsOffsetOf bytes place at =
     ((at < length bytes) × (byte_place_after (take at bytes) ≡ place))
@@ -43,7 +43,7 @@ IsOffsetOf bytes place at =
 
 -- ---- faults
 
--- Where the bytes aren't UTF-8, this is the place of the first that goes wrong. Else they end before their JSON does,
+-- If the bytes aren't UTF-8, this is the place of the first that goes wrong. Else they end before their JSON does,
 -- which is at their end; or what is at a place of them can't be read as JSON.
 abbrev pub IsFaultOf : List ℕ → JsonFault → Type 0
 IsFaultOf bytes (NotUtf8 place) = ¬ IsUtf8 bytes × (place ≡ place_after (take (utf8_valid_len bytes) bytes))

@@ -24,7 +24,7 @@ failed answers = sum_by fails answers
 unfoldable pub fail_line : ℕ → List ℕ
 fail_line number = codes "fail " ++ (decimal number ++ codes "\n")
 
--- the line of one case: none where it passes
+-- the line of one case: none if it passes
 abbrev pub case_line : ℕ → Bool → List ℕ
 case_line number true = []
 case_line number false = fail_line number

@@ -37,7 +37,7 @@ HasArray value P = (items : Items) × (as_array value ≡ Some items) × P (list
 
 -- ---- how a run ends
 
--- the first value that is no case has this number, from 1, and is none for this reason
+-- the first value that isn't a case has this number, from 1, and isn't one for this reason
 abbrev pub IsFirstMalformed : ℕ → CaseFault → List Data → Type 0
 IsFirstMalformed number fault values =
     (at : ℕ) × (position is_malformed values ≡ Some at) × (number ≡ at + 1)
@@ -54,8 +54,8 @@ EndsValueUnchecked value ends.NotArray = as_array value ≡ None
 EndsValueUnchecked value (ends.Malformed number fault) = HasArray value (IsFirstMalformed number fault)
 EndsValueUnchecked value _ = ⊥
 
--- A run that checks no case of the bytes ends so: there are too many; else they are no JSON, for this reason; else no
--- array; else a value of it is no case.
+-- A run that checks no case of the bytes ends so: there are too many; otherwise they aren't JSON, for this reason;
+-- otherwise no array; otherwise a value of it isn't a case.
 abbrev pub EndsUnchecked : List ℕ → CasesEnd → Type 0
 EndsUnchecked bytes ends.TooLarge = most_bytes < length bytes
 EndsUnchecked bytes (ends.NotJson fault) =

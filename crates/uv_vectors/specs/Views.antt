@@ -22,7 +22,7 @@ abbrev pub expected_view : Expected → Expectation
 expected_view (expected.Text text) = denotes text.now
 expected_view (expected.Refusal refusal) = refuses refusal
 
--- why a value is no case
+-- why a value isn't a case
 abbrev pub fault_view : code.CaseFault → CaseFault
 fault_view fault.NoObject = NoObject
 fault_view (fault.UnknownKey key) = UnknownKey (string_bytes key)

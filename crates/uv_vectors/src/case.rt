@@ -52,7 +52,7 @@ impl<'v> Model for VectorCase<'v> {
 }
 
 impl<'v> VectorCase<'v> {
-    /// The case that a value is, or nothing where it is none.
+    /// The case that a value is, or nothing if it isn't one.
     pub(crate) fn of(value: &'v Value) -> Option<VectorCase<'v>>
         ensures { result ≡ vector_of (view value.now) }
     {
@@ -188,7 +188,7 @@ fn all_keys_known(members: &Map<String, Value>) -> bool
     members.keys().all(|key| is_known_key(key.as_str()))
 }
 
-/// The base: none where the key is absent or null. Nothing where the value is neither null nor a string.
+/// The base: none if the key is absent or null. Nothing where the value is neither null nor a string.
 pub(crate) fn base_in<'v>(found: Option<&'v Value>) -> Option<Option<&'v str>>
     ensures { option_map option_copied result ≡ base_of (value_view found.entry) }
 {
@@ -202,7 +202,7 @@ pub(crate) fn base_in<'v>(found: Option<&'v Value>) -> Option<Option<&'v str>>
     }
 }
 
-/// The profile: the standard one where the key is absent. Nothing where the value is no profile's name.
+/// The profile: the standard one where the key is absent. Nothing where the value isn't a profile's name.
 pub(crate) fn profile_in<'v>(found: Option<&'v Value>) -> Option<Profile>
     ensures { result ≡ profile_of (value_view found.entry) }
 {

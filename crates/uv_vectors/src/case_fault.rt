@@ -1,4 +1,4 @@
-//! Why a value of a vector file is no case.
+//! Why a value of a vector file isn't a case.
 ghost use Rattle.std.specs.Prelude.{◌≡◌, ◌<◌, IfOk, Some, is_some, length, option_and_then, option_map, slice_get};
 ghost use Rattle.serde_json.specs.Find.{as_str};
 ghost use Rattle.serde_json.specs.View.{items_view, view};
@@ -10,10 +10,10 @@ use crate::case::{base_in, profile_in, unknown_key};
 use serde_json::Value;
 use std::alloc::{AllocError, Global};
 
-/// Why a value of a vector file is no case: the first of these that fits.
+/// Why a value of a vector file isn't a case: the first of these that fits.
 #[derive(Debug, Drop, PartialEq, Eq)]
 pub enum CaseFault {
-    /// It is no object.
+    /// It isn't an object.
     NoObject,
     /// It has this key, which no case has: the first of these in the order of their bytes.
     UnknownKey(String),
@@ -25,16 +25,16 @@ pub enum CaseFault {
     Profile,
     /// It has neither `text` alone nor `place` and `rule`.
     Expectation,
-    /// `text` is no string.
+    /// `text` isn't a string.
     Text,
-    /// `place` is no number below 2^64 in digits alone.
+    /// `place` isn't a number below 2^64 in digits alone.
     Place,
     /// `rule` is the name of no rule.
     Rule,
 }
 
 impl CaseFault {
-    /// Why a value that is no case is none. The error is out of memory.
+    /// Why a value that isn't a case isn't one. The error is out of memory.
     pub(crate) fn of(alloc: Global, value: &Value) -> Result<CaseFault, AllocError>
         ensures { IfOk result (λ fault. fault_view fault ≡ case_fault (view value.now)) }
     {
@@ -48,7 +48,7 @@ impl CaseFault {
     }
 }
 
-/// Why the value at a place is none, where it is no case. The error is out of memory.
+/// Why the value at a place isn't one, if it isn't a case. The error is out of memory.
 pub(crate) fn fault_at(alloc: Global, values: &[Value], at: usize) -> Result<CaseFault, AllocError>
     requires { at < length values.now }
     ensures { IfOk result (λ fault.
@@ -58,7 +58,7 @@ pub(crate) fn fault_at(alloc: Global, values: &[Value], at: usize) -> Result<Cas
     Ok(fault)
 }
 
-// Why a value that has no other key than those of a case is none.
+// Why a value whose keys are all keys of a case isn't a case.
 fn value_fault(value: &Value) -> CaseFault
     ensures { fault_view result ≡ value_fault (view value.now) }
 {

@@ -1,4 +1,4 @@
-//! Why bytes are no JSON text, and where.
+//! Why bytes aren't JSON text, and where.
 ghost use Rattle.std.specs.Prelude.{◌≡◌, ◌+◌, ◌≤◌, ◌++◌, ◌∷◌, [], ℕ, Decides, IsUtf8, List, length};
 ghost use Rattle.std.specs.Fmt.{is_char_start};
 ghost use Rattle.uv_vectors.specs.JsonFault.{IsFaultOf, IsOffsetOf, byte_place_after, place_after};
@@ -22,10 +22,10 @@ struct BytePlace {
     column: usize,
 }
 
-/// Why bytes are no JSON text, and where.
+/// Why bytes aren't JSON text, and where.
 #[derive(Clone, Copy, Debug, PartialEq, Eq)]
 pub enum JsonFault {
-    /// What is here is no UTF-8.
+    /// What is here isn't UTF-8.
     NotUtf8(FilePlace),
     /// They end here, and their JSON doesn't.
     CutShort(FilePlace),
@@ -34,7 +34,7 @@ pub enum JsonFault {
 }
 
 impl JsonFault {
-    /// Why bytes are no JSON text, by the error that their reader gave.
+    /// Why bytes aren't JSON text, by the error that their reader gave.
     pub(crate) fn of(bytes: &[u8], error: &Error) -> JsonFault
         requires { length bytes.now ≤ most_bytes }
         ensures { IsFaultOf bytes.now result }
@@ -46,7 +46,7 @@ impl JsonFault {
     }
 }
 
-// The same of bytes that are UTF-8.
+// Why bytes that are UTF-8 aren't JSON text, by the error that their reader gave.
 fn text_fault(bytes: &[u8], error: &Error) -> JsonFault
     requires utf8 { IsUtf8 bytes.now }
     requires few { length bytes.now ≤ most_bytes }
@@ -64,8 +64,8 @@ fn text_fault(bytes: &[u8], error: &Error) -> JsonFault
     }
 }
 
-// How many bytes are before the one at a place; all of them, where none of them is there. What a reader names by
-// its line and its column is pinned by no contract.
+// How many bytes are before the one at a place; all of them, if none of them is there. What a reader names by its line
+// and its column is pinned by no contract.
 fn offset_of(bytes: &[u8], place: BytePlace) -> usize
     requires { length bytes.now ≤ most_bytes }
     ensures { IsOffsetOf bytes.now place result }

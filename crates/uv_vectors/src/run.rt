@@ -25,9 +25,9 @@ enum Ending {
     Report(CasesEnd, String),
 }
 
-/// Runs the cases of a vector file, each by the profile that it names or the standard one, and writes the report:
+/// Runs the cases of a vector file, each under the profile that it names or the standard one, and writes the report:
 /// `fail N` for each case that fails, in order and numbered from 1, and `vectors L pass P fail F`. The answer also says
-/// why the bytes are no JSON text, or a value is no case.
+/// why the bytes aren't JSON text, or a value isn't a case.
 ///
 /// A case passes where its base, if it has one, is valid alone, and where its input against it has the record's text,
 /// or the refusal, that the case expects. No case is checked before all of them have been read. A fault of memory
@@ -84,7 +84,7 @@ fn ending_of_value(alloc: Global, value: &Value) -> Result<Ending, AllocError>
     Ok(Ending::Report(end, text))
 }
 
-// The place of the first value that is no case.
+// The place of the first value that isn't a case.
 fn first_malformed(values: &[Value]) -> Option<usize>
     ensures place { result ≡ position is_malformed (list_of (items_view values.now)) }
     ensures within { IfSome result (λ at. at < length values.now) }

@@ -16,6 +16,7 @@ _urlcheck() {
         lint:--profile) words='standard wide parser' is_value=yes ;;
         lint:--format) words='gnu caret json github sarif checkstyle junit gitlab rdjson' is_value=yes ;;
         lint:--columns) words='code-points bytes utf16 screen' is_value=yes ;;
+        lint:--color) words='auto always never' is_value=yes ;;
         lint:--stdin-name) words='' is_value=yes ;;
         links:--base) words='' is_value=yes ;;
         links:--profile) words='standard wide parser' is_value=yes ;;
@@ -26,7 +27,7 @@ _urlcheck() {
             case $command in
                 '') words='check lint links mend vectors explain help --help -h --version -V' ;;
                 check) words='--help -h --base --all --profile --wide' ;;
-                lint) words='--help -h --base --all --profile --wide --format --columns --quiet -q --located --stdin-name' ;;
+                lint) words='--help -h --base --all --profile --wide --format --columns --color --quiet -q --located --stdin-name' ;;
                 links) words='--help -h --base --profile --wide' ;;
                 mend) words='--help -h --base --profile --wide --in-place -i --only --all-mended --quiet -q' ;;
                 vectors) words='--help -h' ;;

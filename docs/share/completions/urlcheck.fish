@@ -22,6 +22,7 @@ complete -c urlcheck -n '__fish_seen_subcommand_from lint' -l profile -x -a 'sta
 complete -c urlcheck -n '__fish_seen_subcommand_from lint' -l wide -d 'Short for --profile wide'
 complete -c urlcheck -n '__fish_seen_subcommand_from lint' -l format -x -a 'gnu caret json github sarif checkstyle junit gitlab rdjson' -d 'How to report'
 complete -c urlcheck -n '__fish_seen_subcommand_from lint' -l columns -x -a 'code-points bytes utf16 screen' -d 'What columns count, from 1'
+complete -c urlcheck -n '__fish_seen_subcommand_from lint' -l color -x -a 'auto always never' -d 'When gnu and caret have colours'
 complete -c urlcheck -n '__fish_seen_subcommand_from lint' -s q -l quiet -d 'Leave out the counts on standard error'
 complete -c urlcheck -n '__fish_seen_subcommand_from lint' -l located -d 'Read lines FILE:LINE:COLUMN:LINK'
 complete -c urlcheck -n '__fish_seen_subcommand_from lint' -l stdin-name -x -d 'Report on - under this name'

@@ -273,7 +273,7 @@ class Sphinx(Built):
         self.assertEqual(said.count("U+0020 SPACE is not allowed in a URL"), 2)
 
     def test_a_space_beside_the_same_link(self):
-        """It has its own place, also where the same link without it, a literal, code or HTML is before it."""
+        """It has its own place, even if the same link without it, a literal, code or HTML is before it."""
         self.write({"conf.py": "extensions = ['urlcheck.sphinx']\nexclude_patterns = ['mst.md', 'out']\nurlcheck_columns = True\n"})
         spaced = "Para `space <http://h/a b>`_ end.\n"
         for before, places in (

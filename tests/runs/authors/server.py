@@ -396,7 +396,7 @@ class Served(unittest.TestCase):
         client.end()
 
     def test_nonsense(self):
-        """What is no message is answered by an error, and the server goes on."""
+        """What isn't a message is answered by an error, and the server goes on."""
         client = self.start()
         for body, code in (
             (b"x", -32700), (b"\xff", -32700), (b"[" * 100_000, -32700), (b"1", -32600), (b"[]", -32600), (b"{}", -32600), (b'"a"', -32600),
@@ -433,7 +433,7 @@ class Served(unittest.TestCase):
         self.assertEqual(client.end(), 0)
 
     def test_lies_and_ends(self):
-        """A length that is none, or that no message has, ends the server with 1, and so does a client that is gone."""
+        """A length that isn't one, or that no message has, ends the server with 1, and so does a client that is gone."""
         for data in (b"", b"Content-Length: 5\r\n\r\n{}", b"Content-Length: x\r\n\r\n", b"Content-Length: -1\r\n\r\n", b"x\r\n\r\n", b"\r\n",
                      b"Content-Length: 99999999999999\r\n\r\n{}", b"Content-Length: 999999999\r\n\r\n{}", b"Content-Type: x\r\n\r\n{}",
                      b"Content-Length: 2", b"x" * 100_000):

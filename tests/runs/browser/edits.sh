@@ -1,7 +1,7 @@
 #!/usr/bin/env bash
 # edits.sh FOLDER CASES PROGRAM [MODULE]: spoils a copy of what tools/build-page has made in each of these ways, and
 # sees that the runs find it. MODULE is the object of the proved code that tools/build-page keeps; with it the glue is
-# spoiled too, and compiled anew.
+# spoiled too, and compiled again.
 set -euo pipefail
 folder=$(realpath "$1") cases=$(realpath "$2") program=$(realpath "$3") module=${4:-}
 here=$(dirname "$(realpath "$0")")
@@ -129,7 +129,7 @@ else
     echo "browser: the edits of the heap alone are left out, since cc isn't installed"
 fi
 
-# glue WHAT RUN FILE SED : with this edit of the glue, compiled anew, the run fails
+# glue WHAT RUN FILE SED : with this edit of the glue, compiled again, the run fails
 glue() {
     rm -rf "$room/module" "$room/copy"
     cp -r "$top/bindings/web/module" "$room/module"

@@ -73,7 +73,7 @@ class Page:
         return str(self.run("return document.querySelector(arguments[0])?.innerText ?? ''", selector))
 
     def verdict(self, within: str = "#text-output") -> tuple[str, str]:
-        """The word of the verdict, and what follows it; both are empty where none is shown."""
+        """The word of the verdict, and what follows it; both are empty when none is shown."""
         word, rest = self.run(
             "const line = document.querySelector(arguments[0] + ' .verdict');"
             "return line ? [line.querySelector('strong')?.textContent ?? line.textContent,"

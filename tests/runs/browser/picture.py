@@ -1,7 +1,7 @@
 """The picture of docs/JAVASCRIPT.md, drawn by Chromium: what the page shows of a text with two faults.
 
     picture.py FOLDER PICTURE            draws it
-    picture.py FOLDER PICTURE --check    fails where the page shows another text today than the picture
+    picture.py FOLDER PICTURE --check    fails when the page shows another text today than the picture
 
 FOLDER is what tools/build-page has made. A picture keeps a checksum of the text that it shows, in a chunk of PNG for texts.
 """

@@ -1,5 +1,5 @@
 // Holds the reports of a checker, in each format and unit, and what it finds of lines, to what the program's `lint` writes
-// of the same list, byte for byte: the texts of the cases of answers.py and lines that are no texts, in each profile,
+// of the same list, byte for byte: the texts of the cases of answers.py and lines that aren't texts, in each profile,
 // and against a base. Usage: node reports.mjs FOLDER CASES PROGRAM
 import { spawnSync } from 'node:child_process'
 import { mkdtempSync, readFileSync, rmSync, writeFileSync } from 'node:fs'
@@ -12,7 +12,7 @@ const { load } = await import(pathToFileURL(join(folder, 'urlcheck.js')).href)
 const urlcheck = await load()
 const decoder = new TextDecoder('utf-8', { ignoreBOM: true })
 
-/** Lines that are no texts, or end otherwise than most. */
+/** Lines that aren't texts, or end otherwise than most. */
 const ODD = ['', '\r', 'urn:a\r', 'x\ry', '\u00e9\u65e5\u{1f600}\t^\t%', 'http://\u05d0_b/'].map(it => Buffer.from(it))
 ODD.push(Buffer.from([0xff, 0xfe]), Buffer.from([0x68, 0xc2, 0xad, 0xe6, 0x97, 0x20, 0xff]), Buffer.from([0xed, 0xa0, 0x80]))
 

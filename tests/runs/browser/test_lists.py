@@ -18,7 +18,7 @@ LINES_OF_SAMPLE = 20_000
 # While a list is checked the page answers within so many milliseconds, but for this part of the time: a machine may be busy.
 LONGEST_PAUSE = 500
 LONGEST_PART = 0.25
-# Lines that are no texts, or odd ones.
+# Lines that aren't texts, or odd ones.
 ODD = [b"", b"\r", b"\xff\xfe", b"x" * 70_000, b"http://h/\x1b[31m\xe2\x80\xae\xd7\x90", b"\xc2\xadnope\r", b"/rel"]
 ODD += [b"http://h/\xef\xbf\xbd\xc3\xa9\xe6\x97 \xff"]
 ODD += ["http://a_b:x/ %4?^ \u05d0<b>".encode(), b"http://h/" + "\u00e9\U0001f600 ".encode()]
@@ -88,7 +88,7 @@ class Lists(PageCase):
         self.page.wait(lambda: bool(self.page.run(count) > before))
 
     def test_stopping(self) -> None:
-        """A job that takes long can be stopped, and lists that are changed are checked anew."""
+        """A job that takes long can be stopped, and lists that are changed are checked again."""
         self.page.open(view="list")
         self.write("long.txt", "".join("http://b\u00fccher{}.example/ x\n".format(it) for it in range(400_000)))
         self.page.drop("long.txt", "/room/long.txt")

@@ -26,8 +26,6 @@ if here Go go; then
         spoiled Go build_go go calls.go "$edit" "$room/answers_go"
     done
     guide go go guide_go main.go
-    printf 'module program\n\ngo 1.19\n\n' >"$room/guide_go/go.mod"
-    python3 guide.py "$top/docs/guides/go.md" text "$room/dependency"
-    cat "$room/dependency" >>"$room/guide_go/go.mod"
+    python3 guide.py "$top/docs/guides/go.md" text "$room/guide_go/go.mod"
     as_told go guide_go
 fi

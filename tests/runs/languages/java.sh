@@ -71,4 +71,10 @@ if here Java javac && with Java 'libjna-java or junit4' test -e $jna -a -e "${ju
         with_java '' "$jna" Answers
     guide java java guide_java Program.java
     as_told java guide_java
+    if roomy 'texts in Java that no array holds' 9; then
+        quiet 'javac for long texts' javac -Xlint:all -Werror -cp "$room/classes/8" -d "$room/classes/tests" \
+            LongTexts.java
+        quiet 'texts that no array holds' with_java '' "$jna" -Xmx5g LongTexts
+        echo 'languages: texts that no array holds are errors of Java'
+    fi
 fi

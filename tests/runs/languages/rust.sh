@@ -31,6 +31,28 @@ if here Rust cargo; then
     spoiled Rust build_rust rust src/profile.rs 's/        self as u32/        self as u32 \& 1/' "$answers_rust"
     spoiled Rust build_rust rust src/parts.rs 's/span.present.then(/(span.length > 0).then(/' "$answers_rust"
 
+    # The same sources by the manifest that has `serde`, of which Debian has sources. Above no registry was there.
+    registry=/usr/share/cargo/registry
+    if with 'Rust with serde' librust-serde-json-dev compgen -G "$registry/serde_json-*"; then
+        serde=(--offline --manifest-path "$room/rust/serde/Cargo.toml" --config 'source.crates-io.replace-with="debian"'
+            --config "source.debian.directory=\"$registry\"")
+        quiet 'the tests with serde' cargo test "${serde[@]}"
+        ! with 'serde by clippy' clippy cargo clippy --version ||
+            quiet 'clippy with serde' cargo clippy "${serde[@]}" --all-targets -- -D warnings
+        has_version rust/serde/Cargo.toml 'version = "@"'
+        serialized=$room/rust/src/serialized.rs
+        cp "$serialized" "$room/kept"
+        for edit in 's/"place": self.place()/"place": self.byte_place()/' \
+            's/"port": self.port()/"port": self.host()/'; do
+            sed "$edit" "$room/kept" >"$serialized"
+            ! cmp -s "$room/kept" "$serialized" || fail "Rust: the edit $edit changes nothing"
+            ! cargo test "${serde[@]}" >"$room/said" 2>&1 || fail "Rust: a spoiled copy serializes the same: $edit"
+            grep -q '^test result: FAILED' "$room/said" || fail "Rust: a copy isn't built: $edit: $(cat "$room/said")"
+            spoils=$((spoils + 1))
+        done
+        cp "$room/kept" "$serialized"
+    fi
+
     # Where no folder is named, pkg-config is asked; a folder without a library is refused.
     (
         cd "$room/rust"

@@ -1,5 +1,5 @@
 """Writes the texts of files of vectors, a line each, and some with a NUL: texts.py VECTORS.. A text that is empty, or
-has an LF or a CR, is no line for each language and is left out."""
+has an LF or a CR, isn't a line for each language and is left out."""
 
 import json
 import sys

@@ -174,7 +174,7 @@ static int is_same_answer(urlcheck_answer one, urlcheck_answer other) {
            && is_same_span(one.parts.fragment, other.parts.fragment);
 }
 
-/* The answer to a pointer and the verdict alone are those of the check, and a base of another profile is none. */
+/* The answer to a pointer and the verdict alone are those of the check, and a base of another profile isn't one. */
 static void compare_calls(const text *given, const text *base, uint32_t profile, urlcheck_answer answer) {
     urlcheck_base held;
     const urlcheck_base *prepared = hold(base, profile, &held);
@@ -191,7 +191,7 @@ static void compare_calls(const text *given, const text *base, uint32_t profile,
     if (urlcheck_is_valid(given->bytes, given->length, other, prepared)) fail("a base of another profile");
 }
 
-/* What is no base that was prepared is none for each call. */
+/* What isn't a base that was prepared isn't one for each call. */
 static void refuse_stray_bases(void) {
     static const urlcheck_base zeros;
     const uint8_t bytes[] = "http://h/";

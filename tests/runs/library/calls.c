@@ -1,6 +1,6 @@
 /*
  * The calls of reports, columns, explanations, records and held bases on texts that are written out: what they give, and what
- * they answer to a number of nothing, a place after the end, a column out of range, bytes that are no UTF-8 and null
+ * they answer to a number of nothing, a place after the end, a column out of range, bytes that aren't UTF-8 and null
  * pointers. Expected texts are those of docs/COMMANDS.md and docs/rules/, places and columns are counted by hand.
  */
 #include "urlcheck.h"
@@ -151,7 +151,7 @@ static void diagnostics(void) {
         refuses(diagnostic(0, &wrong), outcome, what); \
     } while (0)
 
-/* One in which a text is no UTF-8, or null. */
+/* One in which a text isn't UTF-8, or null. */
 #define REFUSES_TEXT(member, outcome) \
     do { \
         urlcheck_reported wrong = space(); \
@@ -353,7 +353,7 @@ static void records(void) {
         urlcheck_record asked = urlcheck_resolve(bytes(row->text), length, URLCHECK_STANDARD, NULL, 0, NULL, 0);
         expect(asked.length == strlen(row->written) && asked.parts.path.start == row->path_start, row->text);
     }
-    /* A path that would be read as one with a host has `/.` before it, which is no part of it. */
+    /* A path that would be read as one with a host has `/.` before it, which isn't a part of it. */
     const struct placed dotted = {"..//x", "a:/.//x", "a", NULL, NULL, "//x", NULL, NULL, 0, 4, 0, 0};
     is_placed(&dotted, urlcheck_resolve(bytes("..//x"), 5, 0, bytes("a:/b"), 4, out, sizeof out));
     is_unplaced(urlcheck_resolve(bytes("a b"), 3, 0, NULL, 0, out, 9), URLCHECK_REFUSED, "a record of a refused text");

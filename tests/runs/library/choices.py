@@ -127,6 +127,7 @@ class Choices(Texts):
             ({"NO_COLOR": "1"}, [], False),
             ({"NO_COLOR": ""}, [], True),
             ({"TERM": "dumb"}, [], False),
+            ({"INSIDE_EMACS": "28.2,compile"}, [], False),
             ({"NO_COLOR": "1"}, ["--color", "always"], True),
             ({}, ["--color", "never"], False),
             ({}, ["--format", "json"], False),

@@ -135,7 +135,7 @@ class Documents(Texts):
                 self.finds("a.html", "<a href='x{}y'>".format(written), "1:10:x{}y\n".format(read))
 
     def test_tokens_of_html(self):
-        """Tags, comments and what is no markup, as the HTML Standard's tokenizer tells them apart, sections 13.2.5.1
+        """Tags, comments and what isn't markup, as the HTML Standard's tokenizer tells them apart, sections 13.2.5.1
         to 13.2.5.71: where a link is there is a number, and where none is there is `no`."""
         for text in (
             "<script><!--<script></script><a href=no></script><a href=1>", "<script><!--<script>--></script><a href=1>",
@@ -164,7 +164,7 @@ class Documents(Texts):
         self.finds("podcast.rss", PODCAST, "2:21:http://h/ b\n4:28:http://h/c\n5:20:d.png\n")
 
     def test_what_names_something_in_feeds(self):
-        """What may name something by a URL is a link where it begins as one, and else it is another word."""
+        """What may name something by a URL is a link where it begins as one, and otherwise it is another word."""
         spaces = 'xmlns:m="http://search.yahoo.com/mrss/" xmlns:d="http://purl.org/dc/elements/1.1/"'
         text = """<rss {0}><item>
 <category domain="{1}">x</category><m:category scheme="{1}">x</m:category>
@@ -191,14 +191,14 @@ class Documents(Texts):
 
     @unittest.skipUnless(importlib.util.find_spec("markdown_it"), "markdown-it-py isn't installed")
     def test_what_stands_twice_in_markdown(self):
-        """A link is that of its own place, also where the same is before it as text or in a destination."""
+        """A link is that of its own place, even if the same is before it as text or in a destination."""
         self.finds("a.md", "`<http://h/a>` <http://h/a>\n\n`<a href='x'>` <a href='x'>\n\n\\<http://h/b> <http://h/b>\n\n"
                    "[x](<http://h/c>) <http://h/c>\n\n![<q cite=y>](z) <q cite=y>\n",
                    "1:17:http://h/a\n3:25:x\n5:16:http://h/b\n7:6:http://h/c\n7:20:http://h/c\n9:15:z\n9:26:y\n")
 
     @unittest.skipUnless(importlib.util.find_spec("markdown_it"), "markdown-it-py isn't installed")
     def test_tags_over_lines_of_markdown(self):
-        """What nests a block is no part of a tag that reaches over its lines, and places are those of the source."""
+        """What nests a block isn't a part of a tag that reaches over its lines, and places are those of the source."""
         text = ("- a <a\n  href=\"m n\">b</a>\n\n> c <a\n> href='o\n> p'>\n\n> <div>\n> <img\n>  src=\"s t\">\n> </div>\n\n"
                 "d <a\nhref='?u&amp;v w'>\n\n> - <!-- urlcheck: ignore -->\n>   <a href='^'>\n\n- e <!-- urlcheck: ignore -->\n"
                 "  [f](^)\n")
@@ -238,7 +238,7 @@ class Documents(Texts):
         ])
 
     def test_hosts(self):
-        """Why a host isn't a valid domain, by each profile."""
+        """Why a host isn't a valid domain, under each profile."""
         wide = "; --profile wide allows it"
         empty, long = "a label of this domain is empty", "a label of this domain has more than 63 code points"
         outer = "a label of this domain begins or ends with -" + wide

@@ -1,4 +1,4 @@
-"""Tests of what urlcheck.documents writes in the place of links: --fix, --diff and --unsafe-fixes. The package is on PYTHONPATH."""
+"""Tests of what urlcheck.documents writes in place of links: --fix, --diff and --unsafe-fixes. The package is on PYTHONPATH."""
 
 import os
 import resource
@@ -68,6 +68,28 @@ class Fixing(Texts):
         self.assertGreater(offered, 0)
         self.assertEqual(left.count('"offered":true'), 0)
         self.assertIn(b"{{ a b }}", self.read("page.html"))
+
+    def test_counts(self):
+        """A difference counts what is refused now; what only unsafe fixes would write is counted, unless that is quiet."""
+        text = '<a href="http://h/a b">x</a> <a href=https:example.com/a>y</a> <a href="{{ a b }}">z</a>\n'
+        more = "urlcheck-documents: {} could be fixed with --unsafe-fixes, perhaps to another URL\n"
+        counts = "urlcheck-documents: {}, {} refused, 0 ignored, {}\n"
+        self.write("a.html", text)
+        self.write("b.html", text)
+        self.write("c.xml", '<svg xmlns="http://www.w3.org/2000/svg"><a href="https:example.com/a"/>&broken')
+        both, one = "2 documents, 6 links", "1 document, 3 links"
+        said = self.run_on("--diff", "a.html", "b.html")[2]
+        self.assertEqual(said, more.format("2 more links") + counts.format(both, 6, "2 would be fixed"))
+        said = self.run_on("--diff", "--unsafe-fixes", "a.html", "b.html")[2]
+        self.assertEqual(said, counts.format(both, 6, "4 would be fixed"))
+        said = self.run_on("--fix", "a.html")[2]
+        self.assertEqual(said, more.format("1 more link") + counts.format(one, 2, "1 fixed"))
+        said = self.run_on("--fix", "a.html")[2]
+        self.assertEqual(said, more.format("1 more link") + counts.format(one, 2, "0 fixed"))
+        self.assertEqual(self.run_on("--fix", "--quiet", "b.html")[2], "")
+        self.assertNotIn("unsafe", self.run_on("--fix", "--type", "xml", "c.xml")[2])
+        said = self.run_on("--fix", "--unsafe-fixes", "a.html")[2]
+        self.assertEqual(said, counts.format(one, 1, "1 fixed"))
 
     def test_each_kind(self):
         packages = {"a.css": "tinycss2", "a.md": "markdown_it", "a.ipynb": "markdown_it", "a.rst": "docutils"}

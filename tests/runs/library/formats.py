@@ -135,7 +135,7 @@ class Alone(Reported):
         line = ('{"column":15,"cut":false,"file":"a.html","kind":"changed","line":2,"mended":"http://a",'
                 '"message":"// has to follow this scheme","offered":true,"rule":"two-slashes","text":"http:a"}\n')
         self.assertEqual(self.reported("json", "a.html"), line)
-        # Against a base of another scheme it is no reference, and is read as what is written in its place.
+        # Against a base of another scheme it isn't a reference, and is read as what is written in its place.
         line = line.replace("changed", "same").replace("a.html", "b.html").replace('"line":2', '"line":1')
         self.assertEqual(self.reported("json", "b.html"), line)
         self.assertEqual(self.reported("github", "c.html"), "::error file=c.html,line=2,col=10,title=opaque-base::"

@@ -390,7 +390,7 @@ class Limits(Texts):
             os.wait()
 
     def test_a_process_ends_that_grew(self):
-        """Documents are read in one process until they have taken much memory; a part is given once, also where its
+        """Documents are read in one process until they have taken much memory; a part is given once, even if its
         document is read again."""
         kept = []
 
@@ -481,7 +481,7 @@ class Limits(Texts):
             self.assertEqual(limits.ended_by(limits.LATE), "takes more than 7 seconds")
 
     def test_input_without_fork(self):
-        """Standard input is handed to a process that begins anew, also where it comes late, or not at all."""
+        """Standard input is handed to a process that begins again, even if it comes late, or not at all."""
         run = "from urlcheck import documents; from urlcheck._documents import limits; limits.MOST_SECONDS = 2; "
         run += "sys.argv[1:] = ['--list', '-q', '--type', 'html', '-']; documents.main()"
         for text, links in (("<a href='x y'>" * 30_000, 30_000), ("", 0)):

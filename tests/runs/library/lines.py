@@ -1,5 +1,5 @@
 """Writes the texts of files of vectors, a line each, for batches.c and lint.c: lines.py FILE.json .. Texts with an LF, and
-those that end in a CR, are no lines and are left out. Further lines are empty, have a CR before their LF, are no UTF-8, or
+those that end in a CR, aren't lines and are left out. Further lines are empty, have a CR before their LF, aren't UTF-8, or
 are long."""
 
 import json

@@ -8,6 +8,7 @@ is the crate `caller`, byte for byte.
 import pathlib
 import re
 import sys
+import textwrap
 
 top, folder = pathlib.Path(sys.argv[1]), pathlib.Path(sys.argv[2])
 readme = (top / "README.md").read_text(encoding="utf-8")
@@ -42,4 +43,4 @@ short = dict(blocks(readme.split("\n## Call it from your program\n")[1].split("\
 (folder / "start.c").write_text(
     '#include <stdio.h>\n#include "urlcheck.h"\nint main(void) {\n'
     '    const uint8_t text[] = "https://example.com/a b";\n    size_t length = sizeof text - 1;\n'
-    + short["c"] + "    return 0;\n}\n", encoding="utf-8")
+    + textwrap.indent(short["c"], "    ") + "    return 0;\n}\n", encoding="utf-8")

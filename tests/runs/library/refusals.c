@@ -1,6 +1,6 @@
 /*
  * What each call answers to a number that no profile has: that, and nothing else. And what it writes through a null
- * pointer in the place of room: nothing. All that a call gives is compared, and not its verdict alone.
+ * pointer in place of room: nothing. All that a call gives is compared, and not its verdict alone.
  */
 #include "urlcheck.h"
 
@@ -151,7 +151,7 @@ static void no_profile(void) {
     }
 }
 
-/* ---- a null pointer in the place of room */
+/* ---- a null pointer in place of room */
 
 #ifdef __linux__
 

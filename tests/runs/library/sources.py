@@ -71,7 +71,7 @@ class Markdown(Texts):
 
     @has("markdown_it")
     def test_a_broken_link_counts_once(self):
-        """An address before the space of a destination is none beside it, and a template is told as in HTML."""
+        """An address before the space of a destination isn't one beside it, and a template is told as in HTML."""
         for text, place, rule in (
             ("[a](http://h/a b)", "1:15", "no-link"), ("x www.h.x/a [a](www.h.x/b c) www.h.x/%", "1:26", "no-link"),
             ("[a]({{ url }})", "1:5", "code-point"), ("[a](http://h/{{ url }}/b)", "1:14", "code-point"),
@@ -101,7 +101,7 @@ class Markdown(Texts):
 
     @has("markdown_it")
     def test_front_matter(self):
-        """It is no text, and its values that begin with a scheme and // are links."""
+        """It isn't a text, and its values that begin with a scheme and // are links."""
         for front, links in (
             ("---\ntitle: a\ncanonical: https://h/a b\n---\n", ["3:12:https://h/a b"]),
             ("---\na: \"https://h/ b\"  # c\nb: 'ftp://h/'\n---\n", ["2:5:https://h/ b", "3:5:ftp://h/"]),
@@ -113,7 +113,7 @@ class Markdown(Texts):
             with self.subTest(front):
                 line = front.count("\n") + 1
                 self.finds("a.md", front + "[x](y)\n", "".join(it + "\n" for it in links + ["{}:5:y".format(line)]))
-        # (what isn't at the start is none: there a line below a text makes it a heading)
+        # (what isn't at the start isn't one: there a line below a text makes it a heading)
         self.finds("a.md", "\n---\na: https://h/\n---\n[x](y)\n", "5:5:y\n")
 
 
@@ -153,7 +153,7 @@ class Rst(Texts):
 
     @has("docutils")
     def test_a_space_beside_the_same_link(self):
-        """A link with a space has its own place, also where the same one without it, a literal, code or HTML is
+        """A link with a space has its own place, even if the same one without it, a literal, code or HTML is
         before it."""
         spaced = "Para `space <http://h/a b>`_ end.\n"
         for before, places in (

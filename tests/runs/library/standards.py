@@ -17,10 +17,10 @@ CANDIDATES = (
     ("a,, 1x", ["a", "1x"]), ("data:image/png;base64,AA== 1x, b", ["data:image/png;base64,AA==", "b"]),
     # A comma ends descriptors, also without a space after it, and right after spaces.
     ("a 1x,b 2x", ["a", "b"]), ("a 100w 50h,b", ["a", "b"]), ("a ,b", ["a", "b"]), ("a 1x ,, b", ["a", "b"]),
-    # But parentheses keep spaces and commas, up to the first that closes, or else to the end.
+    # But parentheses keep spaces and commas, up to the first that closes, or otherwise to the end.
     ("a f(1, 2) 1x, b", ["a", "b"]), ("a (, ) , b", ["a", "b"]), ("a f((1), b", ["a", "b"]), ("a f()(,) 1x, b", ["a", "b"]),
     ("a 1x (b, c 2x", ["a"]),
-    # A candidate with a word that is no descriptor is none: the space before it was to be written %20.
+    # A candidate with a word that isn't a descriptor isn't one: the space before it was to be written %20.
     ("my photo.png 1x, b.png 2x", ["my photo.png", "b.png"]), ("my photo.png, b.png", ["my photo.png", "b.png"]),
     ("a b\n c.png 100w 50h,d e", ["a b\n c.png", "d e"]), ("a.png, b c.png", ["a.png", "b c.png"]), ("a large", ["a large"]),
     ("photo 2.png .5x", ["photo 2.png"]), ("a (1).png 2x", ["a (1).png"]), ("a f(b, c 2x", ["a f(b, c 2x"]),
@@ -89,10 +89,10 @@ class Standards(Texts):
         self.checks("a.xhtml", [("2:44", "opaque-base")])
 
     def test_places_after_references(self):
-        """A violation is reported where it is in the source, also where that has references before it."""
+        """A violation is reported where it is in the source, even if that has references before it."""
         space = "code-point"
         for name, text, place in (
-            # A reference may be read as two code points, and one that is none is read as itself.
+            # A reference may be read as two code points, and one that isn't one is read as itself.
             ("a.html", "<a href='?a&amp;b=1&#65;c d'>", "1:26"),
             ("b.html", "<a href='\n &ThickSpace;^'>", "2:14"),
             ("c.html", "<a href='x&thickapprox;&none;&#97; y'>", "1:35"),
@@ -114,7 +114,7 @@ class Standards(Texts):
                 out = self.run_on("-q", name)[1]
                 self.assertEqual(out.split(": error:")[0], name + ":" + place)
                 self.assertEqual(out.count("\n"), 1)
-        # What is no space of XML isn't taken off.
+        # What isn't a space of XML isn't taken off.
         self.finds("g.xml", "<x><loc>\n\u00a0a </loc></x>", "2:1:\u00a0a\n")
         # A value with very many of them is reported at its beginning, and one with many isn't.
         for count, place in ((10_000, "1:50010"), (10_001, "1:10")):

@@ -178,7 +178,7 @@ class Words(Texts):
                 self.assertEqual((status, out, said), (2, "", usage + wanted + "\n"))
 
     def test_shortened_options(self):
-        """An option is written whole: a beginning of its name is none."""
+        """An option is written whole: a beginning of its name isn't one."""
         self.write("a.html", "<a href='x y'>")
         for words, option, nearest in (
             ("--form json a.html", "--form", "--format"),
@@ -223,7 +223,7 @@ class Words(Texts):
                 self.assertEqual(self.run_on(*words, "a.html"), (2, "", lines))
 
     def test_what_is_meant_by_a_name(self):
-        """A command of `urlcheck` that is no file, and a list of links, are told of."""
+        """A command of `urlcheck` that isn't a file, and a list of links, are told of."""
         self.write("a.html", "<a href='x y'>")
         missing, more = "{}: can't be read: there is no such file", "; links are checked without a command"
         for name, wanted in (("check", missing + more), ("lint", missing + more), ("mend", missing),
@@ -310,7 +310,7 @@ class Words(Texts):
         self.assertEqual(self.run_on("--list", "--ignore", "wrong", "a.html")[0], 2)
 
     def test_the_file_of_ignored_links(self):
-        """A byte order mark is no part of its first line; a line ends with LF, CR LF or CR; a place is told."""
+        """A byte order mark isn't a part of its first line; a line ends with LF, CR LF or CR; a place is told."""
         self.write("a.html", '<a href="{{ a }}"><a href="b c"><a href="\ufeffd">')
         for patterns, count in (("\ufeff^\\{\\{\n", 1), ("\ufeff# ^b\n^b", 1), ("\ufeff\n", 0), ("^b\r\n^\\{\r\n", 2),
                                 ("^b\r^\\{", 2), ("\n\ufeff\n", 1), ("b\x0b\n", 0), ("", 0)):

@@ -37,7 +37,7 @@ read_back() {
 # asks_for_a_budget FOLDER : in its copies of the headers and of the names of libSystem is what the allocator with a
 # budget takes
 asks_for_a_budget() {
-    local text='char *getenv(const char *name);\nunsigned long long strtoull(const char *text, char **end, int base);'
+    local text='unsigned long long strtoull(const char *text, char **end, int base);'
     sed -i "s/^#endif/$text\n#define UINT64_MAX __UINT64_MAX__\n&/" "$1/stdlib.h"
-    sed -i 's/_memset,/_getenv, _strtoull, &/' "$1/libSystem.tbd"
+    sed -i 's/_memset,/_strtoull, &/' "$1/libSystem.tbd"
 }

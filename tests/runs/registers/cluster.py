@@ -46,7 +46,7 @@ class Clusters(unittest.TestCase):
         sys.path.insert(0, cls.folder)
         import sitecustomize
 
-        # (a nanny starts each anew, and a span that kills its worker fails at once)
+        # (a nanny starts each again, and a span that kills its worker fails at once)
         dask.config.set({"distributed.scheduler.allowed-failures": 0})
         cls.cluster = distributed.LocalCluster(n_workers=2, threads_per_worker=1, dashboard_address=None)
 

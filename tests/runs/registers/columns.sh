@@ -31,7 +31,7 @@ else
     ran=()
     while IFS= read -r python; do
         quietly "$python" "$top/tests/runs/registers/columns.py" "$cases"
-        quietly "$python" "$top/tests/runs/registers/page.py" python dataframe
+        quietly "$python" "$top/tests/runs/registers/page.py" python python
         ran+=("$(described "$python")")
     done < <(column_pythons)
     sanitizer=$(gcc -print-file-name=libasan.so)

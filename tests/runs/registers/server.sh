@@ -72,5 +72,7 @@ sql() {
 # has_server : whether PostgreSQL and what its extensions are built with are installed
 has_server() {
     pg_config=$(command -v pg_config || true)
-    [ -n "$pg_config" ] && [ -x "$($pg_config --bindir)/initdb" ] && [ -f "$($pg_config --pgxs)" ]
+    # (a client brings PGXS too, and the headers of a server are a package of their own)
+    [ -n "$pg_config" ] && [ -x "$($pg_config --bindir)/initdb" ] && [ -f "$($pg_config --pgxs)" ] &&
+        [ -f "$($pg_config --includedir-server)/postgres.h" ]
 }

@@ -29,7 +29,7 @@ NAMES = ("rule", "place", "message", "scheme", "host", "port", "path", "query", 
 
 
 def statements(path):
-    """A table of the cases, and a row of answers for each by each profile. A base that is refused is left out: its error
+    """A table of the cases, and a row of answers for each under each profile. A base that is refused is left out: its error
     ends a statement. Each base is kept from row to row where it stays."""
     print("CREATE TEMP TABLE cases (id integer, url text, base text);")
     print("COPY cases FROM stdin;")

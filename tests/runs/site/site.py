@@ -154,7 +154,7 @@ def check_looks(browser, shown_as, address, names, pictures):
     for width, scheme, name in itertools.product(WIDTHS, ("light", "dark"), names):
         shown_as(browser, width, 900, scheme)
         browser.get(address + name + ".html")
-        # (the colours that were chosen are kept, also where nobody chose them)
+        # (the colours that were chosen are kept, even if nobody chose them)
         browser.execute_script("localStorage.clear()")
         browser.refresh()
         time.sleep(0.3)

@@ -33,7 +33,7 @@ SELECT url_is_valid('x', 'no base');
 SELECT url_is_valid('x', b) FROM (VALUES ('http://h/'), ('http://h h/')) v(b);
 SELECT url_resolve('x', 'http://h:x/');
 SELECT * FROM url_faults('x', 'http://h/^');
--- a refusal in the place of an answer
+-- a refusal in place of an answer
 SELECT url_require('http://h/'), url_require('../x', 'http://h/'), url_require('http://a_b/', NULL, 'wide');
 SELECT url_require('http://h/a b');
 -- a text in its place that is named and not offered

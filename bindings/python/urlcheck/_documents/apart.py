@@ -56,17 +56,19 @@ class Taken(NamedTuple):
     known: Tuple[str, ...] = ()
     """The fingerprints of its faults that are known, and not reported."""
     fixed: Optional[Fixed] = None
-    """The document with other texts in the place of links, which the others are of then; in the first part alone."""
+    """The document with other texts in place of links, which the others are of then; in the first part alone."""
     warnings: Tuple[Fault, ...] = ()
     """What is said of its comments."""
+    unsafe: int = 0
+    """How many links more would be fixed if unsafe fixes were written too; in the first part alone."""
     first: Tuple[bytes, bytes] = (b"", b"")
-    """What is said of the first, after others and where there are none; both empty where nothing is said of links."""
+    """What is said of the first, after others and where there are none; both empty when nothing is said of links."""
 
 
 class Part:
     """A part of a document that is being taken."""
 
-    def __init__(self, documents: int, fixed: Optional[Fixed] = None) -> None:
+    def __init__(self, documents: int, fixed: Optional[Fixed] = None, unsafe: int = 0) -> None:
         self._documents = documents
         self._links = 0
         self._refused = 0
@@ -76,6 +78,7 @@ class Part:
         self._counted: List[Counted] = []
         self._known: List[str] = []
         self._fixed = fixed
+        self._unsafe = unsafe
 
     def add(self, line: str = "") -> None:
         """Adds a link that is listed in this line, or is valid."""
@@ -120,7 +123,8 @@ class Part:
         """What it has given."""
         numbers = self._documents, self._links, self._refused, self._ignored
         more = tuple(self._counted), tuple(self._known), self._fixed
-        return Taken(*numbers, bytes(self._lines), fault, notes, *more, warnings=warnings, first=self._first)
+        last = warnings, self._unsafe, self._first
+        return Taken(*numbers, bytes(self._lines), fault, notes, *more, *last)
 
 
 _ENOUGH = 256 * 1024
@@ -254,7 +258,7 @@ if sys.platform != "win32":
 
 
 class _Started(_Child):
-    """One that begins anew, where the system copies none. It is told what it takes, and handed standard input if that
+    """One that begins again, where the system copies none. It is told what it takes, and handed standard input if that
     is the document."""
 
     def __init__(self, documents: Sequence[Parts], is_input: bool) -> None:

@@ -44,7 +44,7 @@ _OF_OTHERS = {
 
 
 def chosen(name: str, names: List[str], noun: str) -> str:
-    """The name, where it is one of these. Raises ``SystemExit`` where it is none, and says which there are."""
+    """The name, where it is one of these. Raises ``SystemExit`` where it isn't one, and says which there are."""
     if name not in names:
         tell("no {} is named '{}'{}".format(noun, named(name), _nearest(name, names)))
         raise SystemExit(stop("the {}s: {}".format(noun, " ".join(names))))

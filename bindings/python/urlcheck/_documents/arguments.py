@@ -44,7 +44,7 @@ class Settings(NamedTuple):
     gfm: bool = False
     """Whether Markdown is GitHub's."""
     is_empty_taken: bool = False
-    """Whether a link may be empty where its format forbids it."""
+    """Whether a link may be empty when its format forbids it."""
     is_by_git: bool = False
     """Whether a folder's documents are those that Git lists."""
     is_configured: bool = True
@@ -54,7 +54,7 @@ class Settings(NamedTuple):
     selected: Selected = Selected()
     """The rules that are reported."""
     fixing: Optional[Fixing] = None
-    """What is written in the place of links, if something is."""
+    """What is written in place of links, if something is."""
     known: FrozenSet[str] = frozenset()
     """The fingerprints of the faults that aren't reported."""
     is_counted: bool = False
@@ -71,7 +71,7 @@ class Asked(NamedTuple):
     has_statistics: bool = False
     """Whether the numbers of faults are wanted in place of the faults."""
     is_zero_for_refused: bool = False
-    """Whether the status is 0 also where links are refused."""
+    """Whether the status is 0 even if links are refused."""
     output: Optional[str] = None
     """The file that the report is written into, if it isn't standard output."""
     baseline: Optional[str] = None
@@ -97,9 +97,9 @@ Folders in it that begin with . are left out, and node_modules. The
 configuration is .urlcheck.toml, or [tool.urlcheck] of pyproject.toml, in the
 folder of a document or above it.
 
-A reference is checked against the base that its document names, else against
---base, else against {}. A link is left out where a comment
-on its line, or on the line before it, is 'urlcheck: ignore'.
+A reference is checked against the base that its document names, otherwise
+against --base, otherwise against {}. A link is left out if a
+comment on its line, or on the line before it, is 'urlcheck: ignore'.
 
 Exit statuses:
   0  no link is refused
@@ -150,7 +150,7 @@ def asked(words: List[str]) -> Asked:
     )
     if given.stdin_name is not None and "-" not in given.files:
         parser.error("--stdin-name is for standard input, which - is")
-    colour = chosen(given.color, list(WHENS), "choice of colours")
+    colour = chosen(given.color, list(WHENS), "colour choice")
     more = given.statistics, given.exit_zero, given.output, given.write_baseline, colour
     return Asked(given.files, settings, is_checked, given.quiet, *more)
 
@@ -314,7 +314,7 @@ def _add_of_checks(add: Add) -> None:
 
 
 def _add_of_fixes(add: Add) -> None:
-    """Adds the options that say what is written in the place of links."""
+    """Adds the options that say what is written in place of links."""
     add("--fix", action="store_true", help="write what is offered in the place of wrong links, and report what is left")
     helped = "write also what may be another URL than was meant"
     add("--unsafe-fixes", action="store_true", help=helped)

@@ -5,10 +5,10 @@ import os
 import re
 import stat
 import sys
-from typing import Iterator, Optional, Tuple
+from typing import Iterator, List, Optional, Tuple
 
 from .._fixes.edits import Edit
-from .._fixes.fixing import Fixed, Fixing, fixed, is_fixable
+from .._fixes.fixing import Fixing, fixed, is_fixable, more_texts
 from .._readers.kinds import ARCHIVES, PACKAGES, is_list, kind_of
 from .._readers.reading import MOST_BYTES, Found, Reading, Unread, found_in
 from .._readers.source import Broken, Foreign, Link
@@ -26,7 +26,7 @@ from .folders import configured_folder, no_document, with_slashes
 from .limits import has_come
 
 _URL = re.compile("[A-Za-z][A-Za-z0-9+.-]*://")
-"""How a URL begins that is no name of a file."""
+"""How a URL begins that isn't a name of a file."""
 
 _COMMANDS = ("check", "lint")
 """The commands of ``urlcheck`` that check, which this program does without one."""
@@ -58,7 +58,7 @@ def read_document(name: str) -> bytes:
     """The document's bytes, at most one more than it may have; those of standard input for ``-``. Raises ``Unread``."""
     try:
         if name == "-":
-            # (there is none where it was closed before the start)
+            # (there is none if it was closed before the start)
             if sys.stdin is None:
                 raise closed()
             return sys.stdin.buffer.read(MOST_BYTES + 1)
@@ -125,7 +125,7 @@ class Document:
         return Checker(*settings_of, selected=self._selected, wording="options")
 
     def work(self) -> int:
-        """About how much work it is: enough for a process of its own where it is no file, and so can't be read
+        """About how much work it is: enough for a process of its own where it isn't a file, and so can't be read
         twice."""
         try:
             found = os.stat(self.path)
@@ -138,8 +138,8 @@ class Document:
     def parts(self) -> Iterator[Taken]:
         """What the document gives, part by part."""
         try:
-            for number, (found, fixed) in enumerate(self._found()):
-                yield from self._parts_of(found, Part(int(number == 0), fixed))
+            for found, part in self._found():
+                yield from self._parts_of(found, part)
         except Unread as reason:
             yield nothing(str(reason))
         except Foreign as foreign:
@@ -199,31 +199,41 @@ class Document:
         if self._settings.is_counted:
             part.add_counted(Counted(reported.rule, reported.text, known))
 
-    def _found(self) -> Iterator[Tuple[Found, Optional[Fixed]]]:
-        """What is found in the document, or in each one that it holds; after its links are fixed, where that is asked
-        for."""
+    def _found(self) -> Iterator[Tuple[Found, Part]]:
+        """What is found in the document, or in each one that it holds, and the part which that begins; after its links
+        are fixed, where that is asked for, but as they are where it is only shown."""
         data = self._read()
         assert self.kind is not None
-        kind = self.kind
-        if self._settings.fixing is None or kind in ARCHIVES:
-            for found in found_in(data, kind, self._reading):
-                yield found, None
+        kind, fixing = self.kind, self._settings.fixing
+        if fixing is None or kind in ARCHIVES:
+            for number, found in enumerate(found_in(data, kind, self._reading)):
+                yield found, Part(int(number == 0))
             return
         found, *_ = found_in(data, kind, self._reading)
-        edits = self._edits(found, self._settings.fixing)
+        edits, unsafe = self._edits(found, fixing)
         fix = fixed(self.name, data, found, edits, lambda new: next(found_in(new, kind, self._reading)))
-        yield (found, None) if fix is None else (fix[1], fix[0])
+        more = more_texts(edits, unsafe)
+        if fix is not None:
+            yield found if fixing.is_shown else fix[1], Part(1, fix[0], more)
+        else:
+            # (a document that can't be read to its end, or is read otherwise after its edits, is never written)
+            yield found, Part(1, None, more if found.broken is None and not edits else 0)
 
-    def _edits(self, found: Found, fixing: Fixing) -> Iterator[Edit]:
-        """What is written in the place of wrong links."""
+    def _edits(self, found: Found, fixing: Fixing) -> Tuple[List[Edit], List[Edit]]:
+        """What is written in place of wrong links, and what would be besides if unsafe fixes were too."""
         checker, ignoring = self._checker, Ignoring(found.comments)
+        edits: List[Edit] = []
+        unsafe: List[Edit] = []
         for link in found.links:
             is_meant = ignoring.is_about(link) or self._is_left_out(link)
             if checker is None or is_meant or not checker.may_be_written(link):
                 continue
             wrong = checker.wrong(link)
-            if wrong and wrong.mended and is_fixable(link.text, wrong.mended, fixing.is_unsafe):
-                yield Edit(link.offset, link.offset + len(link.text), wrong.mended.text)
+            if wrong and wrong.mended and is_fixable(link.text, wrong.mended, is_unsafe=True):
+                is_wanted = is_fixable(link.text, wrong.mended, fixing.is_unsafe)
+                edit = Edit(link.offset, link.offset + len(link.text), wrong.mended.text)
+                (edits if is_wanted else unsafe).append(edit)
+        return edits, unsafe
 
     def _read(self) -> bytes:
         """The document's bytes."""

@@ -75,7 +75,7 @@ class NoGit(Exception):
 
 
 def with_slashes(name: str) -> str:
-    """A name with ``/``, as reports have it; Windows has ``\\`` too. What of it is no UTF-16 becomes U+FFFD."""
+    """A name with ``/``, as reports have it; Windows has ``\\`` too. What of it isn't UTF-16 becomes U+FFFD."""
     if sys.platform != "win32":
         return name
     return name.replace("\\", "/").encode("utf-16-le", "surrogatepass").decode("utf-16-le", "replace")

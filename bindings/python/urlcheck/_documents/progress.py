@@ -10,7 +10,7 @@ from typing import Any
 from .._streams import named
 
 _EACH = 0.2
-"""After how many seconds the line is written anew."""
+"""After how many seconds the line is written again."""
 
 _FIRST = 1.0
 """After how many seconds it is written first, since a short run needs none."""

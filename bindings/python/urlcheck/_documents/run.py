@@ -29,6 +29,7 @@ class Counts:
         self.known = 0
         self.fixed = 0
         self.shown = 0
+        self.unsafe = 0
         self.unread = 0
 
     def add(self, taken: Taken) -> None:
@@ -38,11 +39,11 @@ class Counts:
         self.refused += taken.refused
         self.ignored += taken.ignored
         self.known += len(taken.known)
+        self.unsafe += taken.unsafe
         self.unread += taken.fault is not None
 
     def status(self) -> int:
-        """2 where a document wasn't read, else 1 where a link is refused, or would be if nothing were written, else
-        0."""
+        """2 where a document wasn't read, else 1 where a link is refused or would be written otherwise, else 0."""
         return 2 if self.unread else 1 if self.refused or self.shown else 0
 
 

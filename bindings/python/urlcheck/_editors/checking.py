@@ -77,7 +77,7 @@ class Mistake(NamedTuple):
     rule: str
     message: str
     mended: Optional[str] = None
-    """What may be written in the place of the whole link, and is offered."""
+    """What may be written in place of the whole link, and is offered."""
     kind: Optional[MendKind] = None
     named: Optional[str] = None
     """What isn't offered, since something else was likely meant."""
@@ -271,7 +271,7 @@ def serve() -> None:
         try:
             seen = _seen_in(asked, kept)
         except (MemoryError, SystemError):
-            # (where memory is short Python may do anything)
+            # (if memory is short Python may do anything)
             os._exit(1)
         limit_time(0)
         _send(taken, seen)

@@ -35,7 +35,7 @@ class Text:
 
     def change(self, changes: List[Dict[str, Any]]) -> None:
         """Takes these changes, each of the whole or of a range of what the one before it gave. Raises ``LookupError``,
-        ``TypeError`` or ``ValueError`` where one is none."""
+        ``TypeError`` or ``ValueError`` where one isn't one."""
         for change in changes:
             written = change["text"]
             if not isinstance(written, str):
@@ -46,7 +46,7 @@ class Text:
                 self._replace(change["range"]["start"], change["range"]["end"], written)
 
     def _replace(self, start: Place, end: Place, written: str) -> None:
-        """Writes a text in the place of a range."""
+        """Writes a text in place of a range."""
         first, before = self._at(start)
         last, after = self._at(end)
         if (last, after) < (first, before):

@@ -1,1 +1,1 @@
-"""Fixes: texts that are written in the place of links in documents."""
+"""Fixes: texts that are written in place of links in documents."""

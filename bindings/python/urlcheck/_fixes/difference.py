@@ -28,7 +28,7 @@ class _Change(NamedTuple):
 
 
 def difference(name: str, source: Source, edits: Sequence[Edit]) -> str:
-    """What these edits, which are in order, write otherwise in the document of that name; empty where there is none."""
+    """What these edits, which are in order, write otherwise in the document of that name; empty when there is none."""
     lines = _LINE.findall(source.text)
     groups = _groups(list(_changes(source, lines, edits)))
     added, hunks = 0, ""

@@ -1,11 +1,11 @@
-"""Edits of a document: texts in the place of others."""
+"""Edits of a document: texts in place of others."""
 
 import codecs
 from typing import Iterable, Iterator, List, NamedTuple, Sequence
 
 
 class Edit(NamedTuple):
-    """A text in the place of a link, which is between two places of its source, in code points from 0."""
+    """A text in place of a link, which is between two places of its source, in code points from 0."""
 
     start: int
     end: int

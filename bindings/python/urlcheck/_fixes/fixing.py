@@ -1,4 +1,4 @@
-"""The fixes of a document: which texts are written in the place of its refused links, and the document that this
+"""The fixes of a document: which texts are written in place of its refused links, and the document that this
 gives."""
 
 import bisect
@@ -27,7 +27,7 @@ Read = Callable[[bytes], Found]
 
 
 class Fixing(NamedTuple):
-    """Which texts are written in the place of links, and where."""
+    """Which texts are written in place of links, and where."""
 
     is_unsafe: bool
     """Whether those are too that may be other URLs."""
@@ -36,13 +36,13 @@ class Fixing(NamedTuple):
 
 
 class Fixed(NamedTuple):
-    """A document in which texts are written in the place of links."""
+    """A document in which texts are written in place of links."""
 
     digest: bytes
     """What tells the document's bytes, as they were read, from others."""
     data: bytes
     difference: bytes
-    """What is written otherwise, as a unified diff; empty where that isn't wanted."""
+    """What is written otherwise, as a unified diff; empty when that isn't wanted."""
     texts: int
     """How many texts are written."""
 
@@ -55,6 +55,11 @@ def is_fixable(text: str, mended: Mended, is_unsafe: bool) -> bool:
         return False
     host = _HOST.match(text.translate(_PASSED_OVER))
     return mended.is_offered and not (host and _NUMBERS.fullmatch(host[1]))
+
+
+def more_texts(edits: Sequence[Edit], others: Sequence[Edit]) -> int:
+    """How many texts more are written with both of these than with the first alone."""
+    return len(in_order([*edits, *others])) - len(in_order(edits))
 
 
 def digest_of(data: bytes) -> bytes:

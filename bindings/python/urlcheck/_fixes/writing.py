@@ -1,4 +1,4 @@
-"""Writing a document in the place of the one that was read."""
+"""Writing a document in place of the one that was read."""
 
 import os
 import stat

@@ -1,5 +1,5 @@
 """Bare addresses in a text of GitHub's Markdown, as its specification finds them (GFM 0.29, section 6.9), and what
-looks like a link and is none for a space in its destination."""
+looks like a link and isn't one for a space in its destination."""
 
 import bisect
 import re
@@ -17,7 +17,7 @@ _TEMPLATE = re.compile(r"\{\{|\{%|\$\{|<%|%s")
 
 
 def links_of(content: str, covered: List[Tuple[int, int]]) -> Iterator[Link]:
-    """The bare addresses of a block's content, and the destinations with a space; what is covered is no text, and an
+    """The bare addresses of a block's content, and the destinations with a space; what is covered isn't a text, and an
     address within a destination is none of its own."""
     places = _merged(covered)
     spaced = [it for it in _SPACED.finditer(content) if not _TITLED.match(it["to"]) and not _meets(places, *it.span())]
@@ -37,7 +37,7 @@ def links_of(content: str, covered: List[Tuple[int, int]]) -> Iterator[Link]:
 
 
 def _end(content: str, found: "re.Match[str]") -> int:
-    """Where the address that begins there ends, or its beginning where it is none."""
+    """Where the address that begins there ends, or its beginning where it isn't one."""
     at = found.start() if found[0][:4].lower() == "www." else found.end()
     domain = _DOMAIN.match(content, at)
     labels = domain[0].split(".") if domain else []

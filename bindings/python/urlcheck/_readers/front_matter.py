@@ -12,7 +12,7 @@ _BLOCK = re.compile(
 )
 _URL = "[A-Za-z][A-Za-z0-9+.-]*://"
 _QUOTED = "\"(?P<double>" + _URL + "[^\"\n]*)\"|'(?P<single>" + _URL + "[^'\n]*)'"
-# A value of a line: in quotes up to the next one, else to the line's end or to a comment.
+# A value of a line: in quotes up to the next one, otherwise to the line's end or to a comment.
 _VALUE = re.compile(r"(?:\A|[:=] ?|- )[ \t]*(?:" + _QUOTED + "|(?P<plain>" + _URL + r".*?)[ \t]*(?:[ \t]#.*)?\Z)")
 # The same of a list or a table within a line, in which a comma or a bracket ends a value.
 _ITEM = re.compile(r"[:=,\[{][ \t]*(?:" + _QUOTED + "|(?P<plain>" + _URL + r"[^\s,\]}\"']*))")

@@ -21,7 +21,7 @@ _ATTRIBUTE = re.compile(
     r"(?:\"(?P<double>[^\"]*)\"|'(?P<single>[^']*)'|(?P<open>[\"'])|(?P<bare>[^ \t\n\f\r>]*)))?"
 )
 _TAG_END = re.compile(r"[ \t\n\f\r/]*>")
-# What is in these is no markup. After `plaintext` nothing is.
+# What is in these isn't markup. After `plaintext` nothing is.
 _RAW = "script|style|textarea|title|xmp|iframe|noembed|noframes|plaintext"
 _RAW_END = {
     name: re.compile("</{}(?=[ \t\n\f\r/>])".format(name), re.IGNORECASE | re.ASCII) for name in _RAW.split("|")
@@ -102,7 +102,7 @@ class _Reader:
         return ends.end()
 
     def _read_tag(self, found: Match[str]) -> int:
-        """Takes the links of a tag, and gives where it ends, or where what is no markup ends after it."""
+        """Takes the links of a tag, and gives where it ends, or where what isn't markup ends after it."""
         attributes: Dict[str, Match[str]] = {}
         at = found.end()
         attribute = _ATTRIBUTE.match(self._text, at)
@@ -117,7 +117,7 @@ class _Reader:
             attribute = _ATTRIBUTE.match(self._text, at)
         closed = _TAG_END.match(self._text, at)
         if closed is None:
-            # (a tag that doesn't end is none)
+            # (a tag that doesn't end isn't one)
             return len(self._text)
         tag = _lower(found["tag"])
         if tag.startswith("/"):
@@ -135,7 +135,7 @@ class _Reader:
                 self.links += refreshes(*_value(attributes["content"]), self._base)
 
     def _read_raw(self, tag: str, start: int) -> int:
-        """Gives where the text ends that begins there and is no markup, and takes the links of a style sheet."""
+        """Gives where the text ends that begins there and isn't markup, and takes the links of a style sheet."""
         if tag == "plaintext":
             return len(self._text)
         if tag == "script":
@@ -250,7 +250,7 @@ def unescaped(raw: str, offset: int) -> Tuple[str, Written]:
 
 
 def _referred(found: Match[str]) -> str:
-    """What a character reference stands for, or the reference where it is none."""
+    """What a character reference stands for, or the reference where it isn't one."""
     if found["name"] is None:
         digits, base = (found["digits"], 10) if found["digits"] else (found["hex"], 16)
         digits = digits.lstrip("0")
@@ -262,7 +262,7 @@ def _referred(found: Match[str]) -> str:
 
 
 def _numbered(number: int) -> str:
-    """The code point of a number: those of C1 are read as windows-1252, and what is no code point as U+FFFD."""
+    """The code point of a number: those of C1 are read as windows-1252, and what isn't a code point as U+FFFD."""
     if 0x80 <= number < 0xA0:
         return bytes([number]).decode("cp1252", "ignore") or chr(number)
     if number == 0 or number > 0x10FFFF or 0xD800 <= number < 0xE000:
@@ -274,7 +274,7 @@ def candidates(value: str) -> Iterator[Tuple[str, int]]:
     """The links of image candidates, each with where it begins. A list is taken apart as the HTML Standard parses a
     ``srcset``: commas and spaces, a URL, and descriptors up to a comma; a URL that ends in a comma has none.
 
-    Words that are no descriptors belong to the link, as of ``my photo.png 1x``: the Standard has no such candidate, and
+    Words that aren't descriptors belong to the link, as of ``my photo.png 1x``: the Standard has no such candidate, and
     its author meant a URL with a space.
     """
     at = 0

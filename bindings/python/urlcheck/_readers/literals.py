@@ -181,7 +181,7 @@ def _link(source: Source, text: str, begin: int, end: int, is_marked: bool) -> L
 
 
 def _plain(text: str, link: str, begin: int, end: int) -> Iterator[Span]:
-    """Where a link is as it is, and is no part of a longer one and no literal."""
+    """Where a link is as it is, and isn't a part of a longer one and no literal."""
     at = text.find(link, begin, end)
     while at >= 0:
         after = at + len(link)

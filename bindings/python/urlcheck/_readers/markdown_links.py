@@ -29,7 +29,7 @@ class Inlines:
         self._used: Dict[str, List[Any]] = {}
         self._references: Set[str] = set()
         self.covered: Dict[str, List[Tuple[int, int]]] = {}
-        """What of a block's content is no text, by where it begins and ends."""
+        """What of a block's content isn't a text, by where it begins and ends."""
 
     def begin(self, references: Set[str]) -> None:
         """Begins a reading; what the last one didn't have is forgotten."""
@@ -54,7 +54,7 @@ def links_of(
     """The links of a Markdown document, the comments about them, why its reader stopped, which it doesn't, and what was
     passed over.
 
-    Its front matter is no text. What blocks were read as is kept in ``inlines``, for one choice of ``is_gfm``. Raises
+    Its front matter isn't a text. What blocks were read as is kept in ``inlines``, for one choice of ``is_gfm``. Raises
     ``ImportError`` where ``markdown-it-py`` isn't installed.
     """
     front = front_matter_of(source.text)
@@ -163,7 +163,7 @@ class _Reader:
                     self._take_destination(block.map[0], url)
 
     def _take_bare(self, line: int, content: str) -> None:
-        """Takes the addresses that are in a block's text without more, and what is no link for a space in it."""
+        """Takes the addresses that are in a block's text without more, and what isn't a link for a space in it."""
         covered = self.inlines.covered.get(content, [])
         for link in bare_links.links_of(content, covered):
             start = self._offset(line, content, link.offset)
@@ -173,7 +173,7 @@ class _Reader:
                 self.links.append(link._replace(offset=start, is_verbatim=is_verbatim, pieces=pieces))
 
     def _take_autolink(self, block: Any, url: str, at: int) -> None:
-        """Takes ``<http://a/>``; an e-mail address is no URL as it is."""
+        """Takes ``<http://a/>``; an e-mail address isn't a URL as it is."""
         start = self._offset(block.map[0], block.content, at)
         if start is not None and block.content.startswith(url, at):
             self.links.append(Link(str(url), start, True))

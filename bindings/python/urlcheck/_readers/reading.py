@@ -54,7 +54,7 @@ class Found(NamedTuple):
 def found_in(given: Union[bytes, str], kind: str, reading: Reading = Reading()) -> Iterator[Found]:
     """What is found in a document of that kind, given by its bytes or by its text: once, or of one that holds others in
     each of them. Raises ``Unread`` where it can't be read at all, and ``Foreign`` where its bytes aren't UTF-8. A byte
-    order mark at its start is no part of its first line; a surrogate of a text is read as ``?``."""
+    order mark at its start isn't a part of its first line; a surrogate of a text is read as ``?``."""
     data = given if isinstance(given, bytes) else given.encode("utf-8", "replace")
     if len(data) > MOST_BYTES:
         raise Unread("has more than {} MiB".format(MOST_BYTES >> 20))

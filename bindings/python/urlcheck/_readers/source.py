@@ -226,7 +226,7 @@ def encoding_of(data: bytes) -> Optional[str]:
 
 
 def without_mark(data: bytes) -> bytes:
-    """The bytes after a byte order mark, which is no part of the first line."""
+    """The bytes after a byte order mark, which isn't a part of the first line."""
     return data[len(codecs.BOM_UTF8) :] if data.startswith(codecs.BOM_UTF8) else data
 
 

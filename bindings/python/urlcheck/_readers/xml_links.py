@@ -72,7 +72,7 @@ class _Taking(NamedTuple):
     is_likely: bool = False
     """Whether it is taken where no name of the document is known alone."""
     is_naming: bool = False
-    """Whether it is taken only where it begins as a URL."""
+    """Whether it is taken only when it begins as a URL."""
     asks: Asks = Asks.REFERENCE
 
 
@@ -130,7 +130,7 @@ class _Reader:
         # What a name without a namespace means, and whether a name was known.
         self._vocabulary = NOWHERE
         self.is_known = False
-        # What are likely links, where none is.
+        # What are likely links, if none is.
         self.likely: List[Link] = []
         self.notes: Set[str] = set()
         # The text of the element that is being read, if it has links: its pieces with their places.
@@ -166,7 +166,7 @@ class _Reader:
         self.comments += comments_of(data, self._offset() + len("<!--"))
 
     def _instruction(self, target: str, data: str) -> None:
-        """Takes the link of a style sheet's instruction before the outermost element; further down it is none."""
+        """Takes the link of a style sheet's instruction before the outermost element; further down it isn't one."""
         start = self._offset()
         end = self._source.text.find("?>", start)
         found = _TARGET.match(self._source.text, start, end)
@@ -230,7 +230,7 @@ class _Reader:
         return base
 
     def _of_element(self, element: Name, base: Optional[NamedBase]) -> Optional[NamedBase]:
-        """What is named for an element by ``xml:base`` around it, else by the ``base`` of its page."""
+        """What is named for an element by ``xml:base`` around it, otherwise by the ``base`` of its page."""
         return self._page_base if base is None and element[0] in OF_PAGES else base
 
     def _take(self, element: Name, name: str, value: str, written: Written, base: Optional[NamedBase]) -> None:

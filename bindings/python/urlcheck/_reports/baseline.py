@@ -21,7 +21,7 @@ _DIGITS = 32
 
 
 class NoBaseline(Exception):
-    """Why a file is no baseline."""
+    """Why a file isn't a baseline."""
 
 
 class Known(NamedTuple):

@@ -87,7 +87,7 @@ class Checker:
     def _held(self, text: str, around: Optional[Base]) -> Optional[Base]:
         """A base by the text of its URL. Where the path isn't opaque, a path of / is held in its place: a verdict asks
         for no more. So bases within bases get no longer, and a path that no profile takes, as that of http://h//a by
-        http://h/x/..//a, is none."""
+        http://h/x/..//a, isn't one."""
         head = _HEAD.match(text)
         if head and ("/" in head[0] or text.startswith("/", head.end())):
             text = head[0] + "/"

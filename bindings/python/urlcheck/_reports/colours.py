@@ -20,14 +20,16 @@ _NOTE = re.compile(r"(help|note): ")
 
 def are_wanted(when: str, stream: Any) -> bool:
     """Whether what is written to this stream has colours. ``NO_COLOR`` and ``FORCE_COLOR`` of the environment count
-    where they aren't empty, as no-color.org and force-color.org say."""
+    where they aren't empty, as no-color.org and force-color.org say. Compilations of Emacs find places in plain text."""
     if when != "auto":
         return when == "always"
     if os.environ.get("NO_COLOR"):
         return False
     if os.environ.get("FORCE_COLOR"):
         return True
-    return stream is not None and stream.isatty() and os.environ.get("TERM") != "dumb"
+    if os.environ.get("TERM") == "dumb" or os.environ.get("INSIDE_EMACS"):
+        return False
+    return stream is not None and stream.isatty()
 
 
 def coloured(format: str, lines: str) -> str:

@@ -76,7 +76,7 @@ class Diagnostic(NamedTuple):
 
 
 class Explanation(NamedTuple):
-    """What a rule asks, and an example by the standard profile."""
+    """What a rule asks, and an example under the standard profile."""
 
     rule: str
     sentence: str
@@ -101,18 +101,18 @@ _MOST = 2**32 - 1
 
 
 def _numbered(*numbers: int) -> None:
-    """Raises ``ValueError`` where one of these is no line or column."""
+    """Raises ``ValueError`` where one of these isn't a line or column."""
     if not all(1 <= number <= _MOST for number in numbers):
         raise ValueError("a line or a column isn't from 1 to {}".format(_MOST))
 
 
 def _placed(text: str, place: int) -> int:
-    """The place, where the text has it or ends there; else a number that is none."""
+    """The place, where the text has it or ends there; otherwise a number that isn't one."""
     return place if 0 <= place <= len(text) else -1
 
 
 def _ordered(region: Region) -> None:
-    """Raises ``ValueError`` where a region is none."""
+    """Raises ``ValueError`` where a region isn't one."""
     _numbered(*region)
     if (region.last_line, region.end_column) < (region.line, region.column):
         raise ValueError("a region ends before it begins")
@@ -138,7 +138,7 @@ def message(
 
 
 def explain(rule: str) -> Explanation:
-    """What a rule asks, and an example. Raises ``KeyError`` where no rule has the name."""
+    """What a rule requires, and an example. Raises ``KeyError`` where no rule has the name."""
     number = _NUMBERS[rule]
     asks, section = native.text(_REQUIRES, number), native.text(_SECTION, number)
     base, example, mended = (native.text(what, number) for what in (_BASE, _EXAMPLE, _MENDED))
@@ -172,7 +172,7 @@ def report(
     ``format`` is one of ``FORMATS``, and ``columns``, one of ``UNITS``, says what the columns count: without it the
     first of them for which the format has a word, code points as a rule. ``is_whole`` is false where a file couldn't be
     read to its end. ``wording`` is that of ``message``. Raises ``ValueError`` for another name, for a unit for which
-    the format has no word, and at the text on a diagnostic whose place, line, column or region is none.
+    the format has no word, and at the text on a diagnostic whose place, line, column or region isn't one.
     """
     unit = own_unit(format) if columns is None else columns
     if not takes_unit(format, unit):

@@ -7,10 +7,12 @@ use std::alloc::{AllocError, Global};
 use std::process::Abort;
 use std::test::Fail;
 use uv_io::{DeviceFault, FromReader, Sink};
-use uv_lines::{Frame, LineFault, LineLimits, ReportFault, Reporter, end_part, run_lines};
+use uv_lines::{
+    Frame, Line, LineFault, LineLimits, ReportFault, Reporter, StopFault, end_part, run_lines,
+};
 
 // Says so many parts of a line, and then can't say more, or has said all. The first of them is one digit further than
-// that of the line before.
+// the one of the line before.
 #[derive(Drop)]
 struct Thousands {
     lines: u64,
@@ -30,7 +32,7 @@ impl Reporter for Thousands {
     fn report<W: Sink>(
         &mut self,
         _alloc: Global,
-        _line: Option<&[u8]>,
+        _line: Option<Line<'_>>,
         text: &mut Vec<u8>,
         writer: &mut W,
     ) -> Result<(), ReportFault<AllocError>> {
@@ -194,8 +196,8 @@ fn leaves(
     (writer.most, writer.failures)
 }
 
-// What is said of 2,000 lines of one piece is 2,000,000 bytes, and so is what is said of one line, also where no LF
-// ends it. It is written in order where 262,144 bytes or more wait, which are the 263,000 of 263 parts.
+// What is said of 2,000 lines of one piece is 2,000,000 bytes, and so is what is said of one line, even if no LF ends
+// it. It is written in order where 262,144 bytes or more wait, which are the 263,000 of 263 parts.
 #[test]
 fn writes_what_is_much_in_the_midst_of_a_piece_and_of_a_line(rt: HostRuntime) -> Result<(), Fail> {
     let whole = framed(rt.alloc(), 2_000)?;
@@ -221,7 +223,7 @@ fn stops(
     let (_, failures) = leaves(
         rt,
         (list, 2_000, true, room),
-        Err(LineFault::Write),
+        Err(LineFault::Stop(StopFault::Write)),
         lines,
         text,
     );
@@ -247,15 +249,14 @@ fn stops_at_each_write_that_fails(rt: HostRuntime) -> Result<(), Fail> {
     Ok(())
 }
 
-// Where no memory is left after so many parts of a line these are written, and the frame's end. The line isn't
-// counted.
+// If no memory is left after so many parts of a line these are written, and the frame's end. The line isn't counted.
 fn writes_parts(
     rt: &(impl Abort + AllocGlobal),
     list: &[u8],
     parts: u64,
 ) -> Result<(), AllocError> {
     let want = framed(rt.alloc(), parts)?;
-    let fault = Err(LineFault::Report(AllocError));
+    let fault = Err(LineFault::Own(AllocError));
     let text = Some(want.as_slice());
     let (_, failures) = leaves(rt, (list, parts, false, 100), fault, 0, text);
     assert!(rt; failures == 0);
@@ -292,7 +293,8 @@ fn ends(
     Ok(())
 }
 
-// Of 262,143 bytes nothing is written where a part ends. Of one more all are, and none waits, or the write fails.
+// Of 262,143 bytes nothing is written where a part ends. With one more, all are written, and none waits, or the write
+// fails.
 #[test]
 fn ends_a_part_of_much(rt: HostRuntime) -> Result<(), Fail> {
     ends(&rt, 262_143, 0, Ok(()), 0)?;

@@ -8,6 +8,7 @@ use std::alloc::Global;
 use std::process::Abort;
 use std::test::Fail;
 use uv_io::{DeviceFault, Sink};
+use uv_lines::StopFault;
 use uv_links::{Counts, LinkFault, LinkLimits, run_links};
 use uv_model::Profile;
 use uv_resolve::resolve_base;
@@ -151,7 +152,7 @@ fn fails_after(
 ) -> Result<(), Fail> {
     let (answer, writer) = ran(rt.alloc(), row, reads, &TAKEN)?;
     let written = writer.bytes();
-    assert!(rt; answer == Err(LinkFault::Read));
+    assert!(rt; answer == Err(LinkFault::Stop(StopFault::Read)));
     assert!(rt; row.report.as_bytes().starts_with(written) && line_feeds(written) == ended);
     assert!(rt; written.is_empty() || written.ends_with(b"\n"));
     Ok(())
@@ -179,7 +180,7 @@ fn fails_each_read(
     Ok(())
 }
 
-// The same of pieces of each length up to seven.
+// Each read fails in turn after pieces of one length, for each length from 1 to 7 bytes.
 fn fails_reads(rt: &(impl Abort + AllocGlobal), row: &Row<'_>) -> Result<(), Fail> {
     for length in 1..8 {
         fails_each_read(rt, row, length)?;
@@ -198,7 +199,7 @@ fn reports_each_failed_read(rt: HostRuntime) -> Result<(), Fail> {
 // More writes than a run of the rows makes.
 const MOST_WRITES: usize = 200;
 
-// Whether the writes suffice for the whole report. Where they don't, the one after them fails, and a beginning of the
+// Whether the writes suffice for the whole report. If they don't, the one after them fails, and a beginning of the
 // report is written.
 fn writes_all(
     rt: &(impl Abort + AllocGlobal),
@@ -211,7 +212,7 @@ fn writes_all(
         assert!(rt; writer.bytes() == row.report.as_bytes());
         return Ok(true);
     }
-    assert!(rt; answer == Err(LinkFault::Write) && writer.failures() == 1);
+    assert!(rt; answer == Err(LinkFault::Stop(StopFault::Write)) && writer.failures() == 1);
     assert!(rt; row.report.as_bytes().starts_with(writer.bytes()));
     assert!(rt; writes.len() <= writer.bytes().len());
     Ok(false)
@@ -234,7 +235,7 @@ fn fails_each_write(
     Err("no run was whole".into())
 }
 
-// The same of pieces and of writes of this length.
+// Each write fails in turn, where pieces are read and written in this length in bytes.
 fn fails_pieces(rt: &(impl Abort + AllocGlobal), row: &Row<'_>, length: usize) -> Result<(), Fail>
     requires { 0 < length }
 {
@@ -245,7 +246,7 @@ fn fails_pieces(rt: &(impl Abort + AllocGlobal), row: &Row<'_>, length: usize) -
     fails_each_write(rt, row, &reads, length)
 }
 
-// The same of each length up to seven.
+// Each write fails in turn, for pieces of each length from 1 to 7 bytes.
 fn fails_writes(rt: &(impl Abort + AllocGlobal), row: &Row<'_>) -> Result<(), Fail> {
     for length in 1..8 {
         fails_pieces(rt, row, length)?;
@@ -261,8 +262,8 @@ fn reports_each_failed_write(rt: HostRuntime) -> Result<(), Fail> {
     Ok(())
 }
 
-// A run over these reads and writes answers so, and writes the report of the row, by the standard profile and the wide
-// one.
+// A run over these reads and writes answers so, and writes the report of the row, under the standard profile and the
+// wide one.
 fn ends(
     rt: &(impl Abort + AllocGlobal),
     row: Row<'_>,
@@ -289,7 +290,13 @@ fn reads_what_a_source_gives(rt: HostRuntime) -> Result<(), Fail> {
         ..ALONE
     };
     let reads = [Ok(b"a\n".as_slice()), Ok(b"b"), Err(DeviceFault)];
-    ends(&rt, begun, &reads, &TAKEN, Some(LinkFault::Read))?;
+    ends(
+        &rt,
+        begun,
+        &reads,
+        &TAKEN,
+        Some(LinkFault::Stop(StopFault::Read)),
+    )?;
     let cut = Row {
         report: "1 ok http://h/%C3%A9\nlinks 1 ok 1 bad 0 differs 0\n",
         ..ALONE
@@ -316,7 +323,7 @@ fn stops_after_the_last_line_that_may_come(rt: HostRuntime) -> Result<(), Fail> 
         report: "1 bad 0 line-too-long\n",
         ..ALONE
     };
-    let fault = Some(LinkFault::TooManyLines);
+    let fault = Some(LinkFault::Stop(StopFault::TooManyLines));
     ends(&rt, one, &[Ok(b"abcd\nabc\r\n")], &TAKEN, fault)?;
     let none = Row {
         line_bytes: 0,
@@ -338,7 +345,7 @@ fn writes_what_a_sink_takes(rt: HostRuntime) -> Result<(), Fail> {
         report: "1 bad 0 no-scheme\nli",
         ..ALONE
     };
-    let fault = Some(LinkFault::Write);
+    let fault = Some(LinkFault::Stop(StopFault::Write));
     ends(&rt, begun, &[Ok(b"a\n")], &[Ok(1); 20], fault)?;
     ends(&rt, ALONE, &[Ok(b"a\n")], &[Ok(0)], fault)
 }

@@ -50,7 +50,7 @@ fn removes_many_segments(rt: HostRuntime) -> Result<(), ResolveFault> {
     Ok(())
 }
 
-// Whether a text is refused at this place by this rule, also where its URL's text alone is asked for.
+// Whether a text is refused at this place by this rule, even if its URL's text alone is asked for.
 fn is_refused(alloc: Global, text: &str, place: usize, rule: Rule) -> bool {
     let wanted = Refusal { place, rule };
     is_refusal(resolve(alloc, text, None, Profile::Standard).err(), wanted)

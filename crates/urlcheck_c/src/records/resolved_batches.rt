@@ -15,11 +15,11 @@ use std::alloc::{AllocError, Global};
 use uv_model::Profile;
 use uv_resolve::{ResolveFault, resolve_serialized};
 
-/// Resolves texts that are one after the other in a buffer, alone, by the profile with this number, and writes the
-/// texts of their records one after the other to the start of `out`, where they fit; else `out` stays as it is. Of
-/// each text the number of its verdict, that of its rule and its place in code points go to three columns. A fourth has
-/// where the texts in `out` begin, and where the last ends. Each is left out where it has no room for all. Where
-/// nothing is resolved, nothing is written.
+/// Resolves texts that are one after the other in a buffer, alone, under the profile with this number, and writes the
+/// texts of their records one after the other to the start of `out`, where they fit; otherwise `out` stays as it is.
+/// Three columns get each text's verdict, its rule, both as numbers, and its place in code points. A fourth has where
+/// the texts in `out` begin, and where the last ends. Each is left out where it has no room for all. Where nothing is
+/// resolved, nothing is written.
 #[unsafe(no_mangle)]
 pub extern "C" fn urlcheck_resolve_many(
     alloc: Global,

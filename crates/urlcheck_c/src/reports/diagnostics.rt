@@ -12,7 +12,8 @@ use crate::reports::report_numbers::{format_of, kind_of};
 use crate::request::text_of;
 use crate::written::{Written, given};
 use std::alloc::{AllocError, Global};
-use uv_report::{Diagnostic, Fix, Format, Region, SeenText, push};
+use uv_report::{Diagnostic, Fix, Format, Region, push};
+use uv_sentences::SeenText;
 use uv_text::count_code_points;
 
 /// The numbers of a diagnostic.
@@ -27,7 +28,7 @@ pub struct ReportedNumbers {
     pub place: usize,
     /// How many diagnostics before it in the file have the same rule, place and text.
     pub repeat: u64,
-    /// The number of the kind of the text to write in its place, or 0 where there is none.
+    /// The number of the kind of the text to write in its place, or 0 if there is none.
     pub kind: u32,
     /// Whether that is offered: not 0 for yes.
     pub offered: u32,
@@ -186,7 +187,7 @@ fn fix_read<'t>(numbers: &ReportedNumbers, fix: &'t [u8]) -> Result<Option<Fix<'
     }))
 }
 
-// Where a fix may be written, if it may be, or why the region is none.
+// Where a fix may be written, if it may be, or why the region isn't one.
 fn fix_region_read(region: Region) -> Result<Option<Region>, Finding>
     ensures { IsFixRegionRead region result }
 {

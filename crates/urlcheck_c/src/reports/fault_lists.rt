@@ -23,7 +23,7 @@ pub struct Fault {
     pub rule: u32,
     /// The place in code points from 0.
     pub place: usize,
-    /// The same place in bytes from 0.
+    /// The place in bytes from 0.
     pub byte_place: usize,
 }
 

@@ -1,7 +1,7 @@
 //! The sentence on what is wrong with a text.
 ghost use Rattle.std.specs.Prelude.{◌≡◌, ◌↔◌, ◌≤◌, IfOk, IsTrue, length, string_bytes};
 ghost use Rattle.std.specs.Str.{chars};
-ghost use Rattle.uv_report.specs.Diagnostic.{IsMessage};
+ghost use Rattle.uv_sentences.specs.Sentences.Message.{IsMessage};
 ghost use Rattle.urlcheck_c.specs.Violation.{IsMessageAnswer, IsMessageGiven, IsViolationRead};
 
 use crate::finding::{CallOutcome, Finding};
@@ -11,7 +11,7 @@ use crate::written::{Written, text_given};
 use std::alloc::{AllocError, Global};
 use uv_grammar::wider_profile;
 use uv_model::Profile;
-use uv_report::{Checked, LineViolation, SeenText, Wording, message};
+use uv_sentences::{Checked, LineViolation, SeenText, Wording, message};
 use uv_text::count_code_points;
 
 /// What is wrong with a text that is checked by a profile.

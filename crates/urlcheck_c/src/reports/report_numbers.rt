@@ -4,7 +4,8 @@ ghost use Rattle.urlcheck_c.specs.ReportNumbers as spec;
 
 use crate::names::rule_of;
 use uv_model::{MendKind, Refusal};
-use uv_report::{Columns, Completion, Format, LineViolation, LocatedFault};
+use uv_report::{Columns, Completion, Format};
+use uv_sentences::{LineViolation, LocatedFault};
 
 /// The format with this number.
 pub(crate) fn format_of(number: u32) -> Option<Format>

@@ -18,7 +18,7 @@ use std::alloc::{AllocError, Global};
 use uv_host::{bracketed_ipv6, opaque_fault};
 use uv_model::{Class, Host, Profile, Refusal, Rule};
 
-/// The host, checked by its class, beside the port and the path that follow it, with its value where it isn't an opaque
+/// The host, checked by its class, given the port and the path that follow it, with its value if it isn't an opaque
 /// host. Nothing of the text follows the host where `last` says so. A refusal's place is counted in code points from
 /// the host's start. The error is out of memory. It is inlined, as a host would else be copied once more.
 #[inline(always)]
@@ -49,6 +49,7 @@ pub(crate) fn check_host<'t>(
 }
 
 // An empty host.
+#[inline(always)]
 fn check_empty_host<'t>(
     class: Class,
     port_text: Option<&str>,
@@ -140,7 +141,7 @@ fn without_localhost(host: PartsHost<'_>) -> PartsHost<'_>
     }
 }
 
-// The same of a host with a value of its own.
+// A host with a value of its own, or the empty host in place of the domain `localhost`.
 fn made_without_localhost(host: Host) -> Host
     ensures { result ≡ without_localhost host }
 {

@@ -63,6 +63,7 @@ fn check_bracketed_host(
 }
 
 // A host string that isn't empty and doesn't begin with `[`: an IPv4 text or a name.
+#[inline(always)]
 fn check_name<'t>(
     alloc: Global,
     text: &'t str,
@@ -83,7 +84,7 @@ fn check_name<'t>(
     }
 }
 
-// By the profiles that say how a domain is written: a name that is no IPv4 text.
+// Under the profiles that say how a domain is written: a name that isn't an IPv4 text.
 #[inline(always)]
 fn check_written_name<'t>(
     alloc: Global,
@@ -108,7 +109,8 @@ fn check_written_name<'t>(
     }
 }
 
-// A plain name that is no IPv4 text.
+// A plain name that isn't an IPv4 text.
+#[inline(always)]
 fn check_plain_name(text: &str, answer: PlainAnswer, profile: Profile) -> Checked<PartsHost<'_>>
     requires text { ShouldBeDomain profile (chars text.now) }
     requires answer { IsPlainAnswer profile (chars text.now) text.now answer }
@@ -122,7 +124,7 @@ fn check_plain_name(text: &str, answer: PlainAnswer, profile: Profile) -> Checke
     }
 }
 
-// By the parser's profile: what the host parser makes of the text, where that isn't four numbers.
+// Under the parser's profile: what the host parser makes of the text, if that isn't four numbers.
 fn check_parser_name<'t>(alloc: Global, text: &'t str) -> Result<Checked<PartsHost<'t>>, AllocError>
     requires some { chars text.now ≢ [] }
     requires plain { starts_with_bracket (chars text.now) ≡ false }
@@ -138,7 +140,7 @@ fn check_parser_name<'t>(alloc: Global, text: &'t str) -> Result<Checked<PartsHo
     }
 }
 
-// The same of a text that isn't taken as it is.
+// Under the parser's profile: what the host parser makes of a text that isn't taken as it is.
 fn check_decoded_name<'t>(
     alloc: Global,
     text: &'t str,

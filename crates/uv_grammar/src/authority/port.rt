@@ -13,7 +13,7 @@ use crate::checked::Checked;
 use crate::marks::beginnings::are_digits;
 use uv_model::{Refusal, Rule};
 
-/// The text of a port, checked (URL Standard, section 4.3), with its number where it isn't empty. A refusal's place is
+/// The text of a port, checked (URL Standard, section 4.3), with its number if it isn't empty. A refusal's place is
 /// counted in code points from the port's start.
 pub(crate) fn check_port(text: &str) -> Checked<Option<u16>>
     ensures { IsChecked (FitsPort (chars text.now)) (PortViolation (chars text.now)) result }
@@ -24,7 +24,7 @@ pub(crate) fn check_port(text: &str) -> Checked<Option<u16>>
     }
 }
 
-/// The first code point of a text that is no digit.
+/// The first code point of a text that isn't a digit.
 pub(crate) fn digit_fault(text: &str) -> Option<Refusal>
     ensures least { IsLeast (DigitViolation (chars text.now)) result }
     ensures none { IsNone result → list_all is_ascii_digit (chars text.now) ≡ true }

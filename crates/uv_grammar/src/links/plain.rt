@@ -1,10 +1,8 @@
 //! The links that people write, known at one pass: a special scheme, a plain domain, a port or none, and a path, a query
 //! and a fragment of URL units. All other texts are checked by their parts.
-ghost use Rattle.std.specs.Prelude.{◌≡◌, ◌≢◌, ◌<◌, [], false, true, Option, IfSome, IsTrue};
+ghost use Rattle.std.specs.Prelude.{◌<◌, Option, IfSome};
 ghost use Rattle.std.specs.Str.{chars};
 ghost use Rattle.uv_model.specs.declared.profile.Profile.{Profile};
-ghost use Rattle.uv_model.specs.Cut.{starts_with_two_slashes};
-ghost use Rattle.uv_model.specs.Path.{starts_with_slash};
 ghost use Rattle.uv_model.specs.Records.Url.{Url};
 ghost use Rattle.uv_grammar.specs.PlainLinks.{IsPartCut, IsPathCut, IsPlainRest, IsPlainStart};
 ghost use Rattle.uv_grammar.specs.Slices.{chars_of, chars_of_option};
@@ -18,7 +16,7 @@ use crate::parts::Parts;
 use crate::parts_host::{AsciiText, PartsHost};
 use uv_text::{Tail, UnitClass, split_tail};
 
-// The texts of the scheme, the domain and the port of a plain link, its port where that isn't the scheme's default, and
+// The texts of the scheme, the domain and the port of a plain link, its port if that isn't the scheme's default, and
 // what follows them.
 #[derive(Drop)]
 pub(crate) struct PlainStart<'t> {
@@ -37,7 +35,7 @@ pub(crate) struct PlainRest<'t> {
     fragment: Option<&'t str>,
 }
 
-/// The parts of a plain link. By each profile it is valid with these, against any base.
+/// The parts of a plain link. Under each profile it is valid with these, against any base.
 #[inline(always)]
 pub(crate) fn plain_parts<'t>(
     text: &'t str,
@@ -60,7 +58,7 @@ pub(crate) fn plain_parts<'t>(
     build(text, texts, Some(host), start.port)
 }
 
-/// The texts of a plain start: a special scheme, `://`, a domain that is its own ASCII form, and a port or none. Where
+/// The texts of a plain start: a special scheme, `://`, a domain that is its own ASCII form, and a port or none. If
 /// there are none, that says nothing.
 #[inline(always)]
 pub(crate) fn plain_start<'t>(text: &'t str) -> Option<PlainStart<'t>>
@@ -84,7 +82,7 @@ pub(crate) fn plain_start<'t>(text: &'t str) -> Option<PlainStart<'t>>
     })
 }
 
-/// The texts of the rest of a plain link: a path, a query and a fragment of URL units. Where there are none, that says
+/// The texts of the rest of a plain link: a path, a query and a fragment of URL units. If there are none, that says
 /// nothing.
 #[inline(always)]
 pub(crate) fn plain_rest<'t>(start: &PlainStart<'t>) -> Option<PlainRest<'t>>
@@ -105,28 +103,18 @@ pub(crate) fn plain_rest<'t>(start: &PlainStart<'t>) -> Option<PlainRest<'t>>
     })
 }
 
-// A path of units, and what follows it.
+// A path of units, empty when the text doesn't begin with `/`, and what follows it.
 #[inline(always)]
 fn split_path<'t>(text: &Tail<'t>) -> Option<(&'t str, Tail<'t>)>
     ensures { IfSome result (λ r. IsPathCut (chars text.now) (chars_of r.0) (chars r.1)) }
 {
-    let (path_text, rest) = split_tail(text, UnitClass::Path);
-    if begins_path(path_text) {
-        Some((path_text, rest))
-    } else {
-        None
+    if !has_slash(text.as_str()) {
+        return Some(split_prefix(text, 0));
     }
-}
-
-// Whether a text may begin the path after a host: it is empty, or begins with one `/`.
-fn begins_path(text: &str) -> bool
-    ensures slashed { IsTrue result → chars text.now ≢ [] → starts_with_slash (chars text.now) ≡ true }
-    ensures single { IsTrue result → starts_with_two_slashes (chars text.now) ≡ false }
-{
-    if has_two_slashes(text) {
-        return false;
+    if has_two_slashes(text.as_str()) {
+        return None;
     }
-    text.is_empty() || has_slash(text)
+    Some(split_tail(text, UnitClass::Path))
 }
 
 // The units after a mark, where the text begins with it, and what follows.

@@ -30,9 +30,9 @@ pub(crate) fn split_special<'t>(text: &'t str) -> Option<(&'t str, Tail<'t>)>
     Some((scheme, rest))
 }
 
-// How many bytes a special scheme has at its start.
+/// How many bytes a special scheme but `file`, in lower case and with `://` after it, has at the start.
 #[inline(always)]
-fn special_end(bytes: &[u8]) -> Option<usize>
+pub(crate) fn special_end(bytes: &[u8]) -> Option<usize>
     ensures { IfSome result (IsSpecialPrefix bytes.now) }
 {
     if has_prefix(bytes, b"https://") {
@@ -101,7 +101,7 @@ pub(crate) fn split_name<'t>(text: &Tail<'t>) -> Option<(&'t str, Tail<'t>)>
     }
 }
 
-/// The text of a valid port, where there is a `:`, its number where it isn't the scheme's default, and what follows it.
+/// The text of a valid port, where there is a `:`, its number if it isn't the scheme's default, and what follows it.
 pub(crate) fn split_port<'t>(
     text: Tail<'t>,
     scheme: &str,

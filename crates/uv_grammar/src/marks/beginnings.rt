@@ -12,6 +12,7 @@ ghost use Rattle.uv_model.specs.Scheme.{is_scheme_code_point};
 ghost use Rattle.uv_text.specs.Splits.{starts_in};
 ghost use Rattle.uv_grammar.specs.TextSplits.{IsSchemeEnd};
 
+use crate::links::prefixes::special_end;
 use uv_model::is_drive_letter;
 
 /// Whether the text begins with `/`.
@@ -87,7 +88,7 @@ pub(crate) fn has_bracket(text: &str) -> bool
     bracket_first(text.as_bytes())
 }
 
-/// The same of bytes.
+/// Whether the bytes begin with `[`.
 pub(crate) fn bracket_first(bytes: &[u8]) -> bool
     ensures { result ≡ starts_with_bracket bytes.now }
 {
@@ -98,10 +99,15 @@ pub(crate) fn bracket_first(bytes: &[u8]) -> bool
 }
 
 /// The place of the `:` after the URL-scheme string with which the bytes begin (URL Standard, section 4.3). The search
-/// ends at the first byte that no scheme holds, so that it doesn't go through the whole of a text without a scheme.
+/// ends at the first byte that no scheme holds, so that it doesn't go through the whole of a text without a scheme. The
+/// special schemes that most links have are known at once.
+#[tactic(auto, using(crate::proofs::SchemeEndLemmas::special_found))]
 pub(crate) fn scheme_end(bytes: &[u8]) -> Option<usize>
     ensures { IsSchemeEnd bytes.now result }
 {
+    if let Some(end) = special_end(bytes) {
+        return Some(end);
+    }
     let end = scheme_prefix(bytes);
     if ends_scheme(bytes, end) {
         Some(end)

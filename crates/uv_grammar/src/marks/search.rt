@@ -13,7 +13,7 @@ pub(crate) fn first_mark(bytes: &[u8], mark: u8) -> Option<usize>
     first_byte(bytes, mark)
 }
 
-// The same by the words of the search.
+// The place of the first such byte, in the words that `memchr` has for it.
 #[inline(always)]
 fn first_byte(bytes: &[u8], mark: u8) -> Option<usize>
     ensures { IsFirstByte (is_byte mark) bytes.now result }
@@ -28,7 +28,7 @@ fn first_byte(bytes: &[u8], mark: u8) -> Option<usize>
     }
 }
 
-// The same where two loads reach from end to end.
+// The place of the first such byte, where two loads reach from end to end.
 #[inline(always)]
 fn first_of_two_loads<const N: usize>(bytes: &[u8], mark: u8) -> Option<usize>
     requires lanes { N ≤ 64 }

@@ -1,4 +1,4 @@
--- The address of an IPv4 text has 32 bits, and that of an IPv6 text eight pieces of 16 bits.
+-- The address of an IPv4 text has 32 bits, and the address of an IPv6 text eight pieces of 16 bits.
 use Rattle.std.proofs.Common.{ℕ, zero, suc, ◌-◌, ◌^◌, ◌<◌, ◌≤◌, Bool, true, false, List, [], ◌∷◌, ◌++◌, length}
 use Rattle.std.proofs.Common.{replicate, inl, inr, arith, length-append}
 use Rattle.std.specs.Prelude.{slice_index}

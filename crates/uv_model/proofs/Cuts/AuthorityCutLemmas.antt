@@ -23,7 +23,7 @@ pub record EndsFrom (within : Bool) (host_text : List ℕ) (port_text : Option (
   pub none_before : (prefix rest : List ℕ) → host_text ≡ prefix ++ colon ∷ rest → is_within_at_end within prefix ≡ true
   pub ends : IsSome port_text → is_within_at_end within host_text ≡ false
 
--- the first code point of such a host text is no `:` of a port
+-- the first code point of such a host text isn't a `:` of a port
 pub first_is_no_mark : (within : Bool) (c : ℕ) (rest : List ℕ) (port_text : Option (List ℕ))
     → EndsFrom within (c ∷ rest) port_text
     → is_port_mark within c ≡ false
@@ -212,7 +212,7 @@ record LeftAfter (text : List ℕ) : Type 0 where
   start : drop (length (text_before slash text)) text ≢ []
       → starts_with_slash (drop (length (text_before slash text)) text) ≡ true
 
--- the same with names for both parts
+-- what is left after the text before the first `/`, with names for both parts
 left_after_parts : (text before left : List ℕ) → text_before slash text ≡ before → text ≡ before ++ left
     → (left ≢ [] → starts_with_slash left ≡ true) → LeftAfter text
 left_after_parts text before left same joined start =

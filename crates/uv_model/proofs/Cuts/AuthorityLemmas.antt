@@ -123,7 +123,7 @@ pub record IsAuthority (profile : Profile) (class : Class) (scheme : List ℕ) (
   pub port : IsUrlPort scheme (Some value) parts.port
   pub each : AreSegments parts.segments
 
--- a host with a value is that of the record
+-- a host with a value is the record's
 authority_host-valued : (parts : Parts) (value : Host) → parts.host ≡ Some value → authority_host parts ≡ Some value
 authority_host-valued parts value e = rw e refl
 

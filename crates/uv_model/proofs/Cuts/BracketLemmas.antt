@@ -1,4 +1,4 @@
--- A place is within brackets exactly where the nearest bracket before it is `[`.
+-- A place is within brackets exactly when the nearest bracket before it is `[`.
 use Rattle.std.proofs.Common.{◌≡◌, ℕ, Bool, true, false, ◌==◌, ◌⊎◌, List, [], ◌∷◌, ◌++◌, refl, ap, ◌∙◌, inl, inr}
 use Rattle.std.proofs.lemmas.Bool.{false≢true, cases_Bool, eqb-true}
 use Rattle.uv_model.specs.Ascii.{left_bracket, right_bracket}
@@ -12,7 +12,7 @@ pub record HasNoBracket (text : List ℕ) : Type 0 where
   pub none_opens : is_without left_bracket text ≡ true
   pub none_closes : is_without right_bracket text ≡ true
 
--- a code point that is no bracket, before a text without brackets
+-- a code point that isn't a bracket, before a text without brackets
 no_bracket-cons : (c : ℕ) (rest : List ℕ) → (c == left_bracket) ≡ false → (c == right_bracket) ≡ false
     → HasNoBracket rest → HasNoBracket (c ∷ rest)
 no_bracket-cons c rest left right none = record {

@@ -37,7 +37,7 @@ split_joined first (next ∷ rest) each =
     (without_slash first each.0.no_slash) refl
     ∙ ap (λ xs. first ∷ xs) (split_joined next rest each.1)
 
--- so they are those of their text
+-- so they are their text's
 pub joined_segments : (segments : List (List ℕ)) (text : List ℕ) → JoinsTo segments text → segments ≡ pieces text
 joined_segments segments text joins =
     let each : AreSegments (joins.first ∷ joins.others) = rw joins.some at joins.each in
@@ -138,7 +138,7 @@ form_found setting NoPath parts named (none, nothing, empty) = rw (named, none.h
 
 -- ---- what a form makes of the texts
 
--- the host, the port and the segments are those of the texts
+-- the host, the port and the segments are the ones of the texts
 record AreDenoted (setting : Setting) (class : Class) (form : Form) (host_text : Option (List ℕ)) (parts : Parts)
     : Type 0
   where
@@ -146,12 +146,12 @@ record AreDenoted (setting : Setting) (class : Class) (form : Form) (host_text :
     port : parts.port ≡ port_given setting.default_port parts.port_text
     segments : parts.segments ≡ segments_of form parts.path_text
 
--- no port where there is no port text
+-- no port if there is no port text
 pub no_port : (default : Option ℕ) (port_text : Option (List ℕ)) (port : Option ℕ) → port_text ≡ None → port ≡ None
     → port ≡ port_given default port_text
 no_port default port_text port absent none = rw (absent, none) refl
 
--- no host where there is no host text
+-- no host if there is no host text
 no_host : (profile : Profile) (class : Class) (host_text : Option (List ℕ)) (host : Option Host) → host_text ≡ None
     → host ≡ None
     → HasHost profile class host_text host

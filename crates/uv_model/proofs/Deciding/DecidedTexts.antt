@@ -305,7 +305,7 @@ same_cuts a b are = λ i. record {
   fragment = are.3.2 i;
 }
 
--- the same cut
+-- two cuts that are the same
 abbrev same_cut : (a b : Cut) → Option (a ≡ b)
 same_cut a b =
     let same = same_option same_text in
@@ -313,7 +313,7 @@ same_cut a b =
     (all_four (same a.scheme b.scheme) (same a.host_text b.host_text) (same a.port_text b.port_text)
     (all_three (same_text a.path_text b.path_text) (same a.query b.query) (same a.fragment b.fragment)))
 
--- a cut that is the same as the computed one is that of the text
+-- a cut that is the same as the computed one is the text's
 pub cut_fits : (base : Option Url) (text : List ℕ) (cut : Cut) → cut_of base text ≡ cut → IsCut base text cut
 cut_fits base text cut same = subst (λ (other : Cut). IsCut base text other) same (computed_is_cut base text)
 
@@ -325,7 +325,7 @@ fits_cut Parser base text parts =
     (same_cut (cut_of base text) (texts_of parts))
 fits_cut _ base text parts = Some tt
 
--- the decision whether the text, against the base, is valid by the profile with these parts
+-- the decision whether the text, against the base, is valid under the profile with these parts
 abbrev pub valid_decision : (hosts : HostDecisions) (profile : Profile) (base : Option Url) (text : List ℕ)
     (parts : Parts) → Option (Valid profile base text parts)
 valid_decision hosts profile base text parts =

@@ -56,7 +56,7 @@ no_hosts = record { host = λ profile text value. None; violation = λ profile c
 
 -- ---- units
 
--- a code point that is no URL code point and no `%`
+-- a code point that isn't a URL code point and no `%`
 abbrev foreign_at : (text : List ℕ) (place : ℕ) → Option (HasForeignCodePoint text place)
 foreign_at text place =
     at_place text place
@@ -84,7 +84,7 @@ unit_violation text place CodePoint = foreign_at text place
 unit_violation text place Percent = bare_percent_at text place
 unit_violation text place _ = None
 
--- a code point other than a space is no space that is taken
+-- a code point other than a space isn't a space that is taken
 pub not_taken : (followed : Bool) (text : List ℕ) (place c : ℕ) (rest : List ℕ) → drop place text ≡ c ∷ rest
     → (c ≡ space → ⊥) → ¬ (IsTakenSpace followed text place)
 not_taken followed text place c rest here other taken = (let at = taken.here in other (cc))
@@ -291,7 +291,7 @@ port_part cut place rule =
           ]
     ]
 
--- of the parts that are checked where no rule of the start is violated
+-- of the parts that are checked if no rule of the start is violated
 abbrev checked_violation : (hosts : HostDecisions) (setting : Setting) (cut : Cut) (place : ℕ) (rule : Rule)
     → Option (CheckedViolation setting cut place rule)
 checked_violation hosts setting cut place rule =

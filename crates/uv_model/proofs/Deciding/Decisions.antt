@@ -1,5 +1,5 @@
--- Decisions: a proof where computing finds one, else nothing. So what holds of a text that is written out is proved by
--- `proof_of` a decision and `refl`. Where a decision finds nothing, nothing is said.
+-- Decisions: a proof where computing finds one, otherwise nothing. So what holds of a text that is written out is
+-- proved by `proof_of` a decision and `refl`. If a decision finds nothing, nothing is said.
 use Rattle.std.proofs.Common.{◌≡◌, ◌≢◌, ℕ, ◌<◌, ◌≤◌, ◌⊎◌, Bool, true, false, ◌==◌, List, [], ◌∷◌, Option, Some, None}
 use Rattle.std.proofs.Common.{refl, sym, ap, ◌∙◌, inl, inr, eq-eqb, eqb-true, leb-true, ltb-true}
 use Rattle.std.specs.Prelude.{IsSome, drop, leb, ltb, option_map}
@@ -53,7 +53,7 @@ is_false false = Some refl
 
 -- ---- numbers
 
--- the same number
+-- two numbers that are the same
 abbrev pub same_number : (a b : ℕ) → Option (a ≡ b)
 same_number a b = option_map (λ same. eqb-true a b same) (is_true (a == b))
 
@@ -61,7 +61,7 @@ same_number a b = option_map (λ same. eqb-true a b same) (is_true (a == b))
 abbrev pub other_number : (a b : ℕ) → Option (a ≢ b)
 other_number a b = option_map (λ differ. λ same. false≢true (sym differ ∙ eq-eqb a b same)) (is_false (a == b))
 
--- a number that is no larger
+-- a number that isn't a larger
 abbrev pub at_most : (a b : ℕ) → Option (a ≤ b)
 at_most a b = option_map (λ least. leb-true a b least) (is_true (leb a b))
 
@@ -71,7 +71,7 @@ below a b = option_map (λ less. ltb-true a b less) (is_true (ltb a b))
 
 -- ---- texts
 
--- the same text
+-- two texts that are the same
 abbrev pub same_text : (a b : List ℕ) → Option (a ≡ b)
 same_text a b = option_map (λ same. (bytes_eq-Decides a b).0 same) (is_true (bytes_eq a b))
 
@@ -84,7 +84,7 @@ other_text a b =
 pub same_parts : {A : Type 0} → (a b : A) (xs ys : List A) → a ≡ b → xs ≡ ys → a ∷ xs ≡ b ∷ ys
 same_parts a b xs ys head rest = cc
 
--- the same texts in the same order
+-- two lists that have the same texts in the same order
 abbrev pub same_texts : (xs ys : List (List ℕ)) → Option (xs ≡ ys)
 same_texts [] [] = Some refl
 same_texts [] (b ∷ ys) = None

@@ -58,7 +58,7 @@ parser_form-is text =
 
 -- ---- lengths
 
--- the upper limit alone counts where there is a code point
+-- only the upper limit applies if there is a code point
 at_least_one : (n : ℕ) → is_in_range 1 253 (suc n) ≡ nat_le (suc n) 253
 at_least_one n = grind (arith, nat_tests)
 
@@ -99,8 +99,8 @@ shown_form text form e =
     let bytes = encode_utf8_all text in
     rw (to_unicode-to_ascii STD3 Check Ignore bytes form e) (shown bytes form e (process_utf8 STD3 Check bytes) refl)
 
--- the form that both ToASCII give is that of the text by the standard profile, where its code points and the lengths
--- are permitted
+-- the form that both ToASCII give is the text's under the standard profile, where its code points and the lengths are
+-- permitted
 pub IsForm-from : (text form : List ℕ) → has_permitted Standard text ≡ true → strict_form text ≡ Some form →
     has_lengths form ≡ true → domain_to_ascii EMPTY (encode_utf8_all text) ≡ Some form → IsForm Standard text form
 IsForm-from text form permitted strict lengths parsed =
@@ -113,7 +113,7 @@ IsForm-from text form permitted strict lengths parsed =
       fits = record { ascii = strict; shown = shown_form text form strict };
     }
 
--- the form that ToASCII at the settings of the URL parser gives is that of the text by the wide profile, where the code
+-- the form that ToASCII at the settings of the URL parser gives is the text's under the wide profile, where the code
 -- points of both and the lengths are permitted
 pub IsForm-wide : (text form : List ℕ) → has_permitted Wide text ≡ true →
     domain_to_ascii EMPTY (encode_utf8_all text) ≡ Some form → list_all (is_form_code_point Wide) form ≡ true →
@@ -163,7 +163,7 @@ pub not_permitted : (profile : Profile) (text : List ℕ) → IsWritten profile 
 not_permitted profile text written e form h =
     false≢true (sym e ∙ (as_written profile text form written h).permitted)
 
--- a text that strict ToASCII refuses has no form by the standard profile
+-- a text that strict ToASCII refuses has no form under the standard profile
 pub not_strict : (text : List ℕ) → strict_form text ≡ None → HasNoForm Standard text
 not_strict text e form h = none-some form (sym e ∙ h.fits.ascii)
 

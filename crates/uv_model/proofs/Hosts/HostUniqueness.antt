@@ -84,7 +84,7 @@ opaque_unique text value (Some (V4 b)) is is' = absurd is'
 opaque_unique text value (Some (Opaque b)) is is' = absurd is'
 opaque_unique text value (Some Empty) is is' = absurd is'
 
--- the empty text is no host of a file URL
+-- the empty text isn't a host of a file URL
 file_host_not_empty : (profile : Profile) (text : List ℕ) (value : Host) → IsFileHostText profile text value
     → text ≢ []
 file_host_not_empty profile text value is =

@@ -62,7 +62,7 @@ all_simple a b c d text is = rw is.spelled (All-ipv4_text (a ∷ b ∷ c ∷ d �
 digit_byte : (d : ℕ) → digit_value d < 10 → is_ascii_digit d ≡ true
 digit_byte d h = grind (arith, nat_tests)
 
--- a code point with a value below ten is no full stop
+-- a code point with a value below ten isn't a full stop
 not_stop : (d : ℕ) → digit_value d < 10 → is_full_stop d ≡ false
 not_stop d h = grind (arith, nat_tests)
 
@@ -117,7 +117,7 @@ written_ipv4 profile text form value is has =
     let same : text ≡ form = same_Some text form (sym (parser_form-ipv4 text value is) ∙ has.parsed) in
     ap ends_in_number (sym same) ∙ ends_in_number-ipv4 text value is
 
--- an IPv4 text is no valid domain
+-- an IPv4 text isn't a valid domain
 pub ipv4_no_domain : (profile : Profile) (text form : List ℕ) (value : ℕ) → IsIpv4Text profile text value →
     ¬ (IsDomain profile text form)
 ipv4_no_domain Standard text form value is (has, other) =

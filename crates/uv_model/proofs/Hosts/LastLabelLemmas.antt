@@ -84,7 +84,7 @@ from_end (c ∷ text) =
       | inr (prefix, last, shown) ↦ inr (c ∷ prefix, last, ap (λ rest. c ∷ rest) shown)
     ]
 
--- the label after the last full stop, where it isn't empty
+-- the label after the last full stop, if it isn't empty
 pub last_label-after : (prefix label : List ℕ) → HasNoStop label → 0 < length label →
     last_label (prefix ++ full_stop ∷ label) ≡ label
 last_label-after prefix label none some =
@@ -134,7 +134,7 @@ record IsHigh (bytes : List ℕ) : Type 0 where
   last_high : 128 ≤ last
   high : All (λ b. 128 ≤ b) bytes
 
--- a byte beyond ASCII is no full stop
+-- a byte beyond ASCII isn't a full stop
 not_stop : (b : ℕ) → 128 ≤ b → is_full_stop b ≡ false
 not_stop b high = ne_eqb b full_stop (λ e. absurd (omega arith))
 
@@ -192,7 +192,7 @@ encoded_cases c =
       | inr high ↦ inr (high, IsHigh-encode c high)
     ]
 
--- a test that no code point beyond ASCII passes is that of the bytes
+-- a test that no code point beyond ASCII passes gives the same on the bytes
 list_all-encoded : (test : ℕ → Bool) → ((c : ℕ) → 128 ≤ c → test c ≡ false) → (text : List ℕ) →
     list_all test (encode_utf8_all text) ≡ list_all test text
 list_all-encoded test fails [] = refl
@@ -277,7 +277,7 @@ after_last-encoded text =
           ∙ ap encode_utf8_all (sym (after_last_stop prefix label none) ∙ ap (after_last is_full_stop) (sym shown))
     ]
 
--- a code point beyond ASCII is no digit
+-- a code point beyond ASCII isn't a digit
 not_digit : (c : ℕ) → 128 ≤ c → is_ascii_digit c ≡ false
 not_digit c high = grind (arith, nat_tests)
 

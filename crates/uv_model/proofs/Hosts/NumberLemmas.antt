@@ -1,5 +1,5 @@
--- IPv4 addresses by the profiles: what one to four numbers are written with, that a text has one value, and that it has
--- 32 bits.
+-- IPv4 addresses under the profiles: what one to four numbers are written with, that a text has one value, and that it
+-- has 32 bits.
 use Rattle.std.proofs.Common.{◌≡◌, ◌≢◌, ℕ, ◌^◌, ◌<◌, ◌≤◌, true, false, List, [], ◌∷◌, ◌++◌, length, get_or}
 use Rattle.std.proofs.Common.{map, decimal, All, refl, sym, ap, ◌∙◌, inl, inr, lit≤, lit<, append_assoc}
 use Rattle.std.proofs.Common.{append-nil, length-append, arith}
@@ -117,7 +117,7 @@ numbers_not_empty numbers text are nothing =
 
 -- ---- its last label
 
--- a digit is no full stop
+-- a digit isn't a full stop
 not_stop : (c : ℕ) → is_ascii_digit c ≡ true → is_full_stop c ≡ false
 not_stop c digit = grind (arith, nat_tests)
 
@@ -150,7 +150,7 @@ no_digit : (rest : List ℕ) → HasNoDigitFirst (after_text rest)
 no_digit [] = lit≤ tt
 no_digit (n ∷ rest) = lit≤ tt
 
--- digits end where no digit follows
+-- digits end if no digit follows
 digits_end : (xs ys r s : List ℕ) → AllDigits 10 xs → AllDigits 10 ys → HasNoDigitFirst r → HasNoDigitFirst s
     → xs ++ r ≡ ys ++ s → (xs ≡ ys) × (r ≡ s)
 digits_end [] [] r s digits digits' none none' same = (refl, same)
@@ -223,7 +223,7 @@ numbers_small (a ∷ b ∷ c ∷ d ∷ e ∷ rest) fit few = absurd (omega (arit
 pub numbers_text_small : (text : List ℕ) (value : ℕ) → IsNumbersText text value → value < 2 ^ 32
 numbers_text_small text value (numbers, are, valued) = rw valued (numbers_small numbers are.fit are.few)
 
--- ---- by the profile
+-- ---- under the profile
 
 -- a text has one form of the parser's profile
 pub parser_form_unique : (text a b : List ℕ) → IsParserForm text a → IsParserForm text b → a ≡ b

@@ -1,4 +1,4 @@
--- What is a host by the wide profile is one by the parser's profile, and the parser doesn't stop at it.
+-- What is a host under the wide profile is one under the parser's profile, and the parser doesn't stop at it.
 use Rattle.std.proofs.Common.{◌≡◌, ◌≢◌, ℕ, Bool, true, false, not, ◌&&◌, ◌||◌, ◌==◌, List, [], ◌∷◌, ◌++◌, All, Some}
 use Rattle.std.proofs.Common.{None, codes, chars, encode_utf8_all, refl, sym, ap, subst, ◌∙◌, inl, inr, arith}
 use Rattle.std.specs.Prelude.{nat_le, nat_lt}
@@ -109,7 +109,7 @@ no_bracket-permitted [] h = refl
 no_bracket-permitted (c ∷ rest) h =
     permitted_not_bracket c (and_parts (is_permitted Wide c) (list_all (is_permitted Wide) rest) h).0
 
--- a code point of a form is no forbidden domain code point
+-- a code point of a form isn't a forbidden domain code point
 allowed_code_point : (c : ℕ) → is_form_code_point Wide c ≡ true → is_forbidden_domain c ≡ false
 allowed_code_point c h = grind (arith, nat_tests)
 
@@ -146,7 +146,7 @@ dotted_form : (c : ℕ) → IsDigitOrDot c → is_form_code_point Wide c ≡ tru
 dotted_form c (inl digit) = let low = digit.0 in let high = digit.1 in grind (arith, nat_tests)
 dotted_form c (inr dot) = rw dot refl
 
--- an IPv4 text is one by the parser's profile
+-- an IPv4 text is one under the parser's profile
 pub wide_ipv4_are_parsers : (text : List ℕ) (value : ℕ) → IsIpv4Text Wide text value → IsIpv4Text Parser text value
 wide_ipv4_are_parsers text value is =
     let (a, b, c, d, four, e) = is in
@@ -165,7 +165,7 @@ wide_ipv4_are_parsers text value is =
     } in
     (text, (ipv4_no_bracket text value is, parsed), ends_in_number-ipv4 text value is, numbers)
 
--- so an IPv4 text is one by each profile
+-- so an IPv4 text is one under each profile
 pub ipv4_by_profile : (profile : Profile) (text : List ℕ) (value : ℕ) → IsIpv4 text value
     → IsIpv4Text profile text value
 ipv4_by_profile Standard text value is = is
@@ -221,7 +221,7 @@ going_has_no_stop class last text each =
     (AllPass-from_list_all is_going text each) in
     or_from _ _ (list_any_none (is_stopping class) text none) (and_right last _ (going_ends text each))
 
--- where the text is no drive letter, the parser doesn't stop at it
+-- where the text isn't a drive letter, the parser doesn't stop at it
 pub going_not_stopped : (profile : Profile) (class : Class) (last : Bool) (text : List ℕ)
     → list_all is_going text ≡ true
     → is_drive_letter text ≡ false → is_stopped profile class last text ≡ false
@@ -241,7 +241,7 @@ permitted_going c is = grind (arith, nat_tests)
 permitted_no_drive : (c : ℕ) → is_permitted Wide c ≡ true → ((c == colon) || (c == vertical_bar)) ≡ false
 permitted_no_drive c is = grind (arith, nat_tests)
 
--- a permitted text is no drive letter
+-- a permitted text isn't a drive letter
 no_drive : (text : List ℕ) → list_all (is_permitted Wide) text ≡ true → is_drive_letter text ≡ false
 no_drive [] is = refl
 no_drive (c ∷ []) is = refl
@@ -324,7 +324,7 @@ inner_ipv6 text pieces (inr is) =
 inner_going : (c : ℕ) → is_inner c ≡ true → is_going c ≡ true
 inner_going c is = grind (arith, nat_tests)
 
--- a text in brackets is no drive letter
+-- a text in brackets isn't a drive letter
 no_drive_brackets : (inner : List ℕ) → is_drive_letter (left_bracket ∷ (inner ++ right_bracket ∷ [])) ≡ false
 no_drive_brackets [] = refl
 no_drive_brackets (c ∷ []) = refl

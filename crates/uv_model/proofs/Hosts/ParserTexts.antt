@@ -1,4 +1,4 @@
--- What is valid or well formed by the wide profile is so by the parser's profile.
+-- What is valid or well formed under the wide profile is so under the parser's profile.
 use Rattle.std.proofs.Common.{◌≡◌, ℕ, Bool, true, List, [], ◌∷◌, Option, Some, None, refl, inl, inr, arith}
 use Rattle.std.specs.List.{list_all}
 use Rattle.std.proofs.lemmas.Bool.{and_from, and_parts}
@@ -94,7 +94,7 @@ parsers_form base PathAbsolute parts (none, path, drive) = (none, path, no_drive
 parsers_form base PathRelative parts is = is
 parsers_form base NoPath parts is = is
 
--- a text of which the parts are those of its cut
+-- a text whose parts are the parts of its cut
 with_cut : (base : Option Url) (text : List ℕ) (parts : Parts) → IsCut base text (texts_of parts)
     → Valid Wide base text parts → Valid Parser base text parts
 with_cut base text parts cut valid = record {

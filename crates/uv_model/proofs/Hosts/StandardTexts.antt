@@ -1,4 +1,4 @@
--- What is valid or well formed by the standard profile is so by the wide profile.
+-- What is valid or well formed under the standard profile is so under the wide profile.
 use Rattle.std.proofs.Common.{◌≡◌, ℕ, true, List, [], ◌∷◌, Option, Some, None, refl, inl, inr}
 use Rattle.std.specs.List.{list_all}
 use Rattle.std.proofs.lemmas.Bool.{and_from, and_parts}

@@ -1,4 +1,4 @@
--- Dot segments and percent-encoding: an encoded segment is a dot segment exactly where the segment is.
+-- Dot segments and percent-encoding: an encoded segment is a dot segment exactly when the segment is.
 use Rattle.std.proofs.Common.{◌≡◌, ℕ, ◌+◌, ◌-◌, ◌/◌, ◌%◌, ◌<◌, Bool, true, false, ◌||◌, ◌==◌, List, [], ◌∷◌, ◌++◌}
 use Rattle.std.proofs.Common.{refl, sym, ap, ◌∙◌, subst, inl, inr, arith, codes}
 use Rattle.std.specs.List.{list_all}
@@ -20,7 +20,7 @@ use Rattle.uv_model.proofs.Texts.EncodingLemmas.{encoded-beyond}
 abbrev is_dot_letter : ℕ → Bool
 is_dot_letter c = (c == 0x2E) || ((c == 0x25) || ((c == 0x32) || (c == 0x65)))
 
--- ---- a text that is ASCII stays, and any other is no dot segment, encoded or not
+-- ---- a text that is ASCII stays, and any other isn't a dot segment, encoded or not
 
 encoded-ascii : (text : List ℕ) → list_all is_ascii text ≡ true → encoded false text ≡ text
 unfolding encoded
@@ -66,7 +66,7 @@ lowercase-append : (xs ys : List ℕ) → lowercase (xs ++ ys) ≡ lowercase xs 
 lowercase-append [] ys = refl
 lowercase-append (x ∷ xs) ys = ap (λ zs. to_ascii_lowercase x ∷ zs) (lowercase-append xs ys)
 
--- the same text encoded
+-- the encoding of a text with a code point beyond ASCII
 encoded_beyond : (text : List ℕ) → list_all is_ascii text ≡ false
     → list_all is_dot_letter (lowercase (encoded false text)) ≡ false
 unfolding encoded
@@ -103,7 +103,7 @@ no_double_dot text other =
 
 -- ---- the tests
 
--- an encoded segment is a single-dot segment exactly where the segment is
+-- an encoded segment is a single-dot segment exactly when the segment is
 pub is_single_dot-encoded : (text : List ℕ) → is_single_dot (encoded false text) ≡ is_single_dot text
 is_single_dot-encoded text =
     elim (cases_Bool (list_all is_ascii text)) [
@@ -112,7 +112,7 @@ is_single_dot-encoded text =
           (no_single_dot text (plain_beyond text beyond))
     ]
 
--- an encoded segment is a double-dot segment exactly where the segment is
+-- an encoded segment is a double-dot segment exactly when the segment is
 pub is_double_dot-encoded : (text : List ℕ) → is_double_dot (encoded false text) ≡ is_double_dot text
 is_double_dot-encoded text =
     elim (cases_Bool (list_all is_ascii text)) [

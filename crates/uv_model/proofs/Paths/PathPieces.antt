@@ -36,7 +36,7 @@ splits_first (c ∷ rest) = elim (cases_Bool (c == slash)) [
     more c rest first (inl same) = inl (ap (λ s. c ∷ s) same)
     more c rest first (inr (tail, same)) = inr (tail, ap (λ s. c ∷ s) same)
 
--- a code point that is no fault before the whole text is none before its first part
+-- a code point that isn't a fault before the whole text isn't one before its first part
 unit_before : (c : ℕ) (rest first : List ℕ) → (rest ≡ first) ⊎ ((tail : List ℕ) × (rest ≡ first ++ slash ∷ tail))
     → is_unit_at c rest ≡ true → is_unit_at c first ≡ true
 unit_before c rest first (inl same) unit = rw (← same) unit

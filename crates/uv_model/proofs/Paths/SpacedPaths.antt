@@ -140,7 +140,7 @@ ends_escaped (c ∷ next ∷ []) =
     elim (cases_Bool (next == space)) [ inl same ↦ rw same refl | inr other ↦ rw other other ]
 ends_escaped (c ∷ next ∷ third ∷ rest) = ends_escaped (next ∷ third ∷ rest)
 
--- where nothing follows, the text stays
+-- if nothing follows, the text stays
 pub escaped_alone : (text : List ℕ) → end_escaped false text ≡ text
 escaped_alone [] = refl
 escaped_alone (c ∷ []) = elim (cases_Bool (c == space)) [ inl same ↦ rw same refl | inr other ↦ rw other refl ]
@@ -152,7 +152,7 @@ escaped_kept followed [] end = refl
 escaped_kept followed (c ∷ []) end = rw end refl
 escaped_kept followed (c ∷ next ∷ rest) end = ap (λ xs. c ∷ xs) (escaped_kept followed (next ∷ rest) end)
 
--- so no space is left at the end, where nothing follows a text without one there
+-- so no space is left at the end, if nothing follows a text without one there
 ends_escaped_by : (followed : Bool) (text : List ℕ) → (followed ≡ false → ends_with_space text ≡ false)
     → ends_with_space (end_escaped followed text) ≡ false
 ends_escaped_by true text end = ends_escaped text
@@ -174,7 +174,7 @@ two_hex_encoded (high ∷ low ∷ rest) is =
     hex_is_ascii : (c : ℕ) → is_ascii_hexdigit c ≡ true → is_ascii c ≡ true
     hex_is_ascii c is = grind (arith, nat_tests)
 
--- no fault before a text is none before the text encoded
+-- no fault before a text isn't one before the text encoded
 unit_before_encoded : (c : ℕ) (rest : List ℕ) → is_unit_at c rest ≡ true → is_unit_at c (encoded false rest) ≡ true
 unfolding is_unit_at
 unit_before_encoded c rest is =
@@ -183,7 +183,7 @@ unit_before_encoded c rest is =
       | inr other ↦ rw other (rw other at is)
     ]
 
--- a code point beyond ASCII that is no fault is none alone
+-- a code point beyond ASCII that isn't a fault isn't one alone
 alone_beyond : (c : ℕ) (rest : List ℕ) → is_ascii c ≡ false → is_unit_at c rest ≡ true → is_faultless (c ∷ []) ≡ true
 unfolding is_unit_at
 alone_beyond c rest beyond is =
@@ -192,7 +192,7 @@ alone_beyond c rest beyond is =
       | inr other ↦ rw other (and_from _ _ (rw other at is) refl)
     ]
 
--- a code point that is no fault alone has an encoding without a fault
+-- a code point that isn't a fault alone has an encoding without a fault
 faultless_alone : (c : ℕ) → is_faultless (c ∷ []) ≡ true → is_faultless (encoded_code_point false c) ≡ true
 unfolding encoded
 faultless_alone c is =

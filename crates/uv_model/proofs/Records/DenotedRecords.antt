@@ -133,7 +133,7 @@ AreDenoted-opaque profile base parts scheme fits query =
 
 -- ---- an authority
 
--- the default port of a denoted scheme is that of the scheme that the text is read by
+-- a denoted scheme has the same default port as the scheme that the text is read by
 pub default_port-denoted : (base : Option Url) (parts : Parts) (scheme : Option (List ℕ)) → parts.scheme ≡ scheme
     → default_port (denoted_scheme base parts.scheme) ≡ default_port (scheme_in base parts)
 default_port-denoted base parts (Some scheme) e = rw e (default_port-lowercase scheme)

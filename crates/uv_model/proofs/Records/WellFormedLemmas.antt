@@ -107,7 +107,7 @@ IsUrlSegment-nil =
       no_double_dot = refl;
     }
 
--- a segment of a text that is no dot segment, encoded
+-- a segment of a text that isn't a dot segment, encoded
 pub IsUrlSegment-encoded : (segment : List ℕ) → IsSegment segment → is_single_dot segment ≡ false
     → is_double_dot segment ≡ false → IsUrlSegment (encoded false segment)
 IsUrlSegment-encoded segment is single double =
@@ -142,11 +142,11 @@ IsUrlDomain-written profile text form is name =
       name = name;
     }
 
--- an ASCII code point that is no upper-case letter
+-- an ASCII code point that isn't an upper-case letter
 abbrev is_lowercase_point : ℕ → Bool
 is_lowercase_point c = is_ascii c && not (is_ascii_uppercase c)
 
--- what ToASCII gives, without forbidden code points, are code points of a form by the parser's profile
+-- what ToASCII gives, without forbidden code points, are code points of a form under the parser's profile
 parser_letters : (form : List ℕ) → list_all is_lowercase_point form ≡ true
     → list_any is_forbidden_domain form ≡ false → list_all (is_form_code_point Parser) form ≡ true
 parser_letters [] lower none = refl
@@ -186,7 +186,7 @@ first_of_some : (form : List ℕ) → form ≢ [] → (first : ℕ) × (rest : L
 first_of_some [] some = absurd (some refl)
 first_of_some (c ∷ rest) some = (c, rest, refl)
 
--- the form of a domain by the parser's profile
+-- the form of a domain under the parser's profile
 IsUrlDomain-parsed : (text form : List ℕ) → IsParserForm text form → ends_in_number form ≡ false
     → IsUrlDomain Parser form
 IsUrlDomain-parsed text form is name =

@@ -8,6 +8,6 @@ use Rattle.std.proofs.lemmas.Str.Parse.{IsDigitsTest, IsNumeralModel, numerals_b
 digits_test : IsDigitsTest (λ ds. list_all is_ascii_digit ds ≡ true)
 digits_test = search rules
 
--- a text of digits is a numeral, and its value is that of its digits
+-- a text of digits is a numeral, and has the value of its digits
 pub decimal_numerals : IsNumeralModel (λ ds. list_all is_ascii_digit ds ≡ true) (digits_value 10)
 decimal_numerals = numerals_by_value (λ ds. list_all is_ascii_digit ds ≡ true) digits_test

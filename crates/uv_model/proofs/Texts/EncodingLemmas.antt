@@ -248,7 +248,7 @@ encoded-beyond quote c beyond =
     let (first, bits, rest, bytes) = encode_beyond c beyond in
     (first, bits, flat_map percent_encode_byte rest, rw (beyond, bytes) refl)
 
--- an encoded text begins with `/` where the text does
+-- an encoded text begins with `/` if the text does
 pub starts_with_slash-encoded : (quote : Bool) (text : List ℕ) → starts_with_slash text ≡ false
     → starts_with_slash (encoded quote text) ≡ false
 unfolding encoded percent_encode_byte

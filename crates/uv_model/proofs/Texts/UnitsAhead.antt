@@ -1,4 +1,4 @@
--- Units where more text follows them, as the parser machine's states look ahead: what is no fault in a text is none
+-- Units where more text follows them, as the parser machine's states look ahead: what isn't a fault in a text isn't one
 -- with more after it, and `#` is a fault wherever it is.
 use Rattle.std.proofs.Common.{◌≡◌, ℕ, true, false, inl, inr, ◌==◌, List, [], ◌∷◌, ◌++◌}
 use Rattle.std.proofs.lemmas.Bool.{false≢true, cases_Bool, eqb-true}
@@ -11,7 +11,7 @@ two_hex_ahead [] ys ok = absurd (false≢true ok)
 two_hex_ahead (high ∷ []) ys ok = absurd (false≢true ok)
 two_hex_ahead (high ∷ low ∷ rest) ys ok = ok
 
--- what is no fault in a text is none with more text after it
+-- what isn't a fault in a text isn't one with more text after it
 pub is_unit_at-ahead : (c : ℕ) (xs ys : List ℕ) → is_unit_at c xs ≡ true → is_unit_at c (xs ++ ys) ≡ true
 unfolding is_unit_at
 is_unit_at-ahead c xs ys ok =

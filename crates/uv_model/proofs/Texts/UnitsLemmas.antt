@@ -23,12 +23,12 @@ pub hex_is_url : (c : ℕ) → is_ascii_hexdigit c ≡ true → is_url_code_poin
 unfolding is_url_code_point
 hex_is_url c hex = grind (arith, nat_tests)
 
--- a URL code point is no fault, whatever follows it
+-- a URL code point isn't a fault, whatever follows it
 pub is_unit_at-url : (c : ℕ) (rest : List ℕ) → is_url_code_point c ≡ true → is_unit_at c rest ≡ true
 unfolding is_unit_at
 is_unit_at-url c rest url = rw (url_not_percent c url) url
 
--- what is no fault and no `%` is a URL code point
+-- what isn't a fault and no `%` is a URL code point
 pub url_from_unit_at : (c : ℕ) (rest : List ℕ) → c ≢ percent_sign → is_unit_at c rest ≡ true
     → is_url_code_point c ≡ true
 unfolding is_unit_at
@@ -76,7 +76,7 @@ IsUnits-unit unit text first rest =
       joined = ap (λ xs. unit ++ xs) rest.joined;
     }
 
--- at a `%` that is no fault two hex digits follow
+-- at a `%` that isn't a fault two hex digits follow
 two_hex_from_unit_at : (c : ℕ) (rest : List ℕ) → c ≡ percent_sign → is_unit_at c rest ≡ true
     → starts_with_two_hex rest ≡ true
 unfolding is_unit_at
@@ -129,7 +129,7 @@ IsUnits-append xs ys first second =
 
 -- ---- units of a text cut at a mark
 
--- a mark that is no hex digit ends the digits that a `%` could have
+-- a mark that isn't a hex digit ends the digits that a `%` could have
 starts_with_two_hex-mark : (mark : ℕ) (xs ys : List ℕ) → is_ascii_hexdigit mark ≡ false
     → starts_with_two_hex (xs ++ mark ∷ ys) ≡ starts_with_two_hex xs
 starts_with_two_hex-mark mark [] [] other = refl
@@ -172,7 +172,7 @@ no_hex_first : (b : ℕ) (rest : List ℕ) → 128 ≤ b → starts_with_two_hex
 no_hex_first b [] beyond = refl
 no_hex_first b (next ∷ rest) beyond = and_left _ _ (beyond_no_hex b beyond)
 
--- the bytes of a text begin with two hex digits exactly where the text does
+-- the bytes of a text begin with two hex digits exactly when the text does
 starts_with_two_hex-encodes : (text : List ℕ)
     → starts_with_two_hex (encode_utf8_all text) ≡ starts_with_two_hex text
 starts_with_two_hex-encodes [] = refl
@@ -200,7 +200,7 @@ starts_with_two_hex-encodes (c ∷ next ∷ rest) =
           first ∙ sym (and_left _ _ (beyond_no_hex c large))
     ]
 
--- the bytes begin with two hex digits exactly where their code points do
+-- the bytes begin with two hex digits exactly when their code points do
 pub starts_with_two_hex-chars : (bytes : List ℕ) → IsUtf8 bytes
     → starts_with_two_hex bytes ≡ starts_with_two_hex (chars bytes)
 starts_with_two_hex-chars bytes utf8 =

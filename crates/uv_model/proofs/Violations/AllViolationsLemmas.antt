@@ -163,7 +163,7 @@ pub record IsScan (F : List ℕ → ℕ → Rule → Type 0) : Type 0 where
   pub whole : (prefix : ℕ) (text : List ℕ) (place : ℕ) (rule : Rule) → F (drop prefix text) place rule
       → F text (prefix + place) rule
 
--- the violations are the least one and those of what is after its code point
+-- the violations are the least one and the ones after its code point
 pub lists_scan : (F : List ℕ → ℕ → Rule → Type 0) → IsScan F → (here : ℕ) (text : List ℕ) (refusal : Refusal)
     (list : List Refusal) → IsLeast (F text) (Some refusal)
     → ListsViolations (After (here + (refusal.place + 1)) (F (drop (refusal.place + 1) text))) list

@@ -32,7 +32,7 @@ use Rattle.uv_model.proofs.Violations.UnitViolationLemmas.{no_violation-units}
 
 -- ---- what a text with a form isn't
 
--- it isn't empty where it is written
+-- it isn't empty when it is written
 written_not_empty : (profile : Profile) (form : List ℕ) → IsWrittenForm profile [] form → ⊥
 unfolding parser_form has_ace_prefix
 written_not_empty profile form is =

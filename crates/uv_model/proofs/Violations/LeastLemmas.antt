@@ -62,7 +62,7 @@ least_first F G refusal before least = record { stands = inl least.stands; first
       | inr (same, number) ↦ omega arith
     ]
 
--- where none of the first kind is, the least of the second is the least of both
+-- if none of the first kind is, the least of the second is the least of both
 pub least_second : (F G : ℕ → Rule → Type 0) (least : Option Refusal) → IsLeast F None → IsLeast G least
     → IsLeast (Either F G) least
 least_second F G None none other = λ place rule. either place rule

@@ -202,7 +202,7 @@ to_parts setting text cut started place rule (inr (inl (again, inr (inl port))))
 to_parts setting text cut started place rule (inr (inl (again, inr (inr start)))) = inr (inr (inl start))
 to_parts setting text cut started place rule (inr (inr held)) = inr (inr (inr held))
 
--- the least violation of a cut of the text is that of the text
+-- the least violation of a cut of the text is the text's
 pub least_of_cut : (profile : Profile) (base : Option Url) (text : List ℕ) (cut : Cut) (least : Option Refusal)
     → IsCut base text cut → IsLeast (ViolationOf (setting_of profile base cut.scheme) text cut) least
     → IsLeast (Violation profile base text) least
@@ -211,7 +211,7 @@ least_of_cut profile base text cut least is found =
     subst (λ (c : Cut). IsLeast (ViolationOf (setting_of profile base c.scheme) text c) least)
     (cut_is_computed base text cut is) found
 
--- where no rule of the start is violated, the least violation of the parts is that of the text
+-- if no rule of the start is violated, the least violation of the parts is the text's
 pub least_of_parts : (profile : Profile) (base : Option Url) (text : List ℕ) (cut : Cut) (least : Option Refusal)
     → IsCut base text cut → IsStarted (setting_of profile base cut.scheme) text cut
     → IsLeast (FromHost (setting_of profile base cut.scheme) cut) least → IsLeast (Violation profile base text) least
@@ -221,7 +221,7 @@ least_of_parts profile base text cut least is started found =
     (IsLeast-like (FromHost setting cut) (ViolationOf setting text cut) (from_parts setting text cut started)
     (to_parts setting text cut started) least found)
 
--- the least violation of a start that violates a rule is that of the text
+-- the least violation of a start that violates a rule is the text's
 pub refused_at_start : (profile : Profile) (base : Option Url) (text : List ℕ) (cut : Cut) (refusal : Refusal)
     → IsCut base text cut → IsLeast (StartViolation (setting_of profile base cut.scheme) text cut) (Some refusal)
     → IsLeast (Violation profile base text) (Some refusal)

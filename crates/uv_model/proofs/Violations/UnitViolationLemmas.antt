@@ -38,7 +38,7 @@ UnitViolation-nil place _ h = h
 
 -- ---- the first code point of a text
 
--- a code point that, with what follows it, is no unit violates its rule
+-- a code point that, with what follows it, isn't a unit violates its rule
 pub UnitViolation-here : (c : ℕ) (rest : List ℕ) → is_unit_at c rest ≡ false
     → UnitViolation (c ∷ rest) 0 (unit_rule c)
 unfolding is_unit_at

@@ -94,7 +94,7 @@ held_host_within profile File last text place rule (h, at) =
     (let some = host_text_some profile File last text rule h in omega arith)
 held_host_within profile Other last text place rule h = opaque_violation_within text place rule h
 
--- a fault of a host is within its text, or is that of a missing host
+-- a fault of a host is within its text, or is the fault of a missing host
 host_violation_ends : (profile : Profile) (class : Class) (last : Bool) (text : List ℕ)
     (port_text : Option (List ℕ)) (path_text : List ℕ) (place : ℕ) (rule : Rule)
     → HostViolation profile class last text port_text path_text place rule
@@ -163,7 +163,7 @@ two_begin_with_one [] starts = starts
 two_begin_with_one (c ∷ []) starts = absurd (false≢true starts)
 two_begin_with_one (c ∷ d ∷ rest) starts = (and_parts (c == slash) (d == slash) starts).0
 
--- one place for a text that passes, where nothing is at the first place
+-- one place for a text that passes, if nothing is at the first place
 one_place : (test : Bool) (place : ℕ) → (test ≡ true → 1 ≤ place) → (if test then 1 else 0) ≤ place
 one_place true place some = some refl
 one_place false place some = omega arith

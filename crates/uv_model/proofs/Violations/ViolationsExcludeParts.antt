@@ -215,7 +215,7 @@ without_drive Standard text bare = bare
 without_drive Wide text bare = bare
 without_drive Parser text bare = tt
 
--- ---- the parts checked where no rule of the start is violated
+-- ---- the parts checked if no rule of the start is violated
 
 -- with an authority, whose host text is there
 host_part_faultless : (setting : Setting) (parts : Parts) (host_text : Option (List ℕ))
@@ -357,7 +357,7 @@ opaque_units profile base parts none other segments path =
     (units_faultless setting (texts_of parts) (relative_units segments parts.path_text path))
     (without_slash_without_two parts.path_text path.start) (other_no_drive setting parts other)
 
--- an opaque path by the profile
+-- an opaque path under the profile
 opaque_faultless : (profile : Profile) (base : Option Url) (parts : Parts) → FitsScheme true parts.scheme
     → FitsForm (setting_of profile base parts.scheme) SchemeOpaque parts
     → IsFaultless (setting_of profile base parts.scheme) parts

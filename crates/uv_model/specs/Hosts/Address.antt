@@ -81,7 +81,7 @@ IsAddress _ = ⊥
 
 -- ---- what a reader answers, and the library's grammar
 
--- the answer is what the text denotes, and none where it denotes nothing
+-- the answer is what the text denotes, and none if it denotes nothing
 abbrev pub Reads : {A : Type 0} → (List ℕ → A → Type 0) → List ℕ → Option A → Type 0
 Reads {A} Denotes text answer = MatchOption answer ((value : A) → ¬ (Denotes text value)) (Denotes text)
 

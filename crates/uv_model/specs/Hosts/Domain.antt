@@ -49,8 +49,8 @@ ends_in_number text = is_digits (last_label text) || is_hexadecimal (last_label 
 abbrev pub is_forbidden_domain : ℕ → Bool
 is_forbidden_domain c = is_forbidden_host c || (nat_le c 0x1F || ((c == percent_sign) || (c == 0x7F)))
 
--- the ASCII code points of a domain beside letters and digits: the hyphen and the full stop, by the wide profile the
--- low line too, and by the parser's all others that aren't forbidden
+-- the ASCII code points of a domain besides letters and digits: the hyphen and the full stop, under the wide profile
+-- the low line too, and by the parser's all others that aren't forbidden
 abbrev pub is_domain_mark : Profile → ℕ → Bool
 is_domain_mark Standard c = (c == hyphen) || (c == full_stop)
 is_domain_mark Wide c = (c == underscore) || ((c == hyphen) || (c == full_stop))
@@ -87,7 +87,7 @@ is_plain_ascii text =
 unfoldable pub parser_form : List ℕ → Option (List ℕ)
 parser_form text = if is_plain_ascii text then Some (lowercase text) else domain_to_ascii EMPTY (encode_utf8_all text)
 
--- the form is also that of the strict settings, and ToUnicode at them takes it
+-- the strict settings give the same form, and ToUnicode at them accepts it
 pub record IsStrict (text form : List ℕ) : Type 0 where
   pub ascii : strict_form text ≡ Some form
   pub shown : IsSome (to_unicode STD3 Check form)

@@ -1,4 +1,4 @@
--- IPv4 addresses by the profiles: four numbers as one writes them, and by the parser's profile one to four (URL
+-- IPv4 addresses under the profiles: four numbers as one writes them, and under the parser's profile one to four (URL
 -- Standard, sections 3.4 and 3.5).
 use Rattle.std.specs.Prelude.{◌≡◌, ℕ, ◌+◌, ◌*◌, ◌/◌, ◌<◌, ◌≤◌, true, List, [], ◌∷◌, length, map, decimal}
 use Rattle.std.specs.List.{join_with_byte}
@@ -27,7 +27,7 @@ value_from weight [] = 0
 value_from weight (last ∷ []) = last
 value_from weight (n ∷ next ∷ rest) = n * weight + value_from (weight / 256) (next ∷ rest)
 
--- the value of one to four numbers: `1.2.3` has that of `1.2.0.3`
+-- the value of one to four numbers: `1.2.3` has the value of `1.2.0.3`
 abbrev pub numbers_value : List ℕ → ℕ
 numbers_value numbers = value_from 16777216 numbers
 
@@ -35,7 +35,7 @@ numbers_value numbers = value_from 16777216 numbers
 abbrev pub IsNumbersText : List ℕ → ℕ → Type 0
 IsNumbersText text value = (numbers : List ℕ) × AreNumbers numbers text × (value ≡ numbers_value numbers)
 
--- the text is that of an IPv4 address of this value; by the parser's profile its form is one to four numbers
+-- the text is an IPv4 address of this value; under the parser's profile its form is one to four numbers
 abbrev pub IsIpv4Text : Profile → List ℕ → ℕ → Type 0
 IsIpv4Text Parser text value =
     (form : List ℕ) × IsForm Parser text form × (ends_in_number form ≡ true) × IsNumbersText form value

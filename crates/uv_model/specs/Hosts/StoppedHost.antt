@@ -25,8 +25,8 @@ ends_with_control (c ∷ next ∷ rest) = ends_with_control (next ∷ rest)
 abbrev pub has_stop : Class → Bool → List ℕ → Bool
 has_stop class last text = list_any (is_stopping class) text || (last && ends_with_control text)
 
--- The parser stops at the host. In class File a drive letter is the begin of a path. By the profiles that are written
--- out no such text is a host, so that they needn't ask; `last` says that nothing of the text follows the host.
+-- The parser stops at the host. In class File a drive letter is the begin of a path. Under the profiles that are
+-- written out no such text is a host, so that they needn't ask; `last` says that nothing of the text follows the host.
 abbrev pub is_stopped : Profile → Class → Bool → List ℕ → Bool
 is_stopped Parser SpecialNotFile last text = has_stop SpecialNotFile last text
 is_stopped Parser File last text = is_drive_letter text || has_stop File last text

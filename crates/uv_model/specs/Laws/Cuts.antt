@@ -60,7 +60,7 @@ pub record EndsAfterOpenBracket (text : List ℕ) : Type 0 where
   pub none_opens : is_without left_bracket inner ≡ true
   pub none_closes : is_without right_bracket inner ≡ true
 
--- a place is within brackets exactly where the nearest bracket before it is `[`, so that the port of an authority
--- is after its first `:` of which that isn't so
+-- a place is within brackets exactly when the nearest bracket before it is `[`, so that the port of an authority is
+-- after its first `:` of which that isn't so
 abbrev pub NearestBracketsDecide : Type 0
 NearestBracketsDecide = (text : List ℕ) → (ends_within text ≡ true) ↔ EndsAfterOpenBracket text

@@ -9,12 +9,12 @@ use Rattle.uv_model.specs.Records.Url.{Url}
 use Rattle.uv_model.specs.Valid.{Valid}
 use Rattle.uv_model.specs.Records.WellFormed.{MayBeWellFormed, WellFormed}
 
--- a text is a concatenation of URL units exactly where no code point of it is a fault of units
+-- a text is a concatenation of URL units exactly when no code point of it is a fault of units
 abbrev pub UnitsAreFaultless : Type 0
 UnitsAreFaultless = (text : List ℕ) → IsUnits text ↔ (is_faultless text ≡ true)
 
--- What a valid text denotes, alone or against a base that is well formed by the same profile, is well formed by it. And
--- against a base that is well formed by the parser's profile it is well formed by the parser's profile.
+-- What a valid text denotes, alone or against a base that is well formed under the same profile, is well formed by it.
+-- And against a base that is well formed under the parser's profile it is well formed under the parser's profile.
 pub record DenotedRecordsAreWellFormed : Type 0 where
   pub same :
       (profile : Profile) (base : Option Url) (text : List ℕ) (parts : Parts) → MayBeWellFormed profile base

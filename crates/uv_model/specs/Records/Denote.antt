@@ -16,13 +16,13 @@ use Rattle.uv_model.specs.Parts.{Form, SchemeAuthority, SchemePath, SchemeOpaque
 use Rattle.uv_model.specs.Parts.{PathRelative, NoPath, Parts}
 use Rattle.uv_model.specs.Valid.{scheme_in}
 
--- the scheme of the text in lower case, else that of the base
+-- the scheme of the text in lower case, otherwise the base's
 abbrev pub denoted_scheme : Option Url → Option (List ℕ) → List ℕ
 denoted_scheme base (Some scheme) = lowercase scheme
 denoted_scheme (Some url) None = url.scheme
 denoted_scheme None None = []
 
--- the host of an authority: its value, else its text as an opaque host
+-- the host of an authority: its value, otherwise its text as an opaque host
 abbrev pub authority_host : Parts → Option Host
 authority_host parts = host_or parts.host
   where
@@ -71,7 +71,7 @@ kept_drive _ _ _ = []
 abbrev pub has_tail : Parts → Bool
 has_tail parts = is_some parts.query || is_some parts.fragment
 
--- an opaque path, in which a space at the end is `%20` where `?` or `#` follows it (section 4.4, opaque path state)
+-- an opaque path, in which a space at the end is `%20` if `?` or `#` follows it (section 4.4, opaque path state)
 abbrev pub end_escaped : Bool → List ℕ → List ℕ
 end_escaped followed [] = []
 end_escaped followed (c ∷ []) = if (c == space) && followed then codes "%20" else c ∷ []

@@ -40,7 +40,7 @@ pub record IsUrlScheme (scheme : List ℕ) : Type 0 where
   pub spelled : is_scheme scheme ≡ true
   pub lower : list_all (λ c. not (is_ascii_uppercase c)) scheme ≡ true
 
--- a domain: lower-case letters, digits and the profile's marks, at least one, and not ending in a number; by the
+-- a domain: lower-case letters, digits and the profile's marks, at least one, and not ending in a number; under the
 -- parser's profile ASCII without forbidden domain code points
 pub record IsUrlDomain (profile : Profile) (form : List ℕ) : Type 0 where
   pub first : ℕ
@@ -108,7 +108,7 @@ pub record IsEncodedSpacedPath (text : List ℕ) : Type 0 where
   pub ascii : is_ascii_text text ≡ true
   pub end : ends_with_space text ≡ false
 
--- an opaque path by the profile
+-- an opaque path under the profile
 abbrev pub IsUrlOpaquePath : Profile → List ℕ → Type 0
 IsUrlOpaquePath Parser text = IsEncodedSpacedPath text
 IsUrlOpaquePath _ text = IsUnspacedPath text
@@ -151,7 +151,7 @@ abbrev pub IsUrlFragment : Option (List ℕ) → Type 0
 IsUrlFragment None = Unit {0}
 IsUrlFragment (Some fragment) = IsAsciiUnits fragment
 
--- the record is well formed, by the profile
+-- the record is well formed, under the profile
 pub record WellFormed (profile : Profile) (url : Url) : Type 0 where
   pub scheme : IsUrlScheme url.scheme
   pub host : IsUrlHost profile (scheme_class url.scheme) url.host
@@ -167,10 +167,10 @@ MayBeWellFormed profile (Some url) = WellFormed profile url
 
 -- ---- laws
 
--- a record that is well formed by the standard profile is so by the wide profile
+-- a record that is well formed under the standard profile is so under the wide profile
 abbrev pub StandardRecordsAreWide : Type 0
 StandardRecordsAreWide = (url : Url) → WellFormed Standard url → WellFormed Wide url
 
--- and one that is so by the wide profile is so by the parser's profile
+-- and one that is so under the wide profile is so under the parser's profile
 abbrev pub WideRecordsAreParsers : Type 0
 WideRecordsAreParsers = (url : Url) → WellFormed Wide url → WellFormed Parser url

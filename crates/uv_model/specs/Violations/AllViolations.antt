@@ -33,8 +33,8 @@ abbrev pub first_refusal : List Refusal → Option Refusal
 first_refusal [] = None
 first_refusal (refusal ∷ rest) = Some refusal
 
--- The list has exactly the violations of the text, each once, in their order. So its first is the least of them, and
--- it is empty where the text is valid.
+-- The list has exactly the violations of the text, each once, in their order. So its first is the least of them, and it
+-- is empty when the text is valid.
 pub record AreFaults (profile : Profile) (base : Option Url) (text : List ℕ) (refusals : List Refusal) : Type 0 where
   pub lists : ListsViolations (Violation profile base text) refusals
   pub least : IsLeast (Violation profile base text) (first_refusal refusals)

@@ -15,7 +15,7 @@ abbrev pub StandsWithin : List ℕ → Option Refusal → Type 0
 StandsWithin text None = Unit {0}
 StandsWithin text (Some refusal) = refusal.place < length text
 
--- the least of these violations, or none where there is no violation
+-- the least of these violations, or none if there is no violation
 abbrev pub IsLeast : (ℕ → Rule → Type 0) → Option Refusal → Type 0
 IsLeast violation None = (place : ℕ) (rule : Rule) → violation place rule → ⊥
 IsLeast violation (Some refusal) = IsLeastRefusal violation refusal

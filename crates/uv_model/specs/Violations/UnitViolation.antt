@@ -40,12 +40,12 @@ pub record IsTakenSpace (followed : Bool) (text : List ℕ) (place : ℕ) : Type
   pub here : drop place text ≡ space ∷ rest
   pub after : followed ≡ false → only_spaces rest ≡ false
 
--- the rules that a path can violate by what it holds: by the parser's profile an opaque one may hold spaces
+-- the rules that a path can violate by what it holds: under the parser's profile an opaque one may hold spaces
 abbrev pub PathUnitViolation : Profile → Bool → Bool → List ℕ → ℕ → Rule → Type 0
 PathUnitViolation Parser true followed text place rule =
     UnitViolation text place rule × ¬ (IsTakenSpace followed text place)
 PathUnitViolation _ _ followed text place rule = UnitViolation text place rule
 
--- the rule that a code point violates where it and what follows it are no unit
+-- the rule that a code point violates where it and what follows it aren't unit
 abbrev pub unit_rule : ℕ → Rule
 unit_rule c = if c == percent_sign then Percent else CodePoint

@@ -58,7 +58,7 @@ StartViolation setting text cut place _ = ⊥
 
 -- ---- the host, by the class; places count from its first code point
 
--- the text isn't empty, doesn't begin with `[` and is no IPv4 text, so that it should be a domain
+-- the text isn't empty, doesn't begin with `[` and isn't an IPv4 text, so that it should be a domain
 pub record ShouldBeDomain (profile : Profile) (text : List ℕ) : Type 0 where
   pub some : text ≢ []
   pub no_bracket : starts_with_bracket text ≡ false
@@ -87,9 +87,8 @@ abbrev pub LacksFileHost : Profile → List ℕ → List ℕ → Type 0
 LacksFileHost Parser host_text path_text = ⊥
 LacksFileHost _ host_text path_text = (host_text ≡ []) × (starts_with_slash path_text ≡ false)
 
--- The host is missing: in class SpecialNotFile wherever it is empty, in class File where no path follows it, and else
--- where
--- a port follows it.
+-- The host is missing: in class SpecialNotFile wherever it is empty, in class File if no path follows it, and otherwise
+-- where a port follows it.
 abbrev pub LacksHost : Profile → Class → List ℕ → Option (List ℕ) → List ℕ → Type 0
 LacksHost profile SpecialNotFile host_text port_text path_text = host_text ≡ []
 LacksHost profile File host_text port_text path_text = LacksFileHost profile host_text path_text
@@ -172,7 +171,7 @@ abbrev pub fault_after : ℕ → Option Refusal → Option Refusal
 fault_after start None = None
 fault_after start (Some refusal) = Some (refusal_after start refusal)
 
--- the first fault, or else the second
+-- the first fault, or otherwise the second
 abbrev pub fault_or : Option Refusal → Option Refusal → Option Refusal
 fault_or None second = second
 fault_or (Some refusal) second = Some refusal
@@ -196,7 +195,7 @@ PortPartViolation cut place rule = of_port cut.host_text cut.port_text
     of_port (Some host_text) (Some port_text) = After (port_place host_text cut) (PortViolation port_text) place rule
     of_port _ _ = ⊥
 
--- the violations of the parts that are checked where no rule of the start is violated
+-- the violations of the parts that are checked if no rule of the start is violated
 abbrev pub CheckedViolation : Setting → Cut → ℕ → Rule → Type 0
 CheckedViolation setting cut place rule =
     HostPartViolation setting cut place rule ⊎ (PortPartViolation cut place rule

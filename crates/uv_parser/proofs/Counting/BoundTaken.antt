@@ -1,4 +1,4 @@
--- Of each length from four on there is a text whose run takes the whole bound on its steps: `//h:` and zeros, against
+-- There is a text of each length from four on whose run takes the whole bound on its steps: `//h:` and zeros, against
 -- `http://h/`.
 use Rattle.std.proofs.Common.{◌≡◌, ℕ, zero, suc, ◌+◌, ◌*◌, true, false, List, [], ◌∷◌, length, drop, Option, Some, None}
 use Rattle.std.proofs.Common.{codes, refl, sym, ap, subst, ◌∙◌, append-nil, arith}

@@ -80,7 +80,7 @@ runs_end base text = by_start (first_removed text)
         ends_within base text (least_step_bound text)
         (record { state = SchemeStartState; pointer = 0; variables = empty_variables }) (start_leaves text)
 
--- more steps change nothing where a run has ended
+-- more steps change nothing if a run has ended
 ended_stays : (base : Option Url) (text : List ℕ) (outcome : Outcome) (k : ℕ) → IsEnded outcome
     → run_from base text outcome k ≡ outcome
 ended_stays base text (Done url) k is = leads_done base text url k

@@ -17,7 +17,7 @@ use Rattle.uv_parser.specs.Machine.{begins_two_slashes, put, with_parsed}
 
 -- ---- how many steps are still to come
 
--- the first number where the rest begins with `/`, and else the second
+-- the first number where the rest begins with `/`, and otherwise the second
 abbrev pub by_slash : List ℕ → ℕ → ℕ → ℕ
 by_slash rest slashed other = if begins slash rest then slashed else other
 
@@ -66,7 +66,7 @@ LeavesFewer text rest most (from_place q s v) = later text s (length v.buffer) (
 LeavesFewer text [] most (onward s v) = Unit {0}
 LeavesFewer text (c ∷ rest) most (onward s v) = later text s (length v.buffer) rest < most
 
--- the same as a record, by which a turn is known
+-- what a turn leads to leaves fewer steps than so many, or is an end: a record, by which the turn is known
 pub record Fewer (text rest : List ℕ) (most : ℕ) (t : Turn) : Type 0 where
   pub fewer : LeavesFewer text rest most t
 
@@ -75,7 +75,7 @@ module _ (text : List ℕ) {rest : List ℕ} {most : ℕ} where
   pub stops : Fewer text rest most stop
   stops = record { fewer = tt }
 
-  -- the same place once more, with fewer steps to come
+  -- this place once more, with fewer steps to come
   pub stays : (s : State) (v : Variables) → later text s (length v.buffer) rest < most
       → Fewer text rest most (again s v)
   stays s v less = record { fewer = less }

@@ -83,7 +83,7 @@ host_row_none v query_mark is some none = rw (some, none) refl
 host_row_none v fragment_mark is some none = rw (some, none) refl
 host_row_none v (another c) is some none = absurd is
 
--- a code point of an authority that is no letter of one is `@`, or of a special URL `\`
+-- a code point of an authority that isn't a letter of one is `@`, or of a special URL `\`
 stopping : (special : Bool) (c : ℕ) → (c == slash) ≡ false → (c == question_mark) ≡ false
     → (c == number_sign) ≡ false → is_authority_letter special c ≡ false
     → ((c == at_sign) || ((c == backslash) && special)) ≡ true

@@ -61,7 +61,7 @@ pub record IsFileHost (text : List ℕ) : Type 0 where
 abbrev pub FileHostFits : List ℕ → Type 0
 FileHostFits text = IsFileHost text ⊎ (text ≡ [])
 
--- a host text that the host parser takes, which is no drive letter, fits
+-- a host text that the host parser takes, which isn't a drive letter, fits
 taken_host_fits : (text : List ℕ) (value : Host) → is_drive_letter text ≡ false → is_without backslash text ≡ true
     → parse_host true text ≡ Some value → FileHostFits text
 taken_host_fits text value no_drive none parsed =
@@ -96,7 +96,7 @@ module _ (base : Option Url) where
             (file_host_stops cs rest _ (rw other at has) later)
       ]
 
-  -- where no `\` is in the host
+  -- if no `\` is in the host
   named_host_decided : (A : Type 0) (c : ℕ) (cs rest : List ℕ) (v : Variables) → IsUnended (c ∷ cs)
       → IsDelimiter (at_pointer rest)
       → ((g : Variables) → g.url.scheme ≡ v.url.scheme → A ⊎ Stops base PathStartState g rest)

@@ -1,4 +1,4 @@
--- A text with a scheme of class Other and an opaque path: it is valid by the parser's profile, or its run stops.
+-- A text with a scheme of class Other and an opaque path: it is valid under the parser's profile, or its run stops.
 use Rattle.std.proofs.Common.{◌≡◌, ℕ, true, false, ◌⊎◌, List, [], ◌∷◌, ◌++◌, Option, Some, None, refl, ◌∙◌, inl, inr}
 use Rattle.std.proofs.lemmas.Bool.{cases_Bool}
 use Rattle.uv_model.specs.declared.scheme.Class.TheVariants.{Other}
@@ -101,7 +101,7 @@ module _ (base : Option Url) (scheme path : List ℕ) (query fragment : Option (
             (λ p. colon_row base scheme (path ++ tail query fragment) p ∙ rw (other, no_slash) refl) stops)
       ]
 
--- where nothing follows the path, it ends as the text does
+-- if nothing follows the path, it ends as the text does
 path_ends : (text scheme path : List ℕ) (query fragment : Option (List ℕ)) → IsKept text
     → text ≡ scheme ++ colon ∷ (path ++ tail query fragment)
     → (is_some query || is_some fragment) ≡ false → ends_with_space path ≡ false

@@ -1,4 +1,4 @@
--- A text without a scheme, against a base: it is valid by the parser's profile, or its run stops.
+-- A text without a scheme, against a base: it is valid under the parser's profile, or its run stops.
 use Rattle.std.proofs.Common.{◌≡◌, ℕ, true, false, ◌==◌, ◌⊎◌, List, [], ◌∷◌, ◌++◌, Option, Some, None, refl, sym, ap}
 use Rattle.std.proofs.Common.{subst, ◌∙◌, inl, inr, eqb-true, append_assoc}
 use Rattle.std.proofs.lemmas.Bool.{cases_Bool}

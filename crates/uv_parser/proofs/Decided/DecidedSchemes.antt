@@ -1,4 +1,4 @@
--- A text with a scheme: it is valid by the parser's profile, or its run stops.
+-- A text with a scheme: it is valid under the parser's profile, or its run stops.
 use Rattle.std.proofs.Common.{◌≡◌, ℕ, true, false, ◌==◌, ◌⊎◌, List, [], ◌∷◌, ◌++◌, Option, Some, None, refl, ap, ◌∙◌}
 use Rattle.std.proofs.Common.{inl, inr, eqb-true, append_assoc}
 use Rattle.std.proofs.lemmas.Bool.{and_right, cases_Bool}
@@ -43,7 +43,7 @@ no_slash_in_tail (Some text) fragment = refl
 no_slash_in_tail None (Some text) = refl
 no_slash_in_tail None None = refl
 
--- after `/`, where no `//` begins, no slash follows
+-- after `/`, if no `//` begins, no slash follows
 pub one_slash : (after : List ℕ) → starts_with_two_slashes (slash ∷ after) ≡ false
     → starts_with_slash after ≡ false
 one_slash [] none = refl

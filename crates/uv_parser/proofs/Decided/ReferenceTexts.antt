@@ -1,5 +1,5 @@
 -- A text without a scheme, against a base: how its run stops; and where the base has an opaque path, that it is valid
--- by the parser's profile, or stops.
+-- under the parser's profile, or stops.
 use Rattle.std.proofs.Common.{◌≡◌, ℕ, true, false, List, [], ◌∷◌, ◌++◌, Option, Some, None, refl, sym}
 use Rattle.std.proofs.Common.{subst, ◌∙◌, inl, inr}
 use Rattle.std.specs.Prelude.{IsSome}

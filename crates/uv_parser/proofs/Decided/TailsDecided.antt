@@ -1,5 +1,4 @@
--- After a path a run of the parser machine ends or stops: it stops exactly where the query or the fragment has a
--- fault.
+-- After a path a run of the parser machine ends or stops: it stops exactly when the query or the fragment has a fault.
 use Rattle.std.proofs.Common.{◌≡◌, ℕ, true, ◌⊎◌, List, [], ◌∷◌, ◌++◌, Option, Some, None, refl, inl, inr, append-nil}
 use Rattle.std.proofs.lemmas.Bool.{cases_Bool}
 use Rattle.uv_model.specs.Ascii.{question_mark, number_sign}

@@ -61,7 +61,7 @@ path_after File setting host_text parts (no_text, none, inr (empty, valued, path
 path_after Other setting host_text parts (host_and_port, port, path) =
     slashed_or_none setting.profile parts.segments parts.path_text path
 
--- an opaque path of the parser's profile is that of a valid text, or it has a space
+-- an opaque path of the parser's profile is a valid text's, or it has a space
 pub opaque_or_spaced : (followed : Bool) (text : List ℕ) → IsTakenSpacedPath followed text
     → IsOpaquePath Standard followed text ⊎ (is_without space text ≡ false)
 opaque_or_spaced followed text is =

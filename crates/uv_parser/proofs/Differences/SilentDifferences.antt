@@ -1,4 +1,4 @@
--- A text on which the parser is silent is valid with the same parts exactly where it has none of the named differences.
+-- A text on which the parser is silent is valid with the same parts exactly when it has none of the named differences.
 use Rattle.std.proofs.Common.{◌≡◌, ◌≢◌, ℕ, ◌⊎◌, List, [], Option, Some, None, refl, sym, ap, subst, ◌∙◌, inl}
 use Rattle.std.proofs.Common.{inr}
 use Rattle.std.proofs.lemmas.Bool.{cases_Bool, false≢true}

@@ -1,4 +1,4 @@
--- Without a base each text is decided: it is valid by the parser's profile, or its run stops.
+-- Without a base each text is decided: it is valid under the parser's profile, or its run stops.
 use Rattle.std.proofs.Common.{◌≡◌, ℕ, true, false, List, [], ◌∷◌, ◌++◌, append_assoc, Option, Some, None, refl, sym, ap}
 use Rattle.std.proofs.Common.{subst, ◌∙◌, inl, inr}
 use Rattle.std.specs.Prelude.{IsSome}

@@ -1,5 +1,5 @@
--- Each text with a scheme is decided: within the bound on its steps the parser machine is done exactly where the parser
--- is silent on the text, with the URL that the parts denote, and else it stops.
+-- Each text with a scheme is decided: within the bound on its steps the parser machine is done exactly when the parser
+-- is silent on the text, with the URL that the parts denote, and otherwise it stops.
 use Rattle.std.proofs.Common.{◌≡◌, ℕ, true, List, Option, Some, None, refl, ap, subst, inl, inr}
 use Rattle.std.specs.Prelude.{IsSome}
 use Rattle.std.proofs.lemmas.Bool.{false≢true}

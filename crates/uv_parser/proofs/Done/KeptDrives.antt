@@ -63,7 +63,7 @@ no_drive_end x more rest unit a b =
       ]
     ]
 
--- before a delimiter a segment is a drive letter exactly where the text begins with one
+-- before a delimiter a segment is a drive letter exactly when the text begins with one
 drive_before : (first rest : List ℕ) → IsSegment first → IsDelimiter (at_pointer rest)
     → starts_with_drive_letter (first ++ rest) ≡ is_drive_letter first
 drive_before [] [] is ends = refl

@@ -16,13 +16,13 @@ use Rattle.uv_parser.specs.Ipv6Parser.{add_number, after_dot, finished, read_dig
 
 -- ---- tests that fail on one side
 
--- a test that fails where it holds
+-- a test that fails when it holds
 pub fails_where_true : {A : Type 0} {x : Option A} {r : A} (test : Bool) → (if test then None else x) ≡ Some r
     → (test ≡ false) × (x ≡ Some r)
 fails_where_true {r} true e = absurd (none-some r e)
 fails_where_true false e = (refl, e)
 
--- a test that fails where it doesn't hold
+-- a test that fails when it doesn't hold
 pub fails_where_false : {A : Type 0} {x : Option A} {r : A} (test : Bool) → (if test then x else None) ≡ Some r
     → (test ≡ true) × (x ≡ Some r)
 fails_where_false true e = (refl, e)

@@ -130,7 +130,7 @@ record TakesElided (i : ℕ) (text : List ℕ) (r : Given) : Type 0 where
   groups : IsGroupList false left_text left
   right : TakesSide (i + length left + 1) (Some (i + length left + 1)) after r
 
--- what the loop takes where no `::` is before
+-- what the loop takes if no `::` is before
 abbrev Taken : ℕ → List ℕ → Given → Type 0
 Taken i text r = TakesSide i None text r ⊎ (TakesMarked i text r ⊎ TakesElided i text r)
 
@@ -163,7 +163,7 @@ group_then turns i text r is (inr (inr elided)) =
       right = subst (λ (k : ℕ). TakesSide k (Some k) elided.after r) place elided.right;
     }))
 
--- where no `::` is before, the loop takes the whole text, or two sides of `::`
+-- if no `::` is before, the loop takes the whole text, or two sides of `::`
 loop_taken : (turns : ℕ) (pieces : List ℕ) (i : ℕ) (text : List ℕ) (r : Given) → i ≤ 8
     → main_loop turns pieces i None text ≡ Some r → Taken i text r
 loop_taken turns pieces i [] r room e = inl (empty_side turns pieces i None r room e)

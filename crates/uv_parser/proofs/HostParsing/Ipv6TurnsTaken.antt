@@ -164,7 +164,7 @@ digits_turn turns pieces set i compress c text r count (d ∷ rest) hex other e 
     nonempty [] some = absurd (false≢true some)
     nonempty (c ∷ rest) some = omega arith
 
--- a `:` where no group is
+-- a `:` if no group is
 mark_turn : (turns : ℕ) (pieces : List ℕ) (i : ℕ) (compress : Option ℕ) (c : ℕ) (text : List ℕ) (r : Given)
     → (c == colon) ≡ true
     → (if is_some compress then None else main_loop turns pieces (i + 1) (Some (i + 1)) text) ≡ Some r

@@ -1,4 +1,4 @@
--- The host parser of a special URL takes the hosts of the parser's profile alone, and so it parses those of each
+-- The host parser of a special URL accepts only the hosts of the parser's profile, and so it parses the hosts of each
 -- profile.
 use Rattle.std.proofs.Common.{◌≡◌, ◌≢◌, ℕ, suc, true, false, ◌==◌, List, [], ◌∷◌, length, Option, Some, encode_utf8_all}
 use Rattle.std.proofs.Common.{refl, sym, ap, subst, inl, inr, eqb-true, ne_eqb, arith}

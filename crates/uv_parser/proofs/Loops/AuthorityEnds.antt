@@ -75,7 +75,7 @@ pub record After (segments : List (List ℕ)) (path_text : List ℕ)
   pub query : MayBeUnits query_text
   pub fragment : MayBeUnits fragment_text
 
--- The host text is read and parsed as this value, and is empty only where the URL isn't special and no port follows.
+-- The host text is read and parsed as this value, and is empty only when the URL isn't special and no port follows.
 -- Before a port it ends outside brackets.
 pub record IsParsed (scheme host : List ℕ) (port_text : Option (List ℕ)) (value : Host) : Type 0 where
   pub read : IsRead (is_special (lowercase scheme)) host

@@ -44,7 +44,7 @@ file_host_law base (c ∷ cs) rest v is =
     (onward_then base (λ p. simp (a.0, b.0, d.0, e.0) refl)
     (file_host_law base cs rest (put c v) later))
 
--- a test beside one that holds
+-- a test together with one that holds
 pub and_true-right : (b : Bool) → (b && true) ≡ b
 and_true-right true = refl
 and_true-right false = refl

@@ -69,7 +69,7 @@ module _ (base : Option Url) (query fragment : Option (List ℕ)) (query_units :
       rw (path.slashed, same)
       (ends_step base (λ p. refl) (joins_ends segments path.after v path.joins))
 
-  -- a special URL has one empty segment where no path is there
+  -- a special URL has one empty segment if no path is there
   empty_segment_ends : (v : Variables)
       → ((p : ℕ) → turn base PathStartState p (walking [] v) (tail query fragment) ≡ again PathState (walking [] v))
       → Ends base PathStartState (walking [] v) (tail query fragment)

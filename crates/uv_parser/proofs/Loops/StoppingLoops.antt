@@ -27,7 +27,7 @@ unit_before : (c : ℕ) (xs ys : List ℕ) → no_hex_first ys ≡ true → is_u
 unit_before c xs [] first = rw (append-nil xs) refl
 unit_before c xs (y ∷ ys) first = is_unit_at-mark y c xs ys (not-true _ first)
 
--- `/` and `?` are no faults
+-- `/` and `?` aren't faults
 fault_no_slash : (c : ℕ) (rest : List ℕ) → is_unit_at c rest ≡ false → (c == slash) ≡ false
 unfolding is_unit_at is_url_code_point
 fault_no_slash c rest fault =
@@ -99,7 +99,7 @@ module _ (base : Option Url) where
   opaque_row_fault c rest v p mark other fault =
       simp (fault_no_slash c rest fault, fault_no_question_mark c rest fault, mark, other, fault) refl
 
-  -- an opaque path with a fault that is no space stops
+  -- an opaque path with a fault that isn't a space stops
   pub opaque_path_stops : (cs rest : List ℕ) (v : Variables) → is_spaced cs ≡ false
       → is_without question_mark cs ≡ true → is_without number_sign cs ≡ true
       → no_hex_first rest ≡ true → Stops base OpaquePathState v (cs ++ rest)

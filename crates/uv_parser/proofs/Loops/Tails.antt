@@ -23,7 +23,7 @@ tail query fragment = written_after question_mark query ++ written_after number_
 abbrev pub bare : Variables → Variables
 bare v = emptied (with_fragment None v)
 
--- the text's query, encoded for the scheme, else the query that the URL has
+-- the text's query, encoded for the scheme, otherwise the query that the URL has
 abbrev pub query_given : Option (List ℕ) → Variables → Option (List ℕ)
 query_given None v = v.url.query
 query_given (Some query) v = Some (encoded (is_special v.url.scheme) query)
@@ -48,7 +48,7 @@ module _ (base : Option Url) where
       rw append-nil at
       (ends_after base (fragment_law base cs [] [] v (is_faultless-units cs units)) (ends_onward base (λ p. refl)))
 
-  -- a query that has begun ends the run at its end, or at that of a fragment after it
+  -- a query that has begun ends the run at its end, or at the end of a fragment after it
   pub query_ends : (cs : List ℕ) (fragment : Option (List ℕ)) (v : Variables) → IsUnits cs → MayBeUnits fragment
       → Ends base QueryState (with_query (Some []) (bare v)) (cs ++ written_after number_sign fragment)
       (with_tail (Some cs) fragment v)

@@ -102,14 +102,14 @@ authority_stable Other setting host_text parts text (inl (named, port), given, p
 authority_stable Other setting host_text parts text (inr (nothing, valued, none), given, path) =
     authority_host_stable parts (Some host.Empty) (Some host_text) valued text tt
 
--- that of a form with an authority
+-- the text of a form with an authority
 stable_with : (setting : Setting) (parts : Parts) (host_text : Option (List ℕ)) → parts.host_text ≡ host_text
     → FitsHostText setting parts host_text → IsStableHost (authority_host parts)
 stable_with setting parts None text is = absurd is
 stable_with setting parts (Some host_text) text is =
     authority_stable setting.class setting host_text parts text is
 
--- that of a base
+-- the text of a base
 base_stable : (base : Option Url) → MayBeStable base → IsStableHost (base_host base)
 base_stable None is = tt
 base_stable (Some url) is = is

@@ -246,7 +246,7 @@ module _ (scheme : List ℕ) (value : Host) (port : Option ℕ) (segments : List
   slashed : MayBePathSlashed segments (serial_segments segments)
   slashed = path_slashed segments (path_segments (scheme_class scheme) value segments path_is)
 
-  -- they are valid by the parser's profile
+  -- they are valid under the parser's profile
   valid : Valid Parser None (written parts) parts
   valid = record {
     whole = refl;

@@ -1,4 +1,4 @@
--- The texts of the host of a URL that is well formed by the parser's profile: where they end, that they are hosts of
+-- The texts of the host of a URL that is well formed under the parser's profile: where they end, that they are hosts of
 -- that profile, and that the parser doesn't stop at them.
 use Rattle.std.proofs.Common.{◌≡◌, ℕ, ◌⊎◌, ◌||◌, ◌==◌, Bool, true, false, List, [], ◌∷◌, Some, refl, inl, inr, arith}
 use Rattle.std.specs.List.{list_all}
@@ -67,7 +67,7 @@ host_word Other host.Empty is = word_of_nothing
 
 -- ---- what the text of a host is
 
--- that of a special URL's host is that host
+-- parsing the text of a special URL's host gives that host
 pub special_text : (value : Host) → IsSpecialHost Parser (Some value) → IsStableHost (Some value)
     → IsHostText Parser (serial_host value) value
 unfolding serial_host
@@ -77,7 +77,7 @@ special_text (host.V6 pieces) is stable = ipv6_text pieces is
 special_text (host.Opaque text) is stable = absurd is
 special_text host.Empty is stable = absurd is
 
--- that of a file URL's host is that host, or nothing for the empty host
+-- parsing the text of a file URL's host gives that host, or nothing for the empty host
 pub file_text : (value : Host) → IsFileHost Parser (Some value) → IsStableHost (Some value)
     → IsFileHostText Parser (serial_host value) value ⊎ ((serial_host value ≡ []) × (value ≡ host.Empty))
 unfolding serial_host
@@ -97,7 +97,7 @@ form_going c is = grind (arith, nat_tests)
 no_drive_mark : (c : ℕ) → is_form_code_point Parser c ≡ true → ((c == colon) || (c == vertical_bar)) ≡ false
 no_drive_mark c is = grind (arith, nat_tests)
 
--- so a domain is no drive letter
+-- so a domain isn't a drive letter
 no_drive : (form : List ℕ) → list_all (is_form_code_point Parser) form ≡ true → is_drive_letter form ≡ false
 no_drive [] is = refl
 no_drive (c ∷ []) is = refl

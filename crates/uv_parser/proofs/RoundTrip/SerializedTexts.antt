@@ -43,7 +43,7 @@ ascii_kept (c ∷ rest) ascii =
 pub encoded-ascii : (text : List ℕ) → is_ascii_text text ≡ true → encoded false text ≡ text
 encoded-ascii text ascii = encoded-kept false text (ascii_kept text ascii)
 
--- a code point that is no `'` isn't quoted
+-- a code point that isn't a `'` isn't quoted
 not_quoted : (c : ℕ) → (if c == apostrophe then false else true) ≡ true → not (true && (c == apostrophe)) ≡ true
 not_quoted c other = grind (arith, nat_tests)
 

@@ -103,7 +103,7 @@ file_host_stable profile text (host.V6 pieces) is = tt
 file_host_stable profile text (host.Opaque other) is = tt
 file_host_stable profile text host.Empty is = tt
 
--- the host of a URL of class Other is no domain
+-- the host of a URL of class Other isn't a domain
 pub opaque_host_stable : (text : List ℕ) (value : Option Host) → IsOpaqueHostText text value → IsStableHost value
 opaque_host_stable text None is = tt
 opaque_host_stable text (Some (host.V6 pieces)) is = tt
@@ -112,7 +112,7 @@ opaque_host_stable text (Some (host.V4 value)) is = absurd is
 opaque_host_stable text (Some (host.Opaque name)) is = absurd is
 opaque_host_stable text (Some host.Empty) is = absurd is
 
--- the host that parts denote is stable where their value is, since an opaque host is no domain
+-- the host that parts denote is stable where their value is, since an opaque host isn't a domain
 pub authority_host_stable : (parts : Parts) (value : Option Host) (host_text : Option (List ℕ)) → parts.host ≡ value
     → parts.host_text ≡ host_text → IsStableHost value → IsStableHost (authority_host parts)
 authority_host_stable parts (Some value) host_text e text is = rw e is

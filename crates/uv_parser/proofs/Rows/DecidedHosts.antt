@@ -44,7 +44,7 @@ use Rattle.uv_parser.proofs.HostParsing.SpecialHosts.{host_from_parser}
 
 -- ---- hosts
 
--- the same host
+-- two hosts that are the same
 abbrev same_host : (a b : Host) → Option (a ≡ b)
 same_host (host.Domain a) (host.Domain b) = option_map (λ same. ap host.Domain same) (same_text a b)
 same_host (host.V4 a) (host.V4 b) = option_map (λ same. ap host.V4 same) (same_number a b)
@@ -103,7 +103,7 @@ written_host profile text (host.V6 pieces) by_writing =
 written_host profile text (host.Opaque name) by_writing = None
 written_host profile text host.Empty by_writing = None
 
--- a host by any profile
+-- a host under any profile
 abbrev host_decision : (profile : Profile) (text : List ℕ) (value : Host) → Option (IsHostText profile text value)
 host_decision Parser text value = option_map (λ is. host_from_parser text value is) (parsed text value)
 host_decision Standard text value = written_host Standard text value tt
@@ -116,18 +116,18 @@ abbrev pub are_four : Option (List ℕ) → Bool
 are_four (Some (a ∷ b ∷ c ∷ d ∷ [])) = true
 are_four _ = false
 
--- a text that isn't four numbers is no IPv4 text
+-- a text that isn't four numbers isn't an IPv4 text
 pub no_four : (text : List ℕ) → are_four (read_numbers text) ≡ false → (value : ℕ) → ¬ (IsIpv4 text value)
 no_four text refused value is =
     let (a, b, c, d, are, valued) = four_numbers text value is in
     false≢true (sym refused ∙ ap are_four (numbers_read (a ∷ b ∷ c ∷ d ∷ []) text are))
 
--- so it is none by a written profile
+-- so it isn't one by a written profile
 abbrev no_ipv4 : (profile : Profile) (text : List ℕ) → Option ((value : ℕ) → ¬ (IsIpv4Text profile text value))
 no_ipv4 Parser text = None
 no_ipv4 _ text = option_map (λ refused. no_four text refused) (is_false (are_four (read_numbers text)))
 
--- so it should be a domain, where it isn't empty and doesn't begin with `[`
+-- so it should be a domain, if it isn't empty and doesn't begin with `[`
 abbrev should_be_domain : (profile : Profile) (text : List ℕ) → Option (ShouldBeDomain profile text)
 should_be_domain profile text =
     option_map (λ is. record { some = is.0; no_bracket = is.1; no_ipv4 = is.2 })
@@ -158,7 +158,7 @@ no_written_form profile text by_writing =
     (option_map (λ other. not_permitted profile text by_writing other) (is_false (has_permitted profile text)))
     (not_formed profile text by_writing)
 
--- or, by the standard profile, where ToASCII at the strict settings gives none
+-- or, under the standard profile, where ToASCII at the strict settings gives none
 abbrev no_form : (profile : Profile) (text : List ℕ) → Option (HasNoForm profile text)
 no_form Standard text =
     option_or (no_written_form Standard text tt)

@@ -16,7 +16,7 @@ abbrev characters : Literal → List Char
 characters no_characters = []
 characters (c then text) = c ∷ characters text
 
--- the first character, or `?` where there is none
+-- the first character, or `?` if there is none
 abbrev first_of : List Char → Char
 first_of [] = "?"
 first_of (c ∷ rest) = c

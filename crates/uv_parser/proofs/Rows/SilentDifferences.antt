@@ -143,7 +143,7 @@ ForeignHost base cut =
     × ((text : List ℕ) × (cut.host_text ≡ Some text)
     × ((value : Host) × IsHostText Parser text value × HostDiffers text value))
 
--- a text that isn't numbers, or fewer than four, is no IPv4 text
+-- a text that isn't numbers, or fewer than four, isn't an IPv4 text
 abbrev numbers_differ : (text : List ℕ) (value : ℕ) → Option (HostDiffers text (host.V4 value))
 numbers_differ text value = by_numbers (read_numbers text) refl
   where
@@ -174,7 +174,7 @@ foreign_host base cut =
     (λ value made. option_map
     (λ differs. (text, given, (value, host_from_parser text value made, differs))) (host_differs text value))))
 
--- a foreign host is that of the parts
+-- a foreign host is the host of the parts
 foreign_named : (base : Option Url) (parts : Parts) → ForeignHost base (texts_of parts)
     → HasForeignHost base parts × Differs base parts
 foreign_named base parts (class, (text, given, (value, taken, differs))) =

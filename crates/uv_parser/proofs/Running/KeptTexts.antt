@@ -114,7 +114,7 @@ untabbed_parts (c ∷ xs) ys is =
     let later = untabbed_parts xs ys parts.1 in
     (or_from _ _ parts.0 later.0, later.1)
 
--- a text ends as its second part does, where that isn't empty
+-- a text ends as its second part does, if that isn't empty
 control_after : (xs : List ℕ) (c : ℕ) (ys : List ℕ)
     → ends_with_control (xs ++ (c ∷ ys)) ≡ ends_with_control (c ∷ ys)
 control_after [] c ys = refl
@@ -147,7 +147,7 @@ kept_before xs ys is nothing = rw (nothing, append-nil xs) at is
 
 -- ---- texts that are kept
 
--- a code point above U+0020 is no tab and no newline
+-- a code point above U+0020 isn't a tab and no newline
 above_no_tab : (c : ℕ) → is_unremoved c ≡ true → is_tab_or_newline c ≡ false
 above_no_tab c above = grind (arith, nat_tests)
 
@@ -173,7 +173,7 @@ above_starts (c ∷ rest) above = above_no_control c (and_parts (is_unremoved c)
 
 -- ---- units and spaces
 
--- a space is no tab and no newline
+-- a space isn't a tab and no newline
 spaced_no_tab : (c : ℕ) (rest : List ℕ) → ((c == space) || is_unit_at c rest) ≡ true → is_tab_or_newline c ≡ false
 spaced_no_tab c rest is =
     elim (cases_Bool (c == space)) [

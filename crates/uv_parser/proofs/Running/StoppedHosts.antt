@@ -119,8 +119,8 @@ end_none false text end = refl
 
 -- ---- a host in a text that passes the test before the first step
 
--- Of a host in such a text no code point is a tab or newline, and where nothing follows it, it ends with no C0 control
--- and no space.
+-- No code point of a host in such a text is a tab or newline, and if nothing follows the host, it ends with no C0
+-- control and no space.
 pub record IsHostKept (last : Bool) (text : List ℕ) : Type 0 where
   pub untabbed : IsUntabbed text
   pub end : last ≡ true → ends_with_control text ≡ false
@@ -142,7 +142,7 @@ nothing_after cut alone = by_parts cut.port_text cut.path_text cut.query cut.fra
     by_parts None [] None (Some fragment) alone = absurd (false≢true alone)
     by_parts None [] None None alone = refl
 
--- and where nothing follows it, the text ends at it
+-- and if nothing follows it, the text ends at it
 pub ends_where_nothing_follows : (cut : Cut)
     → written_after colon cut.port_text ++ (cut.path_text ++ tail cut.query cut.fragment) ≡ []
     → ends_at_host cut ≡ true
@@ -174,7 +174,7 @@ pub special_unstopped : (last : Bool) (text : List ℕ) → is_without at_sign t
 special_unstopped last text at back is =
     or_from _ _ (special_none text at back is.untabbed) (end_none last text is.end)
 
--- nor at that of a file URL
+-- nor at the host of a file URL
 pub file_unstopped : (last : Bool) (text : List ℕ) → is_drive_letter text ≡ false → is_without backslash text ≡ true
     → IsHostKept last text → is_stopped Parser File last text ≡ false
 file_unstopped last text drive back is =

@@ -133,7 +133,7 @@ abbrev middle : Parts → List ℕ
 middle parts =
     written_authority parts.host_text parts.port_text ++ (parts.path_text ++ tail parts.query parts.fragment)
 
--- It is kept, and where there is no scheme it begins with no C0 control and no space.
+-- It is kept, and if there is no scheme it begins with no C0 control and no space.
 record MiddleIsKept (parts : Parts) (text : List ℕ) : Type 0 where
   kept : IsKept text
   start : parts.scheme ≡ None → starts_with_control text ≡ false
@@ -171,7 +171,7 @@ without_host parts none path above =
     middle_above parts (middle parts)
     (rw none.host_text (unremoved_append parts.path_text (tail parts.query parts.fragment) path above))
 
--- where nothing follows a path, neither a query nor a fragment does
+-- if nothing follows a path, neither a query nor a fragment does
 nothing_follows : (query fragment : Option (List ℕ)) → tail query fragment ≡ []
     → (is_some query || is_some fragment) ≡ false
 nothing_follows (Some query) fragment nothing = absurd cc

@@ -10,8 +10,8 @@ use Rattle.uv_model.specs.Records.WellFormed.{MayBeWellFormed}
 use Rattle.uv_model.specs.Valid.{Valid}
 use Rattle.uv_parser.specs.Run.{Done, Stopped, run, step_bound}
 
--- Within so many steps the run of a text ends with the URL that the parts denote exactly where the text is valid by the
--- parser's profile with these parts, and else it stops.
+-- Within so many steps the run of a text ends with the URL that the parts denote exactly when the text is valid under
+-- the parser's profile with these parts, and otherwise it stops.
 pub record IsDecidedWithin (steps : ℕ) (base : Option Url) (text : List ℕ) : Type 0 where
   pub silent : (parts : Parts) → Valid Parser base text parts → run base text steps ≡ Done (denote base parts)
   pub only : (url : Url) → run base text steps ≡ Done url
@@ -23,6 +23,6 @@ pub record IsDecidedWithin (steps : ℕ) (base : Option Url) (text : List ℕ) :
 abbrev pub IsDecided : Option Url → List ℕ → Type 0
 IsDecided base text = IsDecidedWithin (step_bound text) base text
 
--- against each base that is well formed by the parser's profile, and without a base, each text is decided
+-- against each base that is well formed under the parser's profile, and without a base, each text is decided
 abbrev pub TextsAreDecided : Type 0
 TextsAreDecided = (base : Option Url) (text : List ℕ) → MayBeWellFormed Parser base → IsDecided base text

@@ -1,4 +1,4 @@
--- Where the valid texts of the parser's profile, on which the URL parser (URL Standard, section 4.4) is silent, are no
+-- Where the valid texts of the parser's profile, on which the URL parser (URL Standard, section 4.4) is silent, aren't
 -- valid URL strings (sections 3.4 and 4.3): the differences, each by its name, and the law that there are no others.
 use Rattle.std.specs.Prelude.{◌≡◌, ◌≢◌, ℕ, ◌<◌, ◌⊎◌, true, false, List, [], length, Option, Some, IsSome}
 use Rattle.uv_model.specs.declared.profile.Profile.TheVariants.{Standard, Parser}
@@ -17,7 +17,7 @@ use Rattle.uv_model.specs.Valid.{IsHostText, Valid}
 
 -- ---- the host of a special URL or of a file URL
 
--- an ASCII code point of the text is no letter, digit, hyphen or full stop, as `_` or the `%` of an escape (section
+-- an ASCII code point of the text isn't a letter, digit, hyphen or full stop, as `_` or the `%` of an escape (section
 -- 3.4)
 abbrev pub HasForeignDomainCodePoint : List ℕ → Type 0
 HasForeignDomainCodePoint text = has_permitted Standard text ≡ false
@@ -45,7 +45,7 @@ HostDiffers text (Domain form) = HasForeignDomainCodePoint text ⊎ (LacksStrict
 HostDiffers text (V4 value) = IsMappedToIpv4 text ⊎ HasFewerNumbers text
 HostDiffers text _ = ⊥
 
--- The host text of a special URL or of a file URL is a host by the parser's profile, and no valid host text.
+-- The host text of a special URL or of a file URL is a host under the parser's profile, and no valid host text.
 pub record HasForeignHost (base : Option Url) (parts : Parts) : Type 0 where
   pub class : class_in base parts.scheme ≢ Other
   pub text : List ℕ
@@ -92,7 +92,7 @@ pub record IsValidOrDiffers (base : Option Url) (text : List ℕ) (parts : Parts
   pub either : Valid Standard base text parts ⊎ Differs base parts
   pub never_both : Differs base parts → (other : Parts) → ¬ (Valid Standard base text other)
 
--- every text on which the parser is silent, against every base and none, is valid exactly where it has no difference
+-- every text on which the parser is silent, against every base and none, is valid exactly when it has no difference
 abbrev pub SilentTextsAreValidOrDiffer : Type 0
 SilentTextsAreValidOrDiffer =
     (base : Option Url) (text : List ℕ) (parts : Parts) → Valid Parser base text parts

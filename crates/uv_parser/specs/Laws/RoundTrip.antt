@@ -14,8 +14,8 @@ use Rattle.uv_model.specs.Valid.{Valid}
 use Rattle.uv_parser.specs.HostParser.{parse_host}
 use Rattle.uv_parser.specs.Run.{Done, run, step_bound}
 
--- The host is a domain of which the host parser makes that domain, or it is none. A domain whose label begins with
--- `xn--` before what is no Punycode isn't such a host: ToASCII fails on it.
+-- The host is a domain of which the host parser makes that domain, or it isn't one. A domain whose label begins with
+-- `xn--` before what isn't Punycode isn't such a host: ToASCII fails on it.
 abbrev pub IsStableHost : Option Host → Type 0
 IsStableHost (Some (Domain form)) = parse_host true form ≡ Some (Domain form)
 IsStableHost _ = Unit {0}
@@ -35,12 +35,12 @@ MayBeStable (Some url) = IsStable url
 abbrev pub IsReadBack : Url → Type 0
 IsReadBack url = run None (serial url) (step_bound (serial url)) ≡ Done url
 
--- each stable URL that is well formed by the parser's profile is read back
+-- each stable URL that is well formed under the parser's profile is read back
 abbrev pub StableUrlsAreReadBack : Type 0
 StableUrlsAreReadBack = (url : Url) → WellFormed Parser url → IsStable url → IsReadBack url
 
--- The URL with which a run is done, alone or against a stable base that is well formed by the parser's profile, is such
--- a URL again, and so it is read back.
+-- The URL with which a run is done, alone or against a stable base that is well formed under the parser's profile, is
+-- such a URL again, and so it is read back.
 pub record ParsedUrlsAreReadBack : Type 0 where
   pub well_formed :
       (base : Option Url) (text : List ℕ) (url : Url) → MayBeWellFormed Parser base

@@ -27,7 +27,7 @@ abbrev pub RunsKeepTheirEnd : Type 0
 RunsKeepTheirEnd = (base : Option Url) (text : List ℕ) (steps : ℕ) → least_step_bound text ≤ steps
     → run base text steps ≡ run base text (least_step_bound text)
 
--- Against each base that is well formed by the parser's profile, and without a base, each text is decided within any
+-- Against each base that is well formed under the parser's profile, and without a base, each text is decided within any
 -- number of steps from the bound on. So it is within the wider bound of specs/Run.
 abbrev pub TextsAreDecidedSoon : Type 0
 TextsAreDecidedSoon = (base : Option Url) (text : List ℕ) (steps : ℕ) → MayBeWellFormed Parser base

@@ -8,8 +8,8 @@ use Rattle.uv_model.specs.Records.WellFormed.{MayBeWellFormed}
 use Rattle.uv_model.specs.Valid.{Valid}
 use Rattle.uv_parser.specs.Laws.Silence.{RunsSilently}
 
--- against no base and against each base that is well formed by the parser's profile, the parser is silent on each valid
--- text of any profile, and gives the URL that its parts denote
+-- against no base and against each base that is well formed under the parser's profile, the parser is silent on each
+-- valid text of any profile, and gives the URL that its parts denote
 abbrev pub ValidTextsRunSilently : Type 0
 ValidTextsRunSilently =
     (profile : Profile) (base : Option Url) (text : List ℕ) (parts : Parts) → MayBeWellFormed Parser base

@@ -21,11 +21,11 @@ root_parts = http_parts (codes "h") (codes "/") ([] ∷ [])
 abbrev pub port_parts : Parts
 port_parts = record root_parts { port_text = Some (codes "81"); port = Some 81 }
 
--- the parts of `http://h:80/`: a scheme's default port is no port
+-- the parts of `http://h:80/`: a scheme's default port isn't a port
 abbrev pub default_parts : Parts
 default_parts = record root_parts { port_text = Some (codes "80") }
 
--- parts of texts, by the standard profile and without a base
+-- parts of texts, under the standard profile and without a base
 pub record ValidRows : Type 0 where
   pub root : Valid Standard None (codes "http://h/") root_parts
   pub port : Valid Standard None (codes "http://h:81/") port_parts
@@ -39,7 +39,7 @@ pub record ValidRows : Type 0 where
 abbrev pub http_url : Option Host → Option ℕ → Url
 http_url host port = listed "http" host port ("" ∷ [])
 
--- URLs by the wide profile, which takes more than the standard one
+-- URLs under the wide profile, which takes more than the standard one
 pub record WellFormedRows : Type 0 where
   pub name : WellFormed Wide (http_url (domain "h") (Some 65535))
   pub least_address : WellFormed Wide (http_url (ipv4 0) None)
@@ -56,7 +56,7 @@ pub record WellFormedRows : Type 0 where
   pub upper_case : ¬ (WellFormed Wide (http_url (domain "H") None))
   pub code_point : ¬ (WellFormed Wide (http_url (domain "é") None))
 
--- hosts that are no domain, that are a number, and that aren't an IPv6 text
+-- hosts that aren't domains, hosts that are a number, and hosts that aren't an IPv6 text
 pub record HostViolationRows : Type 0 where
   pub domain : Violation Standard None (codes "http://a=b/") 7 HostDomain
   pub number : Violation Standard None (codes "http://1.2.3/") 7 HostNumber

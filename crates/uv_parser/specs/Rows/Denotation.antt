@@ -85,7 +85,7 @@ expected row = (row.text, row.url, is_done row.url (serial row.url))
 abbrev pub denotes : Literal → Parts → Url → Reading
 denotes text parts url = record { base = None; text = codes text; parts = parts; url = url }
 
--- the same against a base
+-- against a base, the text has these parts, which denote this URL
 abbrev pub denotes_against : Url → Literal → Parts → Url → Reading
 denotes_against base text parts url = record { base = Some base; text = codes text; parts = parts; url = url }
 

@@ -3,7 +3,7 @@ use Rattle.std.specs.Prelude.{List, [], ◌∷◌, None}
 use Rattle.uv_parser.specs.Rows.{Row, AllHold, done, stops, listed, with_query, with_fragment, domain, ipv4, ipv6}
 use Rattle.uv_parser.specs.Rows.{empty_host}
 
--- the host of a file URL, where `localhost` is the empty one, and a drive letter is none
+-- the host of a file URL, where `localhost` is the empty one, and a drive letter isn't one
 abbrev pub host_rows : List Row
 host_rows =
     done "file:///" (listed "file" empty_host None ("" ∷ [])) "file:///"

@@ -21,7 +21,7 @@ opaque_rows =
     ∷ stops "urn:a#b#c" 7
     ∷ []
 
--- A space is taken, as `%20` where `?` or `#` follows it. Elsewhere it is a fault, and at the text's end it is removed.
+-- A space is taken, as `%20` if `?` or `#` follows it. Elsewhere it is a fault, and at the text's end it is removed.
 abbrev pub space_rows : List Row
 space_rows =
     done "urn:a b" (opaque "urn" "a b") "urn:a b"

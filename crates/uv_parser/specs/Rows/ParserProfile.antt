@@ -1,4 +1,4 @@
--- Texts by the parser's profile: those that it takes, most of them although the standard profile refuses them, and
+-- Texts under the parser's profile: those that it takes, most of them although the standard profile refuses them, and
 -- those that it refuses too (URL Standard, sections 3.5 and 4.4).
 use Rattle.std.specs.Prelude.{◌≡◌, List, [], ◌∷◌, None}
 use Rattle.uv_model.specs.declared.profile.Profile.TheVariants.{Parser}
@@ -20,7 +20,7 @@ file_rows =
     ∷ against drive_base (done "//" (listed "file" empty_host None ("" ∷ [])) "file:///")
     ∷ []
 
--- a host with `_`, with an escape, or with another ASCII code point, also where a code point is mapped to it
+-- a host with `_`, with an escape, or with another ASCII code point, even if a code point is mapped to it
 abbrev pub host_rows : List Row
 host_rows =
     done "http://x_y/" (listed "http" (domain "x_y") None ("" ∷ [])) "http://x_y/"
@@ -106,7 +106,7 @@ plain_rows =
 
 -- ---- what it refuses
 
--- hosts that end in a number and are no IPv4 address: a number above 255, five of them, a full stop at the end, a `0`
+-- hosts that end in a number and aren't IPv4 address: a number above 255, five of them, a full stop at the end, a `0`
 -- before other digits, and a hexadecimal one
 abbrev pub refused_numbers : List Row
 refused_numbers =
@@ -117,7 +117,7 @@ refused_numbers =
     ∷ stops "http://0x1/" 10
     ∷ []
 
--- hosts of which no domain is made: an escaped `/`, an escape that is no UTF-8, no Punycode after `xn--`, and U+00AD
+-- hosts of which no domain is made: an escaped `/`, an escape that isn't UTF-8, no Punycode after `xn--`, and U+00AD
 -- alone, of which nothing is left
 abbrev pub refused_domains : List Row
 refused_domains =
@@ -189,7 +189,7 @@ opaque_references =
 
 -- ---- the law
 
--- The row's text is valid by the parser's profile, with parts that denote the URL of the row's answer; or, where the
+-- The row's text is valid under the parser's profile, with parts that denote the URL of the row's answer; or, where the
 -- run stops, it has no valid parts.
 abbrev pub Checks : Row → Answer → Type 0
 Checks row (is_done url text) =

@@ -29,7 +29,7 @@ parts_of scheme host_text value path_text segments = record {
   fragment = None;
 }
 
--- the text is valid by the wide profile with these parts, and they denote the URL of this text
+-- the text is valid under the wide profile with these parts, and they denote the URL of this text
 pub record IsWide (text : List ℕ) (parts : Parts) (serialized : List ℕ) : Type 0 where
   pub valid : Valid Wide None text parts
   pub denoted : serial (denote None parts) ≡ serialized
@@ -94,7 +94,7 @@ pub record WideReferenceRows : Type 0 where
   pub valid : Valid Wide (Some root_base) (codes "//h") reference_parts
   pub denoted : serial (denote (Some root_base) reference_parts) ≡ codes "http://h/"
 
--- records: `_` in a domain is well formed by the wide profile alone
+-- records: `_` in a domain is well formed under the wide profile alone
 pub record WideRecordRows : Type 0 where
   pub wide : WellFormed Wide (listed "http" (Some (host.Domain (codes "a_b"))) None ("" ∷ []))
   pub standard : ¬ (WellFormed Standard (listed "http" (Some (host.Domain (codes "a_b"))) None ("" ∷ [])))

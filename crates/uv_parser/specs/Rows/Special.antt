@@ -82,7 +82,7 @@ path_rows =
     "http://h/'%C3%A9?%C3%A9%27#%C3%A9'"
     ∷ []
 
--- a code point that is no URL code point, and `%` without two hex digits
+-- a code point that isn't a URL code point, and `%` without two hex digits
 abbrev pub fault_rows : List Row
 fault_rows =
     stops "http://h/%4?a" 9

@@ -1,5 +1,6 @@
--- A diagnostic with the line that it is about, a caret below the place, and what to write in place of the line. Of a
--- line that isn't checked and of which no text is carried, as of one that is too long, the diagnostic is alone.
+-- A diagnostic with the line that it is about, a caret below what its message names, and what to write in place of the
+-- line. The diagnostic on a line that isn't checked and of which no text is carried, as one that is too long, has no
+-- line below it.
 use Rattle.std.specs.Prelude.{ℕ, Bool, true, false, not, ◌==◌, ◌||◌, List, [], ◌++◌, codes, if◌then◌else◌, is_none}
 use Rattle.std.specs.Prelude.{length, replicate, take, Option, Some, None}
 use Rattle.std.specs.List.{flat_map}
@@ -7,14 +8,15 @@ use Rattle.std.specs.Str.{chars}
 use Rattle.uv_model.specs.declared.mend_kind.MendKind.{MendKind}
 use Rattle.uv_model.specs.declared.mend_kind.MendKind.TheVariants.{Same, Escaped, Changed}
 use Rattle.uv_report.specs.Diagnostic.{DiagnosticView, FixView}
-use Rattle.uv_report.specs.declared.escaping.escapes.Escapes.TheVariants.{Shown}
+use Rattle.uv_sentences.specs.declared.escaping.escapes.Escapes.TheVariants.{Shown}
 use Rattle.uv_report.specs.Places.Column.{shown_width}
-use Rattle.uv_report.specs.Escaping.Escapes.{escaped}
-use Rattle.uv_report.specs.LineViolation.{named_violation}
+use Rattle.uv_sentences.specs.Escaping.Escapes.{escaped}
+use Rattle.uv_sentences.specs.LineViolation.{named_violation}
 use Rattle.uv_report.specs.Formats.Gnu.{gnu_text}
-use Rattle.uv_report.specs.Places.Window.{window, window_place}
+use Rattle.uv_sentences.specs.Sentences.Named.{named_place}
+use Rattle.uv_sentences.specs.Places.Window.{window, window_place}
 
--- what is below a code point: a tab below a tab, else spaces
+-- what is below a code point: a tab below a tab, otherwise spaces
 abbrev pub below : ℕ → List ℕ
 below c = if c == 9 then codes "\t" else replicate (shown_width c) 32
 
@@ -35,9 +37,11 @@ window_lines line place = caret_lines (window line place) (window_place line pla
 abbrev pub shows_line : List ℕ → List ℕ → Bool
 shows_line rule line = not (length line == 0) || is_none (named_violation rule)
 
--- the two lines, where it carries that
-abbrev pub shown_lines : List ℕ → List ℕ → ℕ → List ℕ
-shown_lines rule line place = if shows_line rule line then window_lines line place else []
+-- the two lines, where it carries that: the caret is below the code point that the message names
+abbrev pub shown_lines : DiagnosticView → List ℕ
+shown_lines found =
+    if shows_line found.rule found.text then window_lines found.text (named_place found.message found.text found.place)
+    else []
 
 -- how a mended text is named that isn't offered, by how it is to the refused one
 abbrev pub named_as : MendKind → List ℕ
@@ -62,4 +66,4 @@ help_text place (Some fix) = help_line (help_words fix.is_offered fix.kind) plac
 -- the line of the format `gnu`, these two, and that one
 unfoldable pub caret_text : DiagnosticView → List ℕ
 caret_text found =
-    gnu_text found ++ (shown_lines found.rule found.text found.place ++ help_text found.place found.fix)
+    gnu_text found ++ (shown_lines found ++ help_text found.place found.fix)

@@ -21,12 +21,12 @@ text_key found =
 unfoldable pub text_fingerprint : DiagnosticView → List ℕ
 text_fingerprint found = digest (text_key found)
 
--- the same after a line each for the file's name, as a string of JSON, and for how many the same are before it
+-- a line each for the file's name, as a string of JSON, and how many the same are before it, and then the text's key
 unfoldable pub file_key : DiagnosticView → List ℕ
 file_key found =
     json_text (string found.file) ++ (codes "\n" ++ (decimal found.repeat ++ (codes "\n" ++ text_key found)))
 
 -- The fingerprint of what is wrong with a text of a file, wherever in the file that is. Another diagnostic of a report
--- has it only where the file, the rule, the place and the text are the same, and none was counted between both.
+-- has it only when the file, the rule, the place and the text are the same, and none was counted between both.
 abbrev pub file_fingerprint : DiagnosticView → List ℕ
 file_fingerprint found = digest (file_key found)

@@ -30,6 +30,6 @@ issue_value found =
     (member (codes "location") (location_value found)
     (member (codes "severity") (string (codes "major")) no_members)))))
 
--- its text after a comma where it isn't the first, and a line feed
+-- its text after a comma if it isn't the first, and a line feed
 unfoldable pub gitlab_text : Bool → DiagnosticView → List ℕ
 gitlab_text is_first found = separator is_first ++ (json_text (issue_value found) ++ codes "\n")

@@ -2,9 +2,9 @@
 use Rattle.std.specs.Prelude.{ℕ, List, ◌++◌, codes, decimal}
 use Rattle.uv_report.specs.declared.completion.Completion.{Completion}
 use Rattle.uv_report.specs.declared.completion.Completion.TheVariants.{Whole, Unread, Stopped}
-use Rattle.uv_report.specs.declared.escaping.escapes.Escapes.TheVariants.{Attribute}
+use Rattle.uv_sentences.specs.declared.escaping.escapes.Escapes.TheVariants.{Attribute}
 use Rattle.uv_report.specs.Diagnostic.{DiagnosticView, carried_text}
-use Rattle.uv_report.specs.Escaping.Escapes.{escaped}
+use Rattle.uv_sentences.specs.Escaping.Escapes.{escaped}
 
 -- ---- the document
 
@@ -26,7 +26,7 @@ junit_end completion =
 
 -- ---- a file
 
--- the start tag of a suite, and a test that passes: so the suite of a file has one even where nothing is wrong
+-- the start tag of a suite, and a test that passes: so the suite of a file has one even if nothing is wrong
 unfoldable pub suite_begin : List ℕ → List ℕ
 suite_begin file =
     codes "<testsuite name=\"" ++ (escaped Attribute file ++ (codes "\">\n<testcase classname=\""

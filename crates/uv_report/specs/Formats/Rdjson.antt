@@ -49,7 +49,7 @@ suggestion_value edit =
     object (member (codes "range") (range_value edit.0)
     (member (codes "text") (string edit.1.text) no_members))
 
--- this suggestion as the last member; no member where nothing is offered, or may be written there
+-- this suggestion as the last member; no member if nothing is offered, or may be written there
 abbrev pub suggestions_member : Option (Region × FixView) → Members
 suggestions_member None = no_members
 suggestions_member (Some edit) = member (codes "suggestions") (single (suggestion_value edit)) no_members
@@ -65,6 +65,6 @@ told_members found =
 abbrev pub rdjson_value : DiagnosticView → Json
 rdjson_value found = object (member (codes "code") (code_value found.uri found.rule) (told_members found))
 
--- its text after a comma where it isn't the first, and a line feed
+-- its text after a comma if it isn't the first, and a line feed
 unfoldable pub rdjson_text : Bool → DiagnosticView → List ℕ
 rdjson_text is_first found = separator is_first ++ (json_text (rdjson_value found) ++ codes "\n")

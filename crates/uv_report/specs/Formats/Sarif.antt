@@ -12,16 +12,16 @@ use Rattle.uv_report.specs.declared.places.column.Columns.TheVariants.{CodePoint
 use Rattle.uv_report.specs.declared.completion.Completion.{Completion}
 use Rattle.uv_report.specs.declared.diagnostic.Region.{Region}
 use Rattle.uv_report.specs.declared.completion.Completion.TheVariants.{Whole, Unread, Stopped}
-use Rattle.uv_report.specs.declared.line_violation.LineViolation.{LineViolation}
-use Rattle.uv_report.specs.declared.line_violation.LineViolation.TheVariants.{Refused, NotUtf8, TooLong, NotLocated}
-use Rattle.uv_report.specs.declared.located_fault.LocatedFault.TheVariants.{NoFile}
+use Rattle.uv_sentences.specs.declared.line_violation.LineViolation.{LineViolation}
+use Rattle.uv_sentences.specs.declared.line_violation.LineViolation.TheVariants.{Refused, NotUtf8, TooLong, NotLocated}
+use Rattle.uv_sentences.specs.declared.located_fault.LocatedFault.TheVariants.{NoFile}
 use Rattle.uv_report.specs.Diagnostic.{DiagnosticView, FixView, carried_text, edit_of}
-use Rattle.uv_report.specs.Escaping.Uri.{uri_path}
+use Rattle.uv_report.specs.Formats.Uri.{uri_path}
 use Rattle.uv_report.specs.Formats.Fingerprint.{text_fingerprint}
 use Rattle.uv_report.specs.Json.{json_text, object_of, single, whole}
-use Rattle.uv_report.specs.LineViolation.{rule_index, violation_help, violation_name, violation_sentence}
-use Rattle.uv_report.specs.LineViolation.{violation_address}
-use Rattle.uv_report.specs.Places.Window.{is_cut}
+use Rattle.uv_sentences.specs.LineViolation.{rule_index, violation_help, violation_name, violation_sentence}
+use Rattle.uv_sentences.specs.LineViolation.{violation_address}
+use Rattle.uv_sentences.specs.Places.Window.{is_cut}
 
 -- a text for people
 abbrev pub message : List ℕ → Json
@@ -174,7 +174,7 @@ unfoldable pub replacement_value : Region → List ℕ → Json
 replacement_value region text =
     object (member (codes "deletedRegion") (region_value region) (inserted_members text))
 
--- the same, in a file
+-- a text in place of what is in this region of a file
 abbrev pub change_value : List ℕ → Region → List ℕ → Json
 change_value uri region text =
     object (member (codes "artifactLocation") (artifact_value uri)
@@ -186,7 +186,7 @@ fix_value uri edit =
     object (member (codes "artifactChanges") (single (change_value uri edit.0 edit.1.text))
     (member (codes "description") (message (fix_sentence edit.1.kind)) no_members))
 
--- this fix before the members of each result; no member where nothing is offered, or may be written there
+-- this fix before the members of each result; no member if nothing is offered, or may be written there
 abbrev pub members_with : DiagnosticView → Option (Region × FixView) → Members
 members_with found None = result_members found
 members_with found (Some edit) = member (codes "fixes") (single (fix_value (uri_path found.file) edit)) (result_members found)
@@ -200,6 +200,6 @@ abbrev pub separator : Bool → List ℕ
 separator true = []
 separator false = codes ","
 
--- its text after a comma where it isn't the first, and a line feed
+-- its text after a comma if it isn't the first, and a line feed
 unfoldable pub sarif_text : Bool → DiagnosticView → List ℕ
 sarif_text is_first found = separator is_first ++ (json_text (result_value found) ++ codes "\n")

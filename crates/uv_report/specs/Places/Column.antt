@@ -5,7 +5,7 @@ use Rattle.std.specs.Str.{bytes_eq, chars}
 use Rattle.unicode_width.specs.Width.{char_width}
 use Rattle.uv_report.specs.declared.places.column.Columns.{Columns}
 use Rattle.uv_report.specs.declared.places.column.Columns.TheVariants.{CodePoints, Bytes, Utf16, Screen}
-use Rattle.uv_report.specs.Escaping.Escapes.{is_hidden}
+use Rattle.uv_sentences.specs.Escaping.Escapes.{is_hidden}
 
 -- ---- the units
 
@@ -39,7 +39,7 @@ to_next_stop column = 8 - (column - 1) % 8
 abbrev pub screen_width : ℕ → ℕ → ℕ
 screen_width column c = if c == 9 then to_next_stop column else shown_width c
 
--- the same of each unit
+-- how many columns of this unit a code point takes in this one
 abbrev pub point_width : Columns → ℕ → ℕ → ℕ
 point_width CodePoints column c = 1
 point_width Bytes column c = length (encode_utf8 c)

@@ -11,12 +11,12 @@ pub record Counted : Type 0 where
   pub start : ℕ
   pub text : List ℕ
 
--- the mark is that of its place
+-- the mark belongs to its place
 pub record IsMark (columns : Columns) (start : ℕ) (text : List ℕ) (mark : Mark) : Type 0 where
   pub column : mark.column ≡ column_at columns start text mark.place
   pub rest : chars mark.rest.now ≡ drop mark.place (chars text)
 
--- the mark is that of its place, and its column is that of this place
+-- the mark and its column are those of its place
 pub record Tells (columns : Columns) (start : ℕ) (text : List ℕ) (place : ℕ) (mark : Mark) : Type 0 where
   pub is_mark : IsMark columns start text mark
   pub column : mark.column ≡ column_at columns start text place

@@ -2,23 +2,21 @@
 ghost use Rattle.std.specs.Prelude.{◌≡◌, ◌++◌, OnOk, option_map, replicate, string_bytes, take};
 ghost use Rattle.std.specs.List.{flat_map};
 ghost use Rattle.std.specs.Str.{chars};
-ghost use Rattle.uv_report.specs.Escaping.Escapes.{shown_text};
+ghost use Rattle.uv_sentences.specs.Escaping.Escapes.{shown_text};
 ghost use Rattle.uv_report.specs.Diagnostic.{diagnostic_view, fix_view};
-ghost use Rattle.uv_report.specs.Places.Window.{window};
+ghost use Rattle.uv_sentences.specs.Places.Window.{window};
 ghost use Rattle.uv_report.specs.Formats.Caret.{below, caret_lines, caret_text, help_line, help_text, help_words};
 ghost use Rattle.uv_report.specs.Formats.Caret.{named_as};
 ghost use Rattle.uv_report.specs.Formats.Caret.{padding, shown_lines, shows_line, window_lines};
 
 use crate::diagnostic::{Diagnostic, Fix};
-use crate::escaping::escapes::push_shown as push_shown_text;
-use crate::escaping::printable::is_printable_text;
 use crate::formats::gnu::push_gnu;
-use crate::line_violation::LineViolation;
 use crate::places::column::shown_width;
-use crate::places::seen_text::SeenText;
-use crate::places::window::cut_out;
 use std::alloc::{AllocError, Global};
 use uv_model::MendKind;
+use uv_sentences::{
+    LineViolation, SeenText, cut_out, is_printable_text, named_place, push_shown as push_shown_text,
+};
 
 // Spaces, in one piece.
 const SPACES: &str =
@@ -40,15 +38,16 @@ pub(crate) fn push_caret(
     Ok(())
 }
 
-// Pushes what is shown of a line, and a caret below the place, where the text that is wrong is carried.
+// Pushes what is shown of a line, and a caret below what the message names, where the text that is wrong is carried.
 fn push_shown(alloc: Global, text: &mut String, found: &Diagnostic<'_>) -> Result<(), AllocError>
     ensures { OnOk result (string_bytes text.new
-        ≡ string_bytes text.old ++ shown_lines found.now.rule.now found.now.text.now found.now.place) }
+        ≡ string_bytes text.old ++ shown_lines (diagnostic_view found.now)) }
 {
     if !shows_line(found.rule, found.text.as_str()) {
         return Ok(());
     }
-    push_window(alloc, text, found.text, found.place)
+    let named = named_place(found.message, found.text, found.place);
+    push_window(alloc, text, found.text, named)
 }
 
 // Whether the text that is wrong is carried: one that isn't empty, or also an empty one, but by the rules of lines that
@@ -60,7 +59,7 @@ fn shows_line(rule: &str, line: &str) -> bool
 }
 
 // Pushes what is shown of a line, and a caret below one of the line's places. A line that is shown whole isn't copied.
-#[tactic(auto, unfolding(crate::specs::Formats::Caret::window_lines, crate::specs::Places::Window::window))]
+#[tactic(auto, unfolding(crate::specs::Formats::Caret::window_lines, uv_sentences::specs::Places::Window::window))]
 fn push_window(
     alloc: Global,
     text: &mut String,
@@ -136,7 +135,7 @@ fn push_help_line(
 }
 
 // Pushes what is shown of a text around a place.
-#[tactic(auto, unfolding(crate::specs::Places::Window::window))]
+#[tactic(auto, unfolding(uv_sentences::specs::Places::Window::window))]
 fn push_part(
     alloc: Global,
     text: &mut String,

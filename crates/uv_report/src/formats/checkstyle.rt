@@ -4,8 +4,8 @@ ghost use Rattle.uv_report.specs.Diagnostic.{diagnostic_view};
 ghost use Rattle.uv_report.specs.Formats.Checkstyle.{checkstyle_text, file_begin};
 
 use crate::diagnostic::Diagnostic;
-use crate::escaping::escapes::{Escapes, escaped, push_escaped};
 use std::alloc::{AllocError, Global};
+use uv_sentences::{Escapes, escaped, push_escaped};
 
 /// Pushes the start tag of a file.
 #[tactic(auto, unfolding(crate::specs::Formats::Checkstyle::file_begin))]

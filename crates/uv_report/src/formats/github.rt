@@ -4,8 +4,8 @@ ghost use Rattle.uv_report.specs.Diagnostic.{diagnostic_view};
 ghost use Rattle.uv_report.specs.Formats.Github.{github_text};
 
 use crate::diagnostic::Diagnostic;
-use crate::escaping::escapes::{Escapes, escaped};
 use std::alloc::{AllocError, Global};
+use uv_sentences::{Escapes, escaped};
 
 /// Pushes the command `error` with its properties and its message, and a line feed.
 #[tactic(auto, unfolding(crate::specs::Formats::Github::github_text))]

@@ -10,7 +10,7 @@ use crate::formats::sarif::separator;
 use crate::json_text::JsonText;
 use std::alloc::{AllocError, Global};
 
-/// Pushes an issue, and before it a comma where it isn't the first one.
+/// Pushes an issue, and before it a comma if it isn't the first one.
 #[tactic(auto, unfolding(crate::specs::Formats::Gitlab::gitlab_text))]
 pub(crate) fn push_gitlab(
     alloc: Global,

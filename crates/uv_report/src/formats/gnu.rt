@@ -4,8 +4,8 @@ ghost use Rattle.uv_report.specs.Diagnostic.{diagnostic_view};
 ghost use Rattle.uv_report.specs.Formats.Gnu.{gnu_text};
 
 use crate::diagnostic::Diagnostic;
-use crate::escaping::escapes::push_shown;
 use std::alloc::{AllocError, Global};
+use uv_sentences::push_shown;
 
 /// Pushes `FILE:LINE:COLUMN: error: SENTENCE [RULE]` and a line feed.
 #[tactic(auto, unfolding(crate::specs::Formats::Gnu::gnu_text))]

@@ -1,4 +1,4 @@
-//! Diagnostics as objects of JSON, one a line.
+//! Diagnostics as JSON objects, one per line.
 ghost use Rattle.json.specs.Tree.{json_tokens, members_tokens};
 ghost use Rattle.std.specs.Prelude.{◌≡◌, ◌++◌, OnOk, string_bytes};
 ghost use Rattle.uv_report.specs.Diagnostic.{carried_text, diagnostic_view, fix_view};

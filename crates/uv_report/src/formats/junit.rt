@@ -5,14 +5,14 @@ ghost use Rattle.uv_report.specs.Formats.Junit as spec;
 
 use crate::completion::Completion;
 use crate::diagnostic::Diagnostic;
-use crate::escaping::escapes::{Escapes, escaped, push_escaped};
 use std::alloc::{AllocError, Global};
+use uv_sentences::{Escapes, escaped, push_escaped};
 
 /// What the document begins with.
 pub(crate) const JUNIT_BEGIN: &str =
     "<?xml version=\"1.0\" encoding=\"UTF-8\"?>\n<testsuites name=\"urlcheck\">\n";
 
-/// What the document ends with: a test that fails where not every file was read to its end.
+/// What the document ends with: a test that fails when not every file was read to its end.
 pub(crate) fn junit_end(completion: Completion) -> &'static str
     ensures { result.now ≡ spec.junit_end completion }
 {

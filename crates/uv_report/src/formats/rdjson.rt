@@ -15,7 +15,7 @@ use std::alloc::{AllocError, Global};
 pub(crate) const RDJSON_BEGIN: &str =
     "{\"source\":{\"name\":\"urlcheck\"},\"severity\":\"ERROR\",\"diagnostics\":[\n";
 
-/// Pushes a diagnostic, and before it a comma where it isn't the first one.
+/// Pushes a diagnostic, and before it a comma if it isn't the first one.
 #[tactic(auto, unfolding(crate::specs::Formats::Rdjson::rdjson_text))]
 pub(crate) fn push_rdjson(
     alloc: Global,
@@ -44,7 +44,7 @@ fn write_diagnostic(json: &mut JsonText, found: &Diagnostic<'_>) -> Result<(), A
     Ok(())
 }
 
-// Writes the members that follow that of the rule, and ends the object.
+// Writes the members that follow the rule's, and ends the object.
 #[tactic(auto, unfolding(crate::specs::Formats::Rdjson::told_members))]
 fn write_members(json: &mut JsonText, found: &Diagnostic<'_>) -> Result<(), AllocError>
     ensures { OnOk result (json.new ≡ json.old ++ members_tokens (spec.told_members (diagnostic_view found.now))) }
@@ -69,7 +69,7 @@ fn write_code(json: &mut JsonText, uri: &str, rule: &str) -> Result<(), AllocErr
     }
 }
 
-// The same of a rule that has an address.
+// Writes the member of a rule and of its address, which it has.
 fn write_addressed_code(json: &mut JsonText, uri: &str, rule: &str) -> Result<(), AllocError>
     ensures { OnOk result (json.new
         ≡ json.old ++ key (codes "code") ∷ json_tokens (spec.addressed_code uri.now rule.now)) }

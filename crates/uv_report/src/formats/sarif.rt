@@ -4,21 +4,20 @@ ghost use Rattle.json.specs.Token.{begin_array, begin_object, end_array, end_obj
 ghost use Rattle.json.specs.Tree.{json_tokens, members_tokens};
 ghost use Rattle.std.specs.Prelude.{◌≡◌, ◌∷◌, ◌++◌, [], IfOk, OnOk, codes, flat_map, string_bytes};
 ghost use Rattle.uv_report.specs.Diagnostic.{carried_text, diagnostic_view, edit_view};
-ghost use Rattle.uv_report.specs.Escaping.Uri as uris;
+ghost use Rattle.uv_report.specs.Formats.Uri as uris;
 ghost use Rattle.uv_report.specs.Formats.Sarif as spec;
 ghost use Rattle.uv_report.specs.Json.{single};
-ghost use Rattle.uv_report.specs.LineViolation.{rule_index};
+ghost use Rattle.uv_sentences.specs.LineViolation.{rule_index};
 
 use crate::completion::Completion;
 use crate::diagnostic::{Diagnostic, Fix, Region};
-use crate::escaping::uri::push_uri_path;
 use crate::formats::fingerprint::text_fingerprint;
+use crate::formats::uri::push_uri_path;
 use crate::json_text::JsonText;
-use crate::line_violation::{LineViolation, rule_index};
-use crate::located_fault::LocatedFault;
 use crate::places::column::Columns;
 use std::alloc::{AllocError, Global};
 use uv_model::{MendKind, Refusal, Rule};
+use uv_sentences::{LineViolation, LocatedFault, rule_index};
 
 /// Pushes the document up to its results: the version, what columns count, the tool and its rules.
 #[tactic(auto, unfolding(crate::specs::Formats::Sarif::sarif_begin))]
@@ -69,7 +68,7 @@ pub(crate) fn sarif_end(completion: Completion) -> &'static str
     }
 }
 
-// Pushes the rules, after the three violations that are no refusal.
+// Pushes the rules, after the three violations that aren't refusal.
 #[tactic(auto, unfolding(crate::specs::Formats::Sarif::all_rules))]
 fn push_rules(alloc: Global, text: &mut String) -> Result<(), AllocError>
     ensures { OnOk result (string_bytes text.new ≡ string_bytes text.old ++ spec.all_rules) }
@@ -164,7 +163,7 @@ fn write_named(json: &mut JsonText, violation: LineViolation) -> Result<(), Allo
     Ok(())
 }
 
-/// Pushes a result, and before it a comma where it isn't the first one.
+/// Pushes a result, and before it a comma if it isn't the first one.
 #[tactic(auto, unfolding(crate::specs::Formats::Sarif::sarif_text))]
 pub(crate) fn push_sarif(
     alloc: Global,
@@ -304,7 +303,7 @@ fn write_index(json: &mut JsonText, rule: &str) -> Result<(), AllocError>
     }
 }
 
-// The same where it is.
+// Writes the member of where a rule is among those of the document, and ends the result.
 fn write_known_index(json: &mut JsonText, index: u64) -> Result<(), AllocError>
     ensures { OnOk result (json.new ≡ json.old ++ members_tokens (spec.index_members (Some index))) }
 {
@@ -340,7 +339,7 @@ fn write_region(json: &mut JsonText, name: &str, region: Region) -> Result<(), A
     }
 }
 
-// The same of what is in one line.
+// Writes the member of a region that is in one line.
 fn write_line_region(json: &mut JsonText, name: &str, region: Region) -> Result<(), AllocError>
     ensures { OnOk result (json.new ≡ json.old ++ key name.now ∷ json_tokens (spec.line_region region)) }
 {
@@ -352,7 +351,7 @@ fn write_line_region(json: &mut JsonText, name: &str, region: Region) -> Result<
     Ok(())
 }
 
-// The same of what ends in another line than it begins in.
+// Writes the member of a region that ends in another line than it begins in.
 fn write_lines_region(json: &mut JsonText, name: &str, region: Region) -> Result<(), AllocError>
     ensures { OnOk result (json.new ≡ json.old ++ key name.now ∷ json_tokens (spec.lines_region region)) }
 {

@@ -2,8 +2,8 @@
 ghost use Rattle.std.specs.Prelude.{◌≡◌};
 ghost use Rattle.uv_report.specs.Places.Column as spec;
 
-use crate::escaping::escapes::is_hidden;
 use unicode_width::UnicodeWidthChar;
+use uv_sentences::is_hidden;
 
 /// What columns count.
 #[derive(Clone, Copy, Debug, PartialEq, Eq)]
@@ -32,7 +32,7 @@ impl Columns {
         }
     }
 
-    /// The unit with this name, or `None` where no unit has it.
+    /// The unit with this name, or `None` if no unit has it.
     pub fn of_name(name: &str) -> Option<Columns>
         ensures { result ≡ spec.named_columns name.now }
     {

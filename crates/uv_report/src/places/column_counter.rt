@@ -111,7 +111,7 @@ fn mark_after_ascii<'t>(columns: Columns, from: Mark<'t>, place: usize) -> Optio
     }
 }
 
-// The same of code points.
+// The mark of a place after another in columns of code points, where those between the two are ASCII.
 fn point_after_ascii<'t>(from: Mark<'t>, place: usize) -> Option<Mark<'t>>
     requires { from.place ≤ place }
     ensures { (start : ℕ) (text : List ℕ) → IsMark CodePoints start text from.entry
@@ -128,7 +128,7 @@ fn point_after_ascii<'t>(from: Mark<'t>, place: usize) -> Option<Mark<'t>>
     }
 }
 
-// The same code point by code point.
+// The mark of a place after another, found code point by code point.
 fn mark_by_steps<'t>(columns: Columns, from: Mark<'t>, place: usize) -> Mark<'t>
     requires { from.place ≤ place }
     ensures { (start : ℕ) (text : List ℕ) → IsMark columns start text from.entry

@@ -1,7 +1,7 @@
 # What the host of a program hands on: the bytes of arguments, errors of files, and what is read and written. It is short, so
 # that each spoiled copy of a host is tried on it.
 
-# U+FFFD may be in a URL. Bytes that are no UTF-8 are another text, and are refused, also where the argument has both.
+# U+FFFD may be in a URL. Bytes that aren't UTF-8 are another text, and are refused, even if the argument has both.
 expect 0 'valid\nscheme http\nhost domain h\nsegment %EF%BF%BD\n' '' check $'http://h/\xef\xbf\xbd'
 if has byte_arguments 3; then
     expect 2 '' "urlcheck: argument 2 isn't UTF-8\nwords\n" check $'http://h/\xff'

@@ -91,8 +91,9 @@ static const struct {
     {"_memmove", (void *)memmove},   {"_memset", (void *)memset},     {"_bzero", (void *)bzero},
     {"_open", (void *)mac_open},     {"_read", (void *)mac_read},     {"_realloc", (void *)realloc},
     {"_signal", (void *)signal},     {"_write", (void *)mac_write},   {"dyld_stub_binder", (void *)abort},
-    /* (these for the allocator with a budget alone) */
-    {"_getenv", (void *)getenv},     {"_strtoull", (void *)strtoull},
+    {"_getenv", (void *)getenv},     {"_isatty", (void *)isatty},
+    /* (this for the allocator with a budget alone) */
+    {"_strtoull", (void *)strtoull},
 };
 
 /* ---- the program */

@@ -9,7 +9,7 @@
 
 enum { UNIT_DIGITS = 4 };
 
-/* Writes a word with its units in the place of their digits, and gives the place after it. */
+/* Writes a word with its units in place of their digits, and gives the place after it. */
 static wchar_t *put_word(wchar_t *line, const wchar_t *word) {
     *line++ = L'"';
     for (; *word != 0; word++) {

@@ -47,7 +47,7 @@ expect 2 '' "$refused" lint '--base=http://h/?\' 'folder\a.links'
 expect 2 '' "$refused" lint 'folder\a.links' --quiet --base 'http://h/?\'
 expect 2 '' "$refused" mend --base 'http://h/?\' x
 
-# Units of UTF-16: a pair is one code point. Half a pair is no text, and U+FFFD, which may be in a URL, is another one.
+# Units of UTF-16: a pair is one code point. Half a pair isn't a text, and U+FFFD, which may be in a URL, is another one.
 # of_units STATUS STDOUT STDERR WORD.. : a run with words of these units
 of_units() {
     local status=$1 stdout=$2 stderr=$3

@@ -1,4 +1,4 @@
--- The text that is checked is that of the bytes, and the base is what the bytes that it was made of denote.
+-- The bytes are checked as a text, and the base is what the bytes that it was made of denote.
 use Rattle.std.proofs.Common.{ℕ, List, inl, inr, option_copied, subst, sym}
 use Rattle.urlcheck_c.specs.declared.finding.Finding.{Finding}
 use Rattle.urlcheck_c.specs.Answer.{IsChecked}

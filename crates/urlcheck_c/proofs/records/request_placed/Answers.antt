@@ -1,8 +1,20 @@
--- The text denotes the URL whose record is given.
-use Rattle.urlcheck_c.proofs.RecordLemmas.{placed_is_answer}
+-- The text denotes the URL whose text is laid out so.
+use Rattle.std.proofs.Common.{inl, subst}
+use Rattle.std.specs.Prelude.{Option}
+use Rattle.std.specs.Str.{chars}
+use Rattle.uv_model.specs.Records.Url.{Url}
+use Rattle.uv_resolve.specs.Resolve.{Denotes}
 use Rattle.urlcheck_c.proofs.records.request_placed.Goals as goal
+
+pub placed-requires : goal.placed-requires
+placed-requires c = (c.in-Ok.ensures.laid.0, c.in-Ok.ensures.laid.2)
 
 pub returns-in-Ok : goal.returns-in-Ok
 returns-in-Ok c =
-    placed_is_answer c.args.request.now.profile _ c.args.request.now.base c.args.request.now.text.now c.args.out.now
-    c.placed.new.out _ c.placed.result c.as_ref.ensures.value c.in-Ok.ensures.resolved c.placed.ensures
+    let laid = c.in-Ok.ensures.laid in
+    inl (
+      laid.0,
+      subst (λ (base : Option Url). Denotes c.args.request.now.profile base (chars c.args.request.now.text.now) laid.0)
+          c.as_ref.ensures.value laid.1,
+      c.placed.ensures laid.0 laid.2,
+    )

@@ -3,6 +3,7 @@ use Rattle.std.proofs.Common.{◌∙◌, arith, string_bytes}
 use Rattle.uv_lint.specs.LineViolations.{file_setting}
 use Rattle.uv_cli.specs.Lint.{LintsNext, reported_name}
 use Rattle.uv_cli.specs.Linted.{is_stopped}
+use Rattle.uv_cli.specs.Stream.{stream}
 use Rattle.uv_cli.proofs.LintLemmas.{all_more, files_all, files_more, next_quiet}
 use Rattle.uv_cli.proofs.lint.lint_each.Goals as goal
 
@@ -11,12 +12,12 @@ loop-file-preserved g c =
     let next : LintsNext (is_stopped c.loop-file.linted) (string_bytes c.file-item.result)
     (file_setting (reported_name c.args.name.now (string_bytes c.file-item.result)) c.args.setting)
     c.loop-file.linted c.lint_next-linted.result
-    (record { bytes = g.I.Source.remaining c.loop-file.input; failed = g.I.Source.failed c.loop-file.input })
+    (stream (g.I.Source.remaining c.loop-file.input) (g.I.Source.failed c.loop-file.input))
     (record {
       bytes = g.I.Source.remaining c.lint_next-linted.new.input;
       failed = g.I.Source.failed c.lint_next-linted.new.input;
     })
-    (record { bytes = g.S.Sink.contents c.loop-file.out; failed = g.S.Sink.failed c.loop-file.out })
+    (stream (g.S.Sink.contents c.loop-file.out) (g.S.Sink.failed c.loop-file.out))
     (record {
       bytes = g.S.Sink.contents c.lint_next-linted.new.out;
       failed = g.S.Sink.failed c.lint_next-linted.new.out;

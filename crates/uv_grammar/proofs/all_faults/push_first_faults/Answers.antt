@@ -1,4 +1,4 @@
--- The fault of the start, or else those of the checked parts.
+-- The fault of the start, or otherwise the faults of the checked parts.
 use Rattle.std.specs.Str.{chars}
 use Rattle.std.proofs.lemmas.Result.{on_ok_weaker}
 use Rattle.uv_grammar.proofs.PartFaultLemmas.{start_adds, started_adds}

@@ -7,7 +7,7 @@ use Rattle.uv_model.specs.Cut.{Cut}
 use Rattle.uv_grammar.specs.Faults.{AddsViolations}
 use Rattle.uv_grammar.specs.PartsHost.{FitsPartsHost}
 use Rattle.uv_grammar.specs.PartValues.{FitsHostPart}
-use Rattle.uv_grammar.specs.Scan.{HostUnitViolation}
+use Rattle.uv_host.specs.OpaqueHosts.{HostUnitViolation}
 use Rattle.uv_grammar.specs.Slices.{chars_of_option}
 use Rattle.uv_model.specs.Setting.{Setting}
 use Rattle.uv_grammar.proofs.PartFaultLemmas.{checked_least, host_fault_adds, host_scan_adds}

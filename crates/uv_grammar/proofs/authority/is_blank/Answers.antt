@@ -1,4 +1,4 @@
--- A text is empty where it has no code point.
+-- A text is empty when it has no code point.
 use Rattle.std.proofs.Common.{◌∙◌}
 use Rattle.uv_grammar.proofs.HostLemmas.{empty_same}
 use Rattle.uv_grammar.proofs.authority.is_blank.Goals as goal

@@ -1,4 +1,4 @@
--- What follows the first `]`, and nothing where there is none.
+-- What follows the first `]`, and nothing if there is none.
 use Rattle.std.proofs.Common.{ℕ, ◌+◌, List, Some, None, subst}
 use Rattle.uv_grammar.specs.TextSplits.{IsPortMark}
 use Rattle.uv_grammar.proofs.AuthorityLemmas.{from_place, no_port_after_bracket, no_port_in_brackets}

@@ -1,4 +1,4 @@
--- A violation of units that is no taken space is the least violation, and after taken spaces the search goes on.
+-- A violation of units that isn't a taken space is the least violation, and after taken spaces the search goes on.
 use Rattle.std.proofs.Common.{◌∙◌, ap, arith, chars, length}
 use Rattle.std.proofs.lemmas.List.{length-drop}
 use Rattle.uv_grammar.proofs.SpacedPathLemmas.{chars_fewer, spaced_ends, spaced_found, spaced_goes_on}

@@ -1,4 +1,4 @@
--- What is left ends with a control where the text does, and where nothing is left the last code point decided.
+-- What is left ends with a control where the text does, and if nothing is left the last code point decided.
 use Rattle.std.proofs.Common.{◌≡◌, length}
 use Rattle.std.specs.Str.{IsUtf8, chars}
 use Rattle.uv_model.specs.Hosts.StoppedHost.{ends_with_control}

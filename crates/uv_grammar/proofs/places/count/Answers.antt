@@ -1,4 +1,4 @@
--- Each byte of ASCII is a code point; else the characters of a text are counted.
+-- Each byte of ASCII is a code point; otherwise the characters of a text are counted.
 use Rattle.std.proofs.Common.{ap, length, rules, subst, sym}
 use Rattle.std.specs.Bool.{MatchBool}
 use Rattle.std.specs.Str.{IsAscii, IsNotAscii}

@@ -1,4 +1,4 @@
--- Where what is left of the text is scanned, the list has all its faults.
+-- If what is left of the text is scanned, the list has all its faults.
 use Rattle.std.proofs.Common.{length}
 use Rattle.std.specs.Str.{chars}
 use Rattle.uv_grammar.proofs.ScanLemmas.{ScansOn}

@@ -1,4 +1,4 @@
--- The form of a text by the standard profile is the one that fits at the strict settings of ToASCII.
+-- The form of a text under the standard profile is the one that fits at the strict settings of ToASCII.
 use Rattle.std.proofs.Common.{chars}
 use Rattle.std.specs.Cow.{cow_str_bytes}
 use Rattle.uv_host.proofs.FittingFormLemmas.{standard_form}

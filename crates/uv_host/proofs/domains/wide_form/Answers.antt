@@ -1,4 +1,4 @@
--- The form of a text by the wide profile: what ToASCII gives with the lengths of a domain, and its code points.
+-- The form of a text under the wide profile: what ToASCII gives with the lengths of a domain, and its code points.
 use Rattle.std.proofs.Common.{chars, ◌≡◌, true, false, option_map, Some, sym, ap, ◌∙◌}
 use Rattle.std.specs.Cow.{cow_str_bytes}
 use Rattle.std.specs.List.{list_all}

@@ -1,4 +1,4 @@
--- Where each label stays in Unicode, `Uts46::process` gives what ToUnicode gives.
+-- If each label stays in Unicode, `Uts46::process` gives what ToUnicode gives.
 use Rattle.std.proofs.Common.{Some, Err, rules, sym, ap, ◌∙◌}
 use Rattle.std.proofs.lemmas.Str.{encodes-chars}
 use Rattle.idna.specs.Uts46.{to_unicode}

@@ -1,4 +1,4 @@
--- A lower case that is empty is no form.
+-- A lower case that is empty isn't a form.
 use Rattle.std.proofs.Common.{◌==◌, ℕ, List, length, not, ap, sym, ◌∙◌, string_bytes}
 use Rattle.uv_host.specs.Domains.{HasFormByLengths}
 use Rattle.uv_model.specs.declared.profile.Profile.TheVariants.{Parser}

@@ -2,6 +2,7 @@
 use Rattle.std.proofs.Common.{◌≡◌, ◌+◌, ℕ, List, [], sym, ap, ◌∙◌, inl, add-zero, refl}
 use Rattle.std.proofs.KnownBytes.{Consumes-nil, Keeps-refl}
 use Rattle.std.specs.Io.KnownBytes.{Consumes, IsAtEnd}
+use Rattle.uv_lines.specs.Fault.{writes_failed}
 use Rattle.uv_lines.specs.Framed as framed
 use Rattle.uv_lines.specs.Framed.{Framed, LeavesPart}
 use Rattle.uv_lines.specs.Reported.{Reported, ReportedPart}
@@ -9,7 +10,7 @@ use Rattle.uv_lines.specs.Run as run
 use Rattle.uv_lines.proofs.FramedLemmas.{LeavesPart-map, Wrote-map}
 use Rattle.uv_lint.specs.LineViolations.{file_setting}
 use Rattle.uv_lint.specs.Reporting.{Begins, Says}
-use Rattle.uv_lint.specs.Run.{FailsReads, IsPartWithin, IsReportWithin, Leaves, Reports, writes_failed}
+use Rattle.uv_lint.specs.Run.{FailsReads, IsPartWithin, IsReportWithin, Leaves, Reports}
 use Rattle.uv_lint.proofs.RunLemmas.{answers_err, answers_ok, failed, is_part, is_report, left}
 use Rattle.uv_lint.proofs.run.run_within.Goals as goal
 
@@ -31,7 +32,7 @@ run_lines-reporter-requires-clause-start g c = ap (λ r. r.lines) c.new-reporter
 pub same-reporter : goal.same-reporter
 same-reporter g c = refl
 
--- where no memory was left before the first write
+-- if no memory was left before the first write
 pub returns-in_default-clause-fault : goal.returns-in_default-clause-fault
 returns-in_default-clause-fault g c = (
   [],

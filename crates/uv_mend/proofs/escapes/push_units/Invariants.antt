@@ -1,4 +1,4 @@
--- What was appended and the units of what is left are those of the text.
+-- What was appended and the units of what is left are the text's units.
 use Rattle.std.proofs.Common.{◌≡◌, ◌++◌, false, length}
 use Rattle.uv_mend.specs.Escapes.{as_units}
 use Rattle.uv_mend.proofs.escapes.push_units.Given as goal

@@ -3,6 +3,8 @@ use Rattle.std.proofs.Common.{◌≡◌, Some, chars, option_copied, string_byte
 use Rattle.uv_mend.specs.Edits.{cleaned}
 use Rattle.uv_mend.specs.Kinds.{IsKind}
 use Rattle.uv_mend.specs.Repairs.{Repairs, decoded}
+use Rattle.uv_mend.specs.Rest.{HasRestOf}
+use Rattle.uv_mend.proofs.KeptRest.{keeps_the_rest}
 use Rattle.uv_mend.proofs.mender.mend_refused.Goals as goal
 
 pub returns-in_ok-kind-in-Some : goal.returns-in_ok-kind-in-Some
@@ -16,4 +18,6 @@ returns-in_ok-kind-in-Some c =
           (rw c.in-Some.is at c.in_ok-mended.ensures.repairs);
       kind_is = subst (λ t. IsKind base c.args.text.now t c.in_ok-kind-in-Some.kind) c.as_str.ensures.value
           c.in_ok-kind-in-Some.ensures;
+      rest = keeps_the_rest base (chars c.args.text.now) (decoded c.in-Some.mended)
+          (subst (λ l. HasRestOf l (decoded c.in-Some.mended)) first (rw c.in-Some.is at c.in_ok-mended.ensures.rest));
     }

@@ -1,4 +1,4 @@
--- What is left of the text has a fault exactly where the text has one.
+-- What is left of the text has a fault exactly when the text has one.
 use Rattle.std.proofs.Common.{◌≡◌, length}
 use Rattle.uv_model.specs.Path.{is_spaced}
 use Rattle.uv_model.proofs.ascii_units.is_spaced.Given as goal

@@ -1,4 +1,4 @@
--- What is valid or well formed by the standard profile is so by the wide profile.
+-- What is valid or well formed under the standard profile is so under the wide profile.
 use Rattle.uv_model.proofs.Hosts.DomainLemmas.{standard_domains_are_wide}
 use Rattle.uv_model.proofs.Hosts.StandardTexts.{standard_records_are_wide, standard_texts_are_wide}
 use Rattle.uv_model.proofs.laws.standard_texts_are_wide.Goals as goal

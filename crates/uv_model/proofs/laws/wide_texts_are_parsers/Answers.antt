@@ -1,4 +1,4 @@
--- What is valid or well formed by the wide profile is so by the parser's profile.
+-- What is valid or well formed under the wide profile is so under the parser's profile.
 use Rattle.uv_model.proofs.Hosts.ParserForms.{wide_domains_are_parsers}
 use Rattle.uv_model.proofs.Hosts.ParserTexts.{wide_records_are_parsers, wide_texts_are_parsers}
 use Rattle.uv_model.proofs.laws.wide_texts_are_parsers.Goals as goal

@@ -1,4 +1,4 @@
--- A text is a name in some case by its bytes exactly where it is by its code points.
+-- A text is a name in some case by its bytes exactly when it is by its code points.
 use Rattle.uv_model.proofs.SchemeLemmas.{same_by_bytes}
 use Rattle.uv_model.proofs.scheme.is_name.Goals as goal
 

@@ -1,4 +1,4 @@
--- The copies so far are those of the texts up to the index.
+-- The texts up to the index were copied.
 use Rattle.std.proofs.Common.{◌≡◌, take}
 use Rattle.uv_model.proofs.text_list.copy_each.Given as goal
 

@@ -1,4 +1,4 @@
--- What is left of the list is segments exactly where the list is.
+-- What is left of the list is segments exactly when the list is.
 use Rattle.std.proofs.Common.{length}
 use Rattle.uv_model.specs.Records.WellFormed.{AreUrlSegments}
 use Rattle.uv_model.proofs.url_paths.are_url_segments.Given as goal

@@ -1,4 +1,4 @@
--- What is answered by the parser's profile is what the parser does.
+-- What is answered under the parser's profile is what the parser does.
 use Rattle.std.proofs.Common.{Err, chars, option_copied}
 use Rattle.uv_resolve.specs.declared.fault.ResolveFault.TheVariants.{Refused}
 use Rattle.uv_resolve.proofs.RunLemmas.{answers_as_parser, denoted_resolves}

@@ -1,4 +1,4 @@
--- Where no segment is left, the walk ends with an empty segment after a dot segment.
+-- If no segment is left, the walk ends with an empty segment after a dot segment.
 use Rattle.std.proofs.Common.{◌≡◌, sym, ap, ◌∙◌}
 use Rattle.uv_model.specs.Path.{walk}
 use Rattle.uv_resolve.proofs.WalkLemmas.{after_dots, continued, walk-continued}

@@ -1,4 +1,4 @@
--- The keys are those of the members.
+-- The keys are the members' keys.
 use Rattle.std.proofs.Common.{◌∙◌}
 use Rattle.uv_vectors.proofs.CaseLemmas.{known_keys-members_view}
 use Rattle.uv_vectors.proofs.case.has_only_known_keys.Goals as goal

@@ -1,4 +1,4 @@
--- The keys are those of the members.
+-- The keys are the members' keys.
 use Rattle.std.proofs.Common.{◌∙◌, Some, ap, option_map, string_bytes}
 use Rattle.uv_vectors.proofs.CaseLemmas.{unknown_key-members_view}
 use Rattle.uv_vectors.proofs.case.unknown_key.Goals as goal

@@ -1,4 +1,4 @@
--- The values of the array are those of the slice.
+-- The array has the values of the slice.
 use Rattle.std.proofs.Common.{◌∙◌}
 use Rattle.uv_vectors.proofs.CaseLemmas.{position-items_view}
 use Rattle.uv_vectors.proofs.run.first_malformed.Goals as goal

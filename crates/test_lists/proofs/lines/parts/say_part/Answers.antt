@@ -1,4 +1,4 @@
--- Where no memory is left nothing is said.
+-- If no memory is left, nothing is reported.
 use Rattle.std.proofs.Common.{[], refl, append-nil, inl}
 use Rattle.uv_lines.proofs.WaitingLemmas.{passes_none}
 use Rattle.test_lists.proofs.lines.parts.say_part.Goals as goal

@@ -1,6 +1,7 @@
 -- A line ends.
 use Rattle.std.proofs.Common.{◌≡◌, ◌∙◌, ◌++◌, ◌∷◌, [], true, arith, refl, subst}
 use Rattle.std.proofs.lemmas.Grind.{common_steps}
+use Rattle.uv_lines.specs.Line.{bytes_of}
 use Rattle.uv_lines.specs.Lines.{line_feed, split}
 use Rattle.uv_lines.proofs.LineLemmas.{line_joined}
 use Rattle.uv_filter.specs.Lines.{is_over}
@@ -16,7 +17,10 @@ returns-in-Ok-clause-stands g c = λ start old read h.
     let s = start.filter in
     let p = c.args.self.now in
     let q = c.pass_on.new.self in
-    let prefix = c.args.line.now in
+    let is = c.as_bytes-line.ensures in
+    let prefix = c.as_bytes-line.result.now in
+    let alone : split prefix ≡ ([], prefix) = rw is c.requires.line in
+    let whole : c.args.whole.now ≡ prefix ++ line_feed ∷ [] = rw is c.requires.whole in
     let new = g.W.Sink.contents c.args.writer.now in
     let over : is_over ((split read).1 ++ prefix) ≡ true = elim c.then-self.branch [
       | then-self-via-then-self w ↦ over_known s old read p.filter p.begun.items p.is_long p.text.items new prefix h
@@ -26,16 +30,19 @@ returns-in-Ok-clause-stands g c = λ start old read h.
           (grind (arith, common_steps, w.if-line-len.true, w.len.ensures))
     ] in
     let none = c.in-Ok.ensures.none in
-    Stands-ended s old read prefix c.args.whole.now p.filter q.filter p.begun.items q.begun.items p.is_long q.is_long
-    p.text.items q.text.items new (g.W.Sink.contents c.pass_on.new.writer) c.requires.line h over c.requires.whole
-    c.in-Ok.ensures.whole c.in-Ok.ensures.counted none.1 none.2 none.0
+    rw (← is) (Stands-ended s old read prefix c.args.whole.now p.filter q.filter p.begun.items q.begun.items p.is_long
+    q.is_long p.text.items q.text.items new (g.W.Sink.contents c.pass_on.new.writer) alone h over whole
+    c.in-Ok.ensures.whole c.in-Ok.ensures.counted none.1 none.2 none.0)
 
 pub returns-in-Err-clause-fault : goal.returns-in-Err-clause-fault
 returns-in-Err-clause-fault g c = λ rest start old read h.
     let s = start.filter in
     let p = c.args.self.now in
     let q = c.pass_on.new.self in
-    let prefix = c.args.line.now in
+    let is = c.as_bytes-line.ensures in
+    let prefix = c.as_bytes-line.result.now in
+    let alone : split prefix ≡ ([], prefix) = rw is c.requires.line in
+    let whole : c.args.whole.now ≡ prefix ++ line_feed ∷ [] = rw is c.requires.whole in
     let new = g.W.Sink.contents c.args.writer.now in
     let newer = g.W.Sink.contents c.pass_on.new.writer in
     let over : is_over ((split read).1 ++ prefix) ≡ true = elim c.then-self.branch [
@@ -46,9 +53,9 @@ returns-in-Err-clause-fault g c = λ rest start old read h.
           (grind (arith, common_steps, w.if-line-len.true, w.len.ensures))
     ] in
     let part = c.in-Err.ensures.prefix in
-    subst (λ all. WrotePrefix s old all q.filter newer) (line_joined read prefix rest)
+    rw (← is) (subst (λ all. WrotePrefix s old all q.filter newer) (line_joined read prefix rest)
     (end-cut s old read prefix c.args.whole.now rest p.filter q.filter p.begun.items p.is_long p.text.items new newer
-    part.0 c.requires.line h over c.requires.whole part.1 c.in-Err.ensures.counted)
+    part.0 alone h over whole part.1 c.in-Err.ensures.counted))
 
 pub returns-in-Err-close_short-clause-fault : goal.returns-in-Err-close_short-clause-fault
 returns-in-Err-close_short-clause-fault g c = λ rest start old read h.
@@ -57,7 +64,7 @@ returns-in-Err-close_short-clause-fault g c = λ rest start old read h.
     let q = c.close_short.new.self in
     let r = c.stop.new.self in
     let none = c.in-Err-close_short.ensures.none in
-    stops-left c.stop.result s old read (c.args.line.now ++ line_feed ∷ rest) p.filter r.filter p.begun.items
+    stops-left c.stop.result s old read (bytes_of c.args.line ++ line_feed ∷ rest) p.filter r.filter p.begun.items
     p.is_long p.text.items q.text.items (g.W.Sink.contents c.args.writer.now) (g.W.Sink.contents c.stop.new.writer) h
     c.if-self.false none.1 c.stop.ensures.stopped (c.stop.ensures.filter ∙ none.0)
 
@@ -66,28 +73,32 @@ returns-in-Ok-end_part-clause-stands g c = λ start old read h.
     let s = start.filter in
     let p = c.args.self.now in
     let q = c.close_short.new.self in
-    let line = c.args.line.now in
+    let is = c.as_bytes-line.ensures in
+    let line = c.as_bytes-line.result.now in
+    let alone : split line ≡ ([], line) = rw is c.requires.line in
     let short = c.in_default.ensures in
     let now = g.W.Sink.contents c.args.writer.now in
-    Stands-written s old (read ++ (line ++ line_feed ∷ [])) q.filter q.begun.items q.is_long q.text.items
+    rw (← is) (Stands-written s old (read ++ (line ++ line_feed ∷ [])) q.filter q.begun.items q.is_long q.text.items
     c.end_part.new.text.items now (g.W.Sink.contents c.end_part.new.writer)
     (Stands-closed s old read line p.filter q.filter p.begun.items q.begun.items p.is_long q.is_long
-    p.text.items q.text.items now c.requires.line h c.if-self.false short.added short.begun short.long)
-    c.in-Ok-end_part.ensures.passes
+    p.text.items q.text.items now alone h c.if-self.false short.added short.begun short.long)
+    c.in-Ok-end_part.ensures.passes)
 
 pub returns-in-Err-end_part-clause-fault : goal.returns-in-Err-end_part-clause-fault
 returns-in-Err-end_part-clause-fault g c = λ rest start old read h.
     let s = start.filter in
     let p = c.args.self.now in
     let q = c.close_short.new.self in
-    let line = c.args.line.now in
+    let is = c.as_bytes-line.ensures in
+    let line = c.as_bytes-line.result.now in
+    let alone : split line ≡ ([], line) = rw is c.requires.line in
     let now = g.W.Sink.contents c.args.writer.now in
     let new = g.W.Sink.contents c.end_part.new.writer in
     let short = c.in_default.ensures in
     let part = c.in-Err-end_part.ensures.prefix in
-    subst (λ all. WrotePrefix s old all q.filter new) (line_joined read line rest)
+    rw (← is) (subst (λ all. WrotePrefix s old all q.filter new) (line_joined read line rest)
     (write-cut s old (read ++ (line ++ line_feed ∷ [])) rest q.filter q.filter q.begun.items q.is_long
     q.text.items now new part.0
     (Stands-closed s old read line p.filter q.filter p.begun.items q.begun.items p.is_long q.is_long
-    p.text.items q.text.items now c.requires.line h c.if-self.false short.added short.begun short.long)
-    (short.long ∙ c.if-self.false) part.1 refl)
+    p.text.items q.text.items now alone h c.if-self.false short.added short.begun short.long)
+    (short.long ∙ c.if-self.false) part.1 refl))

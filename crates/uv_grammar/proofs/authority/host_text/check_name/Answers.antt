@@ -1,4 +1,4 @@
--- Four numbers are an address by each profile, and any other text is checked by the profile.
+-- Four numbers are an address under each profile, and any other text is checked under the profile.
 use Rattle.std.proofs.Common.{chars, inl, inr}
 use Rattle.uv_model.specs.declared.host.Host.TheVariants as host
 use Rattle.uv_model.proofs.Hosts.ParserForms.{ipv4_by_profile}

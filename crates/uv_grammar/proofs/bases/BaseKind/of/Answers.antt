@@ -1,4 +1,4 @@
--- The kind is that of the base's scheme, path and host.
+-- The kind says what the base's scheme, path and host are.
 use Rattle.std.proofs.Common.{◌≡◌, ◌↔◌, ℕ, List, Option, Some, chars, sym, ap, ◌∙◌, subst}
 use Rattle.std.specs.Prelude.{IsTrue}
 use Rattle.std.proofs.lemmas.Str.{chars-IsAscii}

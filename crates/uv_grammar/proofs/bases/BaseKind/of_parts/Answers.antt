@@ -1,4 +1,4 @@
--- The kind is that of the scheme, the path and the host that the parts denote, whose scheme is in lower case.
+-- The kind says what scheme, path and host the parts denote, whose scheme is in lower case.
 use Rattle.std.proofs.Common.{chars, sym, ap, ◌∙◌}
 use Rattle.uv_model.specs.Records.Denote.{denote}
 use Rattle.uv_model.specs.Scheme.{default_port, scheme_class}

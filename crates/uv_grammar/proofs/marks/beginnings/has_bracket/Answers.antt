@@ -1,4 +1,4 @@
--- The test of the bytes is that of the code points.
+-- The test gives the same on the bytes and on the code points.
 use Rattle.uv_grammar.proofs.TestLemmas.{starts_with_bracket-chars}
 use Rattle.uv_grammar.proofs.marks.beginnings.has_bracket.Goals as goal
 

@@ -1,4 +1,4 @@
--- Each label passes where no hyphen is seen.
+-- Each label passes if no hyphen is seen.
 use Rattle.std.proofs.Common.{◌≡◌, true, ◌==◌, bit_and, ap, sym, ◌∙◌}
 use Rattle.std.specs.List.{list_all}
 use Rattle.idna.specs.declared.options.Hyphens.TheVariants.{Check}

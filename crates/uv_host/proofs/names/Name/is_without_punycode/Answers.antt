@@ -1,4 +1,4 @@
--- Each label passes where no hyphen or no `x` is seen.
+-- Each label passes if no hyphen or no `x` is seen.
 use Rattle.std.proofs.Common.{◌==◌, ap, sym, ◌∙◌}
 use Rattle.std.specs.List.{list_all}
 use Rattle.idna.specs.declared.options.Hyphens.TheVariants.{Allow}

@@ -1,5 +1,6 @@
 -- A line that an LF ends.
 use Rattle.std.proofs.Common.{[], ◌∷◌, ◌++◌, ◌∙◌, arith, refl, subst}
+use Rattle.uv_lines.specs.Line.{bytes_of}
 use Rattle.uv_lines.specs.Lines.{line_feed}
 use Rattle.uv_lines.specs.Reported.{ReportedPart}
 use Rattle.uv_lines.specs.Run.{WrotePrefix}
@@ -17,7 +18,7 @@ stop-requires g c = λ is.
 
 pub returns-in-Err-clause-fault : goal.returns-in-Err-clause-fault
 returns-in-Err-clause-fault g c = λ rest start old read h.
-    c.stop.ensures.left start.limits start.reporter old (read ++ (c.args.line.now ++ line_feed ∷ rest))
+    c.stop.ensures.left start.limits start.reporter old (read ++ (bytes_of c.args.line ++ line_feed ∷ rest))
     (rw (← h.1) (c.in-Err.ensures.fault rest start.reporter old read (rw h.1 h.0)))
 
 pub returns-in-Err-clause-failed : goal.returns-in-Err-clause-failed
@@ -29,7 +30,7 @@ returns-in-Ok-clause-stands g c = λ start old read h.
     let now = g.W.Sink.contents c.close_line.new.writer in
     let new = g.W.Sink.contents c.end_part.new.writer in
     let one = c.in_default.ensures in
-    let all = read ++ (c.args.line.now ++ line_feed ∷ []) in
+    let all = read ++ (bytes_of c.args.line ++ line_feed ∷ []) in
     let closed : Waiting start.limits start.reporter old all k now =
     rw (← h.1) (one.waits start.reporter old read (rw h.1 h.0)) in (
       Waits-written g.R.Reporter.reports g.R.Reporter.lines start.limits.line_bytes start.reporter old now new all
@@ -43,7 +44,7 @@ returns-in-Err-end_part-clause-fault g c = λ rest start old read h.
     let k = c.close_line.new.self in
     let now = g.W.Sink.contents c.close_line.new.writer in
     let new = g.W.Sink.contents c.end_part.new.writer in
-    let line = c.args.line.now in
+    let line = bytes_of c.args.line in
     let closed : Waiting start.limits start.reporter old (read ++ (line ++ line_feed ∷ [])) k now =
     rw (← h.1) (c.in_default.ensures.waits start.reporter old read (rw h.1 h.0)) in
     subst (λ all. WrotePrefix (ReportedPart g.R.Reporter.reports g.R.Reporter.begins start.limits.line_bytes

@@ -1,5 +1,7 @@
--- What is said of a line waits, and nothing where it can't be said.
-use Rattle.std.proofs.Common.{option_copied, refl, ap}
+-- What is said of a line waits, and nothing if it can't be said.
+use Rattle.std.proofs.Common.{refl, ap}
+use Rattle.std.specs.Prelude.{option_map}
+use Rattle.uv_lines.specs.Line.{bytes_of}
 use Rattle.uv_lines.proofs.WaitingLemmas.{adds_waiting, leaves_none}
 use Rattle.uv_links.specs.Reporting.{Says}
 use Rattle.uv_links.proofs.ReportedLemmas.{begins_none}
@@ -14,4 +16,4 @@ pub returns-in-Err-clause-fault : goal.returns-in-Err-clause-fault
 returns-in-Err-clause-fault g c =
     let contents = g.W.Sink.contents c.args._writer.now in
     leaves_none begins_none c.in-Err.fault c.args.self.now c.args.text.now.items c.say.new.text.items
-    (option_copied c.args.line) contents contents c.in-Err.ensures.none.1 refl
+    (option_map bytes_of c.args.line) contents contents c.in-Err.ensures.none.1 refl

@@ -2,8 +2,8 @@
 use Rattle.std.proofs.Common.{◌≡◌, ◌+◌, ◌++◌, ◌∷◌, ◌∙◌, [], arith, drop, get_or, option_map, take, take_all, refl}
 use Rattle.std.proofs.Common.{sym, ap, subst, string_bytes, append-nil, append_assoc}
 use Rattle.uv_model.specs.declared.rule.Rule.TheVariants.{NoScheme}
-use Rattle.uv_report.specs.declared.line_violation.LineViolation.{LineViolation}
-use Rattle.uv_report.specs.declared.line_violation.LineViolation.TheVariants.{Refused}
+use Rattle.uv_sentences.specs.declared.line_violation.LineViolation.{LineViolation}
+use Rattle.uv_sentences.specs.declared.line_violation.LineViolation.TheVariants.{Refused}
 use Rattle.uv_report.specs.Diagnostic.{fix_view}
 use Rattle.uv_lines.specs.Fault.{failed_within}
 use Rattle.uv_lines.specs.Waiting.{Passes}
@@ -98,7 +98,7 @@ loop-violation-preserved g c =
       seen = c.go_to.ensures ∙ invariant.seen;
     }
 
--- where no memory was left for what is said of a violation, the diagnostics before it were said
+-- if no memory was left for what is said of a violation, the diagnostics before it were said
 pub returns-in_default-clause-fault : goal.returns-in_default-clause-fault
 returns-in_default-clause-fault g c =
     let line = c.args.self.now in

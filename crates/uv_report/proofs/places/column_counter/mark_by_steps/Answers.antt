@@ -1,4 +1,4 @@
--- At the text's end its mark is that of each place after.
+-- At the text's end its mark is the mark of each place after.
 use Rattle.std.proofs.Common.{◌≤◌, arith}
 use Rattle.uv_report.proofs.ColumnLemmas.{end_tells}
 use Rattle.uv_report.proofs.places.column_counter.mark_by_steps.Goals as goal

@@ -1,4 +1,4 @@
--- A load that begins before the place has its bits after those of the bytes before the place.
+-- A load that begins before the place has its bits after the bits of the bytes before the place.
 use Rattle.std.proofs.Common.{◌≡◌, ◌+◌, ◌-◌, ◌≤◌, ℕ, List, length, map, take, take_all, drop, ap, sym, ◌∙◌, arith}
 use Rattle.std.specs.Simd.Lanes.{mask_l}
 use Rattle.std.proofs.lemmas.List.{length-drop}

@@ -1,4 +1,4 @@
--- The first bit is that of the first lane that isn't in the rows, or the end.
+-- The first bit belongs to the first lane that isn't in the rows, or to the end.
 use Rattle.std.proofs.Common.{◌≡◌, ◌∙◌, ap, bit_or, ◌/◌, ◌^◌, w64, length}
 use Rattle.std.specs.Int.{trailing_zeros}
 use Rattle.std.specs.List.{prefix_len}

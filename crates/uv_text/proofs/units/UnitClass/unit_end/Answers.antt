@@ -1,4 +1,4 @@
--- The run by rows that hold the class is that of the class.
+-- The run by rows that hold the class is the run by the class.
 use Rattle.std.proofs.Common.{◌+◌, drop, ap, ◌∙◌, sym, subst, Fits, w8}
 use Rattle.std.proofs.lemmas.List.{get_or-drop}
 use Rattle.uv_text.specs.Splits.{class_has}

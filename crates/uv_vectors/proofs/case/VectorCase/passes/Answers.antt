@@ -1,4 +1,4 @@
--- The base is none, or the URL that its text denotes.
+-- The base isn't one, or the URL that its text denotes.
 use Rattle.std.proofs.Common.{◌≡◌, IfOk, ap, false, option_copied, subst, sym}
 use Rattle.std.specs.Prelude.{Decides}
 use Rattle.std.proofs.lemmas.Result.{IfOk-weaker}

@@ -8,7 +8,7 @@ import java.util.Optional;
 /** Checks texts by a profile, alone or against a base. It never changes, and threads may share it. */
 public final class Checker {
     private final Profile profile;
-    /** The base's text, its bytes, and what the library has prepared of it; null where texts are checked alone. */
+    /** The base's text, its bytes, and what the library has prepared of it; null if texts are checked alone. */
     private final String base;
     private final byte[] baseBytes;
     private final long[] prepared;

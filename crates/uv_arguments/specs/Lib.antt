@@ -1,0 +1,4 @@
+pub mod Arguments
+pub mod Colours
+pub mod Commands
+pub mod Requests

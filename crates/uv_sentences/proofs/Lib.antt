@@ -1,0 +1,4 @@
+pub mod FirstLemmas
+mod IntentionLemmas
+pub mod PlaceLemmas
+pub mod PrintableLemmas

@@ -1,0 +1,13 @@
+-- Each piece is tried, until one is a directive.
+use Rattle.std.proofs.Common.{◌==◌, rules, tests}
+use Rattle.std.proofs.lemmas.Iterator.Search.{any_from_yields_List}
+use Rattle.std.proofs.lemmas.Iterator.Splits.{YieldsList-from_slice_split}
+use Rattle.uv_sentences.specs.Sentences.Template.{is_directive}
+use Rattle.uv_sentences.proofs.sentences.template.has_directive.Goals as goal
+
+pub returns : goal.returns
+returns c =
+    any_from_yields_List is_directive _ _ _ c.any.ensures.ran
+    (YieldsList-from_slice_split _ (λ b. b == 0x25) c.args.text.now c.split.ensures.rest c.split.ensures.done
+    c.split.ensures.closure (λ x r q k. search (rules, tests)))
+    (λ x b q k. search (rules, tests))

@@ -1,0 +1,151 @@
+//! Texts in which some code points may not be as they are.
+ghost use Rattle.std.specs.Prelude.{◌≡◌, ◌++◌, IfOk, OnOk, string_bytes, encode_utf8, unwrap_or};
+ghost use Rattle.std.specs.Option.{option_copied};
+ghost use Rattle.uv_sentences.specs.Escaping.Escapes as spec;
+ghost use Rattle.uv_sentences.specs.Escaping.Escapes.{escape, escaped, shown_text};
+
+use crate::escaping::printable::is_printable_text;
+use std::alloc::{AllocError, Global};
+
+/// Which code points may not be as they are, and what is in their place.
+#[derive(Clone, Copy)]
+pub enum Escapes {
+    /// On a terminal: controls but the tab, and what turns the direction of a text or ends a line.
+    Shown,
+    /// In the message of a workflow command.
+    Message,
+    /// In a property of a workflow command.
+    Property,
+    /// In an attribute of XML 1.0, between `"`.
+    Attribute,
+}
+
+/// Pushes a text as a terminal may show it: U+FFFD stands for each control but the tab, and for what ends a line or
+/// turns the direction of a text. If an allocation fails, a prefix of it was pushed.
+pub fn push_shown(text: &mut String, source: &str) -> Result<(), AllocError>
+    ensures { OnOk result (string_bytes text.new ≡ string_bytes text.old ++ shown_text source.now) }
+{
+    if is_printable_text(source.as_bytes()) {
+        text.push_str(source)
+    } else {
+        push_escaped(text, source, Escapes::Shown)
+    }
+}
+
+/// Pushes a text with its escapes. If an allocation fails, a prefix of it was pushed.
+#[tactic(auto, unfolding(crate::specs::Escaping::Escapes::escaped))]
+pub fn push_escaped(text: &mut String, source: &str, escapes: Escapes) -> Result<(), AllocError>
+    ensures { OnOk result (string_bytes text.new ≡ string_bytes text.old ++ escaped escapes source.now) }
+{
+    for c in source.chars() {
+        push_escape(text, c, escapes)?;
+    }
+    Ok(())
+}
+
+/// A text with its escapes.
+pub fn escaped(alloc: Global, source: &str, escapes: Escapes) -> Result<String, AllocError>
+    ensures { IfOk result (λ text. string_bytes text ≡ escaped escapes source.now) }
+{
+    let mut text = String::new(alloc);
+    push_escaped(&mut text, source, escapes)?;
+    Ok(text)
+}
+
+// Pushes a code point, or what is in its place.
+fn push_escape(text: &mut String, c: char, escapes: Escapes) -> Result<(), AllocError>
+    ensures { OnOk result (string_bytes text.new ≡ string_bytes text.old ++ escape escapes c) }
+{
+    match stand_in(escapes, c) {
+        Some(stand_in) => text.push_str(stand_in),
+        None => text.push(c),
+    }
+}
+
+// What is in place of a code point that may not be as it is.
+fn stand_in(escapes: Escapes, c: char) -> Option<&'static str>
+    ensures { unwrap_or (option_copied result) (encode_utf8 c) ≡ escape escapes c }
+{
+    match escapes {
+        Escapes::Shown => shown(c),
+        Escapes::Message => in_message(c),
+        Escapes::Property => in_property(c),
+        Escapes::Attribute => in_attribute(c),
+    }
+}
+
+fn shown(c: char) -> Option<&'static str>
+    ensures { unwrap_or (option_copied result) (encode_utf8 c) ≡ spec.shown c }
+{
+    if is_hidden(c) { Some("\u{FFFD}") } else { None }
+}
+
+/// Whether a code point isn't shown as it is: a control but the tab, a line end, or one that turns a text's direction.
+pub fn is_hidden(c: char) -> bool
+    ensures { result ≡ spec.is_hidden c }
+{
+    is_control(c) || turns_text(c)
+}
+
+// Whether a code point is a control, but the tab.
+#[tactic(auto, using(std::proofs::lemmas::Bool::Decides::nat_tests))]
+fn is_control(c: char) -> bool
+    ensures { result ≡ spec.is_control c }
+{
+    match c {
+        '\0'..='\u{8}' | '\u{A}'..='\u{1F}' | '\u{7F}'..='\u{9F}' => true,
+        _ => false,
+    }
+}
+
+// Whether a code point turns the direction of a text or ends a line of it.
+#[tactic(auto, using(std::proofs::lemmas::Bool::Decides::nat_tests))]
+fn turns_text(c: char) -> bool
+    ensures { result ≡ spec.turns_text c }
+{
+    match c {
+        '\u{61C}' | '\u{200E}' | '\u{200F}' => true,
+        '\u{2028}'..='\u{202E}' | '\u{2066}'..='\u{2069}' => true,
+        _ => false,
+    }
+}
+
+#[tactic(auto, using(std::proofs::lemmas::Bool::Decides::nat_tests), unfolding(percent_encoding::specs::Percent::percent_encode_byte))]
+fn in_message(c: char) -> Option<&'static str>
+    ensures { unwrap_or (option_copied result) (encode_utf8 c) ≡ spec.in_message c }
+{
+    match c {
+        '%' => Some("%25"),
+        '\r' => Some("%0D"),
+        '\n' => Some("%0A"),
+        _ => None,
+    }
+}
+
+#[tactic(auto, using(std::proofs::lemmas::Bool::Decides::nat_tests), unfolding(percent_encoding::specs::Percent::percent_encode_byte))]
+fn in_property(c: char) -> Option<&'static str>
+    ensures { unwrap_or (option_copied result) (encode_utf8 c) ≡ spec.in_property c }
+{
+    match c {
+        ':' => Some("%3A"),
+        ',' => Some("%2C"),
+        _ => in_message(c),
+    }
+}
+
+#[tactic(auto, using(std::proofs::lemmas::Bool::Decides::nat_tests))]
+fn in_attribute(c: char) -> Option<&'static str>
+    ensures { unwrap_or (option_copied result) (encode_utf8 c) ≡ spec.in_attribute c }
+{
+    match c {
+        '&' => Some("&amp;"),
+        '<' => Some("&lt;"),
+        '>' => Some("&gt;"),
+        '"' => Some("&quot;"),
+        '\t' => Some("&#9;"),
+        '\n' => Some("&#10;"),
+        '\r' => Some("&#13;"),
+        '\0'..='\u{1F}' | '\u{FFFE}' | '\u{FFFF}' => Some("\u{FFFD}"),
+        _ => None,
+    }
+}

@@ -1,0 +1,160 @@
+//! What is wrong with a line.
+ghost use Rattle.std.specs.Prelude.{◌≡◌, ◌+◌, option_map};
+ghost use Rattle.uv_model.specs.Violations.Rule.{named_rule, rule_number};
+ghost use Rattle.uv_sentences.specs.LineViolation as spec;
+ghost use Rattle.uv_sentences.specs.LineViolation.{violation_end, violation_help, violation_index, violation_name};
+ghost use Rattle.uv_sentences.specs.LineViolation.{named_violation, violation_address, violation_place, violation_sentence};
+
+use crate::located_fault::LocatedFault;
+use crate::rules::explanation::explain;
+use uv_model::{Refusal, Rule};
+
+/// What is wrong with a line of a file: as a text it is refused, or it isn't a text that is checked.
+#[derive(Clone, Copy, PartialEq, Eq)]
+pub enum LineViolation {
+    /// The line violates a rule of valid URL strings at a place.
+    Refused(Refusal),
+    /// The line isn't UTF-8. So many code points are before the first byte that isn't.
+    NotUtf8(usize),
+    /// The line has more than 65,536 bytes.
+    TooLong,
+    /// The line doesn't say where its link is, as `FILE:LINE:COLUMN:LINK` does, for this reason.
+    NotLocated(LocatedFault),
+}
+
+impl LineViolation {
+    /// Whether another profile may accept a text that is refused so: for its host, for an empty first segment, or for a
+    /// drive letter after a host.
+    pub fn is_by_choice(self) -> bool {
+        match self {
+            LineViolation::Refused(refusal) => matches!(
+                refusal.rule,
+                Rule::HostDomain | Rule::FirstSegmentEmpty | Rule::DriveAfterHost
+            ),
+            LineViolation::NotUtf8(_) | LineViolation::TooLong | LineViolation::NotLocated(_) => {
+                false
+            }
+        }
+    }
+
+    /// The name of the violated rule, otherwise `not-utf8`, `line-too-long` or `not-located`.
+    pub fn name(self) -> &'static str
+        ensures { result.now ≡ violation_name self }
+    {
+        match self {
+            LineViolation::Refused(refusal) => refusal.rule.name(),
+            LineViolation::NotUtf8(_) => "not-utf8",
+            LineViolation::TooLong => "line-too-long",
+            LineViolation::NotLocated(_) => "not-located",
+        }
+    }
+
+    /// The first violation with this name that is about no refusal, by its place or the reason, or `None` if none has
+    /// it.
+    pub fn of_name(name: &str) -> Option<LineViolation>
+        ensures { result ≡ named_violation name.now }
+    {
+        match name {
+            "not-utf8" => Some(LineViolation::NotUtf8(0)),
+            "line-too-long" => Some(LineViolation::TooLong),
+            "not-located" => Some(LineViolation::NotLocated(LocatedFault::NoFile)),
+            _ => None,
+        }
+    }
+
+    /// What is wrong, in a sentence without its end.
+    pub fn sentence(self) -> &'static str
+        ensures { result.now ≡ violation_sentence self }
+    {
+        match self {
+            LineViolation::Refused(refusal) => refusal.rule.sentence(),
+            LineViolation::NotUtf8(_) => "this line isn't UTF-8",
+            LineViolation::TooLong => "this line has more than 65536 bytes",
+            LineViolation::NotLocated(_) => "this line isn't FILE:LINE:COLUMN:LINK",
+        }
+    }
+
+    /// What a line is asked, in a sentence or two.
+    pub fn help(self) -> &'static str
+        ensures { result.now ≡ violation_help self }
+    {
+        match self {
+            LineViolation::Refused(refusal) => explain(refusal.rule).asks,
+            LineViolation::NotUtf8(_) => "A line is a text in UTF-8.",
+            LineViolation::TooLong => {
+                "A line has at most 65536 bytes. A longer link may be valid: \
+                check and the libraries have no such limit."
+            }
+            LineViolation::NotLocated(_) => {
+                "A located line is FILE:LINE:COLUMN:LINK. FILE isn't empty; LINE and COLUMN are from 1 to 4294967295."
+            }
+        }
+    }
+
+    /// The address of where that is in the URL Standard: of the section of the rule, and nothing for a rule of lines.
+    pub fn address(self) -> &'static str
+        ensures { result.now ≡ violation_address self }
+    {
+        match self {
+            LineViolation::Refused(refusal) => explain(refusal.rule).address,
+            LineViolation::NotUtf8(_) | LineViolation::TooLong | LineViolation::NotLocated(_) => "",
+        }
+    }
+
+    /// Where its rule is among all that can be wrong, from 0: the three that refuse nothing come first.
+    pub(crate) fn index(self) -> u64
+        ensures { result ≡ violation_index self }
+    {
+        match self {
+            LineViolation::Refused(refusal) => u64::from(refusal.rule.number()) + 2,
+            LineViolation::NotUtf8(_) => 0,
+            LineViolation::TooLong => 1,
+            LineViolation::NotLocated(_) => 2,
+        }
+    }
+
+    /// The place at which it is wrong: a number of code points from the line's start, from 0. It is 0 for a line that
+    /// is too long, and for one that doesn't say where its link is.
+    pub fn place(self) -> usize
+        ensures { result ≡ violation_place self }
+    {
+        match self {
+            LineViolation::Refused(refusal) => refusal.place,
+            LineViolation::NotUtf8(place) => place,
+            LineViolation::TooLong | LineViolation::NotLocated(_) => 0,
+        }
+    }
+
+    /// The place at which what is wrong ends: that after the code point that violates a rule. If the line isn't checked
+    /// no code point is wrong, and it is `place`.
+    pub fn end(self) -> usize
+        ensures { result ≡ violation_end self }
+    {
+        match self {
+            LineViolation::Refused(refusal) => refusal.place.saturating_add(1),
+            LineViolation::NotUtf8(_) | LineViolation::TooLong | LineViolation::NotLocated(_) => {
+                self.place()
+            }
+        }
+    }
+}
+
+/// Where the rule with this name is among all that can be wrong, from 0, if it is among them.
+pub fn rule_index(name: &str) -> Option<u64>
+    ensures { result ≡ spec.rule_index name.now }
+{
+    match LineViolation::of_name(name) {
+        Some(violation) => Some(violation.index()),
+        None => index_of_rule(name),
+    }
+}
+
+// Where the rule of valid URL strings with this name is among all that can be wrong, from 0, if there is one.
+fn index_of_rule(name: &str) -> Option<u64>
+    ensures { result ≡ option_map (λ rule. rule_number rule + 2) (named_rule name.now) }
+{
+    match Rule::of_name(name) {
+        Some(rule) => Some(u64::from(rule.number()) + 2),
+        None => None,
+    }
+}

@@ -1,0 +1,42 @@
+//! Why a line doesn't say where its link is.
+ghost use Rattle.uv_sentences.specs.Escaping.Printable.{IsLine};
+
+/// Why a line doesn't say where its link is, as `FILE:LINE:COLUMN:LINK` does. If no two numbers are between three
+/// colons, LINE is the first number that is between two, or between one and the line's end.
+#[derive(Clone, Copy, PartialEq, Eq)]
+pub enum LocatedFault {
+    /// FILE is empty, and LINE and COLUMN are there.
+    NoFile,
+    /// There is no LINE.
+    NoLine,
+    /// LINE is 0, or above 4294967295.
+    LineRange,
+    /// There is no COLUMN.
+    NoColumn,
+    /// COLUMN is 0, or above 4294967295.
+    ColumnRange,
+    /// There is no LINK.
+    NoLink,
+}
+
+impl LocatedFault {
+    /// What is wrong with such a line, in a sentence without its end.
+    pub fn sentence(self) -> &'static str
+        ensures { IsLine result.now }
+    {
+        match self {
+            LocatedFault::NoFile => "this line isn't FILE:LINE:COLUMN:LINK, since FILE is empty",
+            LocatedFault::NoLine => "this line isn't FILE:LINE:COLUMN:LINK, since LINE is missing",
+            LocatedFault::LineRange => {
+                "this line isn't FILE:LINE:COLUMN:LINK, since LINE isn't from 1 to 4294967295"
+            }
+            LocatedFault::NoColumn => {
+                "this line isn't FILE:LINE:COLUMN:LINK, since COLUMN is missing"
+            }
+            LocatedFault::ColumnRange => {
+                "this line isn't FILE:LINE:COLUMN:LINK, since COLUMN isn't from 1 to 4294967295"
+            }
+            LocatedFault::NoLink => "this line isn't FILE:LINE:COLUMN:LINK, since LINK is missing",
+        }
+    }
+}

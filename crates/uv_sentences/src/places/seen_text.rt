@@ -1,0 +1,243 @@
+//! A text of which places are reported, with what was seen of it: places in their order are found in one pass over it.
+ghost use Rattle.std.specs.Prelude.{◌≡◌, ◌≤◌, ℕ, List, drop, slice_get};
+ghost use Rattle.std.specs.Str.{chars};
+ghost use Rattle.uv_sentences.specs.Sentences.Intention as intentions;
+ghost use Rattle.uv_sentences.specs.Places.SeenText.{IsKnown, IsSpot};
+ghost use Rattle.uv_sentences.specs.Places.Window as shown;
+
+use crate::places::window::{is_longer, rest_in};
+use crate::sentences::intention::{Intention, shown_intention};
+use crate::sentences::ipv6;
+use crate::sentences::message::{has_credentials_in, part_length};
+use std::marker::Model;
+use uv_model::first_code_point;
+
+// A place of a text, and what is from there on.
+#[derive(Clone, Copy)]
+struct Spot<'t> {
+    place: usize,
+    rest: &'t str,
+}
+
+// The places of a text from one up to another, from each of which credentials follow or from none.
+#[derive(Clone, Copy)]
+struct Part {
+    from: usize,
+    to: usize,
+    has_credentials: bool,
+}
+
+// What doesn't depend on the place in a text.
+#[derive(Clone, Copy)]
+struct Known {
+    has_bare_ipv6: bool,
+    is_longer_than_window: bool,
+    is_cut: bool,
+}
+
+/// A text of which places are reported. It goes on from the place that it was led to last, so that places in their
+/// order are found in one pass over the text, and what is the same at each of them is looked at once.
+#[derive(Drop)]
+pub struct SeenText<'t> {
+    text: &'t str,
+    last: Spot<'t>,
+    // Where what is shown of a long text begins, for the last place.
+    window: Spot<'t>,
+    part: Option<Part>,
+    // What it shows of its author's intention, where that was looked at.
+    intention: Option<Option<Intention>>,
+    known: Option<Known>,
+}
+
+impl<'t> Model for SeenText<'t> {
+    ghost use Rattle.std.specs.Prelude.{ℕ, List};
+    ghost use Rattle.uv_sentences.specs.Places.SeenText.{Sees};
+
+    ghost Value = { List ℕ };
+
+    ghost view = { λ s. s.text.now };
+
+    ghost invariant = { λ s. Sees s.text.now s.last s.window s.intention s.known };
+}
+
+impl<'t> SeenText<'t> {
+    /// A text of which one place is reported: nothing of it is looked at yet, and nothing is kept.
+    pub fn new(text: &'t str) -> SeenText<'t>
+        ensures { result ≡ text.entry.now }
+    {
+        SeenText {
+            text,
+            last: first_spot(text),
+            window: first_spot(text),
+            part: None,
+            intention: None,
+            known: None,
+        }
+    }
+
+    /// A refused text of which one place is reported. What it shows of its author's intention is looked at here.
+    pub fn of_refused(text: &'t str) -> SeenText<'t>
+        ensures { result ≡ text.entry.now }
+    {
+        SeenText {
+            text,
+            last: first_spot(text),
+            window: first_spot(text),
+            part: None,
+            intention: Some(shown_intention(text)),
+            known: None,
+        }
+    }
+
+    /// A text of which several places are reported. What is the same at each of them is looked at here.
+    pub fn of_several(text: &'t str) -> SeenText<'t>
+        ensures { result ≡ text.entry.now }
+    {
+        SeenText {
+            text,
+            last: first_spot(text),
+            window: first_spot(text),
+            part: None,
+            intention: Some(shown_intention(text)),
+            known: Some(known_of(text)),
+        }
+    }
+
+    /// Goes on to a place, where several are reported. The next one is found from there.
+    pub fn go_to(&mut self, place: usize)
+        ensures { self.new ≡ self.old }
+    {
+        if self.known.is_some() {
+            let start = place.saturating_sub(99);
+            self.window = spot_at(start, self.rest_at(start));
+            self.last = spot_at(place, self.rest_at(place));
+            self.part = Some(self.part_at(place));
+        }
+    }
+
+    // The part of the text with a place: the last one, where it is within that.
+    fn part_at(&self, place: usize) -> Part {
+        match self.part {
+            Some(part) if part.from <= place && place <= part.to => part,
+            _ => part_from(place, self.rest_at(place)),
+        }
+    }
+
+    /// The text.
+    pub fn as_str(&self) -> &'t str
+        ensures { result.now ≡ self.now }
+    {
+        self.text
+    }
+
+    /// What is from a place of the text on: nothing, where it has no such place.
+    pub(crate) fn rest_at(&self, place: usize) -> &'t str
+        ensures { chars result.now ≡ drop place (chars self.now) }
+    {
+        if self.last.place <= place {
+            return rest_after(self.last, place);
+        }
+        if self.window.place <= place {
+            return rest_after(self.window, place);
+        }
+        rest_in(self.text, place)
+    }
+
+    /// The code point at a place of the text.
+    pub(crate) fn point_at(&self, place: usize) -> Option<char>
+        ensures { result ≡ slice_get (chars self.now) place }
+    {
+        match first_code_point(self.rest_at(place)) {
+            Some((c, _)) => Some(c),
+            None => None,
+        }
+    }
+
+    /// What the text shows alone of its author's intention.
+    pub(crate) fn shown_intention(&self) -> Option<Intention>
+        ensures { result ≡ intentions.shown_intention self.now }
+    {
+        match self.intention {
+            Some(intention) => intention,
+            None => shown_intention(self.text),
+        }
+    }
+
+    /// Whether an `@` follows from a place of a host or a port on, before the authority's end.
+    pub(crate) fn has_credentials(&self, place: usize) -> bool {
+        match self.part {
+            Some(part) if part.from <= place && place <= part.to => part.has_credentials,
+            _ => has_credentials_in(self.rest_at(place)),
+        }
+    }
+
+    /// Whether the authority of a text that has one is an IPv6 text.
+    pub(crate) fn has_bare_ipv6(&self) -> bool {
+        match self.known {
+            Some(known) => known.has_bare_ipv6,
+            None => ipv6::has_bare_ipv6(self.text),
+        }
+    }
+
+    /// Whether the text has more code points than are shown of it.
+    pub fn is_longer_than_window(&self) -> bool
+        ensures { result ≡ shown.is_longer 200 self.now }
+    {
+        match self.known {
+            Some(known) => known.is_longer_than_window,
+            None => is_longer(self.text, 200),
+        }
+    }
+
+    /// Whether a report carries a window of the text alone.
+    pub fn is_cut(&self) -> bool
+        ensures { result ≡ shown.is_cut self.now }
+    {
+        match self.known {
+            Some(known) => known.is_cut,
+            None => is_longer(self.text, 2_000),
+        }
+    }
+}
+
+// What doesn't depend on the place in a text.
+fn known_of(text: &str) -> Known
+    ensures { IsKnown text.now result }
+{
+    Known {
+        has_bare_ipv6: ipv6::has_bare_ipv6(text),
+        is_longer_than_window: is_longer(text, 200),
+        is_cut: is_longer(text, 2_000),
+    }
+}
+
+// The place 0.
+fn first_spot<'t>(text: &'t str) -> Spot<'t>
+    ensures { IsSpot text.entry.now result }
+{
+    spot_at(0, text)
+}
+
+// A place, before what is from there on.
+fn spot_at<'t>(place: usize, rest: &'t str) -> Spot<'t>
+    ensures { (text : List ℕ) → chars rest.entry.now ≡ drop place (chars text) → IsSpot text result }
+{
+    Spot { place, rest }
+}
+
+// The part that begins at a place, before what is from there on.
+fn part_from(place: usize, rest: &str) -> Part {
+    Part {
+        from: place,
+        to: place.saturating_add(part_length(rest)),
+        has_credentials: has_credentials_in(rest),
+    }
+}
+
+// What is from a place on, which isn't before another.
+fn rest_after<'t>(spot: Spot<'t>, place: usize) -> &'t str
+    requires { spot.place ≤ place }
+    ensures { (text : List ℕ) → IsSpot text spot.entry → chars result.now ≡ drop place (chars text) }
+{
+    rest_in(spot.rest, place - spot.place)
+}

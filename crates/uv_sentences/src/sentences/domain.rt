@@ -1,0 +1,154 @@
+//! Why a host isn't a valid domain by a profile, as far as its text shows it.
+
+use crate::places::seen_text::SeenText;
+use crate::sentences::authority::before_end;
+use crate::sentences::code_point::point_name;
+use crate::sentences::drive::is_file_link;
+use crate::sentences::pieces::{before, has_piece};
+use std::alloc::{AllocError, Global};
+use uv_model::{Profile, Rule, is_domain_mark, is_drive_letter};
+
+/// What is said of the host that begins at a place of a line: that it is a drive letter, which code point may not be in
+/// it, or what is wrong with a label of it, otherwise the rule's sentence.
+pub(crate) fn domain_sentence(
+    alloc: Global,
+    profile: Profile,
+    line: &SeenText<'_>,
+    place: usize,
+) -> Result<String, AllocError> {
+    let host = host_at(line, place);
+    if is_file_link(line.as_str()) && is_drive_letter(host.as_bytes()) {
+        return String::from_str(
+            alloc,
+            "a drive letter is written after file:///, and not in place of a host",
+        );
+    }
+    match foreign_in(profile, host) {
+        Some(c) => foreign_sentence(alloc, c),
+        None => labels_sentence(alloc, profile, host),
+    }
+}
+
+// What is said of a code point that is not allowed in a domain.
+fn foreign_sentence(alloc: Global, c: char) -> Result<String, AllocError> {
+    let name = point_name(alloc, c)?;
+    let name = name.as_str();
+    if c == ':' {
+        format!(in alloc; "{name} is not allowed in a domain: a file URL has no port")
+    } else {
+        format!(in alloc; "{name} is not allowed in a domain")
+    }
+}
+
+// What is said of a host whose code points show nothing.
+fn labels_sentence(alloc: Global, profile: Profile, host: &str) -> Result<String, AllocError> {
+    let name = host.strip_suffix('.').unwrap_or(host);
+    if let Some(fault) = label_fault(profile, name) {
+        return String::from_str(alloc, fault.sentence());
+    }
+    if profile == Profile::Standard && name.is_ascii() && name.len() > 253 {
+        return String::from_str(alloc, "this domain has more than 253 code points");
+    }
+    if !name.is_ascii() || has_piece(name, "%") {
+        return String::from_str(alloc, Rule::HostDomain.sentence());
+    }
+    match name.split('.').find(|label| has_prefix(label)) {
+        Some(label) if label.len() <= 63 && has_one_prefix(name) => {
+            format!(in alloc; "{label} is not the Punycode of a valid label")
+        }
+        Some(_) => String::from_str(
+            alloc,
+            "a label that begins with xn-- is not the Punycode of a valid one",
+        ),
+        None => String::from_str(alloc, Rule::HostDomain.sentence()),
+    }
+}
+
+// Whether one label alone begins with `xn--`.
+fn has_one_prefix(name: &str) -> bool {
+    name.split('.').filter(|label| has_prefix(label)).count() == 1
+}
+
+// The first code point for which a host is refused by a profile, whatever else it has.
+fn foreign_in(profile: Profile, host: &str) -> Option<char> {
+    host.chars().find(|c| is_foreign(profile, *c))
+}
+
+// Whether a host with this code point is refused, whatever else it has. Under the parser's profile a host may be
+// percent-encoded.
+fn is_foreign(profile: Profile, c: char) -> bool {
+    let is_percent = profile == Profile::Parser && c == '%';
+    c.is_ascii() && !c.is_ascii_alphanumeric() && !is_percent && !is_domain_mark(c, profile)
+}
+
+// The host that begins at a place of a line. No port can follow the host of a `file` link.
+fn host_at<'t>(line: &SeenText<'t>, place: usize) -> &'t str {
+    let authority = before_end(line.rest_at(place));
+    if is_file_link(line.as_str()) {
+        authority
+    } else {
+        before(authority, ':')
+    }
+}
+
+// What may be wrong with a label of a host.
+#[derive(Clone, Copy)]
+enum LabelFault {
+    Empty,
+    Long,
+    OuterHyphen,
+    InnerHyphens,
+}
+
+impl LabelFault {
+    fn sentence(self) -> &'static str {
+        match self {
+            LabelFault::Empty => "a label of this domain is empty",
+            LabelFault::Long => "a label of this domain has more than 63 code points",
+            LabelFault::OuterHyphen => "a label of this domain begins or ends with -",
+            LabelFault::InnerHyphens => {
+                "a label of this domain has -- in its third and fourth place"
+            }
+        }
+    }
+
+    // Whether it is wrong with a label. Of a label that ToASCII writes in another way only that it is empty is seen.
+    fn is_of(self, label: &str) -> bool {
+        let is_plain = label.is_ascii() && !has_prefix(label);
+        match self {
+            LabelFault::Empty => label.is_empty(),
+            LabelFault::Long => label.is_ascii() && label.len() > 63,
+            LabelFault::OuterHyphen => is_plain && (label.starts_with('-') || label.ends_with('-')),
+            LabelFault::InnerHyphens => {
+                is_plain && label.as_bytes().get(2..4) == Some(b"--".as_slice())
+            }
+        }
+    }
+}
+
+// The first fault that a profile refuses and a label has. The parser's takes labels of any length, and the standard one
+// alone asks for hyphens.
+fn label_fault(profile: Profile, name: &str) -> Option<LabelFault> {
+    let faults: &[LabelFault] = match profile {
+        Profile::Standard => &[
+            LabelFault::Empty,
+            LabelFault::Long,
+            LabelFault::OuterHyphen,
+            LabelFault::InnerHyphens,
+        ],
+        Profile::Wide => &[LabelFault::Empty, LabelFault::Long],
+        Profile::Parser => &[],
+    };
+    faults
+        .iter()
+        .find(|fault| name.split('.').any(|label| fault.is_of(label)))
+        .copied()
+}
+
+// Whether a label begins with `xn--` in any case.
+fn has_prefix(label: &str) -> bool {
+    match label.as_bytes() {
+        [b'x' | b'X', b'n' | b'N', b'-', b'-', ..] => true,
+        _ => false,
+    }
+}

@@ -1,0 +1,143 @@
+//! The sentence on what is wrong with a line, with what the line shows of its author's intention. Its words are for
+//! people, and no clause says them: the runs of `tests/runs` compare them.
+ghost use Rattle.std.specs.Prelude.{IfOk, string_bytes};
+ghost use Rattle.uv_sentences.specs.Sentences.Message.{IsMessage};
+
+use crate::escaping::escapes::push_shown;
+use crate::line_violation::LineViolation;
+use crate::places::seen_text::SeenText;
+use crate::sentences::code_point::point_name;
+use crate::sentences::domain::domain_sentence;
+use crate::sentences::intention::is_link_scheme;
+use crate::sentences::ipv4::ipv4_sentence;
+use crate::sentences::ipv6::ipv6_sentence;
+use crate::sentences::pieces::before;
+use crate::sentences::start::start_sentence;
+use crate::sentences::wording::{Checked, rule_note};
+use std::alloc::{AllocError, Global};
+use uv_model::{Refusal, Rule};
+
+const CREDENTIALS: &str =
+    "a URL string has no credentials: no user name, password or @ before its host";
+
+const BARE_IPV6: &str = "a host that is an IPv6 address is written in brackets";
+
+/// What is reported of a line that was checked so, in a sentence without its end: one line, in which nothing is that a
+/// terminal obeys.
+pub fn message(
+    alloc: Global,
+    checked: Checked,
+    line: &SeenText<'_>,
+    violation: LineViolation,
+) -> Result<String, AllocError>
+    ensures { IfOk result (λ text. IsMessage (string_bytes text)) }
+{
+    let said = violation_sentence(alloc, checked, line, violation)?;
+    // Room for most sentences.
+    let mut text = String::with_capacity(alloc, 100)?;
+    push_shown(&mut text, said.as_str())?;
+    Ok(text)
+}
+
+// What is reported of a line.
+fn violation_sentence(
+    alloc: Global,
+    checked: Checked,
+    line: &SeenText<'_>,
+    violation: LineViolation,
+) -> Result<String, AllocError> {
+    match violation {
+        LineViolation::Refused(refusal) => {
+            let mut said = refusal_sentence(alloc, checked, line, refusal)?;
+            match line.shown_intention() {
+                Some(intention) => said.push_str(intention.note())?,
+                None => said.push_str(rule_note(alloc, checked, line, refusal)?.as_str())?,
+            }
+            Ok(said)
+        }
+        LineViolation::NotLocated(fault) => String::from_str(alloc, fault.sentence()),
+        LineViolation::NotUtf8(_) | LineViolation::TooLong => {
+            String::from_str(alloc, violation.sentence())
+        }
+    }
+}
+
+// What is wrong with a refused line.
+fn refusal_sentence(
+    alloc: Global,
+    checked: Checked,
+    line: &SeenText<'_>,
+    refusal: Refusal,
+) -> Result<String, AllocError> {
+    if is_of_authority(refusal.rule) && line.has_credentials(refusal.place) {
+        return credentials_sentence(alloc, line.as_str());
+    }
+    if is_of_authority(refusal.rule) && line.has_bare_ipv6() {
+        return String::from_str(alloc, BARE_IPV6);
+    }
+    match refusal.rule {
+        Rule::NoScheme => start_sentence(alloc, line),
+        Rule::HostDomain => domain_sentence(alloc, checked.profile, line, refusal.place),
+        Rule::HostNumber => ipv4_sentence(alloc, checked.profile, line.rest_at(refusal.place)),
+        Rule::HostIpv6 => String::from_str(alloc, ipv6_sentence(line.rest_at(refusal.place))),
+        _ => point_sentence(alloc, refusal.rule, line.point_at(refusal.place)),
+    }
+}
+
+// What is said of credentials. Links of other schemes than the special ones may need them.
+fn credentials_sentence(alloc: Global, line: &str) -> Result<String, AllocError> {
+    let advice = if is_link_scheme(before(line, ':')) {
+        "; leave them out"
+    } else {
+        ""
+    };
+    format!(in alloc; "{CREDENTIALS}{advice}")
+}
+
+// What is said of a code point that violates a rule, where the rule is about one, otherwise the rule's sentence.
+fn point_sentence(alloc: Global, rule: Rule, point: Option<char>) -> Result<String, AllocError> {
+    let said = match rule {
+        Rule::HostCodePoint => "is not allowed in a host",
+        Rule::PortDigit => "is not allowed in a port",
+        Rule::CodePoint => "is not allowed in a URL",
+        Rule::Percent => "has to be followed by two hex digits",
+        _ => return String::from_str(alloc, rule.sentence()),
+    };
+    let Some(c) = point else {
+        return String::from_str(alloc, rule.sentence());
+    };
+    let name = point_name(alloc, c)?;
+    let name = name.as_str();
+    format!(in alloc; "{name} {said}")
+}
+
+// Whether a rule is one of hosts and ports.
+fn is_of_authority(rule: Rule) -> bool {
+    match rule {
+        Rule::HostMissing
+        | Rule::HostDomain
+        | Rule::HostNumber
+        | Rule::HostIpv6
+        | Rule::HostCodePoint
+        | Rule::PortDigit
+        | Rule::PortRange => true,
+        _ => false,
+    }
+}
+
+/// Whether an `@` follows in a text, before the authority's end.
+pub(crate) fn has_credentials_in(text: &str) -> bool {
+    text.chars().find(|c| ends_part(*c)) == Some('@')
+}
+
+/// For how many code points further on the same one is the first.
+pub(crate) fn part_length(text: &str) -> usize {
+    text.chars()
+        .position(|c| ends_part(c))
+        .unwrap_or(usize::MAX)
+}
+
+// Whether a code point ends credentials or an authority.
+fn ends_part(c: char) -> bool {
+    c == '@' || c == '/' || c == '?' || c == '#'
+}

@@ -1,0 +1,33 @@
+//! Pieces of a text.
+ghost use Rattle.std.specs.List.{after_first, before_first};
+ghost use Rattle.std.specs.Prelude.{◌≡◌, ◌==◌, ◌<◌};
+ghost use Rattle.uv_sentences.specs.Sentences.Template as spec;
+
+/// What is before the first such ASCII mark: all, where there is none.
+pub(crate) fn before(text: &str, mark: char) -> &str
+    requires { mark < 128 }
+    ensures { result.now ≡ before_first (λ b. b == mark) text.now }
+{
+    match text.split_once(mark) {
+        Some((front, _)) => front,
+        None => text,
+    }
+}
+
+/// What is after the first such ASCII mark: nothing, where there is none.
+pub(crate) fn after(text: &str, mark: char) -> &str
+    requires { mark < 128 }
+    ensures { result.now ≡ after_first (λ b. b == mark) text.now }
+{
+    match text.split_once(mark) {
+        Some((_, rest)) => rest,
+        None => "",
+    }
+}
+
+/// Whether a text has a piece.
+pub(crate) fn has_piece(text: &str, piece: &str) -> bool
+    ensures { result ≡ spec.has_piece piece.now text.now }
+{
+    text.contains(piece)
+}

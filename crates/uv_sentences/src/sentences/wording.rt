@@ -1,0 +1,124 @@
+//! How a sentence calls what its reader can set, and what follows it.
+
+use crate::places::seen_text::SeenText;
+use crate::sentences::authority::before_query;
+use crate::sentences::pieces::before;
+use crate::sentences::start::start_note;
+use std::alloc::{AllocError, Global};
+use uv_model::{Profile, Refusal, Rule, is_name};
+
+/// How a profile and a base are called where a sentence is read.
+#[derive(Clone, Copy, PartialEq, Eq)]
+pub enum Wording {
+    /// As options of a command line: `--profile wide`, `(--base)`.
+    Options,
+    /// As arguments of a function: `profile='wide'`, `(base=)`.
+    Arguments,
+    /// As parameters of SQL: `profile 'wide'`, `(base)`.
+    Sql,
+    /// Not at all.
+    Silent,
+}
+
+impl Wording {
+    // A profile, where it is named.
+    fn profile(self, alloc: Global, profile: Profile) -> Result<String, AllocError> {
+        let name = profile.name();
+        match self {
+            Wording::Options => format!(in alloc; "--profile {name}"),
+            Wording::Arguments => format!(in alloc; "profile='{name}'"),
+            Wording::Sql => format!(in alloc; "profile '{name}'"),
+            Wording::Silent => Ok(String::new(alloc)),
+        }
+    }
+
+    /// How the base is named after words on it, or nothing.
+    pub(crate) fn base(self) -> &'static str {
+        match self {
+            Wording::Options => " (--base)",
+            Wording::Arguments => " (base=)",
+            Wording::Sql => " (base)",
+            Wording::Silent => "",
+        }
+    }
+}
+
+/// How a text was checked, for the sentence on what is wrong with it.
+#[derive(Clone, Copy)]
+pub struct Checked {
+    /// By which profile.
+    pub profile: Profile,
+    /// The next wider profile that accepts the whole text, where one was looked for and does.
+    pub accepted_by: Option<Profile>,
+    /// How what the reader can set is called.
+    pub wording: Wording,
+}
+
+/// What follows the sentence on a refused text that shows nothing else of its author's intention: the profile that
+/// accepts it, where that is a choice which people make, or what its scheme requires.
+pub(crate) fn rule_note(
+    alloc: Global,
+    checked: Checked,
+    line: &SeenText<'_>,
+    refusal: Refusal,
+) -> Result<String, AllocError> {
+    let named = named_profile(alloc, checked, refusal.rule)?;
+    let profile = named.as_str();
+    match refusal.rule {
+        Rule::FirstSegmentEmpty if profile.is_empty() => {
+            String::from_str(alloc, "; write one slash")
+        }
+        Rule::FirstSegmentEmpty => format!(in alloc; "; write one slash, or use {profile}"),
+        Rule::NoScheme => start_note(alloc, checked.wording, line),
+        Rule::CodePoint if is_in_path(line, refusal.place) => {
+            String::from_str(alloc, scheme_note(before(line.as_str(), ':')))
+        }
+        _ if profile.is_empty() => Ok(String::new(alloc)),
+        _ => format!(in alloc; "; {profile} allows it"),
+    }
+}
+
+// The profile that accepts the text, where what violates the rule is a choice: under the wide profile `_` and hyphens
+// of hosts and two slashes, by the parser's a drive letter after a host. Of other hosts it isn't named: they lead
+// nowhere.
+fn named_profile(alloc: Global, checked: Checked, rule: Rule) -> Result<String, AllocError> {
+    match (rule, checked.accepted_by) {
+        (Rule::HostDomain | Rule::FirstSegmentEmpty, Some(Profile::Wide)) => {
+            checked.wording.profile(alloc, Profile::Wide)
+        }
+        (Rule::FirstSegmentEmpty | Rule::DriveAfterHost, Some(Profile::Parser)) => {
+            checked.wording.profile(alloc, Profile::Parser)
+        }
+        _ => Ok(String::new(alloc)),
+    }
+}
+
+// Whether a place is before the query and the fragment.
+fn is_in_path(line: &SeenText<'_>, place: usize) -> bool {
+    let text = line.as_str();
+    let ahead = text.len().saturating_sub(line.rest_at(place).len());
+    ahead < before_query(text).len()
+}
+
+// What a scheme requires of what follows it, where that is a rule of its own.
+fn scheme_note(scheme: &str) -> &'static str {
+    if is_name(scheme, "mailto") {
+        return "; write addresses as in mailto:a@example.com";
+    }
+    if is_name(scheme, "tel") || is_name(scheme, "sms") {
+        return "; write a number without spaces, as in tel:+1-555-0100";
+    }
+    if is_name(scheme, "sip") || is_name(scheme, "sips") || is_name(scheme, "xmpp") {
+        return "; write an address as in sip:a@example.com";
+    }
+    if is_name(scheme, "geo") {
+        return "; write coordinates as in geo:48.2,16.3";
+    }
+    if is_name(scheme, "about") {
+        return "; write a page as in about:blank";
+    }
+    if is_name(scheme, "view-source") {
+        return "; mend the link after view-source:";
+    }
+    ""
+}

@@ -1,8 +1,0 @@
--- What is said of the first of the rest is what is said of the first of all.
-use Rattle.std.proofs.Common.{◌≡◌, drop, map, string_bytes}
-use Rattle.uv_words.specs.Arguments.{first_said}
-use Rattle.uv_words.proofs.arguments.first_said.Given as goal
-
-abbrev pub invariant-loop-text : goal.invariant-loop-text
-invariant-loop-text l =
-    first_said (map string_bytes (drop l.text-index l.texts)) ≡ first_said (map string_bytes l.texts)

@@ -1,8 +1,0 @@
--- An entry's values as texts.
-use Rattle.std.proofs.Common.{◌∙◌}
-use Rattle.clap.specs.Words.{found_of}
-use Rattle.clap.proofs.WalkLemmas.{raw_values-rows}
-use Rattle.uv_words.proofs.entries.values.Goals as goal
-
-pub returns : goal.returns
-returns c = c.get_strs.ensures ∙ raw_values-rows (found_of c.args.entries.now) c.args.id.now
