@@ -137,10 +137,11 @@ python=$(python_with pylsp_jsonrpc markdown_it docutils tinycss2 sphinx mkdocs) 
 # Faults planted into documentation in reStructuredText, as Debian has it.
 documentations=()
 for folder in /usr/share/doc/docutils-doc/docs /usr/share/doc/python3*-doc/html/_sources; do
+    [ -d "$folder" ] || continue
     # (Debian has Python's under two names)
     folder=$(realpath "$folder")
     case " ${documentations[*]} " in *" $folder "*) continue ;; esac
-    [ ! -d "$folder" ] || documentations+=("$folder")
+    documentations+=("$folder")
 done
 if [ ${#documentations[@]} -gt 0 ] && python=$(python_with docutils); then
     for folder in "${documentations[@]}"; do

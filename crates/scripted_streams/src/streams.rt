@@ -1,6 +1,6 @@
 //! Readers and writers: bytes in pieces, the end and a read that fails between two that don't, through the bound; and
 //! scripts played to their end, and past it.
-ghost use Rattle.std.specs.Prelude.{◌≡◌, ◌^◌, ◌<◌, ◌+◌, ◌-◌, None};
+ghost use Rattle.std.specs.Prelude.{◌^◌, ◌<◌, ◌+◌, ◌-◌, None};
 
 use crate::{ScriptSink, ScriptSource};
 use std::alloc::AllocError;

@@ -1,7 +1,7 @@
 //! Reports on a file over readers and writers that play a list of answers: each read and each write made to fail in
 //! turn, after short ones, and a file of too many lines. What is reported on which line, in each format, the runs of
 //! the program show.
-ghost use Rattle.std.specs.Prelude.{◌<◌, ◌≤◌};
+ghost use Rattle.std.specs.Prelude.{◌<◌};
 
 use crate::line_ends::line_feeds;
 use scripted_streams::{ScriptSink, ScriptSource};

@@ -15,7 +15,7 @@ use Rattle.urlcheck_c.specs.declared.bases.Base.{Base}
 use Rattle.urlcheck_c.specs.declared.bases.CheckRequest.{CheckRequest}
 use Rattle.urlcheck_c.specs.declared.finding.Finding.{Finding}
 use Rattle.urlcheck_c.specs.Base.{IsAsked, IsBaseOfKind, IsKindBy, IsKindGiven, IsMadeOf, IsNoKindGiven, IsOfKindGiven}
-use Rattle.urlcheck_c.specs.Base.{IsPreparedBase, IsStray, IsUnasked, IsUnread, SaysNoBase, base_fault, flag_number}
+use Rattle.urlcheck_c.specs.Base.{IsPreparedBase, IsStray, IsUnasked, SaysNoBase, base_fault, flag_number}
 use Rattle.urlcheck_c.specs.Base.{held_base, is_refused_base, kind_in, scheme_number, scheme_with}
 use Rattle.urlcheck_c.specs.declared.finding.CallOutcome.TheVariants.{NoBase}
 use Rattle.urlcheck_c.specs.Finding.{IsSmall, plain_finding, profile_of}
@@ -39,14 +39,6 @@ flag_back false = refl
 pub kind_back : (number : ℕ) (kind : BaseKind) → kind_in (held_base number kind) ≡ Some kind
 kind_back number kind =
     rw (scheme_back kind.scheme, flag_back kind.has_opaque_path, flag_back kind.has_empty_host) refl
-
--- ---- the profile of a base
-
--- a base has the number of the profile by which it was checked
-pub prepared_profile : (number : ℕ) (bytes : List ℕ) (base : Base) → IsPreparedBase number bytes base
-    → base.profile ≡ number
-prepared_profile number bytes base (inl (unread, is)) = ap (λ (b : Base). b.profile) is
-prepared_profile number bytes base (inr (kind, of_kind, is)) = ap (λ (b : Base). b.profile) is
 
 -- ---- why nothing is checked
 

@@ -1,7 +1,7 @@
 -- Texts that are checked one by one, and columns that are filled row by row.
 use Rattle.std.proofs.Common.{◌≡◌, ◌≢◌, ◌∙◌, ℕ, suc, ◌+◌, ◌≤◌, ◌<◌, ◌==◌, lit<, List, [], ◌∷◌, ◌++◌, length, take}
 use Rattle.std.proofs.Common.{drop, map}
-use Rattle.std.proofs.Common.{set, refl, sym, ap, subst, arith, inl, inr, if◌then◌else◌, Bool, true, false}
+use Rattle.std.proofs.Common.{set, refl, sym, ap, subst, arith, if◌then◌else◌, Bool, true, false}
 use Rattle.std.specs.Prelude.{Option}
 use Rattle.std.proofs.Math.Seq.{drop-append_seam, take-append_seam}
 use Rattle.std.proofs.lemmas.List.{length-append, length-drop, length-map, map-append, take-append-drop}
@@ -88,19 +88,6 @@ checked_more number base texts offsets row old now new valid more last below che
       places = mapped_more (λ f. f.place) rows row checked.found last old.places now.places new.places
           checked.count below checked.places place;
     })
-
--- no text is checked, and the columns are as they were
-pub none_checked : (number : ℕ) (base : Option Base) (texts offsets : List ℕ) (old : Columns)
-    → AreChecked number base texts offsets 0 old old 0
-none_checked number base texts offsets old = record {
-  found = [];
-  checked = (refl, refl);
-  count = refl;
-  few = omega arith;
-  verdicts = (λ room. refl, λ short. refl);
-  rules = (λ room. refl, λ short. refl);
-  places = (λ room. refl, λ short. refl);
-}
 
 -- ---- how many are valid
 

@@ -4,7 +4,6 @@ use Rattle.std.proofs.Common.{length, take, drop, map, refl, sym, ap, subst, ari
 use Rattle.std.proofs.Common.{inr}
 use Rattle.std.specs.Prelude.{None, slice_index, slice_range, zero}
 use Rattle.std.specs.Str.Lines.{strip_carriage_return}
-use Rattle.std.proofs.Math.Seq.{drop-length}
 use Rattle.std.proofs.Math.ListN.{get_or}
 use Rattle.std.proofs.lemmas.Bool.{eqb-true}
 use Rattle.std.proofs.lemmas.List.{drop-drop, get_or-drop, get_or-take, length-drop, length-take-le, take-append-drop}
@@ -103,18 +102,6 @@ closed_first rest at none after =
     (split-closing [] line none)
     ∙ joined_one line (split remaining).0 (split remaining).1 in
     ap (λ (p : List (List ℕ) × List ℕ). map strip_carriage_return p.0 ++ open_lines p.1) parts
-
--- a last line
-open_one : (rest : List ℕ) → 0 < length rest → open_lines rest ≡ rest ∷ []
-open_one [] some = absurd (omega (arith, some))
-open_one (x ∷ rest) some = refl
-
--- the only line, if no LF ends it
-pub open_first : (rest : List ℕ) → split rest ≡ ([], rest) → 0 < length rest
-    → lines_of rest ≡ rest ∷ lines_of (drop (length rest) rest)
-open_first rest none some =
-    ap (λ (p : List (List ℕ) × List ℕ). map strip_carriage_return p.0 ++ open_lines p.1) none
-    ∙ open_one rest some ∙ ap (λ t. rest ∷ lines_of t) (sym (drop-length rest))
 
 -- the first line of what follows a byte of a buffer
 pub first_line_here : (bytes : List ℕ) (start : ℕ) (line : FirstLine)

@@ -1,6 +1,7 @@
 -- The fixed texts that a caller asks for by numbers.
 use Rattle.std.specs.Prelude.{◌≡◌, ℕ, ◌==◌, ◌||◌, if◌then◌else◌, Bool, true, false, List, [], Option, Some, None}
 use Rattle.std.specs.Int.{is_in_range}
+use Rattle.uv_model.specs.declared.rule.Rule.{Rule}
 use Rattle.uv_report.specs.declared.format.Format.{Format}
 use Rattle.uv_sentences.specs.declared.line_violation.LineViolation.{LineViolation}
 use Rattle.uv_sentences.specs.declared.line_violation.LineViolation.TheVariants.{Refused}
@@ -9,6 +10,7 @@ use Rattle.uv_report.specs.Format.{format_name}
 use Rattle.uv_sentences.specs.LineViolation.{violation_address, violation_name}
 use Rattle.uv_report.specs.Places.Column.{columns_name}
 use Rattle.uv_sentences.specs.Escaping.Printable.{IsLine}
+use Rattle.uv_sentences.specs.Rules.Explanation.{rule_place}
 use Rattle.urlcheck_c.specs.Buffer.{IsWritten}
 use Rattle.urlcheck_c.specs.Names.{rule_with_number}
 use Rattle.urlcheck_c.specs.ReportNumbers.{format_of, unit_of, violation_of}
@@ -63,6 +65,11 @@ IsTextAnswer what number old new answer =
 
 -- ---- the place of an example
 
--- it is at the start if no rule has the number
-abbrev pub IsExamplePlace : ℕ → ℕ → Type 0
-IsExamplePlace number place = rule_with_number number ≡ None → place ≡ 0
+-- the place of a rule's example, where there is a rule
+abbrev pub place_or_none : Option Rule → ℕ
+place_or_none None = 0
+place_or_none (Some rule) = rule_place rule
+
+-- the place of the example of the rule with a number
+abbrev pub example_place : ℕ → ℕ
+example_place number = place_or_none (rule_with_number number)

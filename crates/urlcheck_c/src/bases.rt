@@ -1,7 +1,7 @@
 //! A base that is checked once and held between calls.
-ghost use Rattle.std.specs.Prelude.{◌≡◌, ◌==◌, not, option_copied};
+ghost use Rattle.std.specs.Prelude.{◌≡◌, ◌==◌, option_copied};
 ghost use Rattle.urlcheck_c.specs.Base.{IsAsked, IsKindBy, IsKindDenoted, IsKindRead, IsPreparedBase, base_fault};
-ghost use Rattle.urlcheck_c.specs.Base.{flag_number, held_base, is_refused_base, kind_in, scheme_number, scheme_with};
+ghost use Rattle.urlcheck_c.specs.Base.{held_base, is_refused_base, kind_in, scheme_number, scheme_with};
 ghost use Rattle.urlcheck_c.specs.Base.{unread_base};
 ghost use Rattle.urlcheck_c.specs.Request.{given};
 

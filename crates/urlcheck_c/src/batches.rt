@@ -1,5 +1,5 @@
 //! Many texts in one call.
-ghost use Rattle.std.specs.Prelude.{◌≡◌, ◌<◌, ◌≤◌, length, option_copied, set};
+ghost use Rattle.std.specs.Prelude.{◌≡◌, ◌<◌, length, option_copied};
 ghost use Rattle.urlcheck_c.specs.Batch.{AreChecked, IsBatchAnswer, IsPut, columns, unchecked_batch};
 ghost use Rattle.urlcheck_c.specs.Offsets.{AreRows, row_count};
 ghost use Rattle.urlcheck_c.specs.Request.{given};

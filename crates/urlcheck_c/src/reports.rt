@@ -3,7 +3,6 @@ ghost use Rattle.std.specs.Prelude.{◌≡◌, IfOk, string_bytes};
 ghost use Rattle.uv_report.specs.Report.{begin_text, file_begin_text, file_end_text};
 ghost use Rattle.urlcheck_c.specs.Report.{IsBeginAnswer, IsEndAnswer, IsFileBeginAnswer, IsFileEndAnswer};
 ghost use Rattle.urlcheck_c.specs.Report.{shows_mended, takes_columns_of, takes_unit};
-ghost use Rattle.urlcheck_c.specs.Finding.{plain_finding};
 ghost use Rattle.urlcheck_c.specs.ReportNumbers as spec;
 
 pub(crate) mod diagnostics;

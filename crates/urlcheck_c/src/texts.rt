@@ -1,8 +1,8 @@
 //! The fixed texts that a caller asks for by numbers.
 ghost use Rattle.std.specs.Int.{is_in_range};
 ghost use Rattle.std.specs.Prelude.{◌≡◌, ◌≢◌, [], Some, false, true};
-ghost use Rattle.urlcheck_c.specs.FixedText.{IsExamplePlace, IsFixedText, IsTextAnswer, format_name_or_none, has_words};
-ghost use Rattle.urlcheck_c.specs.FixedText.{known_text, unit_name_or_none, violation_text};
+ghost use Rattle.urlcheck_c.specs.FixedText.{IsFixedText, IsTextAnswer, example_place, format_name_or_none, has_words};
+ghost use Rattle.urlcheck_c.specs.FixedText.{unit_name_or_none, violation_text};
 ghost use Rattle.uv_sentences.specs.Escaping.Printable.{IsLine};
 ghost use Rattle.urlcheck_c.specs.ReportNumbers as spec;
 
@@ -27,7 +27,7 @@ pub extern "C" fn urlcheck_text(what: u32, number: u32, out: &mut [u8]) -> usize
 /// The place at which the example of the rule with this number is refused, in code points, or 0 without such a rule.
 #[unsafe(no_mangle)]
 pub extern "C" fn urlcheck_example_place(rule: u32) -> usize
-    ensures { IsExamplePlace rule result }
+    ensures { result ≡ example_place rule }
 {
     match rule_of(rule) {
         Some(rule) => explain(rule).place,

@@ -1,9 +1,9 @@
 //! What the arguments of the command line ask for.
-ghost use Rattle.std.specs.Prelude.{◌≡◌, IfOk, IfErr, Some, codes, map, option_map, string_bytes, true};
-ghost use Rattle.clap.specs.Words.{all_of, first_of, found_of, kind_of, rows_of, subcommand_of, subcommand_rows_of};
+ghost use Rattle.std.specs.Prelude.{◌≡◌, IfOk, IfErr, Some, codes, map, option_map, true};
+ghost use Rattle.clap.specs.Words.{first_of, found_of, kind_of, rows_of, subcommand_of, subcommand_rows_of};
 ghost use Rattle.clap.specs.Words.{takes};
 ghost use Rattle.uv_arguments.specs.Commands.{urlcheck};
-ghost use Rattle.uv_arguments.specs.Requests.{asked_by, asks_to_show, check_in, checked_in, extent_in, has_flag, lint_in};
+ghost use Rattle.uv_arguments.specs.Requests.{asked_by, asks_to_show, check_in, checked_in, lint_in};
 ghost use Rattle.uv_arguments.specs.Requests.{lint_of, request_by};
 ghost use Rattle.uv_arguments.specs.Requests.{explain, filter_by, filter_in, is_filtered, mend_in, rules_in};
 ghost use Rattle.uv_arguments.specs.Requests.{request_in, request_of, told_in, vectors, wanted_in, wanted_view, IsFaultOf};
@@ -18,7 +18,7 @@ use crate::profile::{Asked, asked_for};
 use clap::error::ErrorKind;
 use clap::{ArgMatches, Error};
 use std::alloc::{AllocError, Global};
-use uv_model::{Extent, Profile};
+use uv_model::Profile;
 
 /// Why the arguments give no job.
 #[derive(Debug, Drop)]

@@ -1,5 +1,5 @@
 //! A job and the run that it asks for, over any reader and writer.
-ghost use Rattle.std.specs.Prelude.{◌≡◌, ◌-◌, ◌^◌, ◌<◌, chars};
+ghost use Rattle.std.specs.Prelude.{◌-◌, ◌^◌, ◌<◌, chars};
 ghost use Rattle.uv_cli.specs.Check.{RunsAgainst};
 ghost use Rattle.uv_cli.specs.Jobs.{HasChecked, HasDone, HasDoneFilter, HasDoneInPlace, HasDoneLint};
 ghost use Rattle.uv_cli.specs.Jobs.{HasRunExplain, HasRunVectors};

@@ -1,5 +1,5 @@
 //! The command `links`: a report on the lines of an input.
-ghost use Rattle.std.specs.Prelude.{◌≡◌, ◌-◌, ◌^◌, ◌<◌, option_copied};
+ghost use Rattle.std.specs.Prelude.{◌-◌, ◌^◌, ◌<◌, option_copied};
 ghost use Rattle.uv_cli.specs.Jobs.{HasListed, HasListedAgainst};
 ghost use Rattle.uv_cli.specs.Stream.{stream};
 

@@ -4,7 +4,7 @@ ghost use Rattle.std.specs.Prelude.{◌≡◌, false, true};
 
 use crate::lint::format_of;
 use crate::painting::painted_line;
-use std::alloc::{AllocError, Global};
+use std::alloc::Global;
 use std::env::FillError;
 use std::io::{self, Write};
 use std::rt::Env;

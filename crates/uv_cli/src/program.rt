@@ -17,7 +17,7 @@ use crate::painted::{PaintedWriter, painted_format};
 use crate::said::{Seen, said_at_end};
 use crate::vector_file::{FileFault, read_vector_file};
 use crate::watched_streams::{WatchedReader, WatchedWriter};
-use std::alloc::{AllocError, Global};
+use std::alloc::AllocError;
 use std::fs::Files;
 use std::io;
 use std::io::{ErrorKind, Write};

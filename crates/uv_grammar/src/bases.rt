@@ -1,8 +1,7 @@
 //! What a verdict asks of a base.
-ghost use Rattle.std.specs.Prelude.{◌≡◌, ◌↔◌, IsTrue, None, Some, option_copied, option_map};
+ghost use Rattle.std.specs.Prelude.{◌≡◌, ◌↔◌, IsTrue, None, Some, option_copied};
 ghost use Rattle.std.specs.Str.{chars};
 ghost use Rattle.uv_grammar.specs.Bases.{IsOfKind, IsOfScheme, as_base, as_url, scheme_name};
-ghost use Rattle.uv_grammar.specs.PartsHost.{referred};
 ghost use Rattle.uv_model.specs.Records.Denote.{denote, denoted_host, denoted_path, denoted_scheme};
 ghost use Rattle.uv_model.specs.declared.scheme.Class.{Class};
 ghost use Rattle.uv_model.specs.Records.Url.{is_opaque};

@@ -1,6 +1,6 @@
 //! The host of the parts of a text, made or a slice of the text, and the view that is lent of it.
 ghost use Rattle.std.specs.Prelude.{◌≡◌, IfOk};
-ghost use Rattle.std.specs.Str.{IsAscii, chars};
+ghost use Rattle.std.specs.Str.{IsAscii};
 ghost use Rattle.uv_grammar.specs.PartsHost.{as_host, referred};
 
 use std::alloc::{AllocError, Global};

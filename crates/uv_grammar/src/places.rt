@@ -3,7 +3,6 @@ ghost use Rattle.std.specs.Prelude.{◌≡◌, ◌+◌, ◌<◌, ◌^◌, IsSome
 ghost use Rattle.std.specs.Str.{chars};
 ghost use Rattle.uv_model.specs.Violations.Violation.{refusal_after, slashes_place};
 ghost use Rattle.uv_model.specs.Cut.{fragment_place, host_place, path_place, port_place, query_place, scheme_end};
-ghost use Rattle.uv_model.specs.Parts.{written_authority};
 ghost use Rattle.uv_grammar.specs.PartViolations.{IsCountable};
 
 use crate::cut::Cut;

@@ -1,6 +1,5 @@
 //! The first faults of what the path, the query and the fragment of a cut text hold.
-ghost use Rattle.std.specs.Prelude.{◌+◌, ◌<◌, ◌^◌, length};
-ghost use Rattle.std.specs.Str.{chars};
+ghost use Rattle.std.specs.Prelude.{◌<◌};
 ghost use Rattle.uv_model.specs.Violations.Refusal.{IsLeast};
 ghost use Rattle.uv_grammar.specs.PartViolations.{AfterAuthority, IsCountable, OfFragment, OfPath, OfQuery};
 

@@ -1,7 +1,7 @@
 //! Domains of special URLs (URL Standard, sections 3.3 to 3.5; UTS #46, section 4).
 ghost use Rattle.std.specs.Cow.{cow_str_bytes};
-ghost use Rattle.std.specs.Prelude.{chars, encode_utf8_all, false, IfOk, IfSome, IsSome, IsTrue, List, MatchOption};
-ghost use Rattle.std.specs.Prelude.{None, option_map, string_bytes, true, ◌≡◌, ℕ};
+ghost use Rattle.std.specs.Prelude.{chars, false, IfOk, IfSome, IsSome, IsTrue, List, MatchOption};
+ghost use Rattle.std.specs.Prelude.{None, string_bytes, true, ◌≡◌, ℕ};
 ghost use Rattle.std.specs.Str.{IsAscii};
 ghost use Rattle.uv_host.specs.Domains.{HasFormByLengths, IsAnswer, IsOwnForm, IsPlainAnswer, fits_lengths};
 ghost use Rattle.uv_host.specs.Domains.{is_lower_name, is_plain_name, takes_hyphens};

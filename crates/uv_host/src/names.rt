@@ -4,7 +4,7 @@ ghost use Rattle.idna.specs.Labels.{labels_of};
 ghost use Rattle.idna.specs.Validity.{passes_hyphens};
 ghost use Rattle.std.specs.Char.{is_ascii};
 ghost use Rattle.std.specs.List.{list_all};
-ghost use Rattle.std.specs.Prelude.{◌≡◌, ◌<◌, ◌≤◌, slice_index, ◌==◌};
+ghost use Rattle.std.specs.Prelude.{◌≡◌, ◌<◌, slice_index, ◌==◌};
 ghost use Rattle.uv_host.specs.Domains.{is_simple};
 ghost use Rattle.uv_host.specs.NameKinds.{AreSeen};
 ghost use Rattle.uv_model.specs.declared.profile.Profile.TheVariants.{Parser, Standard, Wide};

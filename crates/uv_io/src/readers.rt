@@ -1,5 +1,5 @@
 //! The standard library's readers as readers of this product.
-ghost use Rattle.std.specs.Prelude.{◌≡◌, ℕ, ◌+◌, ◌^◌, ◌<◌};
+ghost use Rattle.std.specs.Prelude.{◌≡◌, ℕ, ◌+◌, ◌<◌};
 
 use crate::stream::{DeviceFault, Source};
 use std::io::Read;

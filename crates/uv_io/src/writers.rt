@@ -1,5 +1,5 @@
 //! The standard library's writers as writers of this product.
-ghost use Rattle.std.specs.Prelude.{◌≡◌, ℕ, ◌+◌, ◌^◌, ◌<◌};
+ghost use Rattle.std.specs.Prelude.{◌≡◌, ℕ, ◌+◌, ◌<◌};
 
 use crate::stream::{DeviceFault, Sink};
 use std::io::Write;

@@ -124,19 +124,14 @@ impl<'l> ReportedLine<'l> {
             let Ok(message) = message_of(alloc, setting, &seen, *violation) else {
                 return Err(ReportFault::Reporter(AllocError));
             };
-            if let Err(fault) = say_violation(
-                alloc,
-                reported,
-                setting,
-                self,
-                &seen,
-                self.region(column, end),
-                *violation,
-                message.as_str(),
+            let said = Said {
+                region: self.region(column, end),
+                violation: *violation,
+                message: message.as_str(),
                 fix,
-                is_first,
-                text,
-                writer,
+            };
+            if let Err(fault) = say_violation(
+                alloc, reported, setting, self, &seen, said, is_first, text, writer,
             ) {
                 return Err(fault);
             }
@@ -147,30 +142,37 @@ impl<'l> ReportedLine<'l> {
     }
 }
 
-// A diagnostic on the text of a line, which is seen so, in this region, with this message.
-fn diagnostic_on<'x>(
-    line: &ReportedLine<'x>,
-    seen: &'x SeenText<'x>,
+// What is said of a violation of a line: in which region it is, in which sentence, and with what to write.
+#[derive(Clone, Copy)]
+struct Said<'x> {
     region: Region,
     violation: LineViolation,
     message: &'x str,
     fix: Option<Fix<'x>>,
+}
+
+// The diagnostic that says this of the text of a line, which is seen so.
+fn diagnostic_on<'x>(
+    line: &ReportedLine<'x>,
+    seen: &'x SeenText<'x>,
+    said: Said<'x>,
 ) -> Diagnostic<'x>
     requires { seen.now ≡ line.now.text.now }
-    ensures { diagnostic_view result
-        ≡ diagnostic_in (reported_view line.now) region (option_map fix_view fix.entry) violation message.now }
+    ensures { diagnostic_view result ≡ diagnostic_in (reported_view line.now) said.entry.region
+        (option_map fix_view said.entry.fix) said.entry.violation said.entry.message.now }
 {
+    let violation = said.violation;
     Diagnostic {
         file: line.file,
-        region,
+        region: said.region,
         rule: violation.name(),
         uri: violation.address(),
-        message,
+        message: said.message,
         within: "",
         text: seen,
         place: violation.place(),
         repeat: 0,
-        fix,
+        fix: said.fix,
     }
 }
 
@@ -216,17 +218,14 @@ fn seen_text<'l>(text: &'l str, violations: &[LineViolation]) -> SeenText<'l>
     }
 }
 
-// Says a diagnostic on the text of a line, which is seen so, in this region, with this message.
+// Says a diagnostic on the text of a line, which is seen so.
 fn say_violation<W: Sink>(
     alloc: Global,
     reported: &mut String,
     setting: LintSetting<'_>,
     line: &ReportedLine<'_>,
     seen: &SeenText<'_>,
-    region: Region,
-    violation: LineViolation,
-    message: &str,
-    fix: Option<Fix<'_>>,
+    said: Said<'_>,
     is_first: bool,
     text: &mut Vec<u8>,
     writer: &mut W,
@@ -234,15 +233,17 @@ fn say_violation<W: Sink>(
     requires writes { W.failed writer.old < 2 ^ 64 - 1 }
     requires seen { seen.now ≡ line.now.text.now }
     ensures text { OnOk result (Passes (text.old.items ++ one_text setting.entry.form setting.entry.format is_first
-        (diagnostic_in (reported_view line.now) region (option_map fix_view fix.entry) violation message.now))
+        (diagnostic_in (reported_view line.now) said.entry.region (option_map fix_view said.entry.fix)
+        said.entry.violation said.entry.message.now))
         (W.contents writer.old) (W.contents writer.new) text.new.items) }
     ensures quiet { OnOk result (W.failed writer.new ≡ W.failed writer.old) }
     ensures fault { IfErr result (λ e. LeavesParts (IsNoneOr (one_text setting.entry.form setting.entry.format is_first
-        (diagnostic_in (reported_view line.now) region (option_map fix_view fix.entry) violation message.now))) e
+        (diagnostic_in (reported_view line.now) said.entry.region (option_map fix_view said.entry.fix)
+        said.entry.violation said.entry.message.now))) e
         text.old.items (W.contents writer.old) text.new.items (W.contents writer.new)) }
     ensures failed { IfErr result (λ e. W.failed writer.new ≡ W.failed writer.old + failed_within e) }
 {
-    let found = diagnostic_on(line, seen, region, violation, message, fix);
+    let found = diagnostic_on(line, seen, said);
     say_framed(alloc, reported, setting, &found, is_first, text, writer)
 }
 

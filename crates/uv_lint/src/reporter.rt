@@ -1,6 +1,6 @@
 //! What reports on the lines of a file.
-ghost use Rattle.std.specs.Prelude.{◌≡◌, ◌+◌, ◌-◌, ◌^◌, ◌<◌, ◌++◌, [], IfErr, IfOk, OnOk, if◌then◌else◌, option_copied};
-ghost use Rattle.std.specs.Prelude.{option_map, string_bytes};
+ghost use Rattle.std.specs.Prelude.{◌≡◌, ◌+◌, ◌-◌, ◌^◌, ◌<◌, [], IfErr, OnOk, if◌then◌else◌, option_copied};
+ghost use Rattle.std.specs.Prelude.{option_map};
 ghost use Rattle.uv_lines.specs.Fault.{failed_within};
 ghost use Rattle.uv_lines.specs.Line.{bytes_of};
 ghost use Rattle.uv_lines.specs.Waiting.{LeavesParts};
@@ -118,7 +118,6 @@ impl<'a> LintReporter<'a> {
     }
 
     // Says the diagnostics on the next line, if any.
-    #[inline(always)]
     fn report_line<W: Sink>(
         &mut self,
         alloc: Global,
@@ -141,31 +140,6 @@ impl<'a> LintReporter<'a> {
         if violations.is_empty() {
             return Ok(());
         }
-        self.report_refused(alloc, line, violations, text, writer)
-    }
-
-    // Says the diagnostics on the next line, of which something was found. It is never inlined, so that a valid line
-    // takes no room for them.
-    #[inline(never)]
-    fn report_refused<W: Sink>(
-        &mut self,
-        alloc: Global,
-        line: Option<&[u8]>,
-        violations: &[LineViolation],
-        text: &mut Vec<u8>,
-        writer: &mut W,
-    ) -> Result<(), ReportFault<AllocError>>
-        requires few { self.old.lines < 2 ^ 64 - 1 }
-        requires writes { W.failed writer.old < 2 ^ 64 - 1 }
-        requires found { AreViolations self.old.setting (option_copied line) violations.now }
-        ensures text { OnOk result (HasReportedLine self.old (option_copied line.entry) violations.now
-            text.old.items (W.contents writer.old) (W.contents writer.new) text.new.items) }
-        ensures same { self.new ≡ self.old }
-        ensures quiet { OnOk result (W.failed writer.new ≡ W.failed writer.old) }
-        ensures fault { IfErr result (λ e. LeavesParts (HasBegunLine self.old (option_copied line.entry)
-            violations.now) e text.old.items (W.contents writer.old) text.new.items (W.contents writer.new)) }
-        ensures failed { IfErr result (λ e. W.failed writer.new ≡ W.failed writer.old + failed_within e) }
-    {
         let link = link_of(self.setting.form, line);
         let place = Place::of(self.file, self.lines + 1, line, link);
         let Ok(shown) = shown_text(alloc, violations, place.bytes) else {
@@ -174,7 +148,9 @@ impl<'a> LintReporter<'a> {
         self.report_text(alloc, place, shown.as_str(), violations, text, writer)
     }
 
-    // Says the diagnostics on what is shown of a text that is there, with what to write in its place.
+    // Says the diagnostics on what is shown of a text that is there, with what to write in its place. It is never inlined,
+    // so that a valid line takes no room for them.
+    #[inline(never)]
     fn report_text<'x, W: Sink>(
         &mut self,
         alloc: Global,

@@ -3,7 +3,7 @@ use Rattle.std.proofs.Common.{◌≡◌, ◌∙◌, ◌⊎◌, inl, inr, ℕ, Bo
 use Rattle.std.proofs.Common.{refl, sym, ap, append_assoc, arith, Option, Some, None, All, flat_map}
 use Rattle.std.specs.Prelude.{◌==◌}
 use Rattle.std.specs.Char.{encode_utf8, is_ascii_alphabetic}
-use Rattle.std.proofs.lemmas.Bool.{and_right, cases_Bool, cases_lt, cond-true, eqb-true, false≢true}
+use Rattle.std.proofs.lemmas.Bool.{and_right, cases_Bool, cases_lt, eqb-true, false≢true}
 use Rattle.std.proofs.lemmas.Bool.Decides.{nat_tests}
 use Rattle.std.proofs.lemmas.List.Elements.{All-head, All-tail}
 use Rattle.std.proofs.lemmas.Str.{encode_ascii}
@@ -19,7 +19,7 @@ use Rattle.uv_model.proofs.Texts.MarkLemmas.{is_without-append, is_without-cons,
 use Rattle.uv_mend.specs.declared.prefixes.Stop.TheVariants.{Authority}
 use Rattle.uv_mend.specs.CodePoints.{after_one}
 use Rattle.uv_mend.specs.Escapes.{IsEscapingOf, as_unit, as_units, escape, escaped, escaped_after}
-use Rattle.uv_mend.specs.Prefixes.{after_authority, after_scheme, authority_prefix, before, onward, scheme_prefix}
+use Rattle.uv_mend.specs.Prefixes.{after_authority, after_scheme, before}
 use Rattle.uv_mend.specs.Prefixes.{stops}
 use Rattle.uv_mend.specs.Rest.{MayBeEscapingOf, rest_of}
 use Rattle.uv_mend.proofs.EncodedLemmas.{is_beyond}

@@ -1,5 +1,5 @@
 -- A text that is refused, with its edit or without one.
-use Rattle.std.proofs.Common.{◌≡◌, ℕ, zero, suc, List, Option, Some, None, refl}
+use Rattle.std.proofs.Common.{◌≡◌, ℕ, suc, List, Option, Some, None, refl}
 use Rattle.std.specs.Prelude.{IfSome}
 use Rattle.uv_model.specs.declared.profile.Profile.{Profile}
 use Rattle.uv_model.specs.declared.rule.Refusal.{Refusal}
@@ -28,12 +28,6 @@ pub repairs-stuck : (edits : ℕ) (profile : Profile) (base : Option Url) (text 
     (refusal : Refusal) → IsLeast (Violation profile base text) (Some refusal)
     → edit_of base text refusal ≡ None → Repairs (suc edits) profile base text None
 repairs-stuck edits profile base text refusal least is = (Some refusal, least, rw is refl)
-
--- a valid text is its own answer
-pub repairs-valid : (edits : ℕ) (profile : Profile) (base : Option Url) (text : List ℕ) → IsValid profile base text
-    → Repairs edits profile base text (Some text)
-repairs-valid zero profile base text valid = (None, silent profile base text valid, refl)
-repairs-valid (suc edits) profile base text valid = (None, silent profile base text valid, refl)
 
 -- what a weaker fact says of the value, if there is one
 pub some_weaker : {X : Type 0} (value : Option X) (P Q : X → Type 0) → ((x : X) → P x → Q x) → IfSome value P

@@ -1,15 +1,15 @@
 -- The rest of a text by its cut: the path, the query and the fragment.
 use Rattle.std.proofs.Common.{◌≡◌, ◌∙◌, ◌⊎◌, inl, inr, ℕ, ◌+◌, Bool, true, false, ◌&&◌, ◌||◌, List, [], ◌∷◌, ◌++◌}
-use Rattle.std.proofs.Common.{refl, sym, ap, append_assoc, append-nil, arith, Option, Some, None, length, length-append}
+use Rattle.std.proofs.Common.{refl, sym, ap, append_assoc, arith, Option, Some, None, length, length-append}
 use Rattle.std.specs.Prelude.{◌==◌, ◌≢◌, is_some, if◌then◌else◌}
 use Rattle.std.specs.Char.{is_ascii_alphabetic}
-use Rattle.std.proofs.lemmas.Bool.{and_right, cases_Bool, cond-false, cond-true, false≢true}
+use Rattle.std.proofs.lemmas.Bool.{and_right, cases_Bool, false≢true}
 use Rattle.std.proofs.lemmas.Bool.Decides.{nat_tests}
 use Rattle.uv_model.specs.declared.scheme.Class.{Class}
 use Rattle.uv_model.specs.Ascii.{colon, number_sign, question_mark, slash}
 use Rattle.uv_model.specs.Cut.{Cut, IsAuthorityCut, IsCut, IsSchemeCut, class_in, cut_of, path_place}
 use Rattle.uv_model.specs.Cut.{starts_with_two_slashes}
-use Rattle.uv_model.specs.Cut.{written_cut, written_middle, written_prefix, written_start, text_after, text_before}
+use Rattle.uv_model.specs.Cut.{written_middle, written_start, text_after, text_before}
 use Rattle.uv_model.specs.Parts.{written_after, written_authority, written_scheme}
 use Rattle.uv_model.specs.Path.{is_without, starts_with_slash}
 use Rattle.uv_model.specs.Records.Url.{Url}
@@ -20,7 +20,7 @@ use Rattle.uv_model.proofs.Texts.MarkLemmas.{is_without-parts}
 use Rattle.uv_mend.specs.declared.prefixes.Stop.TheVariants.{Authority, Start}
 use Rattle.uv_mend.specs.Prefixes.{after_authority, after_scheme, authority_prefix, scheme_prefix, stops}
 use Rattle.uv_mend.specs.Rest.{rest_of}
-use Rattle.uv_mend.proofs.RestLemmas.{IsAtStop, IsFree, after_host_text, free_without, onward_at, prefix_host_text}
+use Rattle.uv_mend.proofs.RestLemmas.{IsAtStop, after_host_text, free_without, onward_at, prefix_host_text}
 use Rattle.uv_mend.proofs.RestLemmas.{without_authority, without_scheme}
 use Rattle.uv_mend.proofs.SlashedLemmas.{has_scheme}
 

@@ -1,5 +1,5 @@
 -- The rest of a text with another host, which ends no authority.
-use Rattle.std.proofs.Common.{◌≡◌, ◌∙◌, ℕ, Bool, true, false, not, ◌||◌, List, [], ◌∷◌, ◌++◌, refl, sym, ap, arith, All}
+use Rattle.std.proofs.Common.{◌≡◌, ◌∙◌, ℕ, Bool, true, false, ◌||◌, List, [], ◌∷◌, ◌++◌, refl, sym, ap, arith, All}
 use Rattle.std.proofs.Common.{inl, inr, Option, Some, None, chars, option_map, subst}
 use Rattle.std.specs.Prelude.{MatchOption, if◌then◌else◌}
 use Rattle.std.proofs.lemmas.Bool.{cases_Bool, cond-false, cond-true, false≢true}
@@ -8,7 +8,7 @@ use Rattle.std.proofs.lemmas.List.Elements.{All-head, All-tail}
 use Rattle.std.proofs.lemmas.Str.{chars-IsAscii}
 use Rattle.url.specs.declared.host.Host.{Host}
 use Rattle.url.specs.Host.{IsHostOf, host_text}
-use Rattle.url.specs.Parts.{IsValid, Parts, has_credentials, has_host, kind_of, nonempty_host}
+use Rattle.url.specs.Parts.{IsValid, Parts, has_credentials, has_host, kind_of}
 use Rattle.url.proofs.HostLemmas.{IsAscii-host_text}
 use Rattle.url.proofs.HostRoundTrip.{IsHostByte, host_text_plain}
 use Rattle.uv_model.specs.declared.scheme.Class.{Class}

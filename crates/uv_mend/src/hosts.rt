@@ -1,6 +1,6 @@
 //! The host of a text, written as the crate `url` writes it.
-ghost use Rattle.std.specs.Prelude.{◌≡◌, ◌++◌, IfOk, IfSome, OnOk, chars, false, option_copied, option_map};
-ghost use Rattle.uv_model.specs.Cut.{is_port_mark, is_within};
+ghost use Rattle.std.specs.Prelude.{◌≡◌, IfOk, IfSome, chars, false, option_copied, option_map};
+ghost use Rattle.uv_model.specs.Cut.{is_within};
 ghost use Rattle.uv_mend.specs.Hosts as spec;
 ghost use Rattle.uv_mend.specs.Rest.{KeepsRestAfterHost};
 

@@ -8,7 +8,7 @@ ghost use Rattle.uv_mend.specs.Prefixes as spec;
 ghost use Rattle.uv_mend.specs.Prefixes.{after_authority, after_scheme, authority_prefix, before, class_against};
 ghost use Rattle.uv_mend.specs.Prefixes.{onward, scheme_prefix, stops};
 
-use crate::code_points::{first_of, push_one, push_text, text_of};
+use crate::code_points::{first_of, push_one, text_of};
 use std::alloc::{AllocError, Global};
 use uv_model::{Class, Record, class_of};
 

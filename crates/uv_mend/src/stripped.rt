@@ -1,5 +1,5 @@
 //! What the URL parser takes off its input before all else.
-ghost use Rattle.std.specs.Prelude.{◌≡◌, ◌++◌, IfOk};
+ghost use Rattle.std.specs.Prelude.{◌≡◌, IfOk};
 ghost use Rattle.uv_mend.specs.Stripped as spec;
 
 use crate::code_points::{first_of, last_of, push_one};

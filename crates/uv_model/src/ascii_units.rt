@@ -1,7 +1,5 @@
 //! Tests of ASCII texts, byte by byte: URL units and the code points that a text is without.
-ghost use Rattle.std.specs.Char.{is_ascii_uppercase};
-ghost use Rattle.std.specs.List.{list_all};
-ghost use Rattle.std.specs.Prelude.{◌≡◌, ◌↔◌, IsTrue, not};
+ghost use Rattle.std.specs.Prelude.{◌≡◌, ◌↔◌, IsTrue};
 ghost use Rattle.uv_model.specs.Path.{is_spaced, is_without};
 ghost use Rattle.uv_model.specs.Units as spec;
 ghost use Rattle.uv_model.specs.Records.WellFormed.{IsAsciiUnits, is_ascii_text};

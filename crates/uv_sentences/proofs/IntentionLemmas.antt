@@ -1,12 +1,12 @@
 -- A text has a piece where the search of the library finds it; and a text without its first `/`.
-use Rattle.std.proofs.Common.{◌≡◌, ◌∙◌, ℕ, Bool, true, false, ◌==◌, List, [], ◌∷◌, ◌++◌, ◌↔◌, ap, refl, sym}
+use Rattle.std.proofs.Common.{◌≡◌, ◌∙◌, ℕ, Bool, true, false, ◌==◌, List, [], ◌∷◌, ◌++◌, ◌↔◌, ap, refl}
 use Rattle.std.proofs.Common.{drop, inl, inr, length}
 use Rattle.std.proofs.Common.{ne_eqb}
-use Rattle.std.specs.Prelude.{codes, nat_eq, ◌≢◌}
+use Rattle.std.specs.Prelude.{nat_eq, ◌≢◌}
 use Rattle.std.specs.Borrow.{Bor}
-use Rattle.std.specs.List.{list_any, starts_with}
+use Rattle.std.specs.List.{starts_with}
 use Rattle.std.specs.Str.Iter.{HasSubslice}
-use Rattle.std.proofs.lemmas.Bool.{cases_Bool, cases_eq, false≢true, or_cases, or_left, or_right}
+use Rattle.std.proofs.lemmas.Bool.{cases_eq, or_cases, or_left, or_right}
 use Rattle.std.proofs.lemmas.Bool.Decides.{Decides-eqb, same_from_decides}
 use Rattle.std.proofs.lemmas.Slice.Eq.{starts_is}
 use Rattle.uv_sentences.specs.Sentences.Drive.{without_slash}

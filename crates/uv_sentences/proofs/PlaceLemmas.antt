@@ -1,21 +1,9 @@
 -- The code point at a place of a line, and what is from there on.
-use Rattle.std.proofs.Common.{◌≡◌, ◌∙◌, ℕ, zero, suc, List, [], ◌∷◌, ◌++◌, refl, sym, ap, inl, inr, length, nat_lt}
-use Rattle.std.proofs.Common.{drop, drop_at, take, take_at, slice_get, lt-ltb, le-ltb, ◌≤◌, subst, arith}
+use Rattle.std.proofs.Common.{◌≡◌, ◌∙◌, ℕ, zero, suc, List, [], ◌∷◌, ◌++◌, refl, sym, ap, length, nat_lt}
+use Rattle.std.proofs.Common.{drop, drop_at, take, take_at, slice_get, le-ltb, ◌≤◌, subst, arith}
 use Rattle.std.specs.Str.{IsAscii, IsUtf8, chars}
-use Rattle.std.specs.Option.{is_some}
-use Rattle.std.proofs.lemmas.Bool.{cases_lt}
 use Rattle.std.proofs.lemmas.List.{take-append-drop}
-use Rattle.std.proofs.lemmas.Option.{slice_get-get_or, slice_get_past}
 use Rattle.std.proofs.lemmas.Str.{IsUtf8-from_ascii, chars-IsAscii, chars-append, encodes-chars, length-le-encodes}
-
--- there is one where the line is longer
-pub is_some-slice_get : (points : List ℕ) (place : ℕ)
-    → is_some (slice_get points place) ≡ nat_lt place (length points)
-is_some-slice_get points place =
-    elim (cases_lt place (length points)) [
-      | inl small ↦ rw (slice_get-get_or points place 0 small, lt-ltb place (length points) small) refl
-      | inr high ↦ rw (slice_get_past points place high, le-ltb place (length points) high) refl
-    ]
 
 -- a line of no more bytes isn't longer
 pub few_bytes : (line : List ℕ) (most : ℕ) → IsUtf8 line → length line ≤ most

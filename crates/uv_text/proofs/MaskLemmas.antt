@@ -1,17 +1,14 @@
 -- Bits of bytes that pass a test, the first byte's the lowest.
 use Rattle.std.proofs.Common.{◌≡◌, ◌≢◌, ℕ, zero, suc, ◌+◌, ◌*◌, ◌/◌, ◌^◌, ◌<◌, ◌≤◌, Bool, true, false, List, [], ◌∷◌}
-use Rattle.std.proofs.Common.{◌++◌, length, map, get_or, take, take_all, drop, replicate, cond, w64, add-zero, refl}
+use Rattle.std.proofs.Common.{◌++◌, length, map, get_or, take, take_all, drop, replicate, cond, add-zero, refl}
 use Rattle.std.proofs.Common.{sym, ap, ◌∙◌, inl, inr, arith}
-use Rattle.std.specs.List.{prefix_len, drop-map}
 use Rattle.std.proofs.Math.Nat.{div-div-eq-div-mul, zero-div}
 use Rattle.std.proofs.Math.ListN.{get_or-eq_default}
 use Rattle.std.specs.Simd.Lanes.{mask_l}
 use Rattle.std.proofs.lemmas.Bool.{cases_eq, cases_lt, false≢true}
 use Rattle.std.proofs.lemmas.List.{drop-drop, get_or-map, length-drop, length-map}
-use Rattle.std.proofs.lemmas.List.Sums.{prefix_len_is}
 use Rattle.std.proofs.lemmas.Simd.{bit_mask_l, mask_l-mod}
-use Rattle.std.proofs.lemmas.Nat.Bits.{bit_at-trailing_ones}
-use Rattle.std.specs.Int.{bit_at, trailing_ones}
+use Rattle.std.specs.Int.{bit_at}
 
 -- no byte of what fills a load up passes
 mask-none : (p : ℕ → Bool) (x n k : ℕ) → p x ≡ false → mask_l (map p (drop k (replicate n x))) ≡ 0
@@ -55,13 +52,6 @@ taken-after start k xs last = elim (cases_eq k 0) [
       ∙ (drop-drop k start xs ∙ sym (take_all 32 (drop (start + k) xs) (omega arith)))
 ]
 
--- the bits of 32 bytes, shifted, are the bits of the bytes after
-pub mask-after : (p : ℕ → Bool) (start k : ℕ) (xs : List ℕ) → (k ≢ 0 → length xs ≤ start + 32)
-    → mask_l (map p (take 32 (drop start xs))) / 2 ^ k ≡ mask_l (map p (take 32 (drop (start + k) xs)))
-mask-after p start k xs last =
-    sym (mask-drop k (map p (take 32 (drop start xs))))
-    ∙ ap mask_l (drop-map p k (take 32 (drop start xs)) ∙ ap (map p) (taken-after start k xs last))
-
 -- ---- the first bit that isn't set
 
 -- a bit is set where its byte is there and passes
@@ -81,38 +71,9 @@ bit-set p xs i set =
     is_true true one = refl
     is_true false one = absurd (omega (arith, one))
 
--- and isn't where it is there and doesn't
-pub bit-clear : (p : ℕ → Bool) (xs : List ℕ) (i : ℕ) → bit_at (mask_l (map p xs)) i ≡ 0 → i < length xs
-    → p (get_or xs i 0) ≡ false
-bit-clear p xs i clear here =
-    let bit = sym (bit_mask_l (map p xs) i) ∙ clear in
-    sym (get_or-map p xs i 0 false here) ∙ is_false (get_or (map p xs) i false) bit
-  where
-    is_false : (m : Bool) → cond {A = ℕ} m 1 0 ≡ 0 → m ≡ false
-    is_false true none = absurd (omega (arith, none))
-    is_false false none = refl
-
 -- bits of at most 32 bytes
 pub mask-small : (p : ℕ → Bool) (xs : List ℕ) → length xs ≤ 32 → mask_l (map p xs) < 2 ^ 32
 mask-small p xs few =
     let long = length-map xs p in
     let same = mask_l-mod (map p xs) 32 (omega arith) in
     omega arith
-
--- the set bits below the first that isn't are the longest prefix that passes
-pub prefix-bits : (p : ℕ → Bool) (xs : List ℕ) → length xs ≤ 32
-    → trailing_ones w64 (mask_l (map p xs)) ≡ prefix_len p xs
-prefix-bits p xs few =
-    let small = mask-small p xs few in
-    let ones = bit_at-trailing_ones w64 (mask_l (map p xs)) (omega arith) in
-    let n = trailing_ones w64 (mask_l (map p xs)) in
-    let passes : (k : ℕ) → k < n → (k < length xs) × (p (get_or xs k 0) ≡ true)
-    = λ k below. bit-set p xs k (ones.2 k below) in
-    let inside : n ≤ length xs = elim (cases_lt (length xs) n) [
-      | inl long ↦
-          let no = (passes (length xs) long).0 in
-          absurd (omega (arith, no))
-      | inr fits ↦ fits
-    ] in
-    sym (prefix_len_is p xs n 0 inside (λ k below. (passes k below).1)
-    (λ here. bit-clear p xs n ones.1 here))

@@ -3,8 +3,8 @@ use Rattle.std.proofs.Common.{◌≡◌, ◌∙◌, ℕ, ◌+◌, ◌-◌, ◌�
 use Rattle.std.proofs.Common.{◌≢◌, cond, drop, length, ne_eqb, not, reverse}
 use Rattle.std.specs.Fmt.{is_char_start}
 use Rattle.std.specs.List.{prefix_len}
-use Rattle.std.proofs.lemmas.List.{drop-append-le, drop_all, length-append, length-reverse, reverse-append}
-use Rattle.std.proofs.lemmas.List.Sums.{prefix_len-le-length, sum_by_push}
+use Rattle.std.proofs.lemmas.List.{drop-append-le, drop_all, length-append, reverse-append}
+use Rattle.std.proofs.lemmas.List.Sums.{sum_by_push}
 use Rattle.uv_vectors.specs.declared.json_fault.FilePlace.{FilePlace}
 use Rattle.uv_vectors.specs.JsonFault.{code_points, is_line_feed, last_line, line_feeds, place_after}
 
@@ -17,12 +17,6 @@ tail_length bytes = prefix_len (λ byte. not (is_line_feed byte)) (reverse bytes
 tail_length-push : (bytes : List ℕ) (byte : ℕ)
     → tail_length (bytes ++ byte ∷ []) ≡ cond (not (is_line_feed byte)) (1 + tail_length bytes) 0
 tail_length-push bytes byte = ap (prefix_len (λ b. not (is_line_feed b))) (reverse-append bytes (byte ∷ []))
-
-tail_length-le : (bytes : List ℕ) → tail_length bytes ≤ length bytes
-tail_length-le bytes =
-    let one = prefix_len-le-length (λ b. not (is_line_feed b)) (reverse bytes) in
-    let two = length-reverse bytes in
-    omega (arith, one, two)
 
 -- after a line feed the last line is empty
 last_line-feed : (bytes : List ℕ) (byte : ℕ) → is_line_feed byte ≡ true → last_line (bytes ++ byte ∷ []) ≡ []

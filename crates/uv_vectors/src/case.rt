@@ -1,13 +1,12 @@
 //! One case of a vector file.
-ghost use Rattle.std.specs.Prelude.{◌≡◌, Bool, Decides, IfOk, List, Option, chars, find, not, option_copied};
+ghost use Rattle.std.specs.Prelude.{◌≡◌, Decides, IfOk, Option, chars, find, not, option_copied};
 ghost use Rattle.std.specs.Prelude.{option_map, string_bytes};
 ghost use Rattle.std.specs.BTreeMap.{keys};
 ghost use Rattle.std.specs.List.{list_all};
-ghost use Rattle.serde_json.specs.Data.{Data};
 ghost use Rattle.serde_json.specs.View.{members_view, view};
 ghost use Rattle.uv_grammar.specs.Verdict.{IsRefused};
 ghost use Rattle.uv_resolve.specs.Resolve.{DenotesText};
-ghost use Rattle.uv_vectors.specs.Case.{Expectation, Vector, base_of, expected_of, has_known_keys, is_known};
+ghost use Rattle.uv_vectors.specs.Case.{Vector, base_of, expected_of, has_known_keys, is_known};
 ghost use Rattle.uv_vectors.specs.Case.{profile_of, refusal_of, unknown_key, vector_of};
 ghost use Rattle.uv_vectors.specs.Passes.{Checks, IsAsExpected, Passes};
 ghost use Rattle.uv_vectors.specs.Views.{expected_view, value_view};

@@ -1,6 +1,6 @@
 //! The report on the cases of a vector file.
 ghost use Rattle.std.specs.Prelude.{◌≡◌, ◌≤◌, ◌++◌, IfOk, OnOk, length, string_bytes};
-ghost use Rattle.serde_json.specs.View.{items_view, view};
+ghost use Rattle.serde_json.specs.View.{items_view};
 ghost use Rattle.uv_vectors.specs.Case.{list_of};
 ghost use Rattle.uv_vectors.specs.Report.{HasFailures, IsReportOn, case_line, end_by, fail_line, fails, vector_counts};
 

@@ -1,6 +1,6 @@
 //! The run over the bytes of a file of vectors.
-ghost use Rattle.std.specs.Prelude.{◌≡◌, ◌+◌, ◌-◌, ◌^◌, ◌<◌, IfOk, IfSome, OnOk, Option, None, false, is_none, length};
-ghost use Rattle.std.specs.Prelude.{position, string_bytes};
+ghost use Rattle.std.specs.Prelude.{◌≡◌, ◌+◌, ◌-◌, ◌^◌, ◌<◌, IfOk, IfSome, OnOk, Option, false, is_none, length};
+ghost use Rattle.std.specs.Prelude.{position};
 ghost use Rattle.serde_json.specs.View.{items_view, view};
 ghost use Rattle.uv_vectors.specs.Case.{is_malformed, list_of};
 ghost use Rattle.uv_vectors.specs.Run.{EndsBytes, EndsValue, WritesVectors, WritesVectorsPrefix, is_checked};

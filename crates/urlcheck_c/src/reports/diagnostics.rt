@@ -1,5 +1,5 @@
 //! A diagnostic on a text that is in a file: what is said of it is given.
-ghost use Rattle.std.specs.Prelude.{◌≡◌, ◌==◌, ◌↔◌, IfOk, IsTrue, not, string_bytes};
+ghost use Rattle.std.specs.Prelude.{◌≡◌, ◌==◌, ◌↔◌, IfOk, IsTrue, string_bytes};
 ghost use Rattle.uv_report.specs.Diagnostic.{diagnostic_view};
 ghost use Rattle.uv_report.specs.Report.{diagnostic_text};
 ghost use Rattle.urlcheck_c.specs.Diagnostic.{IsDiagnosticAnswer, IsDiagnosticRead, IsFixRead, IsFixRegionRead};

@@ -1,6 +1,5 @@
 //! The sentence on what is wrong with a text.
-ghost use Rattle.std.specs.Prelude.{◌≡◌, ◌↔◌, ◌≤◌, IfOk, IsTrue, length, string_bytes};
-ghost use Rattle.std.specs.Str.{chars};
+ghost use Rattle.std.specs.Prelude.{IfOk, string_bytes};
 ghost use Rattle.uv_sentences.specs.Sentences.Message.{IsMessage};
 ghost use Rattle.urlcheck_c.specs.Violation.{IsMessageAnswer, IsMessageGiven, IsViolationRead};
 

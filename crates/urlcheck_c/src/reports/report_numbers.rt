@@ -1,5 +1,5 @@
 //! What reports name by a number: formats, units, completions, kinds, and what can be wrong with a text or a line.
-ghost use Rattle.std.specs.Prelude.{◌≡◌, option_map};
+ghost use Rattle.std.specs.Prelude.{◌≡◌};
 ghost use Rattle.urlcheck_c.specs.ReportNumbers as spec;
 
 use crate::names::rule_of;

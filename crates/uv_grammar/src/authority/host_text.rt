@@ -1,5 +1,5 @@
 //! The host string of a special or a file URL (URL Standard, sections 3.4 and 3.5).
-ghost use Rattle.std.specs.Prelude.{◌≡◌, ◌≢◌, Bool, IfOk, IsOk, [], false, true};
+ghost use Rattle.std.specs.Prelude.{◌≡◌, ◌≢◌, IfOk, IsOk, [], false, true};
 ghost use Rattle.std.specs.Str.{chars};
 ghost use Rattle.uv_model.specs.declared.profile.Profile.{Profile};
 ghost use Rattle.uv_model.specs.declared.profile.Profile.TheVariants.{Parser};

@@ -1,6 +1,6 @@
 //! The texts before the path of a plain link, each cut after an ASCII prefix: its scheme and `://`, its domain
 //! and its port.
-ghost use Rattle.std.specs.Prelude.{◌≡◌, ◌≤◌, ◌+◌, ◌++◌, ◌∷◌, true, Option, IfSome, IsTrue, drop, length, take};
+ghost use Rattle.std.specs.Prelude.{◌≡◌, ◌≤◌, ◌+◌, ◌++◌, ◌∷◌, Option, IfSome, IsTrue, drop, length, take};
 ghost use Rattle.std.specs.Char.{is_ascii_digit};
 ghost use Rattle.std.specs.Int.{from_le_bytes, w32};
 ghost use Rattle.std.specs.List.{prefix_len};

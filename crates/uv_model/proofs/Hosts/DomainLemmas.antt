@@ -167,13 +167,6 @@ not_permitted profile text written e form h =
 pub not_strict : (text : List ℕ) → strict_form text ≡ None → HasNoForm Standard text
 not_strict text e form h = none-some form (sym e ∙ h.fits.ascii)
 
--- a text whose strict form has wrong lengths has none either
-pub no_lengths : (text form : List ℕ) → strict_form text ≡ Some form → has_lengths form ≡ false
-    → HasNoForm Standard text
-no_lengths text form e wrong other h =
-    let same = same_Some form other (sym e ∙ h.fits.ascii) in
-    false≢true (sym wrong ∙ ap has_lengths same ∙ h.lengths)
-
 -- a text that the parser's ToASCII refuses has no form by a written profile
 pub not_parsed : (profile : Profile) (text : List ℕ) → IsWritten profile
     → domain_to_ascii EMPTY (encode_utf8_all text) ≡ None → HasNoForm profile text

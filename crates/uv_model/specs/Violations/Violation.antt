@@ -171,11 +171,6 @@ abbrev pub fault_after : ℕ → Option Refusal → Option Refusal
 fault_after start None = None
 fault_after start (Some refusal) = Some (refusal_after start refusal)
 
--- the first fault, or otherwise the second
-abbrev pub fault_or : Option Refusal → Option Refusal → Option Refusal
-fault_or None second = second
-fault_or (Some refusal) second = Some refusal
-
 -- the violations of the host, where there is an authority
 abbrev pub HostPartViolation : Setting → Cut → ℕ → Rule → Type 0
 HostPartViolation setting cut place rule = of_host cut.host_text

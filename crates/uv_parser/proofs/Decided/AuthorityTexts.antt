@@ -34,7 +34,7 @@ use Rattle.uv_parser.proofs.Decided.DecidedFile.{FileHostFits, file_host_decided
 use Rattle.uv_parser.proofs.Decided.DecidedPath.{AreFine, FreeOfMarks, path_start_decided}
 use Rattle.uv_model.proofs.Texts.MarkLemmas.{is_without-cons}
 use Rattle.uv_model.proofs.Paths.PathPieces.{joins_pieces}
-use Rattle.uv_model.specs.Path.{pieces, segments_after}
+use Rattle.uv_model.specs.Path.{segments_after}
 use Rattle.uv_parser.proofs.Running.RunsStopped.{RunStops}
 use Rattle.uv_parser.proofs.Running.Steps.{Stops, ends_again, stops_here}
 use Rattle.uv_parser.proofs.Loops.Tails.{tail}

@@ -1,6 +1,5 @@
 //! Diagnostics with the line that they are about, a caret below the place, and what to write in place of the line.
 ghost use Rattle.std.specs.Prelude.{◌≡◌, ◌++◌, OnOk, option_map, replicate, string_bytes, take};
-ghost use Rattle.std.specs.List.{flat_map};
 ghost use Rattle.std.specs.Str.{chars};
 ghost use Rattle.uv_sentences.specs.Escaping.Escapes.{shown_text};
 ghost use Rattle.uv_report.specs.Diagnostic.{diagnostic_view, fix_view};

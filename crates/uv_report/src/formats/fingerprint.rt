@@ -1,5 +1,5 @@
 //! What tells one diagnostic from another, in any run: by what is wrong with which text, or also by the file.
-ghost use Rattle.std.specs.Prelude.{◌≡◌, ◌++◌, IfOk, OnOk, string_bytes};
+ghost use Rattle.std.specs.Prelude.{◌≡◌, IfOk, string_bytes};
 ghost use Rattle.json.specs.Json.{string};
 ghost use Rattle.uv_report.specs.Diagnostic.{diagnostic_view};
 ghost use Rattle.uv_report.specs.Formats.Fingerprint as spec;

@@ -4,7 +4,6 @@ ghost use Rattle.json.specs.Tree.{json_tokens, members_tokens};
 ghost use Rattle.std.specs.Prelude.{◌≡◌, ◌∷◌, ◌++◌, OnOk, codes, string_bytes};
 ghost use Rattle.uv_report.specs.Diagnostic.{diagnostic_view, edit_of, edit_view};
 ghost use Rattle.uv_report.specs.Formats.Rdjson as spec;
-ghost use Rattle.uv_report.specs.Json.{single};
 
 use crate::diagnostic::{Diagnostic, Fix, Region};
 use crate::formats::sarif::separator;

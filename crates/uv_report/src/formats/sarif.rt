@@ -1,8 +1,8 @@
 //! Diagnostics as a document of SARIF 2.1.0, which is written result by result.
-ghost use Rattle.json.specs.Json.{member, object};
+ghost use Rattle.json.specs.Json.{object};
 ghost use Rattle.json.specs.Token.{begin_array, begin_object, end_array, end_object, key};
 ghost use Rattle.json.specs.Tree.{json_tokens, members_tokens};
-ghost use Rattle.std.specs.Prelude.{◌≡◌, ◌∷◌, ◌++◌, [], IfOk, OnOk, codes, flat_map, string_bytes};
+ghost use Rattle.std.specs.Prelude.{◌≡◌, ◌∷◌, ◌++◌, IfOk, OnOk, codes, flat_map, string_bytes};
 ghost use Rattle.uv_report.specs.Diagnostic.{carried_text, diagnostic_view, edit_view};
 ghost use Rattle.uv_report.specs.Formats.Uri as uris;
 ghost use Rattle.uv_report.specs.Formats.Sarif as spec;

@@ -1,5 +1,5 @@
--- What each rule of valid URL strings asks (URL Standard, sections 3.4 and 4.3), and where it is. Its example, and what its
--- section is called, are for people: no clause says those words.
+-- What each rule of valid URL strings asks (URL Standard, sections 3.4 and 4.3), where it is, and at which place its example is
+-- refused. The words of the example, and what the section is called, are for people: no clause says them.
 use Rattle.std.specs.Prelude.{ℕ, List, codes}
 use Rattle.uv_model.specs.declared.rule.Rule.{Rule}
 use Rattle.uv_model.specs.declared.rule.Rule.TheVariants.{NoScheme, OpaqueBase, TwoSlashes, HostMissing, HostDomain}
@@ -49,3 +49,20 @@ rule_uri FirstSegmentEmpty = codes "https://url.spec.whatwg.org/#path-absolute-u
 rule_uri DriveAfterHost = codes "https://url.spec.whatwg.org/#path-absolute-non-windows-file-url-string"
 rule_uri CodePoint = codes "https://url.spec.whatwg.org/#url-code-points"
 rule_uri Percent = codes "https://url.spec.whatwg.org/#url-units"
+
+-- the place at which the example of a rule is refused, in code points from 0
+abbrev pub rule_place : Rule → ℕ
+rule_place NoScheme = 0
+rule_place OpaqueBase = 0
+rule_place TwoSlashes = 6
+rule_place HostMissing = 8
+rule_place HostDomain = 7
+rule_place HostNumber = 7
+rule_place HostIpv6 = 7
+rule_place HostCodePoint = 7
+rule_place PortDigit = 10
+rule_place PortRange = 9
+rule_place FirstSegmentEmpty = 20
+rule_place DriveAfterHost = 8
+rule_place CodePoint = 10
+rule_place Percent = 9

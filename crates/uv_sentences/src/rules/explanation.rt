@@ -1,7 +1,7 @@
 //! What each rule requires, with a text that violates it and a valid one that may have been meant.
 ghost use Rattle.std.specs.Prelude.{◌≡◌, ◌≤◌, IfSome, length, option_copied};
 ghost use Rattle.uv_sentences.specs.Escaping.Printable.{IsLine};
-ghost use Rattle.uv_sentences.specs.Rules.Explanation.{rule_asks, rule_uri};
+ghost use Rattle.uv_sentences.specs.Rules.Explanation.{rule_asks, rule_place, rule_uri};
 
 use uv_model::Rule;
 
@@ -25,14 +25,15 @@ pub struct Explanation {
     pub mended: &'static str,
 }
 
-/// What a rule asks, and an example, each text in one line of printable ASCII.
+/// What a rule asks, and an example with its place, each text in one line of printable ASCII.
 pub fn explain(rule: Rule) -> Explanation
     ensures asks { result.asks.now ≡ rule_asks rule }
     ensures section { IsLine result.section.now }
     ensures address { result.address.now ≡ rule_uri rule }
     ensures base { IfSome (option_copied result.base) IsLine }
     ensures wrong { IsLine result.wrong.now }
-    ensures place { result.place ≤ length result.wrong.now }
+    ensures place { result.place ≡ rule_place rule }
+    ensures within { result.place ≤ length result.wrong.now }
     ensures mended { IsLine result.mended.now }
 {
     match rule {

@@ -1,5 +1,5 @@
 -- One line more.
-use Rattle.std.proofs.Common.{◌∙◌, ◌++◌, ◌∷◌, [], ap, flat_map, string_bytes}
+use Rattle.std.proofs.Common.{◌∙◌, ◌++◌, ◌∷◌, [], ap, string_bytes}
 use Rattle.std.proofs.lemmas.List.{flat_map_more}
 use Rattle.uv_messages.specs.Messages.{message_line}
 use Rattle.uv_messages.proofs.messages.Message.push.Goals as goal

@@ -7,7 +7,7 @@ use Rattle.uv_lint.specs.ReportedView.{place_view}
 use Rattle.uv_lint.specs.Reporting.{HasBegunLine}
 use Rattle.uv_lint.proofs.LineViolationLemmas.{read_line, refused_line}
 use Rattle.uv_lint.proofs.ReporterLemmas.{line_begun, parts_left, reported_text}
-use Rattle.uv_lint.proofs.reporter.LintReporter.report_refused.Goals as goal
+use Rattle.uv_lint.proofs.reporter.LintReporter.report_line.Goals as goal
 
 -- where a rule is violated, they are UTF-8
 pub shown_text-requires : goal.shown_text-requires
