@@ -137,6 +137,7 @@ class Progress:
         return min(count, self._functions[crate])
 
     def _show(self, ended: threading.Event) -> None:
+        """Writes the line again and again, until the build has ended."""
         while not ended.wait(AT_TERMINAL if self._is_terminal else ELSEWHERE):
             line = self.line()
             with self._lock:

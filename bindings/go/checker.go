@@ -1,5 +1,7 @@
 package urlcheck
 
+// The calls that a caller makes. calls.go has the same by names in lower case, over the functions of C.
+
 // Checker checks texts by a profile, alone or against a base. The zero Checker is that of the standard profile, alone.
 // It is a small value, never changes, and goroutines may share it.
 type Checker struct {

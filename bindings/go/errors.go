@@ -5,6 +5,8 @@ import (
 	"fmt"
 )
 
+// The errors: why a text is refused, or why it wasn't checked.
+
 var (
 	// ErrMemory says that no memory was left. Nothing is said of the text.
 	ErrMemory = errors.New("urlcheck: out of memory")

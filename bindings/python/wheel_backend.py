@@ -175,6 +175,7 @@ def _sources():
 
 
 def _digest(data):
+    """The hash of a file as a wheel's RECORD has it (PEP 376): SHA-256 in base64 for URLs, without its padding."""
     return base64.urlsafe_b64encode(hashlib.sha256(data).digest()).rstrip(b"=").decode()
 
 

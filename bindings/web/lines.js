@@ -8,6 +8,7 @@ import {
 /** @typedef {import('./urlcheck.js').RefusedLine} RefusedLine */
 
 const LF = 10
+/** So many bytes are handed to the module at a time, so that its memory stays small for a list of any length. */
 const PIECE = 1 << 20
 
 /**

@@ -9,6 +9,7 @@ typedef struct column {
     uint64_t *present; /* null if none is missing */
 } column;
 
+/* A column of a chunk, by its number. */
 static column column_of(duckdb_data_chunk chunk, idx_t number) {
     duckdb_vector vector = duckdb_data_chunk_get_vector(chunk, number);
     column column = {duckdb_vector_get_data(vector), duckdb_vector_get_validity(vector)};
@@ -24,6 +25,7 @@ static bool read_text(const column *column, idx_t row, slice *text) {
     return true;
 }
 
+/* Whether two texts have the same bytes. */
 static bool is_same(slice one, slice other) {
     return one.length == other.length && memcmp(one.bytes, other.bytes, one.length) == 0;
 }
@@ -94,6 +96,7 @@ void put_text(cell out, const void *bytes, size_t length) {
 
 void put_words(cell out, const char *words) { put_text(out, words, strlen(words)); }
 
+/* Writes what the function says of a row: false where the call has ended with an error. */
 static bool put_answer(duckdb_function_info call, cell out, question question, const request *request) {
     switch (question) {
         case CHECK: return put_check(call, out, request);

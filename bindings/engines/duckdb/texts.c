@@ -5,7 +5,7 @@
 
 DUCKDB_EXTENSION_EXTERN
 
-/* The room that most texts fit in. */
+/* The room that most texts fit in, so that one call writes them; a longer one is written by a second call. */
 enum { MOST = 512 };
 
 /* What is said of a refused text: false if that is an error. */
@@ -23,6 +23,7 @@ static bool put_refusal(duckdb_function_info call, cell out, question question, 
     }
 }
 
+/* Writes a part, or NULL if the url lacks it. */
 static void put_part(cell out, slice url, urlcheck_span span) {
     if (span.present)
         put_text(out, url.bytes + span.start, span.length);

@@ -41,10 +41,12 @@ struct ArrowArrayStream {
     void *private_data;
 };
 
+/* The flag of a schema by which texts may be missing: ARROW_FLAG_NULLABLE. */
 enum { NULLABLE = 2 };
 
 /* ---- what comes in */
 
+/* The error for an array that isn't as the interface says; null, to be returned. */
 static PyObject *refuse_array(const char *why) {
     PyErr_Format(PyExc_ValueError, "the array is broken: %s", why);
     return NULL;
@@ -113,6 +115,7 @@ static int read_call(PyObject *args, const char *format, arrow_call *call, int *
            && read_valid_setting(call->state, base, profile, &call->request);
 }
 
+/* Gives back what a call holds. */
 static void drop_call(arrow_call *call) {
     free(call->widened);
     drop_request(&call->request);
@@ -202,6 +205,7 @@ typedef struct handed {
     struct ArrowArray dictionary;
 } handed;
 
+/* What a reader of a schema calls when it is done. A NULL callback says that it was released, as the interface asks. */
 static void release_schema(struct ArrowSchema *schema) {
     if (schema->dictionary) {
         if (schema->dictionary->release) schema->dictionary->release(schema->dictionary);
@@ -210,6 +214,7 @@ static void release_schema(struct ArrowSchema *schema) {
     schema->release = NULL;
 }
 
+/* The same of an array, perhaps in another thread, so the interpreter's lock is taken to give back its buffers. */
 static void release_array(struct ArrowArray *array) {
     handed *handed = array->private_data;
     PyGILState_STATE lock;
@@ -222,6 +227,7 @@ static void release_array(struct ArrowArray *array) {
     array->release = NULL;
 }
 
+/* What Python calls for a capsule that nobody has: one that no reader took over is released here. */
 static void drop_schema(PyObject *capsule) {
     struct ArrowSchema *schema = PyCapsule_GetPointer(capsule, "arrow_schema");
 
@@ -336,6 +342,7 @@ static PyObject *next_array(struct ArrowArrayStream *stream) {
     return capsule;
 }
 
+/* The schema of a stream in a capsule, or null and an error. */
 static PyObject *schema_of(struct ArrowArrayStream *stream) {
     struct ArrowSchema *schema = calloc(1, sizeof *schema);
     PyObject *capsule;

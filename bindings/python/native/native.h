@@ -11,6 +11,10 @@
 
 #include "urlcheck.h"
 
+/*
+ * How many there are of each, counted from 0; no rule and no kind has the number 0. The package hands over as many when
+ * it is loaded (see native.use in __init__.py), and the module refuses another count.
+ */
 enum { PART_COUNT = 6, RULE_COUNT = 16, NO_UTF8_RULE = 15, KIND_COUNT = 4, PROFILE_COUNT = 3 };
 
 /* What the module holds: objects of Python, and nothing else. */

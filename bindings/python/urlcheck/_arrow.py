@@ -29,6 +29,7 @@ class Column:
 
     @classmethod
     def truths(cls, verdicts: bytearray, missing: int) -> "Column":
+        """Whether each text is valid, by the verdicts, of which 0 means valid; missing where the verdict says so."""
         present, count = native.bits(verdicts, missing, False)
         return cls("b", len(verdicts), count, (present if count else None, native.bits(verdicts, 0, True)[0]))
 
@@ -53,6 +54,7 @@ class Column:
 
     @classmethod
     def texts(cls, data: bytes, offsets: bytearray, marks: bytearray) -> "Column":
+        """Texts in one buffer, by the offsets between them; missing where the mark is 0."""
         present, count = native.bits(marks, 0, False)
         return cls("U", len(marks), count, (present if count else None, offsets, data))
 
@@ -91,4 +93,5 @@ def _imported(pyarrow: Any, column: Column) -> Any:
 
 
 def _exported(chunk: Any) -> Tuple[object, object]:
+    """Refuses an array of a pyarrow before version 14, which hands out no capsules."""
     raise TypeError("an array that has __arrow_c_array__ is wanted, as pyarrow 14 and later give")

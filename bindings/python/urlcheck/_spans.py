@@ -19,6 +19,7 @@ class Span(NamedTuple):
     end: int
 
     def halves(self) -> Tuple["Span", "Span"]:
+        """Two spans of half the length, to find which of its lines a worker fails at."""
         middle = (self.start + self.end) // 2
         return Span(self.file, self.start, middle), Span(self.file, middle, self.end)
 

@@ -48,6 +48,7 @@ def findings(
     column."""
 
     def checked(batches: Iterable[Any]) -> Iterator[Any]:
+        """The batches with their new columns."""
         import pyarrow
 
         for batch in batches:

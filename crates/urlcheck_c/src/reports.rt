@@ -1,4 +1,4 @@
-//! What is round the diagnostics of a report, and what its formats have.
+//! What comes before and after the diagnostics of a report, and what its formats can do.
 ghost use Rattle.std.specs.Prelude.{◌≡◌, IfOk, string_bytes};
 ghost use Rattle.uv_report.specs.Report.{begin_text, file_begin_text, file_end_text};
 ghost use Rattle.urlcheck_c.specs.Report.{IsBeginAnswer, IsEndAnswer, IsFileBeginAnswer, IsFileEndAnswer};
@@ -49,7 +49,7 @@ fn begin(alloc: Global, format: Format, columns: Columns) -> Result<String, Allo
     Ok(text)
 }
 
-/// Writes what is before the diagnostics of a file.
+/// Writes what comes before the diagnostics of a file.
 #[unsafe(no_mangle)]
 pub extern "C" fn urlcheck_report_file_begin(
     alloc: Global,
@@ -76,7 +76,7 @@ fn file_begin(alloc: Global, format: Format, file: &str) -> Result<String, Alloc
     Ok(text)
 }
 
-/// Writes what is after the diagnostics of a file.
+/// Writes what comes after the diagnostics of a file.
 #[unsafe(no_mangle)]
 pub extern "C" fn urlcheck_report_file_end(alloc: Global, format: u32, out: &mut [u8]) -> Written
     ensures { IsFileEndAnswer format out.old out.new result }
@@ -95,7 +95,7 @@ fn file_end(alloc: Global, format: Format) -> Result<String, AllocError>
     Ok(text)
 }
 
-/// Writes what a report ends with, by the number of how the run over its files has ended. It takes no memory.
+/// Writes what a report ends with, by the number that says how the run over its files has ended. It takes no memory.
 #[unsafe(no_mangle)]
 pub extern "C" fn urlcheck_report_end(format: u32, completion: u32, out: &mut [u8]) -> Written
     ensures { IsEndAnswer format completion out.old out.new result }

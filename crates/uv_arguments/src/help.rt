@@ -1,5 +1,5 @@
-//! The texts of the help: examples of each command for its short form, and for its long form what the command prints,
-//! its exit statuses and the examples. Lines have at most 80 columns.
+//! The texts of the help: for its short form examples of each command, and for its long form also what the command
+//! prints, and its exit statuses. Lines have at most 80 columns.
 
 pub(crate) const ABOUT: &str =
     "Checks how links are written (WHATWG URL Standard). Opens no connection.";

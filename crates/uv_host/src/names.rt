@@ -1,4 +1,4 @@
-//! Names of hosts by the kinds of their bytes, which one walk finds.
+//! Names of hosts, by the kinds of bytes in them, which a single walk finds.
 ghost use Rattle.idna.specs.declared.options.Hyphens.TheVariants.{Allow, Check};
 ghost use Rattle.idna.specs.Labels.{labels_of};
 ghost use Rattle.idna.specs.Validity.{passes_hyphens};
@@ -15,7 +15,7 @@ use std::marker::Model;
 use uv_model::Profile;
 use uv_text::byte_table;
 
-// The kinds of bytes, each a bit. Lower-case letters but `x`, digits and the full stop are of no kind.
+// The kinds of bytes, each a bit. Lower-case letters except `x`, digits and the full stop have no kind.
 const HYPHEN: u8 = 1;
 
 const CAPITAL: u8 = 2;
@@ -30,7 +30,7 @@ const FORBIDDEN: u8 = 16;
 
 const BEYOND_ASCII: u8 = 32;
 
-// With which `xn--` begins.
+// The letter with which `xn--` begins.
 const LETTER_X: u8 = 64;
 
 // The kind of each byte.
@@ -45,10 +45,10 @@ const KINDS: [u8; 256] = byte_table! {
     _ => OTHER_MARK,
 };
 
-// The kinds beyond letters in lower case, digits and full stops.
+// The kinds other than letters in lower case, digits and full stops.
 const BEYOND_SIMPLE: u8 = HYPHEN | BEYOND_STANDARD_FORM;
 
-// The kinds beyond a form's code points, under each profile.
+// The kinds that a form doesn't hold, under each profile.
 const BEYOND_STANDARD_FORM: u8 = BEYOND_WIDE_FORM | LOW_LINE;
 
 const BEYOND_WIDE_FORM: u8 = BEYOND_PARSER_FORM | OTHER_MARK;
@@ -62,7 +62,7 @@ const BEYOND_WIDE: u8 = BEYOND_PARSER | OTHER_MARK;
 
 const BEYOND_PARSER: u8 = FORBIDDEN;
 
-/// The bytes of a name, of which one walk has found the kinds. Contracts see the bytes.
+/// The bytes of a name, with the kinds that one walk found in them. Contracts see the bytes.
 #[derive(Drop)]
 pub(crate) struct Name<'n> {
     bytes: &'n [u8],
@@ -92,7 +92,7 @@ impl<'n> Name<'n> {
         }
     }
 
-    /// Whether it has lower-case letters, digits and full stops alone.
+    /// Whether it has only lower-case letters, digits and full stops.
     #[inline(always)]
     pub(crate) fn is_simple(&self) -> bool
         ensures { result ≡ list_all is_simple self.now }
@@ -100,7 +100,7 @@ impl<'n> Name<'n> {
         self.seen & BEYOND_SIMPLE == 0
     }
 
-    /// Whether it has the code points of a form alone: lower-case letters, digits and the marks of a domain.
+    /// Whether it has only the code points of a form: lower-case letters, digits and the marks of a domain.
     #[inline(always)]
     pub(crate) fn is_form(&self, profile: Profile) -> bool
         ensures { result ≡ list_all (spec.is_form_code_point profile) self.now }

@@ -7,7 +7,7 @@ const MOST_LINE_BYTES: usize = 65_536;
 
 const MOST_LINES: u64 = 1_000_000_000;
 
-/// How many bytes a line may have, its LF and a CR before that not counted, and how many lines may come.
+/// How many bytes a line may have, not counting its LF and a CR before that, and how many lines may come.
 #[derive(Clone, Copy, Debug, PartialEq, Eq)]
 pub struct LinkLimits {
     line_bytes: usize,

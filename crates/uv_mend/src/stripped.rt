@@ -1,11 +1,12 @@
-//! What the URL parser takes off its input before all else.
+//! What the URL parser removes from its input before anything else.
 ghost use Rattle.std.specs.Prelude.{◌≡◌, ◌++◌, IfOk};
 ghost use Rattle.uv_mend.specs.Stripped as spec;
 
 use crate::code_points::{first_of, last_of, push_one};
 use std::alloc::{AllocError, Global};
 
-/// The text without C0 controls and spaces at both ends, and without tabs, LF and CR. The error is out of memory.
+/// The text without C0 controls and spaces at both ends, and without tabs, LF and CR. An error means that memory ran
+/// out.
 pub(crate) fn stripped(alloc: Global, text: &[char]) -> Result<Vec<char>, AllocError>
     ensures { IfOk result (λ out. out.items ≡ spec.stripped text.now) }
 {

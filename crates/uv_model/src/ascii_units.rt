@@ -1,4 +1,4 @@
-//! Tests of ASCII texts, byte by byte: URL units and the code points that a text is without.
+//! Tests of ASCII texts, byte by byte: whether they are URL units, and whether a code point is in them.
 ghost use Rattle.std.specs.Char.{is_ascii_uppercase};
 ghost use Rattle.std.specs.List.{list_all};
 ghost use Rattle.std.specs.Prelude.{◌≡◌, ◌↔◌, IsTrue, not};

@@ -38,8 +38,8 @@ impl Record {
     }
 }
 
-// The length of that text, with room for any address and any port. No clause says it: a text that outgrows it is
-// written all the same.
+// The length of that text, with room for any address and any port. No clause depends on it: a text that outgrows it is
+// still written.
 fn room_for(url: &Record) -> usize {
     url.scheme()
         .len()
@@ -50,7 +50,7 @@ fn room_for(url: &Record) -> usize {
         .saturating_add("://:65535".len())
 }
 
-// The length of a name, or the most of an address.
+// The length of a name, or the most that an address has.
 fn host_room(host: Option<&Host>) -> usize {
     match host {
         Some(Host::Domain(form)) => form.as_str().len(),
@@ -80,7 +80,7 @@ fn segments_room(segments: &[Text]) -> usize {
     room
 }
 
-// The length of a part with the mark before it, where there is one.
+// The length of a part with the mark before it, if there is one.
 fn part_room(text: Option<&str>) -> usize {
     match text {
         Some(text) => text.len().saturating_add(1),
@@ -143,7 +143,7 @@ fn dot_prefix(path: &UrlPath) -> &'static str
     }
 }
 
-// `/.` before these segments, where they would begin with `//`, which would be read as an authority.
+// `/.` before these segments, if they would begin with `//`, which would be read as an authority.
 fn dot_before(segments: ListedTexts<'_>) -> &'static str
     ensures { result.now ≡ serial_authority None None (Segments segments.entry) }
 {
@@ -209,7 +209,7 @@ fn push_segments(out: &mut String, segments: &[Text]) -> Result<(), AllocError>
     Ok(())
 }
 
-// An ASCII mark and the text after it, where there is one.
+// An ASCII mark and the text after it, if there is one.
 fn push_after(out: &mut String, mark: char, text: Option<&str>) -> Result<(), AllocError>
     requires { mark < 128 }
     ensures ok { OnOk result (string_bytes out.new ≡ string_bytes out.old

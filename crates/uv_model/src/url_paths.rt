@@ -29,7 +29,7 @@ pub fn is_url_path(class: Class, host: Option<&Host>, path: &UrlPath, profile: P
     }
 }
 
-// Without segments a URL has to be of class Other and to have a host.
+// A URL without segments has to be of class Other and to have a host.
 fn may_be_empty(class: Class, host: Option<&Host>) -> bool
     ensures { result ≡ may_be_empty class (option_copied host.entry) }
 {
@@ -40,7 +40,7 @@ fn may_be_empty(class: Class, host: Option<&Host>) -> bool
     }
 }
 
-// With an opaque path a URL has to be of class Other and to have no host.
+// A URL with an opaque path has to be of class Other and to have no host.
 fn may_be_opaque(class: Class, host: Option<&Host>) -> bool
     ensures { IsTrue result ↔ ((class ≡ Class.Other) × (option_copied host.entry ≡ None)) }
 {
@@ -104,7 +104,7 @@ fn starts_with_slash(text: &[u8]) -> bool
     }
 }
 
-// Whether these may be the segments of a path: where there are none, only after a host of class Other.
+// Whether these may be the segments of a path. There may be none only after a host of class Other.
 fn are_segments_of(class: Class, host: Option<&Host>, segments: ListedTexts<'_>) -> bool
     ensures { IsTrue result ↔ AreSegmentsOf class (option_copied host.entry) segments.entry }
 {

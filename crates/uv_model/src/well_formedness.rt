@@ -15,8 +15,8 @@ use crate::scheme::{Class, class_of, default_port};
 use crate::url_hosts::is_url_host;
 use crate::url_paths::is_url_path;
 
-/// Whether these parts make a record that is well formed under the profile. Those that are by the wide one may be given
-/// to `Record::make`. A text that isn't ASCII makes none. It takes no memory.
+/// Whether these parts make a record that is well formed under the profile. Parts that are well formed under the wide
+/// one may be given to `Record::make`. A text that isn't ASCII isn't well formed. It takes no memory.
 pub fn well_formed(
     scheme: &str,
     host: Option<&Host>,
@@ -118,7 +118,7 @@ fn is_url_port(scheme: &str, host: Option<&Host>, port: Option<u16>) -> bool
     }
 }
 
-// A port may be after a host that isn't empty, in a URL whose scheme isn't `file`.
+// A port may come only after a host that isn't empty, in a URL whose scheme isn't `file`.
 fn takes_port(class: Class, host: Option<&Host>) -> bool
     ensures { result ≡ takes_port class (option_copied host.entry) }
 {

@@ -253,6 +253,7 @@ if sys.platform != "win32":
             super().__init__(os.fdopen(reader, "rb"))
 
         def status(self) -> int:
+            """How it ended: below 0 by a signal, as ``subprocess`` says it."""
             status = os.waitpid(self._number, 0)[1]
             return -os.WTERMSIG(status) if os.WIFSIGNALED(status) else os.WEXITSTATUS(status)
 
@@ -278,6 +279,7 @@ class _Started(_Child):
             pass
 
     def status(self) -> int:
+        """How it ended."""
         return self._process.wait()
 
 
@@ -333,7 +335,7 @@ def _put(part: Optional[Taken], pipe: BinaryIO) -> None:
 
 
 def _sure(parts: Parts) -> Iterator[Taken]:
-    """The parts of a document, and what is said where its reader failed."""
+    """The parts of a document, and if its reader fails that it did, so that the others are still checked."""
     try:
         yield from parts()
     except (MemoryError, SystemError):

@@ -256,6 +256,7 @@ def _unit(name: Optional[str], format: str) -> str:
 
 
 def _parser() -> Parser:
+    """The parser of the command line. Its help lists the options by groups, in this order."""
     parser = Parser(
         prog="urlcheck-documents",
         usage="urlcheck-documents [OPTIONS] FILE..",

@@ -117,6 +117,8 @@ class Document:
         return Document(self._settings._replace(fixing=None), self._is_checked, self.path, self.folder)
 
     def _checker_of(self, config: Configuration) -> Checker:
+        """The checker by the settings of the run, and where they say nothing by those of the document's
+        configuration."""
         settings = self._settings
         base = settings.base or config.base
         profile = config.profile if settings.is_profile_left and config.profile is not None else settings.profile
@@ -150,6 +152,7 @@ class Document:
             yield nothing("is nested too deeply")
 
     def _parts_of(self, found: Found, part: Part) -> Iterator[Taken]:
+        """What is found in a source, in parts that are small enough to be handed to another process."""
         places = Places(found.source, self._settings.unit)
         name = self.name + ("/" + found.inner if found.inner else "")
         ignoring = Ignoring(found.comments)

@@ -157,6 +157,7 @@ def _git() -> str:
 
 
 def _is_excluded(excluded: Tuple[Excluded, ...], below: str, name: str, is_folder: bool) -> bool:
+    """Whether one of the patterns has the name of a file or a folder, or its path below the folder that was named."""
     return any(it.has(below, name, is_folder) for it in excluded)
 
 

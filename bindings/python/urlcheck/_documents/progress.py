@@ -51,7 +51,7 @@ class Progress:
             _show(_ERASE)
 
     def end(self) -> None:
-        """Ends it."""
+        """Takes the line away for good, and the signal that writes it."""
         if self._is_shown:
             self._on_time_from(0)
         self._is_shown = False
@@ -65,9 +65,11 @@ class Progress:
             signal.setitimer(signal.ITIMER_REAL, first, _EACH)
 
     def _on_time(self, _number: int, _frame: Any) -> None:
+        """What the signal calls."""
         self._write()
 
     def _write(self) -> None:
+        """Writes the line, unless it was written just before, as a signal may come right after a document's end."""
         now = time.monotonic()
         if not self._is_shown or now < self._next:
             return

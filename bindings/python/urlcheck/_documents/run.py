@@ -126,12 +126,14 @@ class Run:
             self._report.passed(document.name)
 
     def _tell_fault(self, document: Document, fault: Fault) -> None:
+        """Says in the report and on standard error why a document, or a part of it, wasn't read."""
         name = document.name + ("/" + fault.inner if fault.inner else "")
         self._report.tell(not_read(self._settings.format, name, fault))
         is_input = name == "-" and fault.line is None
         self._screen.tell(("standard input" if is_input else named(name) or "''") + fault.after())
 
     def _count(self, taken: Taken) -> None:
+        """Counts the faults of a part, for the statistics and the baseline."""
         for fault in taken.counted:
             self.statistics.add(fault.rule, fault.text)
             self.faults.append(fault.known)

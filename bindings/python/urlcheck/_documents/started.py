@@ -25,6 +25,7 @@ def hand_on(to: IO[bytes]) -> None:
 
 
 def _hand_on(given: Any, to: IO[bytes]) -> None:
+    """Hands on, in a thread of its own, so that what the process answers is read meanwhile."""
     try:
         while True:
             data = given.read(65536)

@@ -202,6 +202,7 @@ class Checking:
             return self._ended(None) if seen is None else seen
 
     def _started(self) -> "subprocess.Popen[bytes]":
+        """The process, which is started again if it has ended."""
         if self._process is None or self._process.poll() is not None:
             self.end()
             self._process = started(__name__)
@@ -231,6 +232,7 @@ class Checking:
 
 
 def _send(pipe: IO[bytes], value: Any) -> None:
+    """Sends a value: its length in eight bytes, and then itself, so that the reader knows where it ends."""
     data = pickle.dumps(value, pickle.HIGHEST_PROTOCOL)
     pipe.write(len(data).to_bytes(8, "big") + data)
     pipe.flush()

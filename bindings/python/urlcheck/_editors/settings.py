@@ -68,6 +68,7 @@ def _chosen(given: Dict[str, Any], name: str, values: Dict[str, Any], wrong: "li
 
 
 def _is_base(text: str, profile: Profile) -> bool:
+    """Whether texts can be checked against it."""
     try:
         check("", text, profile)
     except (BaseRefused, UnicodeEncodeError):

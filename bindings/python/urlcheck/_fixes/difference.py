@@ -54,6 +54,7 @@ def _changes(source: Source, lines: List[str], edits: Sequence[Edit]) -> Iterato
 
 
 def _change(source: Source, lines: List[str], edits: Sequence[Edit], end: int) -> _Change:
+    """The lines that some edits change, and what they become. The edits count from the first of these lines."""
     first = source.position(edits[0].start)[0] - 1
     start = source.offset(first + 1, 0)
     moved = [Edit(edit.start - start, edit.end - start, edit.text) for edit in edits]

@@ -27,6 +27,7 @@ def edited(text: str, edits: Sequence[Edit]) -> str:
 
 
 def _pieces(text: str, edits: Sequence[Edit]) -> Iterator[str]:
+    """The text between the edits, and their own, in order."""
     at = 0
     for edit in edits:
         yield text[at : edit.start]

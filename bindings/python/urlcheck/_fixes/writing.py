@@ -45,6 +45,7 @@ def replace(name: str, digest: bytes, data: bytes, folder: Optional[str] = None)
 
 
 def _is_within(folder: str, path: str) -> bool:
+    """Whether a path is below a folder."""
     try:
         return os.path.commonpath([folder, path]) == folder
     except ValueError:

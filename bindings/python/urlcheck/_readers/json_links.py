@@ -48,6 +48,7 @@ def _parsed(source: Source) -> Any:
     """The document's value, with each string as a ``Text``. Raises ``Broken``, and ``RecursionError`` where it is
     nested too deeply."""
 
+    # (the decoder of C knows no places, so that of Python reads, with a function for strings that notes them)
     def string(text: str, begin: int, strict: bool = True) -> Tuple[Text, int]:
         value, end = _decoding.py_scanstring(text, begin, strict)
         found = Text(value)
@@ -84,6 +85,7 @@ def _place_in(source: Source, texts: List[Text]) -> Callable[[int], int]:
         length += len(text)
     known: Dict[int, Written] = {}
 
+    # (a string is read again for its places only when a link is in it)
     def place_of(at: int) -> int:
         number = max(0, bisect.bisect_right(begins, at) - 1)
         if number not in known:
@@ -141,6 +143,7 @@ def links_of_feed(source: Source) -> Tuple[List[Link], List[Comment], Optional[B
 
 
 def _of_feed(source: Source, feed: Dict[str, Any]) -> Iterator[Link]:
+    """The links of a feed. It is walked without recursion, since its author chooses how deeply it is nested."""
     waiting: List[Any] = [feed]
     while waiting:
         value = waiting.pop()

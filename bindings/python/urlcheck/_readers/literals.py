@@ -193,6 +193,7 @@ def _plain(text: str, link: str, begin: int, end: int) -> Iterator[Span]:
 
 
 def _goes_on(point: str) -> bool:
+    """Whether a URL could go on with this code point, or have it before its start."""
     return point.isalnum() or point in _OF_URL if point else False
 
 

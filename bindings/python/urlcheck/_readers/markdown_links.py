@@ -117,6 +117,7 @@ class _Reader:
         self._lines: Tuple[Tuple[int, int], str, Optional[int]] = ((0, 0), "", None)
 
     def _destination(self, text: str, at: int, end: int) -> Any:
+        """The package's reader of destinations, which notes where each is, since the token of a link doesn't say it."""
         result = self._parse(text, at, end)
         if not result.ok and text.startswith(")", at, end):
             # `[a]()` has an empty destination.
@@ -125,6 +126,8 @@ class _Reader:
         return result
 
     def _placed(self, url: str) -> str:
+        """A destination with its place, in place of the package's escaped one: it is called right after
+        ``_destination``."""
         placed = _Destination(url)
         text, at, result = self._last
         if result is not None and result.str == url:
@@ -150,6 +153,7 @@ class _Reader:
             self._take_inline(token, self.inlines.read(token.content, read))
 
     def _take_inline(self, block: Any, children: List[Any]) -> None:
+        """Takes the links of a block's text."""
         if self._is_gfm:
             self._take_bare(block.map[0], block.content)
         for token in children:
@@ -185,6 +189,7 @@ class _Reader:
             self._take_destination(definition["map"][0], definition["href"])
 
     def _take_destination(self, line: int, url: _Destination) -> None:
+        """Takes a link whose destination is in a block, at its place there, or else at its block's line."""
         if url.content is None:
             return
         start = self._offset(line, url.content, url.at)
@@ -237,7 +242,7 @@ class _Reader:
 
 
 _AHEAD = 4
-"""How many lines a definition is looked for in at first."""
+"""How many lines a definition is looked for in at first: nearly each fits in them."""
 
 
 def _near(rule: Callable[..., bool]) -> Callable[..., bool]:
@@ -258,13 +263,14 @@ def _near(rule: Callable[..., bool]) -> Callable[..., bool]:
 
 
 def _may_have_title(state: Any, start: int) -> bool:
-    """Whether after this line one begins as the title of a definition does, which may have any number of lines."""
+    """Whether one of the next lines begins with a quote or a parenthesis, as a definition's title does. A title may go
+    on for any number of lines, so then all lines of the block are wanted."""
     begins = (state.bMarks[line] + state.tShift[line] for line in range(start + 1, start + _AHEAD + 1))
     return any(state.src[at : at + 1] in ("'", '"', "(") for at in begins)
 
 
 _AT = "at"
-"""By what name a token has its place."""
+"""The key of a token's ``meta`` under which ``_placing`` keeps its place: the package itself keeps none."""
 
 
 def _placing(rule: Callable[[Any, bool], bool]) -> Callable[[Any, bool], bool]:

@@ -116,7 +116,8 @@ _OPTION = re.compile(r"\n\s*:(?!:)")
 
 
 def markup_of(node: Any) -> str:
-    """How the link of such a node is written, where docutils says that."""
+    """The markup of such a node, in which its link is looked for, or nothing if docutils doesn't keep it. That of an
+    image ends before its options; an image that is a link has no markup of its own but the option ``:target:``."""
     nodes: Any = importlib.import_module("docutils.nodes")
     markup: str = node.rawsource
     if isinstance(node, nodes.image):
@@ -165,6 +166,7 @@ def _read_through(notes: Set[str]) -> Iterator[None]:
     defined: Dict[str, Any] = dict(roles._roles)
     through = _through()
 
+    # (docutils has one table of each for all readers, so both lookups are replaced, and put back at the end)
     def directive(name: str, language: Any, document: Any) -> Any:
         found, said = known_directive(name, language, document)
         if found:

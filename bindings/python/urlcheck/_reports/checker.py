@@ -118,6 +118,8 @@ class Checker:
         return found
 
     def _checked(self, text: str, asks: Asks, base: Optional[Base], selected: Selected) -> Optional[Wrong]:
+        """What is wrong with a text by what it has to be. Formats ask more than the URL Standard, and have rules of
+        their own."""
         if asks is Asks.ANOTHER or (asks is Asks.SOME and not text and not self._is_empty_taken):
             rule = OF_FORMATS[OF_ASKS[asks]]
             if not selected.has(rule.name):

@@ -38,6 +38,7 @@ def coloured(format: str, lines: str) -> str:
 
 
 def _painted(format: str, lines: List[str]) -> Iterator[str]:
+    """The lines with colours, each by what it is: a head, the line of marks, or a note."""
     # (the line of a link's text, which may be like any other, follows its head, and then comes the line of marks)
     since = 2
     for line in lines:

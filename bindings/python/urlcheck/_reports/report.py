@@ -184,6 +184,7 @@ def report(
 def _report_on(
     diagnostics: Iterable[Diagnostic], format: str, unit: str, is_whole: bool, wording: str
 ) -> Iterator[str]:
+    """The pieces of a report. Equal faults of a file are counted, since formats tell them apart by a number."""
     yield begin(format, unit)
     seen: Counts[Tuple[str, str, int, str]] = Counter()
     is_first = True

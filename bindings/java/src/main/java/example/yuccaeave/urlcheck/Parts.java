@@ -4,6 +4,7 @@ import java.util.Optional;
 
 /** Where the parts of a text are, in its UTF-16 units. */
 final class Parts {
+    /** The parts, in the order of {@code urlcheck_spans}. */
     static final int SCHEME = 0;
     static final int HOST = 1;
     static final int PORT = 2;
@@ -40,10 +41,12 @@ final class Parts {
         return text;
     }
 
+    /** A part, if the text has it. */
     Optional<String> part(int part) {
         return Optional.ofNullable(slice(part));
     }
 
+    /** The path, which each text has. */
     String path() {
         return slice(PATH);
     }
