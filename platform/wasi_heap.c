@@ -20,7 +20,7 @@ static header *given_up[MOST_POWER + 1];
 static uint64_t top; /* where the memory is free; 0 before the first block */
 
 /*
- * The memory's next bytes, or NULL where the engine gives no more. Its end says whether it has grown: the answer of the
+ * The memory's next bytes, or NULL if the engine gives no more. Its end says whether it has grown: the answer of the
  * growth is widened to 64 bits by `wasm-opt`, and a refusal isn't -1 then.
  */
 static header *next_bytes(uint64_t size) {

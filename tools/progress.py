@@ -119,7 +119,7 @@ class Progress:
         )
 
     def _left(self, part: float) -> str:
-        """The time that is left where this part is done: nothing as long as that would be a guess."""
+        """The time that is left when this part is done: nothing as long as that would be a guess."""
         taken = time.monotonic() - self._started
         if part < 0.02 or taken < 10:
             return ""

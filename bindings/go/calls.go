@@ -100,7 +100,7 @@ func (c Checker) isValid(text string) bool {
 	return bool(C.urlcheck_is_valid(start, length, C.uint32_t(c.profile), c.prepared()))
 }
 
-// written gives the text that a call writes. The call is handed a buffer of so many bytes, of one at least, and gives
+// written gives the text that a call writes. The call is handed a buffer of this many bytes, of one at least, and gives
 // the length of its text; if that is longer, it is called once more. The callers' first rooms hold what most calls
 // write: a URL's text is seldom more than four bytes longer than the text that denotes it.
 func written(room int, write func(out *C.uint8_t, room C.size_t) C.size_t) string {
@@ -263,7 +263,7 @@ func (c Checker) resolveMany(texts []string) ([]string, []error) {
 	return urls, columns.errors(texts, batch.outcome, c.profile)
 }
 
-// errors gives the error on each text, or nil. Where the whole call did nothing, each text has that error.
+// errors gives the error on each text, or nil. If the whole call did nothing, each text has that error.
 func (c *columns) errors(texts []string, outcome C.uint32_t, profile Profile) []error {
 	errs := make([]error, len(texts))
 	for row, text := range texts {
@@ -278,7 +278,7 @@ func (c *columns) errors(texts []string, outcome C.uint32_t, profile Profile) []
 	return errs
 }
 
-// bytePlace gives the bytes of so many code points at the beginning of a text, which are UTF-8.
+// bytePlace gives the bytes of this many code points at the beginning of a text, which are UTF-8.
 func bytePlace(text string, place C.size_t) C.size_t {
 	at := 0
 	for ; place > 0; place-- {

@@ -69,7 +69,7 @@ const (
 // and its parts are slices of that: a domain is in ASCII, and a default port isn't there.
 type Record struct {
 	URL
-	// HostKind says of which kind the host is.
+	// HostKind says what kind of host it is.
 	HostKind HostKind
 	// HasOpaquePath says whether the path is opaque, as in "urn:isbn:1": it has no segments.
 	HasOpaquePath bool

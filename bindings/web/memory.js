@@ -32,7 +32,7 @@ import { ANSWER_WORDS, DONE, LENGTH, MEMORY, NO_COLUMN, NO_PLACE, VERDICT } from
  * @property {() => number} version
  */
 
-/** A text of at most so many UTF-16 units fits into its room without being measured: each has at most three bytes. */
+/** A text of at most this many UTF-16 units fits into its room without being measured: each has at most three bytes. */
 const SHORT = 512
 /** The room that holds any such text, and the one above which it is given up with the next call. */
 const SMALL_ROOM = 3 * SHORT
@@ -86,7 +86,7 @@ export class Room {
     /** The text that is in the room of the base, and the length of its UTF-8. */
     this.baseText = ''
     this.baseLength = 0
-    /** The base that the module holds, where it holds one, and its profile. */
+    /** The base that the module holds, if it holds one, and its profile. */
     this.heldText = /** @type {string | undefined} */ (undefined)
     this.heldProfile = 0
     this.layOut(SMALL_ROOM, SMALL_ROOM)
@@ -102,7 +102,7 @@ export class Room {
   }
 
   /**
-   * Makes rooms of so many bytes. A text that is in its room stays there.
+   * Makes rooms of this many bytes. A text that is in its room stays there.
    * @param {number} textRoom
    * @param {number} baseRoom
    */
@@ -210,7 +210,7 @@ export class Room {
   }
 
   /**
-   * Stops where a call has written no text.
+   * Stops if a call has written no text.
    * @throws {RangeError} if there is no memory for it
    */
   stopUnlessWritten() {

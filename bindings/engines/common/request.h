@@ -13,7 +13,7 @@ typedef struct slice {
     size_t length;
 } slice;
 
-/* What a call asks. Where the url is checked alone, the base's bytes and `prepared` are null. */
+/* What a call asks. If the url is checked alone, the base's bytes and `prepared` are null. */
 typedef struct request {
     slice url;
     slice base;

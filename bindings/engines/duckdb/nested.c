@@ -1,4 +1,4 @@
-/* What is said of a row by more than one value: the whole check as a STRUCT, and all of its faults as a list of them. */
+/* What is said about a row by several values: the whole check as a STRUCT, and its faults as a list of them. */
 #include <stdlib.h>
 
 #include "rows.h"

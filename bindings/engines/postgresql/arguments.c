@@ -29,7 +29,7 @@ static bool is_plain(const char *bytes, size_t length, int encoding) {
 }
 
 #if PG_VERSION_NUM >= 140000
-/* The text in UTF-8. After the front that has a form in UTF-8 is a byte that never does, where that isn't all. */
+/* The text in UTF-8. If only its beginning has a form in UTF-8, that ends with a byte that no UTF-8 has. */
 static slice in_utf8(const char *bytes, int length, int encoding) {
     Oid conversion = FindDefaultConversionProc(encoding, PG_UTF8);
     size_t room = (size_t)length * MAX_CONVERSION_GROWTH + 2;
@@ -51,7 +51,7 @@ static slice in_utf8(const char *bytes, int length, int encoding) {
     return read;
 }
 #else
-/* The text in UTF-8, or an error where it has no form there. */
+/* The text in UTF-8, or an error if it has no form there. */
 static slice in_utf8(const char *bytes, int length, int encoding) {
     slice read;
 
@@ -61,7 +61,7 @@ static slice in_utf8(const char *bytes, int length, int encoding) {
 }
 #endif
 
-/* An argument in UTF-8: its own bytes where they mean the same, otherwise converted ones. */
+/* An argument in UTF-8: its own bytes if they mean the same, otherwise converted ones. */
 static slice slice_of(text *argument) {
     const char *bytes = VARDATA_ANY(argument);
     int length = VARSIZE_ANY_EXHDR(argument), encoding = GetDatabaseEncoding();

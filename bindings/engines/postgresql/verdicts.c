@@ -1,4 +1,4 @@
-/* What is said of a url: whether it is valid, its first fault, its parts, and an error in place of a refusal. */
+/* What is said about a url: whether it is valid, its first fault, its parts, and an error in place of a refusal. */
 #include "arguments.h"
 
 #include "access/htup_details.h"
@@ -29,7 +29,7 @@ Datum pg_url_is_valid(PG_FUNCTION_ARGS) {
     PG_RETURN_BOOL(!is_refused(checked(&request).found));
 }
 
-/* An error shows at most so many bytes on each side of a wrong place, and a mended text only for a url this short. */
+/* An error shows at most this many bytes on each side of a wrong place, and a mended text only for a url this short. */
 enum { SHOWN = 100, HINTED = 1000 };
 
 /* The bytes of the url around a place that an error shows, whole characters, and whether some are left out. */

@@ -24,7 +24,7 @@ static int stops(sqlite3_context *call, const request *request, urlcheck_finding
     return 1;
 }
 
-/* Reads the arguments: false where the call has ended. A base that is constant is checked once. */
+/* Reads the arguments: false if the call has ended. A base that is constant is checked once. */
 static int read_call(sqlite3_context *call, int count, sqlite3_value **values, request *request) {
     const urlcheck_base *held = count > 1 ? sqlite3_get_auxdata(call, 1) : NULL;
     reading read = read_request(request, values[0], count > 1 ? values[1] : NULL, count > 2 ? values[2] : NULL, held);
@@ -63,7 +63,7 @@ static void result_refusal(sqlite3_context *call, const request *request, urlche
     }
 }
 
-/* What is said of a url's verdict, its first fault and its parts. */
+/* What is said about a url's verdict, its first fault and its parts. */
 static void say(sqlite3_context *call, int count, sqlite3_value **values) {
     question question = question_of(call);
     request request;

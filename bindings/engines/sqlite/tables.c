@@ -1,6 +1,6 @@
 /*
- * The tables of (url [, base [, profile]]): url_check has a row with all that is said of a url, and url_faults one for
- * each of its faults. The arguments are hidden columns after the others.
+ * The tables of (url [, base [, profile]]): url_check has a row with all that is said about a url, and url_faults one
+ * for each of its faults. The arguments are hidden columns after the others.
  */
 #include "arguments.h"
 
@@ -73,7 +73,7 @@ static int fail(sqlite3_vtab *made, char *message) {
     return message ? SQLITE_ERROR : SQLITE_NOMEM;
 }
 
-/* Which constraint gives each argument: false where one that is given can't be used in this plan. */
+/* Which constraint gives each argument: false if one that is given can't be used in this plan. */
 static int find_arguments(const sqlite3_index_info *info, int columns, int found[ARGUMENTS]) {
     for (int at = 0; at < info->nConstraint; at++) {
         int argument = info->aConstraint[at].iColumn - columns;

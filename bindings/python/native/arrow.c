@@ -56,7 +56,7 @@ static PyObject *refuse_array(const char *why) {
 typedef struct arrow_call {
     state *state;
     texts texts;
-    int64_t *widened; /* its offsets, by malloc, where the array has ones of 32 bits */
+    int64_t *widened; /* its offsets, by malloc, if the array has ones of 32 bits */
     request request;
 } arrow_call;
 
@@ -86,7 +86,7 @@ static int read_offsets(const struct ArrowArray *array, int is_wide, arrow_call 
     return texts->offsets != NULL;
 }
 
-/* Reads the texts of an array: false and an error where it has none. */
+/* Reads the texts of an array: false and an error if it has none. */
 static int read_texts(PyObject *schema_capsule, PyObject *array_capsule, arrow_call *call) {
     const struct ArrowSchema *schema = PyCapsule_GetPointer(schema_capsule, "arrow_schema");
     const struct ArrowArray *array = schema ? PyCapsule_GetPointer(array_capsule, "arrow_array") : NULL;
@@ -174,7 +174,7 @@ PyObject *native_write_arrow(PyObject *module, PyObject *args) {
 
 /* ---- what goes out */
 
-/* The bits of a mark for each byte of a bytearray: 1 where it is the value, or where it isn't; and how many are 0. */
+/* The bits of a mark for each byte of a bytearray: 1 if it is the value, or if it isn't; and how many are 0. */
 PyObject *native_bits(PyObject *module, PyObject *args) {
     PyObject *given, *made, *answer = NULL;
     int value, is_equal;
@@ -316,7 +316,7 @@ PyObject *native_export(PyObject *module, PyObject *args) {
 
 /* ---- a stream of arrays */
 
-/* The next array of a stream in a capsule: None at its end, null and an error where it gives none. */
+/* The next array of a stream in a capsule: None at its end, null and an error if it gives none. */
 static PyObject *next_array(struct ArrowArrayStream *stream) {
     struct ArrowArray *array = calloc(1, sizeof *array);
     const char *said;

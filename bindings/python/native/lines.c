@@ -41,8 +41,8 @@ static urlcheck_finding find_line(const uint8_t *text, size_t length, const requ
 }
 
 /*
- * Checks each line. It ends with LF, and one CR before that isn't a part of it; what follows the last LF is a line where it
- * isn't empty. What stopped it is given, URLCHECK_VALID if nothing did.
+ * Checks each line. It ends with LF, and one CR before that isn't a part of it; what follows the last LF is a line if it
+ * isn't empty. What stopped the check is given, or URLCHECK_VALID if nothing did.
  */
 static urlcheck_finding check_each_line(const uint8_t *data, size_t length, const request *request, size_t most, lines *out) {
     const urlcheck_finding valid = {URLCHECK_VALID, 0, 0, 0}, no_memory = {URLCHECK_MEMORY, 0, 0, 0};

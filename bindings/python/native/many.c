@@ -59,7 +59,7 @@ urlcheck_mended make_one(const uint8_t *text, size_t length, const request *requ
     return made;
 }
 
-/* Room for so many bytes more: false if there is no memory. */
+/* Room for this many bytes more: false if there is no memory. */
 static int make_room(makings *out, size_t more) {
     size_t room = out->room;
     uint8_t *data;
@@ -270,7 +270,7 @@ static int run_piece(list_call *call, const texts *texts, size_t from) {
     return !call->texts || put_made(call, texts->count, from);
 }
 
-/* What is asked of so many texts of a list, piece by piece: false and an error where one isn't checked. */
+/* What is asked of this many texts of a list, piece by piece: false and an error if one isn't checked. */
 static int run_list(list_call *call, size_t count) {
     size_t done = 0;
     piece *piece = calloc(1, sizeof *piece);

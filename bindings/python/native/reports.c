@@ -44,7 +44,7 @@ static urlcheck_written write_message(const writing *writing, uint8_t *out, size
                             (size_t)writing->place, out, room);
 }
 
-/* False, with an error, where a call gave nothing. */
+/* False, with an error, if a call gave nothing. */
 static int is_given(urlcheck_finding found) {
     static const char *const reasons[] = {
         [URLCHECK_NO_PROFILE] = "no profile has this number",

@@ -126,7 +126,7 @@ PyObject *native_is_valid(PyObject *module, PyObject *args, PyObject *named) {
     return read_arguments(args, named, "O|OO:is_valid", arguments) ? check_answer(module, arguments, 0) : NULL;
 }
 
-/* Writes a text into `most`, or where it is longer into memory of its own, which is to be freed: null if there is none. */
+/* Writes a text into `most`, or if it is longer into memory of its own, which is to be freed: null if there is none. */
 static uint8_t *write_text(const request *request, int mends, uint8_t *most, urlcheck_mended *answer) {
     PyThreadState *thread = unlocked(request);
     uint8_t *out = most;

@@ -15,7 +15,8 @@ def is_arrow(texts: object) -> bool:
 
 class Column:
     """An answer as an array of Arrow, which other libraries take by ``__arrow_c_array__``, as
-    ``pyarrow.array(column)``."""
+    ``pyarrow.array(column)``. A layout is a format string of Arrow's C data interface: ``b`` truths, ``c`` bytes, ``l``
+    numbers of 64 bits, ``U`` texts with offsets of 64 bits. native/arrow.c hands out these and no others."""
 
     def __init__(self, layout: str, length: int, missing: int, buffers: Tuple[Any, ...], names: Any = None) -> None:
         self._column = (layout, length, missing, buffers, names)
@@ -59,7 +60,7 @@ class Column:
         return cls("U", len(marks), count, (present if count else None, offsets, data))
 
     def like(self, texts: object) -> Any:
-        """The column as an array of pyarrow, where the texts are one, otherwise as it is."""
+        """The column as an array of pyarrow, if the texts are one, otherwise as it is."""
         return Column.joined([self], texts)
 
     @staticmethod

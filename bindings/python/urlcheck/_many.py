@@ -25,16 +25,16 @@ class Findings(NamedTuple):
     valid: Any
     """Whether the text is valid."""
     rule: Any
-    """The rule that it violates first; missing where it is valid."""
+    """The rule that it violates first; missing if it is valid."""
     place: Any
-    """The place of that, in code points from 0; missing where it is valid."""
+    """The place of that, in code points from 0; missing if it is valid."""
 
 
 class Mendings(NamedTuple):
     """Valid texts in place of many, a column each."""
 
     text: Any
-    """The text itself where it is valid, otherwise one made of it by local edits, or missing where they give none."""
+    """The text itself if it is valid, otherwise one made of it by local edits, or missing if they give none."""
     kind: Any
     """How it differs from a refused text: ``same``, ``escaped`` or ``changed``, as ``MendKind`` says."""
 
@@ -59,8 +59,7 @@ def is_valid_many(texts: Iterable[Optional[str]], base: AnyBase = None, profile:
 
 
 def resolve_many(texts: Iterable[Optional[str]], base: AnyBase = None, profile: Profile = Profile.STANDARD) -> Any:
-    """The text of the URL of each text, as ``resolve`` gives it, missing where a text is refused: see
-    ``check_many``."""
+    """The text of the URL of each text, as ``resolve`` gives it, missing if a text is refused: see ``check_many``."""
     return _kind_of(texts).write(texts, base, profile, False)[0]
 
 
@@ -70,7 +69,7 @@ def mend_many(texts: Iterable[Optional[str]], base: AnyBase = None, profile: Pro
 
 
 def _missing() -> Tuple[Any, ...]:
-    """What stands for a missing text: that of pandas only when it was imported."""
+    """What stands for a missing text: also that of pandas, but only if pandas was imported."""
     return None, getattr(sys.modules.get("pandas"), "NA", None)
 
 
@@ -116,7 +115,7 @@ def _truths(verdicts: bytearray) -> List[Optional[bool]]:
 
 
 class _Arrays(_Lists):
-    """Arrays of numpy, of which a text is an object."""
+    """Arrays of numpy, whose texts are objects."""
 
     def listed(self, texts: Any) -> List[Any]:
         """The texts of an array of one dimension."""

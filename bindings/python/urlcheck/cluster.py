@@ -25,7 +25,7 @@ from ._spans import Checked, Span, check, spans_of
 SPAN = 16_000_000
 """How many bytes a span has."""
 LEAST = 65_536
-"""A span of so many bytes isn't halved any more."""
+"""A span of at most this many bytes isn't halved any more."""
 AHEAD = 4
 """How many spans for each worker are given out, or wait until those before them are checked: so a worker always has a
 next one, and little is held here."""
@@ -192,7 +192,7 @@ class Run:
         self.known[span] = Part(span, found, "")
 
     def give_up(self, future: Any, why: str) -> None:
-        """Tries a span that failed once more, then its halves, and where it is small alone: what fails then is
+        """Tries a span that failed once more, then its halves, and when it is small by itself: what fails then is
         named."""
         span = self.out.pop(future)
         future.cancel()

@@ -38,7 +38,7 @@ KINDS_BY_LANGUAGE = {
     **{"xml": "xml", "svg": "xml", "xhtml": "xml", "rss": "xml", "rst": "rst", "restructuredtext": "rst"},
     **{"css": "css", "links": LIST},
 }
-"""The kind of a document by the client's name of its language, where its name says none."""
+"""The kind of a document by the client's name for its language, if its own name says none."""
 
 _LIST_END = ".links"
 
@@ -117,8 +117,8 @@ class Server(MethodDispatcher):  # type: ignore[misc]
         return self.status
 
     def __getitem__(self, method: str) -> Callable[[Any], Any]:
-        """What answers a method. Before ``initialize`` none is answered but that and ``exit``, and after ``shutdown``
-        ``exit`` alone."""
+        """What answers a method. Before ``initialize`` only that and ``exit`` are answered, and after ``shutdown`` only
+        ``exit``."""
         answer: Callable[[Any], Any] = super().__getitem__(method)
         if method not in ("initialize", "exit") and not self._is_initialized:
             raise JsonRpcException("the server isn't initialized", _NOT_INITIALIZED)
@@ -152,7 +152,7 @@ class Server(MethodDispatcher):  # type: ignore[misc]
         }
 
     def m_initialized(self, **_: Any) -> None:
-        """Asks for the settings, where the client has them."""
+        """Asks for the settings, if the client has them."""
         self._ask_settings()
 
     def m_shutdown(self, **_: Any) -> None:
@@ -314,7 +314,7 @@ class Server(MethodDispatcher):  # type: ignore[misc]
         self._endpoint.notify("textDocument/publishDiagnostics", said)
 
     def _seeing(self, uri: str) -> Callable[[], Seen]:
-        """What gives what is seen in a text as it is now, once that is known. It raises ``JsonRpcException`` where the
+        """What gives what is seen in a text as it is now, once that is known. It raises ``JsonRpcException`` if the
         text changes before."""
         with self._changed:
             document = self._documents.get(uri)

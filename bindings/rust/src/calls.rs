@@ -48,7 +48,7 @@ pub fn faults(text: &str, profile: u32, base: Option<&ffi::Base>) -> (ffi::Findi
             ffi::urlcheck_faults(text.as_ptr(), text.len(), profile, pointer_to(base), out, room)
         };
         if answer.count <= room {
-            // SAFETY: the library has written so many elements.
+            // SAFETY: the library has written this many elements.
             unsafe { faults.set_len(answer.count) };
             return (answer.found, faults);
         }
@@ -56,7 +56,7 @@ pub fn faults(text: &str, profile: u32, base: Option<&ffi::Base>) -> (ffi::Findi
     }
 }
 
-/// Calls `write` with a buffer of so many bytes, and again with one that is long enough where it wants more. It says
+/// Calls `write` with a buffer of this many bytes, and again with one that is long enough if it needs more. It says
 /// how many bytes its text has, which are UTF-8 and written where they have room.
 fn text_of<A>(room: usize, mut write: impl FnMut(*mut u8, usize) -> (A, usize)) -> (A, String) {
     let mut bytes = Vec::with_capacity(room);
@@ -64,7 +64,7 @@ fn text_of<A>(room: usize, mut write: impl FnMut(*mut u8, usize) -> (A, usize)) 
         let room = bytes.capacity();
         let (answer, length) = write(bytes.as_mut_ptr(), room);
         if length <= room {
-            // SAFETY: the library has written so many bytes.
+            // SAFETY: the library has written this many bytes.
             unsafe { bytes.set_len(length) };
             // (what the library writes is UTF-8; to see that costs less than to rely on it)
             return (answer, String::from_utf8(bytes).expect("liburlcheck writes UTF-8"));
@@ -73,7 +73,7 @@ fn text_of<A>(room: usize, mut write: impl FnMut(*mut u8, usize) -> (A, usize)) 
     }
 }
 
-/// A buffer of this length holds the URL of nearly every text of which nothing is percent-encoded.
+/// A buffer of this length holds the URL of nearly every text in which nothing is percent-encoded.
 fn usual_room(text: &str, base: Option<&str>) -> usize {
     text.len() + base.map_or(0, str::len) + 4
 }
@@ -161,7 +161,7 @@ pub struct Columns {
 }
 
 impl Columns {
-    /// Columns of so many texts, before anything is found: the outcome is an error until a call has set it.
+    /// Columns of this many texts, before anything is found: the outcome is an error until a call has set it.
     fn of(count: usize) -> Self {
         Self { outcome: ffi::MEMORY, verdicts: vec![0; count], rules: vec![0; count], places: vec![0; count] }
     }
@@ -189,7 +189,7 @@ pub fn check_many(texts: &Texts, profile: u32, base: Option<&ffi::Base>) -> Colu
     columns
 }
 
-/// What `check_many` finds of the texts alone, their URLs one after the other, and the ends of these.
+/// What `check_many` finds of the texts without a base, their URLs one after another, and the ends of these.
 pub fn resolve_many(texts: &Texts, profile: u32) -> (Columns, String, Vec<u64>) {
     let mut columns = Columns::of(texts.count());
     let mut ends = vec![0; texts.offsets.len()];

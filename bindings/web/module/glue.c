@@ -30,7 +30,7 @@ urlcheck_base held;
 /* (the compiler's addresses have 64 bits, and `wasm-opt` makes them 32-bit ones, which a number of JavaScript holds) */
 static uint32_t address_of(const void *it) { return (uint32_t)(uintptr_t)it; }
 
-/* Makes rooms of so many bytes for the text and the base. Gives 0, and leaves the rooms, if there is no memory. */
+/* Makes rooms of this many bytes for the text and the base. Gives 0, and leaves the rooms, if there is no memory. */
 uint32_t make_rooms(uint32_t text_bytes, uint32_t base_bytes) {
     return heap_lay_out(text_bytes, base_bytes);
 }
@@ -117,7 +117,7 @@ static uint64_t room_for(uint32_t length, int32_t base_length) {
     return (uint64_t)length + bytes_of_base(base_length) + 256;
 }
 
-/* Whether so many bytes are the same: then the caller's string is the answer, and no other has to be made. */
+/* Whether this many bytes are the same: then the caller's string is the answer, and no other has to be made. */
 static bool are_same(const uint8_t *one, const uint8_t *other, uint32_t length) {
     return __builtin_memcmp(one, other, length) == 0;
 }

@@ -32,7 +32,7 @@ static uint64_t aligned(uint64_t address, uint64_t alignment) { return (address 
 static uint64_t text_room(void) { return aligned(memory_start(), ALIGNMENT); }
 
 /*
- * Whether the memory reaches up to `end`; it is grown where it doesn't. Its end says whether the engine has grown it:
+ * Whether the memory reaches up to `end`; it is grown if it doesn't. Its end says whether the engine has grown it:
  * the answer of the growth is widened to 64 bits by `wasm-opt`, and a refusal isn't -1 then.
  */
 static bool reaches(uint64_t end) {

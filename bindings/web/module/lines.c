@@ -86,7 +86,7 @@ static void take_before(lines_checked *checked, const urlcheck_line *line) {
 
 /*
  * Checks the lines from the byte `from` on, as many as the rows have room for. What the lines before took of the heap
- * is given up where a line finds no memory, and before each row: so only a line that has none alone ends the call.
+ * is given up if a line finds no memory, and before each row: so only a line that has none alone ends the call.
  */
 void check_lines(uint32_t length, uint32_t from, uint32_t profile, uint32_t is_held) {
     heap_empty();

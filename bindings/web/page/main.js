@@ -37,7 +37,7 @@ function later(name, pause, action) {
   waiting.set(name, setTimeout(action, pause))
 }
 
-/** Writes the state into the address; not with each key, since browsers allow only so many changes in a time. */
+/** Writes the state into the address; not with each key, since browsers limit how often that may be done. */
 function showAddress() {
   later('address', ADDRESS_PAUSE, () => history.replaceState(null, '', addressOf(state)))
 }

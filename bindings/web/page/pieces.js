@@ -2,7 +2,7 @@
 // bytes is a piece of its own. A byte order mark at a file's start isn't a part of the first line. (The module cuts a
 // piece into lines; here are only the ends of pieces, since the browser hands out a file bit by bit.)
 
-/** A line has at most so many bytes, as in `urlcheck lint`, which reports a longer one and doesn't check it. */
+/** A line has at most this many bytes, as in `urlcheck lint`, which reports a longer one and doesn't check it. */
 export const LONGEST_LINE = 65536
 
 const LF = 10

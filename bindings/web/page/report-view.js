@@ -3,7 +3,7 @@
 import { button, counted, element, plural } from './elements.js'
 import { shownText } from './drawing.js'
 
-/** So many refused lines are shown at first, and with each further press. */
+/** This many refused lines are shown at first, and with each further press. */
 const ROWS = 100
 
 /** What the page calls a format, unless by its own name, and the ending of its file's name, unless that is `txt`. */

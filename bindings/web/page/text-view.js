@@ -39,7 +39,7 @@ function insteadOf(urlcheck, text, options) {
   }
 }
 
-/** What the browser's own parser makes of the text, or null where it refuses it. */
+/** What the browser's own parser makes of the text, or null if it refuses it. */
 function browsersUrl(text, base) {
   try {
     return base === '' ? new URL(text) : new URL(text, base)
@@ -125,11 +125,11 @@ function example({ text, base, meant }, onTry) {
     base === null ? null : element('span', { class: 'hint' }, ` against ${base}`))
 }
 
-/** So many faults are listed, and so many places of those that share a sentence: more would make the page slow. */
+/** The most faults that are listed, and places of those that share a sentence: more would make the page slow. */
 const TOLD_FAULTS = 1000
 const NAMED_PLACES = 12
 
-/** The faults of which the same is said, in the order of the first of each, with their numbers in the drawn text. */
+/** The faults that share a sentence, in the order of the first of each, with their numbers in the drawn text. */
 function bySentence(urlcheck, text, faults, profile) {
   const found = new Map()
   faults.slice(0, TOLD_FAULTS).forEach((fault, at) => {
@@ -217,7 +217,7 @@ function browserRows(url) {
   }
 }
 
-/** So many units of a value are shown. */
+/** At most this many units of a value are shown. */
 const LONGEST_VALUE = 2000
 
 /** A value in a row of the comparison. On narrow windows `data-column` takes the place of the head (see tables.css). */
@@ -271,7 +271,7 @@ function noteOn(ours, theirs) {
   return isSame ? 'Both are the same.' : 'The browser makes another URL of it: they differ.'
 }
 
-/** Shows what is said of a text. */
+/** Shows what is said about a text. */
 export function showText(urlcheck, { text, base, profile }, onTry) {
   const said = checkText(urlcheck, text, base, profile)
   showVerdict(said)

@@ -8,7 +8,7 @@ import { piecesOf } from './pieces.js'
 /** Lines are checked for so long, in milliseconds, before messages are read, and progress is told so often. */
 const TURN = 20
 const TELLING = 100
-/** So many links are checked between two looks at the time, and so many diagnostics make a piece of a file. */
+/** The links that are checked between two looks at the time, and the diagnostics in a piece of a file. */
 const LINKS = 1000
 const JOINED = 10_000
 
@@ -99,7 +99,7 @@ class Job {
     }
   }
 
-  /** Checks the source, and between its pieces reads messages, of which one may stop it, and tells how far it is. */
+  /** Checks the source, and between its pieces reads messages, one of which may stop it, and tells how far it is. */
   async run() {
     let [turn, told] = [performance.now(), performance.now()]
     for await (const done of this.checkedPieces()) {

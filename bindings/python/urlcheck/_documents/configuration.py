@@ -22,7 +22,7 @@ _TABLE = re.compile(
 """What a project's file has that has a configuration."""
 
 READER = "the package tomli: pip install tomli, or Debian's python3-tomli"
-"""What reads it, where Python is older than 3.11."""
+"""The module that reads it, for a Python older than 3.11."""
 
 
 class Misconfigured(Exception):
@@ -42,7 +42,7 @@ class Configuration(NamedTuple):
     is_empty_taken: bool = False
     selected: Selected = Selected()
     kinds: Dict[str, str] = {}
-    """The kinds of documents by their names' ends, where these say another one or none."""
+    """The kinds of documents by the endings of their names, for endings that say another kind or none."""
 
     def kind_of(self, name: str) -> Optional[str]:
         """The kind that it says of a document of that name."""

@@ -1,5 +1,5 @@
 """The edges of JSON-RPC over standard input and output, where ``python-lsp-jsonrpc`` trusts its client: what isn't a
-message is answered by the protocol's error, and what can't be told from others ends the reading."""
+message is answered by the protocol's error, and input in which messages can't be told apart ends the reading."""
 
 import json
 from typing import Any, BinaryIO, Callable, Dict, Optional

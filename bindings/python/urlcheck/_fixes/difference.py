@@ -28,7 +28,7 @@ class _Change(NamedTuple):
 
 
 def difference(name: str, source: Source, edits: Sequence[Edit]) -> str:
-    """What these edits, which are in order, write otherwise in the document of that name; empty when there is none."""
+    """What these edits, which are in order, change in the document of that name; empty if they change nothing."""
     lines = _LINE.findall(source.text)
     groups = _groups(list(_changes(source, lines, edits)))
     added, hunks = 0, ""
@@ -73,7 +73,7 @@ def _groups(changes: List[_Change]) -> List[List[_Change]]:
 
 
 def _hunk(lines: List[str], changes: List[_Change], added: int) -> str:
-    """A hunk, before which so many lines were added."""
+    """A hunk, before which this many lines were added."""
     first, last = max(changes[0].first - _CONTEXT, 0), min(changes[-1].end + _CONTEXT, len(lines))
     shown, at = "", first
     for change in changes:

@@ -13,7 +13,7 @@ from .source import Broken, Comment, Link, Source
 
 
 class _Destination(str):
-    """A link's destination: the text that it was read in, where it began there, and whether it is verbatim."""
+    """A link's destination, with the text that it was read from, where it began there, and whether it is verbatim."""
 
     content: Optional[str] = None
     at = 0
@@ -29,7 +29,7 @@ class Inlines:
         self._used: Dict[str, List[Any]] = {}
         self._references: Set[str] = set()
         self.covered: Dict[str, List[Tuple[int, int]]] = {}
-        """What of a block's content isn't a text, by where it begins and ends."""
+        """The parts of a block's content that aren't plain text, by where they begin and end."""
 
     def begin(self, references: Set[str]) -> None:
         """Begins a reading; what the last one didn't have is forgotten."""
@@ -71,7 +71,7 @@ def links_of(
 
 
 def _without(text: str, end: int) -> str:
-    """A text whose beginning is empty lines, so that all after it is where it was."""
+    """A text whose beginning is replaced by empty lines, so that the rest keeps its places."""
     return re.sub("[^\r\n]", " ", text[:end]) + text[end:]
 
 
@@ -222,8 +222,8 @@ class _Reader:
         return link._replace(offset=offset, is_verbatim=is_verbatim, base=None, pieces=pieces)
 
     def _offset(self, line: int, content: str, at: int) -> Optional[int]:
-        """The source's place of a place of a block's content, which lacks what nests the block; none where it isn't
-        found."""
+        """The source's place for a place in a block's content, which lacks the markup around the block; none if it
+        isn't found."""
         if self._block[0] is not content:
             self._block = content, Source(content)
         number, column = self._block[1].position(at)
@@ -246,8 +246,8 @@ _AHEAD = 4
 
 
 def _near(rule: Callable[..., bool]) -> Callable[..., bool]:
-    """The rule of definitions, by the lines next to one where that is enough: it looks at all lines of a block for each
-    definition, and so takes time by the square of their number."""
+    """The rule of definitions, applied to only the next few lines if they are enough: the rule itself looks at all
+    lines of a block for each definition, and so takes time by the square of their number."""
 
     def near(state: Any, start: int, end: int, silent: bool) -> bool:
         last = state.lineMax
@@ -274,7 +274,7 @@ _AT = "at"
 
 
 def _placing(rule: Callable[[Any, bool], bool]) -> Callable[[Any, bool], bool]:
-    """A rule whose tokens have the place where they begin in their block's content."""
+    """A rule whose tokens get the place where they begin in their block's content."""
 
     def placing(state: Any, silent: bool) -> bool:
         at, count = state.pos, len(state.tokens)

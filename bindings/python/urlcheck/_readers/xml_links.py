@@ -54,13 +54,13 @@ UNKNOWN = (
     "its names aren't known: only each href, url and src, and each element url and link, is read, where its value has "
     "a scheme"
 )
-"""What is said of a document of which no name is known."""
+"""What is said about a document in which no name is known."""
 
 _SCHEME = re.compile("[A-Za-z][A-Za-z0-9+.-]*:")
-"""How a value begins that is taken for a link in a document of which no name is known."""
+"""The beginning of a value that counts as a link in a document in which no name is known."""
 
 _NAMING = re.compile("[A-Za-z][A-Za-z0-9+.-]*://|urn:", re.IGNORECASE)
-"""How a value begins that names something by a URL, where it may do so by another word."""
+"""The beginning of a value that names something by a URL, in elements that may also use another word."""
 
 _PLACEHOLDER = "${"
 """What a value of a project's file has that is filled in later."""
@@ -70,11 +70,11 @@ class _Taking(NamedTuple):
     """What the text of an element is taken for."""
 
     is_html: bool = False
-    """Whether it is HTML, which has links of its own."""
+    """Whether it is HTML, with links in it."""
     is_likely: bool = False
     """Whether it is taken only if no name of the document is known, and it has a scheme: else it may be any text."""
     is_naming: bool = False
-    """Whether it is taken only if it begins as a URL: such an element may name something by another word."""
+    """Whether it counts only if it begins like a URL, in an element that may also name something by another word."""
     asks: Asks = Asks.REFERENCE
     """What it has to be: a reference, say, or a URL with a scheme."""
 
@@ -318,7 +318,7 @@ class _Reader:
 
 
 _ICONS = {(APPSTREAM, "icon"), (CATALOG, "icon")}
-"""The elements whose text is a URL where their ``type`` is ``remote``."""
+"""The elements whose text is a URL if their ``type`` is ``remote``."""
 
 _STYLES = {("", "style")}
 """The attributes that have declarations of CSS."""

@@ -19,8 +19,8 @@ _NOTE = re.compile(r"(help|note): ")
 
 
 def are_wanted(when: str, stream: Any) -> bool:
-    """Whether what is written to this stream has colours. ``NO_COLOR`` and ``FORCE_COLOR`` of the environment count
-    where they aren't empty, as no-color.org and force-color.org say. Compilations of Emacs find places in plain text."""
+    """Whether what is written to this stream has colours. ``NO_COLOR`` and ``FORCE_COLOR`` of the environment count if
+    they aren't empty, as no-color.org and force-color.org say. Emacs finds places only in plain text."""
     if when != "auto":
         return when == "always"
     if os.environ.get("NO_COLOR"):

@@ -8,7 +8,7 @@ from .._streams import named
 from .rules import rule_of
 
 _MOST_LINKS = 100_000
-"""How many links are told apart; of further ones only their rules count."""
+"""How many different links are counted; of any more only the rules count."""
 
 _MOST_SHOWN = 50
 """How many of the links that are there more than once are shown."""

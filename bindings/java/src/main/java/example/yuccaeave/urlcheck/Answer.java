@@ -74,7 +74,7 @@ final class Answer {
         require(verdict == VALID, verdict);
     }
 
-    /** Ends the call where the verdict isn't a wanted one. */
+    /** Ends the call if the verdict isn't a wanted one. */
     static void require(boolean isWanted, int verdict) {
         if (verdict == MEMORY) {
             throw new OutOfMemoryError("urlcheck: no memory is left");

@@ -70,7 +70,7 @@ final class Calls {
         return longer;
     }
 
-    /** So many bytes hold the URL of nearly every text of which nothing is percent-encoded. */
+    /** This many bytes hold the URL of nearly every text in which nothing is percent-encoded. */
     private static int usualRoom(byte[] text, byte[] base) {
         long room = (long) text.length + (base == null ? 0 : base.length) + 4;
         return (int) Math.min(room, LONGEST_ARRAY);
@@ -122,7 +122,7 @@ final class Calls {
         return violationsOf(text, new Answer(out), count);
     }
 
-    /** So many violations of a text, which are in the order of their places. */
+    /** This many violations of a text, which are in the order of their places. */
     private static List<Violation> violationsOf(String text, Answer faults, int count) {
         List<Violation> violations = new ArrayList<>(count);
         int index = 0;

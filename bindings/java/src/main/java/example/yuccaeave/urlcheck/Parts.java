@@ -22,7 +22,7 @@ final class Parts {
         this.ends = ends;
     }
 
-    /** The parts of a text of so many bytes, whose spans the library has written. */
+    /** The parts of a text of this many bytes, whose spans the library has written. */
     static Parts of(String text, int byteLength, Answer answer, int at) {
         int[] ends = new int[2 * COUNT];
         boolean isAscii = byteLength == text.length();

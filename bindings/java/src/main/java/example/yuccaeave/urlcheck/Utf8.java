@@ -4,7 +4,7 @@ import java.nio.charset.StandardCharsets;
 
 /** Texts as bytes of UTF-8, and places in them. */
 final class Utf8 {
-    /** A text of so many units has at most as many bytes as an array of Java holds. */
+    /** A text of this many units has at most as many bytes as an array of Java holds. */
     static final int MOST_UNITS = Integer.MAX_VALUE / 3;
 
     private Utf8() {
