@@ -238,6 +238,7 @@ func joined(texts []string) ([]byte, []C.uint64_t) {
 	return append(bytes, 0), offsets
 }
 
+// checkMany checks texts by one call. The columns need an element each, so there has to be a text.
 func (c Checker) checkMany(texts []string) []error {
 	bytes, offsets := joined(texts)
 	columns := columnsOf(len(texts))
@@ -246,6 +247,7 @@ func (c Checker) checkMany(texts []string) []error {
 	return columns.errors(texts, batch.outcome, c.profile)
 }
 
+// resolveMany resolves texts without a base: the library has no such call against one. There has to be a text.
 func (c Checker) resolveMany(texts []string) ([]string, []error) {
 	bytes, offsets := joined(texts)
 	columns, ends := columnsOf(len(texts)), make([]C.uint64_t, len(offsets))

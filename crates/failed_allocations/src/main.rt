@@ -55,6 +55,7 @@ fn main(rt: HostRuntime) -> ExitCode {
     }
 }
 
+// Reads what standard input asks for, line by line.
 fn asked_in(bytes: &[u8]) -> Option<Asked<'_>> {
     let text = str::from_utf8(bytes).ok()?;
     let (before, rest) = text.split_once('\n')?;
@@ -107,6 +108,7 @@ fn ended<R: Print + AllocGlobal>(rt: &R, asked: &Asked<'_>) -> End {
     }
 }
 
+// Makes one of the calls that take the base's record.
 fn record_ended<R: Print + AllocGlobal>(rt: &R, asked: &Asked<'_>, base: Option<&Record>) -> End {
     match asked.call {
         "check" => verdict_ended(rt, asked, base),
@@ -270,6 +272,7 @@ fn print_page<R: Print>(rt: &R, page: &[u8], room: usize) -> io::Result<()> {
     print!(rt; "{text}")
 }
 
+// The end of a call whose answer was printed. If that failed, nothing is said about the call.
 fn printed(outcome: io::Result<()>) -> End {
     match outcome {
         Ok(()) => End::Answered,

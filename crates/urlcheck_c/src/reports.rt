@@ -41,6 +41,7 @@ pub extern "C" fn urlcheck_report_begin(
     given(&begin(alloc, format, columns), out)
 }
 
+// What a report begins with, as a text of its own.
 fn begin(alloc: Global, format: Format, columns: Columns) -> Result<String, AllocError>
     ensures { IfOk result (λ text. string_bytes text ≡ begin_text format columns) }
 {
@@ -68,6 +69,7 @@ pub extern "C" fn urlcheck_report_file_begin(
     }
 }
 
+// What comes before the diagnostics of a file, as a text of its own.
 fn file_begin(alloc: Global, format: Format, file: &str) -> Result<String, AllocError>
     ensures { IfOk result (λ text. string_bytes text ≡ file_begin_text format file.now) }
 {
@@ -87,6 +89,7 @@ pub extern "C" fn urlcheck_report_file_end(alloc: Global, format: u32, out: &mut
     }
 }
 
+// What comes after the diagnostics of a file, as a text of its own.
 fn file_end(alloc: Global, format: Format) -> Result<String, AllocError>
     ensures { IfOk result (λ text. string_bytes text ≡ file_end_text format) }
 {
@@ -134,6 +137,7 @@ pub extern "C" fn urlcheck_takes_unit(format: u32, unit: u32) -> bool
     }
 }
 
+// Whether a format takes columns in the unit with this number.
 fn takes(format: Format, unit: u32) -> bool
     ensures { result ≡ takes_columns_of (spec.unit_of unit) format }
 {

@@ -101,6 +101,7 @@ fn used<'a>(
     bare(alloc, name, about, examples, notes).override_usage(usage)
 }
 
+// The command `check`. Its arguments, and those of each command below, are in the order of the help.
 fn check<'a>(alloc: Global) -> Result<Command<'a>, AllocError>
     ensures { IfOk result (IsApp check_command) }
 {
@@ -243,6 +244,7 @@ fn flag<'a>(alloc: Global, name: &'a str, heading: &'a str, help: &'a str) -> Ar
         .help(help)
 }
 
+// The option `--base`. This and the options below are each one argument of one or more commands.
 fn base<'a>(alloc: Global) -> Arg<'a>
     ensures rule { rule_of result ≡ option_rule (codes "base") }
     ensures local { result.global ≡ false }
@@ -361,6 +363,7 @@ fn files<'a>(alloc: Global) -> Arg<'a>
         .help("A list of links, one a line; - is standard input")
 }
 
+// The text of `check`, which may begin with a hyphen after `--`.
 fn text<'a>(alloc: Global) -> Arg<'a>
     ensures rule { rule_of result ≡ text_rule }
     ensures local { result.global ≡ false }

@@ -134,6 +134,7 @@ Examples:
   urlcheck explain host-missing
   urlcheck explain --url host-missing percent";
 
+/// The help of options: a first line for the short form, and for the long form also their values.
 pub(crate) const PROFILE: &str = "What to accept [default: standard]
 [possible values: standard, wide, parser]";
 

@@ -10,7 +10,7 @@ use uv_model::Profile;
 pub(crate) enum Asked<'a> {
     /// This one.
     Known(Profile),
-    /// One with this name, which no profile has.
+    /// This name, which isn't a profile's.
     Unknown(&'a str),
 }
 

@@ -69,6 +69,7 @@ pub fn read_words(alloc: Global, words: &[&str]) -> Result<Option<Job>, WordsFau
     }
 }
 
+// Tells `clap`'s error of memory from those that have a text to show.
 fn fault(error: Error) -> WordsFault
     ensures memory { kind_of error ≡ ErrorKind.OutOfMemory → result ≡ WordsFault.Memory }
     ensures from { IsFrom error result }

@@ -221,6 +221,7 @@ pub(crate) fn numbered_line(alloc: Global, end: End) -> Result<String, AllocErro
     }
 }
 
+// The last line for a vector file in which the value with this number isn't a case.
 #[tactic(auto, unfolding(crate::specs::Ends::malformed_text))]
 fn malformed_line(alloc: Global, number: usize) -> Result<String, AllocError>
     ensures { IfOk result (λ text. string_bytes text ≡ malformed_text number) }
@@ -228,6 +229,7 @@ fn malformed_line(alloc: Global, number: usize) -> Result<String, AllocError>
     format!(in alloc; "vector {number} malformed\n")
 }
 
+// The last line for a base that is refused.
 #[tactic(auto, unfolding(crate::specs::Ends::base_refused_text))]
 fn base_refused_line(alloc: Global, refusal: Refusal) -> Result<String, AllocError>
     ensures { IfOk result (λ text. string_bytes text ≡ base_refused_text refusal) }
@@ -237,6 +239,7 @@ fn base_refused_line(alloc: Global, refusal: Refusal) -> Result<String, AllocErr
     format!(in alloc; "base refused {place} {name}\n")
 }
 
+// The last line for a run over a list that stopped.
 fn listed_line(fault: LinkFault) -> &'static str
     ensures { result.now ≡ listed_text fault }
 {

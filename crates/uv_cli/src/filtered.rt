@@ -141,6 +141,7 @@ fn counts_line(alloc: Global, counts: FilterCounts) -> Result<String, AllocError
     Ok(line)
 }
 
+// The first part of the line of counts: how many lines there were.
 #[tactic(auto, unfolding(crate::specs::Filtered::lines_text))]
 fn lines_part(alloc: Global, count: u64) -> Result<String, AllocError>
     ensures { IfOk result (λ part. string_bytes part ≡ lines_text count) }
@@ -149,6 +150,7 @@ fn lines_part(alloc: Global, count: u64) -> Result<String, AllocError>
     format!(in alloc; "urlcheck: {count} {noun}")
 }
 
+// The second part of the line of counts: how many lines were mended, by kind.
 #[tactic(auto, unfolding(crate::specs::Filtered::mended_text))]
 fn mended_part(alloc: Global, counts: FilterCounts) -> Result<String, AllocError>
     ensures { IfOk result (λ part. string_bytes part ≡ mended_text counts) }
@@ -160,6 +162,7 @@ fn mended_part(alloc: Global, counts: FilterCounts) -> Result<String, AllocError
     format!(in alloc; ", {all} mended ({same} same, {escaped} escaped, {changed} changed)")
 }
 
+// The last part of the line of counts: how many lines stay refused.
 #[tactic(auto, unfolding(crate::specs::Filtered::refused_text))]
 fn refused_part(alloc: Global, count: u64) -> Result<String, AllocError>
     ensures { IfOk result (λ part. string_bytes part ≡ refused_text count) }

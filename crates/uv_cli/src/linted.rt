@@ -173,6 +173,7 @@ impl Linted {
     }
 }
 
+// The line of counts.
 #[tactic(auto, unfolding(crate::specs::Linted::counts_text))]
 fn counts_line(alloc: Global, counts: LintCounts) -> Result<String, AllocError>
     ensures { IfOk result (λ line. string_bytes line ≡ counts_text counts) }

@@ -72,6 +72,7 @@ fn lines_after(format: Format, rule: &str) -> u8 {
     }
 }
 
+// The line that says where a link is and what is wrong there, with its colours.
 fn painted_head(alloc: Global, head: Head<'_>) -> Result<String, AllocError> {
     let Head {
         place,

@@ -55,6 +55,7 @@ pub fn run<R: Env + Files + Input + Print + Eprint + AllocGlobal>(rt: &R, is_ter
     }
 }
 
+// Reads the arguments and does what they ask for. An error means that there was no memory for the arguments.
 fn outcome<R: Env + Files + Input + Print + Eprint + AllocGlobal>(
     rt: &R,
     is_terminal: bool,

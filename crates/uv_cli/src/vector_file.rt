@@ -38,6 +38,7 @@ pub(crate) fn read_vector_file<R: Files + AllocGlobal>(
     }
 }
 
+// The bytes of a file up to the first that are too many.
 fn first_bytes<R: Files + AllocGlobal>(rt: &R, path: &str) -> io::Result<Vec<u8>> {
     let mut bytes = Vec::new(rt.alloc());
     fs::open(rt, path)?

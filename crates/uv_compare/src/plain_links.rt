@@ -73,6 +73,7 @@ fn last_label(name: &[u8]) -> &[u8]
     }
 }
 
+// Whether a label begins with a letter, so that it isn't a number.
 fn begins_with_letter(label: &[u8]) -> bool
     ensures { result ≡ char_spec.is_ascii_lowercase (slice_index label.now 0) }
 {

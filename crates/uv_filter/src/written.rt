@@ -95,6 +95,7 @@ fn push_feed(out: &mut Vec<u8>, is_closed: bool) -> Result<(), AllocError>
     Ok(())
 }
 
+// Appends bytes.
 fn push(out: &mut Vec<u8>, bytes: &[u8]) -> Result<(), AllocError>
     ensures ok { OnOk result (out.new.items ≡ out.old.items ++ bytes.now) }
     ensures err { OnErr result (out.new.items ≡ out.old.items) }

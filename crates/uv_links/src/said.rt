@@ -50,6 +50,7 @@ fn push_said(out: &mut Vec<u8>, said: &Said<'_>) -> Result<(), AllocError>
     }
 }
 
+// What follows the number of a line that is ok: the text of its record.
 fn push_same(out: &mut Vec<u8>, text: &str) -> Result<(), AllocError>
     ensures ok { OnOk result (out.new.items ≡ out.old.items ++ said_text (Same text.now)) }
     ensures err { OnErr result (StartsWith out.new.items out.old.items) }
@@ -59,6 +60,7 @@ fn push_same(out: &mut Vec<u8>, text: &str) -> Result<(), AllocError>
     push(out, "\n")
 }
 
+// What follows the number of a refused line: the place and the rule.
 fn push_refusal(out: &mut Vec<u8>, refusal: Refusal) -> Result<(), AllocError>
     ensures ok { OnOk result (out.new.items ≡ out.old.items ++ said_text (Refused refusal)) }
     ensures err { OnErr result (StartsWith out.new.items out.old.items) }

@@ -118,6 +118,7 @@ fn starts_with_two_marks(text: &[char]) -> bool
     }
 }
 
+// Whether the parser reads a code point as a slash in a special URL.
 fn is_slash_mark(c: char) -> bool
     ensures { result ≡ spec.is_slash_mark c }
 {

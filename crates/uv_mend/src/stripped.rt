@@ -57,12 +57,14 @@ fn on_one_line(alloc: Global, text: &[char]) -> Result<Vec<char>, AllocError>
     Ok(out)
 }
 
+// Whether the parser removes a code point from both ends of a text.
 fn is_control_or_space(c: char) -> bool
     ensures { result ≡ spec.is_control_or_space c }
 {
     c <= ' '
 }
 
+// Whether the parser removes a code point anywhere in a text.
 fn is_tab_or_newline(c: char) -> bool
     ensures { result ≡ spec.is_tab_or_newline c }
 {

@@ -27,6 +27,7 @@ means this link is empty, which its format forbids here
 asks A link of an image, a script, a frame, a form's address or a link element isn't empty.
 ";
 
+// The explanation of `no-link`.
 const NO_LINK: &str = "rule no-link
 means a space ends a link's destination, so that this is text and no link
 asks A destination of Markdown has no space, unless < and > enclose it: it is percent-encoded as %20.

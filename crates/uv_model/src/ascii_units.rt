@@ -60,6 +60,7 @@ pub fn is_spaced(text: &[u8]) -> bool
     true
 }
 
+// Whether a byte, read as a code point, is a URL code point, or `%` before two hex digits.
 #[tactic(auto, unfolding(crate::specs::Units::is_unit_at))]
 fn is_unit_at(first: u8, rest: &[u8]) -> bool
     ensures { result ≡ spec.is_unit_at first rest.now }

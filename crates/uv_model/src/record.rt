@@ -214,6 +214,7 @@ fn scheme_copy(alloc: Global, scheme: &CowStr<'static>) -> Result<CowStr<'static
     }
 }
 
+// A copy of a host that may be absent.
 fn host_copy(alloc: Global, host: &Option<Host>) -> Result<Option<Host>, AllocError>
     ensures { IfOk result (λ copy. copy ≡ host.now) }
 {
@@ -223,6 +224,7 @@ fn host_copy(alloc: Global, host: &Option<Host>) -> Result<Option<Host>, AllocEr
     }
 }
 
+// A copy of a text that may be absent.
 fn text_copy(alloc: Global, text: &Option<Text>) -> Result<Option<Text>, AllocError>
     ensures { IfOk result (λ copy. copy ≡ text.now) }
 {

@@ -164,6 +164,7 @@ fn push_host_and_port(out: &mut String, host: &Host, port: Option<u16>) -> Resul
     push_port(out, port)
 }
 
+// A host as its serializer writes it, appended without a text of its own.
 #[tactic(auto, unfolding(crate::specs::Records::Serialize::serial_host))]
 fn push_host(out: &mut String, host: &Host) -> Result<(), AllocError>
     ensures ok { OnOk result (string_bytes out.new ≡ string_bytes out.old ++ serial_host host.now) }
@@ -178,6 +179,7 @@ fn push_host(out: &mut String, host: &Host) -> Result<(), AllocError>
     }
 }
 
+// A path: an opaque one as it is, otherwise each segment after a `/`.
 fn push_path(out: &mut String, path: &UrlPath) -> Result<(), AllocError>
     ensures ok { OnOk result (string_bytes out.new ≡ string_bytes out.old ++ serial_path path.now) }
     ensures err { OnErr result (StartsWith (string_bytes out.new) (string_bytes out.old)) }

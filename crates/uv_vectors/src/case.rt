@@ -143,12 +143,14 @@ fn is_refused(
     }
 }
 
+// Whether two refusals have the same place and the same rule.
 fn is_same(found: Refusal, refusal: Refusal) -> bool
     ensures { Decides result (found ≡ refusal) }
 {
     found == refusal
 }
 
+// Whether a case may have this key.
 fn is_known_key(key: &str) -> bool
     ensures { result ≡ is_known key.now }
 {

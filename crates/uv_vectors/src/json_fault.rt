@@ -80,6 +80,7 @@ fn offset_of(bytes: &[u8], place: BytePlace) -> usize
     bytes.len()
 }
 
+// Whether two places are the same.
 fn is_same(here: BytePlace, place: BytePlace) -> bool
     ensures { Decides result (here ≡ place) }
 {

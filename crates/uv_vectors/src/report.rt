@@ -67,6 +67,7 @@ fn fails(passed: bool) -> usize
     if passed { 0 } else { 1 }
 }
 
+// The line of a case that fails.
 #[tactic(auto, unfolding(crate::specs::Report::fail_line))]
 fn fail_text(alloc: Global, number: usize) -> Result<String, AllocError>
     ensures { IfOk result (λ text. string_bytes text ≡ fail_line number) }
@@ -74,6 +75,7 @@ fn fail_text(alloc: Global, number: usize) -> Result<String, AllocError>
     format!(in alloc; "fail {number}\n")
 }
 
+// The last line of the report: how many cases there are, pass and fail.
 #[tactic(auto, unfolding(crate::specs::Report::vector_counts))]
 fn counts_line(alloc: Global, cases: usize, pass: usize, fail: usize) -> Result<String, AllocError>
     ensures { IfOk result (λ text. string_bytes text ≡ vector_counts cases pass fail) }

@@ -92,6 +92,7 @@ fn first_malformed(values: &[Value]) -> Option<usize>
     malformed_at(values)
 }
 
+// The place of the first value that isn't a case, in the words of the values themselves.
 fn malformed_at(values: &[Value]) -> Option<usize>
     ensures place { result ≡ position (λ value. is_malformed (view value)) values.now }
     ensures within { IfSome result (λ at. at < length values.now) }

@@ -105,7 +105,7 @@ fn help_words(offered: bool, kind: MendKind) -> &'static str
     }
 }
 
-// What a mended text is called that isn't offered.
+// What a mended text that isn't offered is called.
 fn named_as(kind: MendKind) -> &'static str
     ensures { result.now ≡ named_as kind }
 {

@@ -62,6 +62,7 @@ fn all_stay(bytes: &[u8]) -> bool
     bytes.iter().all(|&byte| stays(byte))
 }
 
+// Whether a byte stays as it is in the path of a URI reference.
 fn stays(byte: u8) -> bool
     ensures { result ≡ spec.stays byte }
 {

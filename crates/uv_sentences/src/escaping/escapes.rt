@@ -74,6 +74,7 @@ fn stand_in(escapes: Escapes, c: char) -> Option<&'static str>
     }
 }
 
+// What replaces a code point on a terminal.
 fn shown(c: char) -> Option<&'static str>
     ensures { unwrap_or (option_copied result) (encode_utf8 c) ≡ spec.shown c }
 {
@@ -111,6 +112,7 @@ fn turns_text(c: char) -> bool
     }
 }
 
+// What replaces a code point in the message of a workflow command, which ends with the line.
 #[tactic(auto, using(std::proofs::lemmas::Bool::Decides::nat_tests), unfolding(percent_encoding::specs::Percent::percent_encode_byte))]
 fn in_message(c: char) -> Option<&'static str>
     ensures { unwrap_or (option_copied result) (encode_utf8 c) ≡ spec.in_message c }
@@ -123,6 +125,7 @@ fn in_message(c: char) -> Option<&'static str>
     }
 }
 
+// What replaces a code point in a property of a workflow command, which `:` and `,` end too.
 #[tactic(auto, using(std::proofs::lemmas::Bool::Decides::nat_tests), unfolding(percent_encoding::specs::Percent::percent_encode_byte))]
 fn in_property(c: char) -> Option<&'static str>
     ensures { unwrap_or (option_copied result) (encode_utf8 c) ≡ spec.in_property c }
@@ -134,6 +137,7 @@ fn in_property(c: char) -> Option<&'static str>
     }
 }
 
+// What replaces a code point in an attribute of XML, where some controls can't be at all.
 #[tactic(auto, using(std::proofs::lemmas::Bool::Decides::nat_tests))]
 fn in_attribute(c: char) -> Option<&'static str>
     ensures { unwrap_or (option_copied result) (encode_utf8 c) ≡ spec.in_attribute c }

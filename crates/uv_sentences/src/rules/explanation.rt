@@ -53,6 +53,7 @@ pub fn explain(rule: Rule) -> Explanation
     }
 }
 
+// The explanation of each rule, in the order of their numbers. The example's place and rule are what the checker finds.
 const NO_SCHEME: Explanation = Explanation {
     asks: "A text that is read without a base begins with a scheme and a colon.",
     section: "4.3, relative-URL string",

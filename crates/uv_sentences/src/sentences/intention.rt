@@ -234,6 +234,7 @@ fn is_dotted(host: &[u8]) -> bool
     begins_with_digit(host) && are_of_address(host)
 }
 
+// Whether all bytes may be in an IPv4 address.
 fn are_of_address(host: &[u8]) -> bool
     ensures { result ≡ list_all spec.is_of_address host.now }
 {

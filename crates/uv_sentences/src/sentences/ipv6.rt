@@ -30,6 +30,7 @@ pub(crate) fn has_bare_ipv6(line: &str) -> bool {
     is_ipv6(authority_of(line))
 }
 
+// Whether a text is that of an IPv6 address, without brackets.
 fn is_ipv6(text: &str) -> bool {
     Ipv6Addr::parse_ascii(text.as_bytes()).is_ok()
 }

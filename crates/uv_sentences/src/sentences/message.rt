@@ -17,9 +17,11 @@ use crate::sentences::wording::{Checked, rule_note};
 use std::alloc::{AllocError, Global};
 use uv_model::{Refusal, Rule};
 
+// What is said about a link that has credentials.
 const CREDENTIALS: &str =
     "a URL string has no credentials: no user name, password or @ before its host";
 
+// What is said about a link whose host is an IPv6 address without brackets.
 const BARE_IPV6: &str = "a host that is an IPv6 address is written in brackets";
 
 /// What is reported about a line that was checked like this, as a sentence without its full stop: one line, without
