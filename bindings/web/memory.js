@@ -178,6 +178,7 @@ export class Room {
       this.base.set(part, at)
       at += part.length
     }
+    // (these bytes need not be a base's, so no base is known to be in the room)
     this.baseText = ''
     this.baseLength = length
   }

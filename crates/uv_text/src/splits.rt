@@ -19,7 +19,7 @@ pub fn split_units<'t>(text: &'t str, class: UnitClass) -> (&'t str, &'t str)
     (prefix, rest.as_str())
 }
 
-/// The longest prefix of a tail that consists of what `split_units` takes for the class, and the tail that follows it.
+/// The longest prefix of a tail that `split_units` gives for the class, and the tail that follows it.
 /// Most texts have no escape and no code point beyond ASCII, and their prefix is one run.
 #[inline(always)]
 pub fn split_tail<'t>(text: &Tail<'t>, class: UnitClass) -> (&'t str, Tail<'t>)
