@@ -5,8 +5,8 @@ use crate::limits::LineLimits;
 use crate::reporter::Reporter;
 use std::alloc::Global;
 
-/// The state of a run between two pieces: what is kept of the line that has begun, and what is said about the lines
-/// before it and isn't written yet.
+/// The state of a run between two pieces: what is kept of the line that has begun, and what waits to be written about
+/// the lines before it.
 #[derive(Drop)]
 pub(crate) struct Progress<R: Reporter> {
     pub(crate) reporter: R,

@@ -72,7 +72,7 @@ class Run:
 
     def take(self, name: str, folder: Optional[str] = None) -> None:
         """Takes a document, which was found in that folder unless it was named itself. It is read with others in one
-        process; documents for which there is no more room are reported first. Raises ``Misconfigured``."""
+        process, and those before it are reported once too many wait. Raises ``Misconfigured``."""
         document = Document(self._settings, self._is_checked, name, folder)
         work = document.work()
         if self._work + work >= ENOUGH:

@@ -242,7 +242,7 @@ class _Reader:
 
 
 _AHEAD = 4
-"""How many lines a definition is looked for in at first: nearly each fits in them."""
+"""How many lines a definition is looked for in at first: nearly all definitions fit in them."""
 
 
 def _near(rule: Callable[..., bool]) -> Callable[..., bool]:

@@ -72,7 +72,8 @@ class _Taking(NamedTuple):
     is_html: bool = False
     """Whether it is HTML, with links in it."""
     is_likely: bool = False
-    """Whether it is taken only if no name of the document is known, and it has a scheme: else it may be any text."""
+    """Whether it is taken only if no name of the document is known, and it has a scheme: otherwise it may be any
+    text."""
     is_naming: bool = False
     """Whether it counts only if it begins like a URL, in an element that may also name something by another word."""
     asks: Asks = Asks.REFERENCE
@@ -164,7 +165,8 @@ class _Reader:
         return self._seen_points
 
     def _entity(self, *_: object) -> None:
-        """Stops at a declared entity: its text has no place in the document, and a few of them can grow without end."""
+        """Stops at a declared entity: its text has no place in the document, and a few of them may grow to any
+        length."""
         raise self.broken("an entity is declared, but only the five of XML are expanded")
 
     def _comment(self, data: str) -> None:

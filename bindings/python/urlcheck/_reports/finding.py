@@ -11,7 +11,7 @@ Writer = Callable[[bytes], None]
 
 
 def lines_on(format: str, found: Reported, is_first: bool) -> str:
-    """What is said about a refused link, if no other comes before it in the report, and if one does. The name of its
+    """What is said about a refused link, which is the first one in the report or comes after others. The name of its
     document has a surrogate for each byte that isn't UTF-8."""
     # (in a line no control may be as it is)
     name = named(found.file) if format == "gnu" else name_in(format, found.file)

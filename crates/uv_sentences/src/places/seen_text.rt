@@ -90,7 +90,7 @@ impl<'t> SeenText<'t> {
         }
     }
 
-    /// A text in which several places are reported. What is the same at each of them is looked for here.
+    /// A text in which several places are reported. What doesn't depend on the place is found here, once for all.
     pub fn of_several(text: &'t str) -> SeenText<'t>
         ensures { result ≡ text.entry.now }
     {
