@@ -1,4 +1,4 @@
-/* See arguments.h. */
+/* The program's arguments, kept by a shim's main until the proved program asks for them: see arguments.h. */
 #include "arguments.h"
 
 #include "platform.h"

@@ -3,14 +3,16 @@
 
 #include "platform.h"
 
-/* Where the block of a refused call is. */
+/* Its address is what a refused call answers, which may not be 0 (see `attempt` in platform.h). Nothing reads it. */
 static char nothing;
 
+/* A block of C, or NULL, as the pair that the proved code reads. */
 static attempt attempt_of(void *block) {
     return (attempt){block != NULL, (uint64_t)(uintptr_t)(block != NULL ? block : (void *)&nothing)};
 }
 
-/* (malloc and realloc may answer NULL of no bytes, and that isn't a refusal. Their blocks are aligned to 16.) */
+/* (malloc and realloc may answer NULL for 0 bytes, which must not look like a refusal. Their blocks are aligned to
+ * 16.) */
 static size_t at_least_one(uint64_t size) { return size != 0 ? (size_t)size : 1; }
 
 void platform_alloc(attempt *answer, uint64_t size, uint64_t alignment) {

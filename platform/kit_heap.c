@@ -1,6 +1,7 @@
 /*
  * The allocator of platform.h by the names of the toolchain's archives, for code that the toolchain itself has compiled for
- * another Linux. The pair that they answer comes in two registers, as the machine's C returns such a struct.
+ * another Linux. They return the pair in two registers, as C on that machine returns such a struct. (A file of its own,
+ * since the library for ARM needs it without the rest of kit.c.)
  */
 #include "platform.h"
 

@@ -19,7 +19,7 @@ typedef struct {
     uint64_t block;
 } attempt;
 
-/* A block of so many bytes at a multiple of `alignment`, which is at most 16. No byte of it is in another block. */
+/* A block of this many bytes at a multiple of `alignment`, which is at most 16. No byte of it is in another block. */
 void platform_alloc(attempt *answer, uint64_t size, uint64_t alignment);
 
 /* The block with its first `kept` bytes, and `size` bytes long; it may have moved. If there is none, it is as it was. */
@@ -41,7 +41,7 @@ int64_t platform_env(const char *name, uint8_t *buffer, uint64_t room);
 int64_t platform_errno(void);
 void platform_set_errno(int64_t error);
 
-/* Makes a write to a pipe without a reader fail with ERROR_PIPE, and not end the program. 0, or -1 where it can't be so. */
+/* Makes a write to a pipe without a reader fail with ERROR_PIPE, and not end the program. 0, or -1 if it can't. */
 int64_t platform_ignore_pipe(void);
 
 /* The number of the opened file, or -1. The path is the caller's bytes up to a 0. */
@@ -59,7 +59,7 @@ int64_t platform_write(int64_t file, const uint8_t *bytes, uint64_t count);
 /* The new place in the file, from its start (0), the place (1) or its end (2) on; or -1. */
 int64_t platform_lseek(int64_t file, int64_t offset, int64_t from);
 
-/* 1 where the file is a terminal that shows colours, otherwise 0. */
+/* 1 if the file is a terminal that shows colours, otherwise 0. */
 int64_t platform_is_terminal(int64_t file);
 
 /* The program: its status. */

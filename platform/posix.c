@@ -12,6 +12,7 @@
 _Static_assert(sizeof(off_t) == 8, "a file may be longer than 2 GB");
 _Static_assert(SEEK_SET == 0 && SEEK_CUR == 1 && SEEK_END == 2, "platform.h has these numbers");
 
+/* What platform_errno gives: an error by Linux's number, which may differ from this system's. */
 static int64_t last_error;
 
 int64_t platform_errno(void) { return last_error; }
@@ -74,7 +75,7 @@ int64_t platform_open(const char *path, int64_t flags, int64_t mode) {
 
 int64_t platform_close(int64_t file) { return answered(close((int)file)); }
 
-/* How many bytes are asked for at once: some systems refuse more than an int can count. */
+/* At most 1 GB is read or written at once: some systems refuse more than an int can count. */
 static size_t part_of(uint64_t count) { return count < 0x40000000 ? (size_t)count : 0x40000000; }
 
 int64_t platform_read(int64_t file, uint8_t *buffer, uint64_t room) {

@@ -9,9 +9,11 @@ import { setFlagsFromString } from 'node:v8'
 // a short run would wait as it ends.
 setFlagsFromString('--wasm-tiering-budget=50000000')
 
+// The number of the first folder that a program is given: those before it are the streams.
 const FIRST_FOLDER = 3
 const FOLDERS = ['.', '/'] // what paths are relative to, for a program that asks which folders it is given
 
+// WASI's numbers of the errors that this file names itself.
 const NO_ERROR = 0, BAD_FILE = 8, INVALID = 28, IO = 29, NAME_TOO_LONG = 37, NO_SEEK = 70
 
 // WASI's numbers of Node's errors.
@@ -22,7 +24,7 @@ const ERRORS = {
   EPIPE: 64, EROFS: 69, ESPIPE: NO_SEEK,
 }
 
-// The arguments of the process, of which there are some, in bytes, where the system tells them.
+// The arguments of the process in bytes, if there are some and the system tells them (Linux does).
 /** @returns {Buffer[] | null} */
 function ownArguments() {
   try {
@@ -67,13 +69,16 @@ class OpenFile {
 /** @type {Map<number, OpenFile>} */
 const files = new Map([0, 1, 2].map(number => [number, new OpenFile(number, false)]))
 
+// The memory of the program. It is looked at anew each time, since a view of one that has grown is empty.
 /** @type {WebAssembly.Memory} */
 let memory
 const view = () => new DataView(memory.buffer)
 
+// Bytes of the memory. (An address from 2 GB on comes as a number below 0.)
 /** @param {number} at @param {number} count */
 const bytes = (at, count) => new Uint8Array(memory.buffer, at >>> 0, count >>> 0)
 
+// Writes a number of 32 bits into the memory: how WASI answers.
 /** @param {number} at @param {number} number */
 const put = (at, number) => view().setUint32(at >>> 0, number, true)
 
@@ -114,7 +119,8 @@ function read(open, into) {
   }
 }
 
-// The flags of an opening.
+// The flags of an opening, as Node takes them, by WASI's: what rights are wanted, and whether to create the file, fail
+// if it is there, empty it, or append to it.
 /** @param {number} how @param {bigint} rights @param {number} flags */
 function mode(how, rights, flags) {
   const reads = (rights & 2n) !== 0n, writes = (rights & 64n) !== 0n
@@ -125,12 +131,14 @@ function mode(how, rights, flags) {
 
 /** The functions of WASI, by its names. Addresses and sizes are numbers of 32 bits. */
 const system = {
+  // How many arguments there are, and how many bytes they take together.
   /** @param {number} count @param {number} size */
   args_sizes_get(count, size) {
     put(count, words.length)
     put(size, words.reduce((sum, word) => sum + word.length, 0))
     return NO_ERROR
   },
+  // The arguments one after another, and the address of each.
   /** @param {number} addresses @param {number} at */
   args_get(addresses, at) {
     for (const word of words) {
@@ -141,6 +149,7 @@ const system = {
     }
     return NO_ERROR
   },
+  // What a given folder is: 0 says that it is a folder, and 1 is the length of its name.
   /** @param {number} folder @param {number} at */
   fd_prestat_get(folder, at) {
     if (FOLDERS[folder - FIRST_FOLDER] === undefined) return BAD_FILE
@@ -148,6 +157,7 @@ const system = {
     put(at + 4, 1)
     return NO_ERROR
   },
+  // The name of a given folder, which has one byte.
   /** @param {number} folder @param {number} at @param {number} room */
   fd_prestat_dir_name(folder, at, room) {
     if (room < 1) return NAME_TOO_LONG
@@ -155,6 +165,7 @@ const system = {
     return NO_ERROR
   },
   /**
+   * Opens a file below a given folder. Its number is above those of all folders and open files.
    * @param {number} folder @param {number} _lookup @param {number} at @param {number} length @param {number} how
    * @param {bigint} rights @param {bigint} _inherited @param {number} flags @param {number} to
    */
@@ -177,6 +188,7 @@ const system = {
       return NO_ERROR
     })
   },
+  // Moves to a place in a file, from its start (0), from where it is (1) or from its end (2).
   /** @param {number} number @param {bigint} offset @param {number} from @param {number} at */
   fd_seek(number, offset, from, at) {
     return over(number, open => {
@@ -189,6 +201,7 @@ const system = {
       return NO_ERROR
     })
   },
+  // Reads into one part of the memory: the program never names several.
   /** @param {number} number @param {number} parts @param {number} _count @param {number} to */
   fd_read(number, parts, _count, to) {
     return over(number, open => {

@@ -22,8 +22,10 @@ uint32_t wasi_path_open(uint32_t folder, uint32_t lookup, address path, uint32_t
                         uint64_t inherited, uint32_t flags, address file);
 IMPORT("proc_exit") _Noreturn void wasi_proc_exit(uint32_t status);
 
+/* (the memory has at most 4 GB, so no address loses bits) */
 static address address_of(const void *it) { return (address)(uintptr_t)it; }
 
+/* What platform_errno gives: an error by Linux's number. */
 static int64_t last_error;
 
 int64_t platform_errno(void) { return last_error; }
@@ -41,6 +43,7 @@ static const uint8_t errors[] = {
     [54] = ERROR_NOTDIR, [63] = ERROR_PERM,  [64] = ERROR_PIPE,  [69] = ERROR_ROFS,  [70] = ERROR_SPIPE,
     [76] = ERROR_PERM};
 
+/* Ends a call with this error. */
 static int64_t refused(int64_t error) {
     last_error = error;
     return -1;
@@ -52,6 +55,7 @@ static int64_t answered(uint32_t ended, int64_t given) {
     return refused(ended < sizeof errors && errors[ended] != 0 ? errors[ended] : ERROR_IO);
 }
 
+/* (there is no C library, and so no strlen) */
 static uint64_t length_of(const char *text) {
     uint64_t length = 0;
     while (text[length] != 0) length++;
@@ -67,6 +71,7 @@ static uint64_t start_below(const char *path, const char *folder, uint64_t lengt
     return same;
 }
 
+/* A host gives its folders the numbers after those of the three streams. The last is a limit, so the search ends. */
 enum { FIRST_FOLDER = 3, LAST_FOLDER = 63 };
 
 /*
@@ -95,6 +100,7 @@ static int64_t folder_of(const char *path, uint64_t *start) {
     return found;
 }
 
+/* The flags and rights of path_open, as WASI numbers them: of creation, of the file, and of the search for it. */
 enum { CREAT = 1, EXCL = 4, TRUNC = 8, APPEND = 1, FOLLOWS = 1 };
 enum { MAY_READ = 2, MAY_SEEK = 4, MAY_TELL = 32, MAY_WRITE = 64 };
 
@@ -116,12 +122,13 @@ int64_t platform_open(const char *path, int64_t flags, int64_t mode) {
 
 int64_t platform_close(int64_t file) { return answered(wasi_fd_close((uint32_t)file), 0); }
 
-/* Bytes as WASI takes them, so many at once. */
+/* Bytes as WASI takes them. */
 typedef struct {
     address bytes;
     uint32_t count;
 } part;
 
+/* At most 256 MB are read or written at once, since WASI counts in 32 bits. */
 static part part_of(const uint8_t *bytes, uint64_t count) {
     return (part){address_of(bytes), count < 0x10000000 ? (uint32_t)count : 0x10000000};
 }
@@ -171,8 +178,10 @@ static _Bool takes_arguments(void) {
     return 1;
 }
 
+/* The status with which the program itself ends when it runs out of memory. */
 enum { FAILED = 3 };
 
+/* Where a host begins, in place of main. */
 void _start(void);
 
 /* (without its arguments the program says what it says of an allocation that fails) */

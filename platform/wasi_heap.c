@@ -4,6 +4,8 @@
  */
 #include "wasi_heap.h"
 
+/* A page of WebAssembly; the header before a block; and the powers of the shortest and of the longest block: 32 bytes
+ * have room for a header and 16 more, and the memory of 32-bit addresses ends at 4 GB. */
 enum { PAGE = 65536, HEAD = 16, LEAST_POWER = 5, MOST_POWER = 31 };
 
 typedef struct header {
@@ -18,7 +20,7 @@ static header *given_up[MOST_POWER + 1];
 static uint64_t top; /* where the memory is free; 0 before the first block */
 
 /*
- * The memory's next bytes, or NULL where the engine gives no more. Its end says whether it has grown: the answer of the
+ * The memory's next bytes, or NULL if the engine gives no more. Its end says whether it has grown: the answer of the
  * growth is widened to 64 bits by `wasm-opt`, and a refusal isn't -1 then.
  */
 static header *next_bytes(uint64_t size) {
@@ -32,6 +34,7 @@ static header *next_bytes(uint64_t size) {
     return block;
 }
 
+/* The header of a block that block_take gave. */
 static header *header_of(void *block) { return (header *)((uint8_t *)block - HEAD); }
 
 void *block_take(uint64_t size) {
@@ -55,9 +58,10 @@ void platform_dealloc(void *block) {
     given_up[freed->power] = freed;
 }
 
-/* Where the block of a refused call is. */
+/* Its address is what a refused call answers, which may not be 0 (see `attempt` in platform.h). Nothing reads it. */
 static uint8_t nothing;
 
+/* A block, or NULL, as the pair that the proved code reads. */
 static attempt attempt_of(void *block) {
     return (attempt){block != NULL, (uint64_t)(block != NULL ? block : (void *)&nothing)};
 }

@@ -4,7 +4,7 @@
 
 #include "platform.h"
 
-/* A block of so many bytes at a multiple of 16, or NULL where the engine gives no more memory. */
+/* A block of this many bytes at a multiple of 16, or NULL if the engine gives no more memory. */
 void *block_take(uint64_t size);
 
 #endif

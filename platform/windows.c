@@ -11,6 +11,7 @@
 #include "platform.h"
 #include "windows_words.h"
 
+/* What platform_errno gives: Windows's GetLastError has other numbers, and other calls change it. */
 static int64_t last_error;
 
 int64_t platform_errno(void) { return last_error; }
@@ -57,6 +58,7 @@ static const struct {
     {ERROR_INVALID_PARAMETER, ERROR_INVAL},
 };
 
+/* Ends a call with this error. */
 static int64_t refused(int64_t number) {
     last_error = number;
     return -1;
@@ -72,6 +74,7 @@ static int64_t failed(DWORD error) {
 
 /* ---- files */
 
+/* The handle of a file: the numbers 0 to 2 stand for the streams, any other is the handle itself. */
 static HANDLE handle_of(int64_t file) {
     switch (file) {
         case 0: return GetStdHandle(STD_INPUT_HANDLE);
@@ -81,18 +84,21 @@ static HANDLE handle_of(int64_t file) {
     }
 }
 
+/* (with FILE_APPEND_DATA and no other right to write, Windows puts each write at the file's end, as O_APPEND does) */
 static DWORD access_of(int64_t flags) {
     DWORD writing = flags & FLAG_APPEND ? FILE_APPEND_DATA : GENERIC_WRITE;
     if (flags & FLAG_RDWR) return GENERIC_READ | writing;
     return flags & FLAG_WRONLY ? writing : GENERIC_READ;
 }
 
+/* How Windows names what O_CREAT, O_EXCL and O_TRUNC mean together. */
 static DWORD creation_of(int64_t flags) {
     if (!(flags & FLAG_CREAT)) return flags & FLAG_TRUNC ? TRUNCATE_EXISTING : OPEN_EXISTING;
     if (flags & FLAG_EXCL) return CREATE_NEW;
     return flags & FLAG_TRUNC ? CREATE_ALWAYS : OPEN_ALWAYS;
 }
 
+/* Whether a folder has the name. Windows refuses to open one as if it were forbidden, and Linux says that it is one. */
 static int is_folder(const wchar_t *name) {
     DWORD attributes = GetFileAttributesW(name);
     return attributes != INVALID_FILE_ATTRIBUTES && (attributes & FILE_ATTRIBUTE_DIRECTORY);
@@ -113,9 +119,10 @@ int64_t platform_open(const char *path, int64_t flags, int64_t mode) {
 
 int64_t platform_close(int64_t file) { return CloseHandle(handle_of(file)) ? 0 : failed(GetLastError()); }
 
-/* So much is read or written at once: Windows counts in 32 bits, and refuses more than some devices hold. */
+/* At most 1 MB is read or written at once: Windows counts in 32 bits, and some devices refuse more. */
 static DWORD part_of(uint64_t count) { return count < 0x100000 ? (DWORD)count : 0x100000; }
 
+/* How many units are read from a console at once; Ctrl-Z; and the first halves of pairs of UTF-16. */
 enum { MOST_TYPED = 4096, END_TYPED = 26, LEAST_HALF = 0xd800, MOST_HALF = 0xdbff };
 
 /*
@@ -136,6 +143,7 @@ static int64_t read_console(HANDLE console, uint8_t *buffer, uint64_t room) {
     return count != 0 ? (int64_t)put_units((char *)buffer, typed, count) : read_console(console, buffer, room);
 }
 
+/* (only a console has a mode) */
 static int is_console(HANDLE handle) {
     DWORD mode = 0;
     return GetConsoleMode(handle, &mode);
@@ -175,6 +183,7 @@ int64_t platform_lseek(int64_t file, int64_t offset, int64_t from) {
 
 /* ---- the environment, and the terminal */
 
+/* The longest value that is read, in UTF-16. The program asks for short ones only, such as TERM and NO_COLOR. */
 enum { MOST_UNITS = 1024 };
 
 int64_t platform_env(const char *name, uint8_t *buffer, uint64_t room) {
@@ -206,16 +215,19 @@ int64_t platform_is_terminal(int64_t file) {
 
 /* ---- the program */
 
+/* The status with which the program itself ends when it runs out of memory. */
 enum { FAILED = 3 };
 
 /* The console's code page before the program, in which other programs write there; 0 without a console. */
 static UINT code_page;
 
+/* Leaves the console as it was: its code page and its mode outlive the program. */
 static void give_back(void) {
     if (code_page != 0) SetConsoleOutputCP(code_page);
     if (coloured != NULL) SetConsoleMode(coloured, console_mode);
 }
 
+/* Called by Windows on Ctrl-C and when the console is closed, since main doesn't end then. */
 static BOOL WINAPI gives_back_console(DWORD event) {
     (void)event;
     give_back();

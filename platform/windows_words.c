@@ -89,6 +89,7 @@ static int append(word_list *list, char *word) {
     return 1;
 }
 
+/* Makes each `\` of a name, or of NULL, a `/`. */
 static char *slashed(char *name) {
     for (char *at = name; at != NULL && *at != 0; at++) {
         if (*at == '\\') *at = '/';
@@ -107,6 +108,7 @@ static size_t last_part(const wchar_t *name) {
     return start;
 }
 
+/* How qsort compares two words. */
 static int by_bytes(const void *one, const void *other) { return strcmp(*(char *const *)one, *(char *const *)other); }
 
 /* The name of a file in the folder that the first `start` units of a pattern name, by malloc; or NULL. */
@@ -150,9 +152,11 @@ typedef struct {
     int is_after; /* whether it is after `--` */
 } word_reading;
 
+/* The options of `lint` and `vectors` that have a value. If one were missing, its value would be read as a name. */
 static const wchar_t *const text_options[] = {L"--base", L"--profile", L"--format", L"--columns"};
 static const wchar_t name_option[] = L"--stdin-name", name_given[] = L"--stdin-name=";
 
+/* Whether the next word is the value of an option, and no name. */
 static int is_text_option(const wchar_t *word) {
     for (size_t at = 0; at < sizeof text_options / sizeof *text_options; at++) {
         if (wcscmp(word, text_options[at]) == 0) return 1;
@@ -174,12 +178,14 @@ static word_kind next_kind(word_reading *reading, const wchar_t *word) {
     return wcsncmp(word, name_given, sizeof name_given / sizeof *name_given - 1) == 0 ? NAME : TEXT;
 }
 
+/* Appends a word as what it is, or the names that it stands for: 1, or 0 if there is no memory. */
 static int append_as(word_list *list, word_kind kind, const wchar_t *word) {
     if (kind == FILES) return append_files(list, word);
     char *bytes = bytes_of(word);
     return append(list, kind == NAME ? slashed(bytes) : bytes);
 }
 
+/* The commands whose words are names. Those of the others are texts, which stay as they are. */
 static int takes_files(const wchar_t *command) {
     return wcscmp(command, L"lint") == 0 || wcscmp(command, L"vectors") == 0;
 }

@@ -114,7 +114,7 @@ def chains(needs, names):
 
 
 def link(source, target):
-    """A second name for a file; a copy of it where the file system gives none."""
+    """A second name for a file, or a copy of it if the file system can't give one."""
     try:
         os.link(source, target)
     except OSError:
@@ -150,7 +150,7 @@ def take(name):
 
 
 def lacks_toolchain():
-    """Whether there is no command `rt`, which standard error says then."""
+    """Whether there is no command `rt`, which standard error then says."""
     if shutil.which("rt"):
         return False
     print("urlcheck: the toolchain command rt is needed to build it", file=sys.stderr)
@@ -242,7 +242,8 @@ def stale(needs, names):
 
 
 def lanes(each=MEMORY):
-    """How many checks may run side by side, each with so many bytes: one a processor, as far as memory allows."""
+    """How many checks may run side by side, if each takes this many bytes: one per processor, as far as memory
+    allows."""
     processors = len(os.sched_getaffinity(0))
     with open("/proc/meminfo", encoding="ascii") as file:
         available = next((int(line.split()[1]) * 1024 for line in file if line.startswith("MemAvailable:")), 0)
@@ -297,9 +298,8 @@ def built_in_lanes(needs, names, way, pool, most, progress):
 
 
 def build_all(needs, names, keeps=False):
-    """Builds these crates side by side, and keeps what later checks take, where that is asked for or they kept anything.
-    Returns whether all are built. Standard error says what failed.
-    """
+    """Builds these crates side by side, and keeps what later checks take, if that is asked for or they kept anything.
+    Returns whether all are built. Standard error says what failed."""
     keeps = keeps or are_kept(names)
     some, way = (names, build_over_kept) if keeps else (stale(needs, names), build_statements)
     try:

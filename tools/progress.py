@@ -119,7 +119,7 @@ class Progress:
         )
 
     def _left(self, part: float) -> str:
-        """The time that is left where this part is done: nothing as long as that would be a guess."""
+        """The time that is left when this part is done: nothing as long as that would be a guess."""
         taken = time.monotonic() - self._started
         if part < 0.02 or taken < 10:
             return ""
@@ -137,6 +137,7 @@ class Progress:
         return min(count, self._functions[crate])
 
     def _show(self, ended: threading.Event) -> None:
+        """Writes the line again and again, until the build has ended."""
         while not ended.wait(AT_TERMINAL if self._is_terminal else ELSEWHERE):
             line = self.line()
             with self._lock:

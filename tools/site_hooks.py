@@ -25,6 +25,7 @@ def on_page_markdown(markdown: str, page: Any, config: Any, files: Any) -> str:
 
 
 def _without_backslash(code: "re.Match[str]") -> str:
+    """The code that was found, with each `|` as it is."""
     return code[0].replace("\\|", "|")
 
 

@@ -9,6 +9,7 @@
 #endif
 #include "urlcheck.h"
 
+/* What a caller sees of the shared library. All other names are hidden there. */
 #define EXPORT __attribute__((visibility("default")))
 
 /* The functions of one build, but for the one that is called most. */
@@ -93,6 +94,7 @@ static uint64_t no_numbers[1];
 static urlcheck_fault no_faults[1];
 static const urlcheck_base no_base;
 
+/* A pointer of the caller as the proved functions take it, by what it is for. */
 static const uint8_t *read_from(const uint8_t *bytes) { return bytes ? bytes : no_bytes; }
 static uint8_t *written_to(uint8_t *bytes) { return bytes ? bytes : no_bytes; }
 static uint64_t *counted_in(uint64_t *column) { return column ? column : no_numbers; }
@@ -106,6 +108,7 @@ static int lacks(const void *it, size_t length) { return !it && length; }
 
 static const urlcheck_finding null_found = {URLCHECK_NULL, 0, 0, 0};
 
+/* The answers to a null pointer that stands for bytes. */
 static urlcheck_written null_written(void) {
     urlcheck_written answer = {null_found, 0};
     return answer;
@@ -306,7 +309,10 @@ EXPORT size_t urlcheck_example_place(uint32_t rule) { return CALL(urlcheck_examp
 
 EXPORT uint32_t urlcheck_version(void) { return CALL(urlcheck_version); }
 
-/* The calls that write their answer to a pointer, for what can't take a struct by value. */
+/*
+ * The calls that write their answer to a pointer, for what can't take a struct by value. urlcheck.h declares each, and
+ * so its parameters stand there and in the function above, too.
+ */
 #define TO(type, name, parameters, arguments)                                                                          \
     EXPORT void name##_to(type *answer, UNPACK parameters) { *answer = name arguments; }
 #define UNPACK(...) __VA_ARGS__

@@ -134,7 +134,7 @@ inline urlcheck::error error_of(const urlcheck_finding &found) noexcept {
 
 inline urlcheck::error no_memory() noexcept { return {reason::no_memory, 0, 0, 0}; }
 
-// So many bytes hold nearly every text of these kinds.
+// This many bytes hold nearly every text of these kinds.
 constexpr std::size_t usual_fixed_text = 96;
 constexpr std::size_t usual_message = 128;
 
@@ -337,7 +337,7 @@ struct setting {
     [[nodiscard]] const std::uint8_t *base_bytes() const noexcept {
         return prepared == nullptr ? nullptr : bytes(base);
     }
-    // So many bytes hold the URL of nearly every text of which nothing is percent-encoded.
+    // This many bytes hold the URL of nearly every text in which nothing is percent-encoded.
     [[nodiscard]] std::size_t usual_room(std::string_view text) const noexcept { return text.size() + base.size() + 4; }
 };
 
@@ -414,7 +414,7 @@ inline result<url> check(std::string_view text, profile by = profile::standard) 
 inline result<url> check(std::string_view text, const base &against) noexcept { return detail::check(text, against); }
 
 // Whether the text is valid: the fastest call. It is also false if no memory was left for a domain that isn't ASCII,
-// and where no profile has the number; `check` tells these apart.
+// and if no profile has the number; `check` tells these apart.
 inline bool is_valid(std::string_view text, profile by = profile::standard) noexcept {
     return detail::is_valid(text, by);
 }
@@ -428,7 +428,7 @@ inline result<record> resolve(std::string_view text, const base &against) noexce
     return detail::resolve(text, against);
 }
 
-// The valid text to write in place of a refused one; nothing if the text is valid; its error where the edits make no
+// The valid text to write in place of a refused one; nothing if the text is valid; its error if the edits make no
 // valid text of it.
 inline result<std::optional<mended>> mend(std::string_view text, profile by = profile::standard) noexcept {
     return detail::mend(text, by);

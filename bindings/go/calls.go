@@ -22,6 +22,7 @@ type base struct {
 	prepared C.urlcheck_base
 }
 
+// prepared gives the base as the library takes it: null if there is none.
 func (c Checker) prepared() *C.urlcheck_base {
 	if c.base == nil {
 		return nil
@@ -59,6 +60,7 @@ func errorOf(found *C.urlcheck_finding, profile Profile) error {
 	}
 }
 
+// spanOf gives a part; one that is missing ends before it begins, so that it differs from an empty part.
 func spanOf(from C.urlcheck_span) span {
 	if !from.present {
 		return span{0, -1}
@@ -66,11 +68,13 @@ func spanOf(from C.urlcheck_span) span {
 	return span{int(from.start), int(from.start + from.length)}
 }
 
+// partsOf gives the parts of a valid text, in the order of the struct parts.
 func partsOf(from *C.urlcheck_spans) parts {
 	return parts{spanOf(from.scheme), spanOf(from.host), spanOf(from.port), spanOf(from.path), spanOf(from.query),
 		spanOf(from.fragment)}
 }
 
+// prepare checks a base once for all texts that are checked against it.
 func prepare(text string, profile Profile) (*base, error) {
 	start, length := bytesOf(text)
 	prepared := C.urlcheck_prepare(start, length, C.uint32_t(profile))
@@ -79,6 +83,8 @@ func prepare(text string, profile Profile) (*base, error) {
 	}
 	return &base{text, prepared}, nil
 }
+
+// The methods from here on have each the meaning of the exported one with the same name, in urlcheck.go.
 
 func (c Checker) check(text string) (URL, error) {
 	start, length := bytesOf(text)
@@ -94,8 +100,9 @@ func (c Checker) isValid(text string) bool {
 	return bool(C.urlcheck_is_valid(start, length, C.uint32_t(c.profile), c.prepared()))
 }
 
-// written gives the text that a call writes. The call is handed a buffer of so many bytes, of one at least, and gives
-// the length of its text; if that is longer, it is called once more.
+// written gives the text that a call writes. The call is handed a buffer of this many bytes, of one at least, and gives
+// the length of its text; if that is longer, it is called once more. The callers' first rooms hold what most calls
+// write: a URL's text is seldom more than four bytes longer than the text that denotes it.
 func written(room int, write func(out *C.uint8_t, room C.size_t) C.size_t) string {
 	for {
 		buffer := make([]byte, room)
@@ -231,6 +238,7 @@ func joined(texts []string) ([]byte, []C.uint64_t) {
 	return append(bytes, 0), offsets
 }
 
+// checkMany checks texts by one call. The columns need an element each, so there has to be a text.
 func (c Checker) checkMany(texts []string) []error {
 	bytes, offsets := joined(texts)
 	columns := columnsOf(len(texts))
@@ -239,6 +247,7 @@ func (c Checker) checkMany(texts []string) []error {
 	return columns.errors(texts, batch.outcome, c.profile)
 }
 
+// resolveMany resolves texts without a base: the library has no such call against one. There has to be a text.
 func (c Checker) resolveMany(texts []string) ([]string, []error) {
 	bytes, offsets := joined(texts)
 	columns, ends := columnsOf(len(texts)), make([]C.uint64_t, len(offsets))
@@ -256,7 +265,7 @@ func (c Checker) resolveMany(texts []string) ([]string, []error) {
 	return urls, columns.errors(texts, batch.outcome, c.profile)
 }
 
-// errors gives the error on each text, or nil. Where the whole call did nothing, each text has that error.
+// errors gives the error on each text, or nil. If the whole call did nothing, each text has that error.
 func (c *columns) errors(texts []string, outcome C.uint32_t, profile Profile) []error {
 	errs := make([]error, len(texts))
 	for row, text := range texts {
@@ -271,7 +280,7 @@ func (c *columns) errors(texts []string, outcome C.uint32_t, profile Profile) []
 	return errs
 }
 
-// bytePlace gives the bytes of so many code points at the beginning of a text, which are UTF-8.
+// bytePlace gives the bytes of this many code points at the beginning of a text, which are UTF-8.
 func bytePlace(text string, place C.size_t) C.size_t {
 	at := 0
 	for ; place > 0; place-- {

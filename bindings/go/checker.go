@@ -1,5 +1,7 @@
 package urlcheck
 
+// The calls that a caller makes. calls.go has the same by names in lower case, over the functions of C.
+
 // Checker checks texts by a profile, alone or against a base. The zero Checker is that of the standard profile, alone.
 // It is a small value, never changes, and goroutines may share it.
 type Checker struct {
@@ -32,7 +34,7 @@ func (c Checker) Base() (string, bool) {
 func (c Checker) Check(text string) (URL, error) { return c.check(text) }
 
 // IsValid says whether the text is valid: the fastest call. It is also false if no profile has the Checker's number,
-// and where no memory was left for a domain that isn't ASCII. Check tells these apart.
+// and if no memory was left for a domain that isn't ASCII. Check tells these apart.
 func (c Checker) IsValid(text string) bool { return c.isValid(text) }
 
 // Resolve gives the URL that the text denotes, against the base if there is one.

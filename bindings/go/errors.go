@@ -5,8 +5,10 @@ import (
 	"fmt"
 )
 
+// The errors: why a text is refused, or why it wasn't checked.
+
 var (
-	// ErrMemory says that no memory was left. Nothing is said of the text.
+	// ErrMemory says that no memory was left. Nothing is said about the text.
 	ErrMemory = errors.New("urlcheck: out of memory")
 	// ErrProfile says that there is no profile of that number or name.
 	ErrProfile = errors.New("urlcheck: no such profile")

@@ -2,10 +2,12 @@ package urlcheck
 
 import "strconv"
 
+// The rules. The library has their names and sentences; only their numbers are repeated here, as urlcheck.h has them.
+
 // Rule is a rule that a text can violate. Of several violations at one place the one of the least rule is named.
 type Rule uint32
 
-// The rules. Their names and what they require are told by String and Requires.
+// Each rule by its number. Its name is given by String, and what it requires by Requires.
 const (
 	NoScheme Rule = iota + 1
 	OpaqueBase

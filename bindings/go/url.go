@@ -1,11 +1,14 @@
 package urlcheck
 
+// The answers on a text: a valid one with its parts, the URL that it denotes, and a mended one.
+
 // span is where a part is in the bytes of a text. The end of one that the text lacks is -1.
 type span struct{ start, end int }
 
-// parts are the scheme, the host, the port, the path, the query and the fragment.
+// parts are the scheme, the host, the port, the path, the query and the fragment: a part is named by its place here.
 type parts [6]span
 
+// of gives a part of the text, and whether the text has it.
 func (p *parts) of(text string, part int) (string, bool) {
 	if at := p[part]; at.end >= 0 {
 		return text[at.start:at.end], true
@@ -66,7 +69,7 @@ const (
 // and its parts are slices of that: a domain is in ASCII, and a default port isn't there.
 type Record struct {
 	URL
-	// HostKind says of which kind the host is.
+	// HostKind says what kind of host it is.
 	HostKind HostKind
 	// HasOpaquePath says whether the path is opaque, as in "urn:isbn:1": it has no segments.
 	HasOpaquePath bool

@@ -38,7 +38,7 @@ def _project(pattern):
 
 
 def _lines(table):
-    """The names and the values of a table of the project, each in a line of its own."""
+    """The names and the values of a table of the project, each on a line of its own."""
     found = re.search(r"^\[project\.{}\]\n((?:.+\n)*)".format(re.escape(table)), _text(TABLE) + "\n", re.M)
     return [line.split(" = ", 1) for line in found.group(1).splitlines()]
 
@@ -68,7 +68,7 @@ def _entry_points():
 
 
 def _licences():
-    """The files with the terms, where they are here."""
+    """The files with the terms, if they are here."""
     return sorted(glob.glob("LICENSE*") + glob.glob("NOTICE"))
 
 
@@ -175,11 +175,12 @@ def _sources():
 
 
 def _digest(data):
+    """The hash of a file as a wheel's RECORD has it (PEP 376): SHA-256 in base64 for URLs, without its padding."""
     return base64.urlsafe_b64encode(hashlib.sha256(data).digest()).rstrip(b"=").decode()
 
 
 def _seconds():
-    """The time of each file that is written: that of SOURCE_DATE_EPOCH, else the first that a zip file can tell."""
+    """The time of each file that is written: that of SOURCE_DATE_EPOCH, or else the first that a zip file can hold."""
     return max(int(os.environ.get("SOURCE_DATE_EPOCH", "315532800")), 315532800)
 
 

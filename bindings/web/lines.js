@@ -8,6 +8,7 @@ import {
 /** @typedef {import('./urlcheck.js').RefusedLine} RefusedLine */
 
 const LF = 10
+/** The most bytes that are handed to the module at once, so that its memory stays small for a list of any length. */
 const PIECE = 1 << 20
 
 /**
@@ -55,7 +56,7 @@ function add(many, room, names, start) {
  * @param {readonly (import('./urlcheck.js').RuleName)[]} names of the rules
  * @param {Uint8Array} bytes
  * @param {number} profile
- * @param {number} isHeld 1, or 0 where each line is checked alone
+ * @param {number} isHeld 1, or 0 if each line is checked alone
  * @returns {Many}
  * @throws {RangeError} if there is no memory for a line
  */

@@ -2,8 +2,8 @@
 import { ANSWER_WORDS, DONE, LENGTH, MEMORY, NO_COLUMN, NO_PLACE, VERDICT } from './layout.js'
 
 /**
- * What the module exports. A base is held where `prepare` has checked it last; the base of `resolve` and `mend` is the
- * text in its room, or none if its length is below 0.
+ * What the module exports: the functions of module/glue.c, lines.c and reports.c. A base is held where `prepare` has
+ * checked it last; the base of `resolve` and `mend` is the text in its room, or none if its length is below 0.
  * @typedef {object} Exports
  * @property {WebAssembly.Memory} memory
  * @property {(textBytes: number, baseBytes: number) => number} make_rooms
@@ -32,7 +32,7 @@ import { ANSWER_WORDS, DONE, LENGTH, MEMORY, NO_COLUMN, NO_PLACE, VERDICT } from
  * @property {() => number} version
  */
 
-/** A text of at most so many UTF-16 units finds room without being measured. */
+/** A text of at most this many UTF-16 units fits into its room without being measured: each has at most three bytes. */
 const SHORT = 512
 /** The room that holds any such text, and the one above which it is given up with the next call. */
 const SMALL_ROOM = 3 * SHORT
@@ -44,6 +44,7 @@ const decoder = new TextDecoder('utf-8', { ignoreBOM: true })
 const LONE_SURROGATE = /\p{Cs}/u
 
 /**
+ * Throws if a text has a lone surrogate, which has no form in UTF-8: the encoder silently writes another code point.
  * @param {string} text
  * @param {string} name what the text is called in a refusal
  * @throws {TypeError} if the text has a lone surrogate
@@ -85,7 +86,7 @@ export class Room {
     /** The text that is in the room of the base, and the length of its UTF-8. */
     this.baseText = ''
     this.baseLength = 0
-    /** The base that the module holds, where it holds one, and its profile. */
+    /** The base that the module holds, if it holds one, and its profile. */
     this.heldText = /** @type {string | undefined} */ (undefined)
     this.heldProfile = 0
     this.layOut(SMALL_ROOM, SMALL_ROOM)
@@ -101,7 +102,7 @@ export class Room {
   }
 
   /**
-   * Makes rooms of so many bytes. A text that is in its room stays there.
+   * Makes rooms of this many bytes. A text that is in its room stays there.
    * @param {number} textRoom
    * @param {number} baseRoom
    */
@@ -177,6 +178,7 @@ export class Room {
       this.base.set(part, at)
       at += part.length
     }
+    // (these bytes need not be a base's, so no base is known to be in the room)
     this.baseText = ''
     this.baseLength = length
   }
@@ -209,7 +211,7 @@ export class Room {
   }
 
   /**
-   * Stops where a call has written no text.
+   * Stops if a call has written no text.
    * @throws {RangeError} if there is no memory for it
    */
   stopUnlessWritten() {

@@ -30,6 +30,7 @@ export class CheckedBase {
 }
 
 /**
+ * The number of a profile, as `urlcheck_profile` of include/urlcheck.h has it.
  * @param {unknown} profile
  * @returns {number}
  */
@@ -47,6 +48,7 @@ export function profileNumber(profile) {
 const WORDINGS = ['options', 'arguments', 'sql', 'none']
 
 /**
+ * The number of a wording.
  * @param {unknown} wording
  * @returns {number}
  */
@@ -57,7 +59,7 @@ export function wordingNumber(wording = 'arguments') {
 }
 
 /**
- * Stops where a string, say, or a base is in place of the options: what it says would be passed over.
+ * Throws if something else is given in place of the options, such as a string or a base: it would silently be ignored.
  * @param {unknown} options
  */
 export function stopUnlessOptions(options) {
@@ -67,6 +69,7 @@ export function stopUnlessOptions(options) {
 }
 
 /**
+ * Throws for a base that is neither a string nor what `base` gave.
  * @param {unknown} base which isn't a string
  * @returns {never}
  */
@@ -83,10 +86,14 @@ export function stopForBase(base) {
  * @property {number} profile its number
  */
 
-/** @type {Readonly<Reading>} */
+/**
+ * How a call without options checks: one object for all of them, since most calls have none.
+ * @type {Readonly<Reading>}
+ */
 const ALONE = Object.freeze({ base: undefined, profile: 0 })
 
 /**
+ * How the options ask for a text to be checked. A base that was checked before brings its profile with it.
  * @param {Options | undefined} options
  * @returns {Readonly<Reading>}
  */

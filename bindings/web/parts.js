@@ -24,6 +24,7 @@ export class UnitWalker {
   }
 
   /**
+   * The index of a byte. The lengths are those of UTF-8; a pair of surrogates is one code point of four bytes.
    * @param {number} byte where a code point begins, or the text's end; not before the byte that was asked last
    * @returns {number}
    */
@@ -66,6 +67,7 @@ export class ValidText {
     /** @type {true} */
     this.valid = true
     this.#text = text
+    // (`| 0` makes the module's 0xffffffff, of a part that isn't there, -1)
     this.#schemeEnd = answer[SCHEME_END] | 0
     this.#hostEnd = answer[HOST_END] | 0
     this.#portEnd = answer[PORT_END] | 0
@@ -89,6 +91,7 @@ export class ValidText {
   }
 
   /**
+   * A part, or null if its end says that the text lacks it.
    * @param {number} start
    * @param {number} end
    * @returns {string | null}

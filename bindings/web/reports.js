@@ -11,6 +11,7 @@ import { encoded } from './memory.js'
  * @type {Completion[]}
  */
 const COMPLETIONS = ['whole', 'unread', 'stopped']
+/** The greatest number that the module takes: its numbers have 32 bits. */
 const MOST = 0xffffffff
 
 /**
@@ -22,6 +23,7 @@ const MOST = 0xffffffff
  */
 
 /**
+ * A number as the module takes it. Any other would be cut to 32 bits on the way, and so mean something else.
  * @param {unknown} number
  * @param {string} name what it is called in a refusal
  * @param {number} least
@@ -98,6 +100,7 @@ export class Report {
     const kind = mended ? this.#numbers.ofKind(mended.kind) : 0
     const length = room.put(text)
     room.putInBase(name, instead)
+    // (the module reads the sentence where `message` leaves it, so nothing may be called between the two)
     room.exports.message(length, this.#numbers.ofProfile(profile), this.#wording, number, at)
     room.stopUnlessWritten()
     room.exports.diagnostic(this.#format, this.#unit, this.#isFirst ? 1 : 0, number, at, where[0], where[1], length,

@@ -1,4 +1,4 @@
-// Where the module comes from.
+// Where `urlcheck.wasm` comes from: the source that a caller gives to `load`, made a compiled module.
 
 /** @typedef {import('./urlcheck.js').Source} Source */
 
@@ -18,6 +18,7 @@ async function fetched(url) {
 }
 
 /**
+ * Compiles a module. An answer is compiled while it arrives, which engines do only if the server names its type.
  * @param {BufferSource | Response} source
  * @returns {Promise<WebAssembly.Module>}
  */

@@ -48,6 +48,7 @@ import { moduleOf } from './source.js'
 const MEND_KINDS = ['same', 'escaped', 'changed']
 
 /**
+ * The number of a kind of mended text.
  * @param {unknown} kind
  * @returns {number}
  */
@@ -320,8 +321,9 @@ class Checker {
   }
 
   /**
+   * The refusal that a call has found of a text.
    * @param {string} text
-   * @param {number} length
+   * @param {number} length of its UTF-8
    * @returns {Refused}
    */
   #refused(text, length) {
@@ -329,8 +331,9 @@ class Checker {
   }
 
   /**
+   * The faults that a call has written, at `out_at`. They come by their places, so one walk finds all indices.
    * @param {string} text
-   * @param {number} length
+   * @param {number} length of its UTF-8, which is that of the text if it is ASCII
    * @returns {Fault[]}
    */
   #faults(text, length) {

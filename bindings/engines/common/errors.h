@@ -11,7 +11,7 @@ enum { ERROR_ROOM = 1024, ADVICE_ROOM = 512 };
 
 #define NO_PROFILE "unrecognized profile: valid profiles are " PROFILE_NAMES
 
-/* Why the base isn't one. */
+/* The error for a base that is refused. */
 static inline const char *base_error(const request *request, urlcheck_finding found, char said[ERROR_ROOM]) {
     char name[NAME_ROOM], message[MESSAGE_ROOM];
 

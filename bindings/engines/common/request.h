@@ -13,7 +13,7 @@ typedef struct slice {
     size_t length;
 } slice;
 
-/* What a call asks. Where the url is checked alone, the base's bytes and `prepared` are null. */
+/* What a call asks. If the url is checked alone, the base's bytes and `prepared` are null. */
 typedef struct request {
     slice url;
     slice base;
@@ -22,6 +22,7 @@ typedef struct request {
     uint32_t profile;
 } request;
 
+/* The verdict on the url, with its parts. */
 static inline urlcheck_answer check_request(const request *request) {
     return urlcheck_check(request->url.bytes, request->url.length, request->profile, request->prepared);
 }
@@ -57,7 +58,7 @@ static inline urlcheck_mended write_request(const request *request, int mends, u
     return answer;
 }
 
-/* The parts, in the order of urlcheck_spans. */
+/* How many parts there are. Each engine has a function for each, by its number in the order of urlcheck_spans. */
 enum { PART_COUNT = 6 };
 
 static inline urlcheck_span part_of(const urlcheck_spans *parts, int part) {

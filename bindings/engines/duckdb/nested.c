@@ -1,4 +1,4 @@
-/* What is said of a row by more than one value: the whole check as a STRUCT, and all of its faults as a list of them. */
+/* What is said about a row by several values: the whole check as a STRUCT, and its faults as a list of them. */
 #include <stdlib.h>
 
 #include "rows.h"
@@ -74,7 +74,10 @@ bool put_check(duckdb_function_info call, cell out, const request *request) {
     return true;
 }
 
-/* The faults of a url, to be freed, and how many there are; null if there is no memory for them. */
+/*
+ * The faults of a url, to be freed, and how many there are; null if there is no memory for them. Few texts have more
+ * than 16; for those that have, the library is called again.
+ */
 static urlcheck_fault *list_faults(const request *request, urlcheck_fault_count *answer) {
     size_t room = 16;
     urlcheck_fault *list = malloc(room * sizeof *list);

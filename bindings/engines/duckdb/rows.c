@@ -9,6 +9,7 @@ typedef struct column {
     uint64_t *present; /* null if none is missing */
 } column;
 
+/* A column of a chunk, by its number. */
 static column column_of(duckdb_data_chunk chunk, idx_t number) {
     duckdb_vector vector = duckdb_data_chunk_get_vector(chunk, number);
     column column = {duckdb_vector_get_data(vector), duckdb_vector_get_validity(vector)};
@@ -16,7 +17,7 @@ static column column_of(duckdb_data_chunk chunk, idx_t number) {
     return column;
 }
 
-/* False where the text of the row is NULL, or the column isn't there. */
+/* False if the text of the row is NULL, or the column isn't there. */
 static bool read_text(const column *column, idx_t row, slice *text) {
     if (!column->texts || (column->present && !duckdb_validity_row_is_valid(column->present, row))) return false;
     text->bytes = (const uint8_t *)duckdb_string_t_data(&column->texts[row]);
@@ -24,6 +25,7 @@ static bool read_text(const column *column, idx_t row, slice *text) {
     return true;
 }
 
+/* Whether two texts have the same bytes. */
 static bool is_same(slice one, slice other) {
     return one.length == other.length && memcmp(one.bytes, other.bytes, one.length) == 0;
 }
@@ -37,7 +39,7 @@ static void hold_base(request *request, slice base, uint32_t profile) {
     request->prepared = &request->own;
 }
 
-/* Reads a row: false where the url is NULL, or the profile isn't one, which `error` says. */
+/* Reads a row: false if the url is NULL, or the profile isn't one, which `error` says. */
 static bool read_row(const column columns[3], idx_t row, request *request, const char **error) {
     slice base, name;
     int number = URLCHECK_STANDARD;
@@ -94,6 +96,7 @@ void put_text(cell out, const void *bytes, size_t length) {
 
 void put_words(cell out, const char *words) { put_text(out, words, strlen(words)); }
 
+/* Writes what the function says of a row: false if the call has ended with an error. */
 static bool put_answer(duckdb_function_info call, cell out, question question, const request *request) {
     switch (question) {
         case CHECK: return put_check(call, out, request);

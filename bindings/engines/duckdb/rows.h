@@ -25,7 +25,7 @@ typedef struct cell {
 /* Answers each row of a chunk of arguments. */
 void answer_rows(duckdb_function_info call, duckdb_data_chunk chunk, duckdb_vector out);
 
-/* Ends the call with an error where the text wasn't checked: true if it has ended. */
+/* Ends the call with an error if the text wasn't checked: true if it has ended. */
 bool stops(duckdb_function_info call, const request *request, urlcheck_finding found);
 bool stops_without_memory(duckdb_function_info call);
 
@@ -36,7 +36,7 @@ void put_place(cell out, size_t place);
 void put_text(cell out, const void *bytes, size_t length);
 void put_words(cell out, const char *words);
 
-/* Writes the answer of a row: false where the call has ended with an error. */
+/* Writes the answer of a row: false if the call has ended with an error. */
 bool put_verdict(duckdb_function_info call, cell out, question question, const request *request);
 bool put_written(duckdb_function_info call, cell out, question question, const request *request);
 bool put_mended(duckdb_function_info call, cell out, question question, const request *request);

@@ -1,14 +1,14 @@
-/* What is said of a row by one value: its verdict, its first fault, a part, or a text that is made of it. */
+/* What is said about a row by one value: its verdict, its first fault, a part, or a text that is made of it. */
 #include <stdlib.h>
 
 #include "rows.h"
 
 DUCKDB_EXTENSION_EXTERN
 
-/* The room that most texts fit in. */
+/* The room that most texts fit in, so that one call writes them; a longer one is written by a second call. */
 enum { MOST = 512 };
 
-/* What is said of a refused text: false if that is an error. */
+/* What is said about a refused text: false if that is an error. */
 static bool put_refusal(duckdb_function_info call, cell out, question question, const request *request,
                         urlcheck_finding found) {
     char words[MESSAGE_ROOM], said[ERROR_ROOM];
@@ -23,6 +23,7 @@ static bool put_refusal(duckdb_function_info call, cell out, question question, 
     }
 }
 
+/* Writes a part, or NULL if the url lacks it. */
 static void put_part(cell out, slice url, urlcheck_span span) {
     if (span.present)
         put_text(out, url.bytes + span.start, span.length);
@@ -44,7 +45,7 @@ bool put_verdict(duckdb_function_info call, cell out, question question, const r
     return true;
 }
 
-/* What is made of a url as a text: false where the call has ended with an error. */
+/* What is made of a url as a text: false if the call has ended with an error. */
 bool put_written(duckdb_function_info call, cell out, question question, const request *request) {
     bool mends = question == MEND, is_done;
     uint8_t most[MOST], *text = most;

@@ -39,6 +39,7 @@ static void answer_version(duckdb_function_info call, duckdb_data_chunk chunk, d
     for (idx_t row = 0; row < rows; row++) put_words((cell){out, row}, said);
 }
 
+/* Registers urlcheck_version apart from the others, since it has no arguments and always gives the same. */
 static bool add_version(duckdb_connection connection) {
     duckdb_scalar_function function = duckdb_create_scalar_function();
     duckdb_logical_type text = duckdb_create_logical_type(DUCKDB_TYPE_VARCHAR);
@@ -53,6 +54,7 @@ static bool add_version(duckdb_connection connection) {
     return is_added;
 }
 
+/* A function by its name, what it says of a url, and the type of that. */
 typedef struct function {
     const char *name;
     int question;

@@ -14,6 +14,7 @@ typedef struct kept {
     TupleDesc row;
 } kept;
 
+/* What is kept for this place of the statement, which begins as zeros. */
 static kept *kept_of(FmgrInfo *place) {
     if (place->fn_extra == NULL) place->fn_extra = MemoryContextAllocZero(place->fn_mcxt, sizeof(kept));
     return place->fn_extra;
@@ -28,7 +29,7 @@ static bool is_plain(const char *bytes, size_t length, int encoding) {
 }
 
 #if PG_VERSION_NUM >= 140000
-/* The text in UTF-8. After the front that has a form in UTF-8 is a byte that never does, where that isn't all. */
+/* The text in UTF-8. If only its beginning has a form in UTF-8, that ends with a byte that no UTF-8 has. */
 static slice in_utf8(const char *bytes, int length, int encoding) {
     Oid conversion = FindDefaultConversionProc(encoding, PG_UTF8);
     size_t room = (size_t)length * MAX_CONVERSION_GROWTH + 2;
@@ -50,7 +51,7 @@ static slice in_utf8(const char *bytes, int length, int encoding) {
     return read;
 }
 #else
-/* The text in UTF-8, or an error where it has no form there. */
+/* The text in UTF-8, or an error if it has no form there. */
 static slice in_utf8(const char *bytes, int length, int encoding) {
     slice read;
 
@@ -60,6 +61,7 @@ static slice in_utf8(const char *bytes, int length, int encoding) {
 }
 #endif
 
+/* An argument in UTF-8: its own bytes if they mean the same, otherwise converted ones. */
 static slice slice_of(text *argument) {
     const char *bytes = VARDATA_ANY(argument);
     int length = VARSIZE_ANY_EXHDR(argument), encoding = GetDatabaseEncoding();
@@ -87,6 +89,7 @@ text *message_text(const request *request, urlcheck_finding found) {
     return text_of_message(url_message(request, found, message));
 }
 
+/* The number of the profile that has the name, or an error. */
 static uint32_t profile_of(text *argument) {
     int number = profile_number(VARDATA_ANY(argument), VARSIZE_ANY_EXHDR(argument));
 
@@ -146,6 +149,7 @@ TupleDesc row_type(FunctionCallInfo fcinfo) {
     return kept->row;
 }
 
+/* Raises the error for a base that is refused, or isn't UTF-8. */
 static void stop_for_base(const request *request, urlcheck_finding found) {
     char name[NAME_ROOM], message[MESSAGE_ROOM];
     int code = found.verdict == URLCHECK_BASE_REFUSED ? ERRCODE_INVALID_PARAMETER_VALUE

@@ -13,7 +13,7 @@ PG_FUNCTION_INFO_V1(pg_url_mend_kind);
 PG_FUNCTION_INFO_V1(pg_url_mend_offered);
 PG_FUNCTION_INFO_V1(pg_url_faults);
 
-/* A buffer for what most calls write, and room of its own for what is longer. */
+/* The room that most texts fit in, so that one call writes them; a longer one is written by a second call. */
 enum { MOST = 512 };
 
 urlcheck_mended written(const request *request, bool mends, uint8_t **out) {
@@ -78,7 +78,10 @@ Datum pg_url_mend_offered(PG_FUNCTION_ARGS) {
     PG_RETURN_BOOL(answer.offered != 0);
 }
 
-/* The faults of a url, and how many there are. A list that the memory of one value can't hold is refused. */
+/*
+ * The faults of a url, and how many there are. Few texts have more than 16; for those that have, the library is called
+ * again. A list that the memory of one value can't hold is refused.
+ */
 static urlcheck_fault *list_faults(const request *request, uint64 *count) {
     size_t room = 16, most = MaxAllocSize / sizeof(urlcheck_fault);
     urlcheck_fault *list = palloc(room * sizeof *list);
@@ -104,6 +107,7 @@ typedef struct listed {
     urlcheck_fault *faults;
 } listed;
 
+/* The row of a fault: its rule, its place and its message. */
 static HeapTuple fault_row(TupleDesc row, const listed *listed, uint64 number) {
     char name[NAME_ROOM], message[MESSAGE_ROOM];
     urlcheck_fault fault = listed->faults[number];
@@ -127,6 +131,7 @@ static void keep_url(slice *url) {
     url->bytes = copy;
 }
 
+/* What the first call of a list does for all: it reads the arguments, and finds the faults. */
 static void begin_faults(FunctionCallInfo fcinfo, FuncCallContext *calls) {
     MemoryContext before = MemoryContextSwitchTo(calls->multi_call_memory_ctx);
     listed *listed = palloc0(sizeof *listed);

@@ -1,4 +1,4 @@
-/* What is said of a url: whether it is valid, its first fault, its parts, and an error in place of a refusal. */
+/* What is said about a url: whether it is valid, its first fault, its parts, and an error in place of a refusal. */
 #include "arguments.h"
 
 #include "access/htup_details.h"
@@ -29,9 +29,10 @@ Datum pg_url_is_valid(PG_FUNCTION_ARGS) {
     PG_RETURN_BOOL(!is_refused(checked(&request).found));
 }
 
-/* The bytes of the url around a place that an error shows, whole characters, and whether some are left out. */
+/* An error shows at most this many bytes on each side of a wrong place, and a mended text only for a url this short. */
 enum { SHOWN = 100, HINTED = 1000 };
 
+/* The bytes of the url around a place that an error shows, whole characters, and whether some are left out. */
 static char *shown_around(slice url, size_t place) {
     size_t from = place > SHOWN ? place - SHOWN : 0, to = url.length - place > SHOWN ? place + SHOWN : url.length;
     text *part;
@@ -67,6 +68,7 @@ static char *hint(const request *request) {
     return psprintf("%s%s", hint_before(answer), text_to_cstring(text_of(out, answer.length)));
 }
 
+/* Raises the error of url_require: the message, the place as a detail, and a mended text as a hint. */
 static void refuse(const request *request, urlcheck_finding found) {
     char name[NAME_ROOM], *advice = hint(request);
 
@@ -120,6 +122,7 @@ Datum pg_url_message(PG_FUNCTION_ARGS) {
     PG_RETURN_TEXT_P(message_text(&request, found));
 }
 
+/* A part of the url, or NULL if the url is refused or lacks it. */
 static Datum part(FunctionCallInfo fcinfo, int number) {
     request request;
     urlcheck_answer answer;
@@ -132,6 +135,7 @@ static Datum part(FunctionCallInfo fcinfo, int number) {
     PG_RETURN_TEXT_P(text_of(request.url.bytes + span.start, span.length));
 }
 
+/* (each by its number in the order of urlcheck_spans) */
 Datum pg_url_scheme(PG_FUNCTION_ARGS) { return part(fcinfo, 0); }
 Datum pg_url_host(PG_FUNCTION_ARGS) { return part(fcinfo, 1); }
 Datum pg_url_port(PG_FUNCTION_ARGS) { return part(fcinfo, 2); }
@@ -142,11 +146,13 @@ Datum pg_url_fragment(PG_FUNCTION_ARGS) { return part(fcinfo, 5); }
 /* The columns of a url_answer. */
 enum { VALID, RULE, PLACE, MESSAGE, PARTS, COLUMNS = PARTS + PART_COUNT };
 
+/* Sets a column of the row, which is NULL before. */
 static void put(Datum *values, bool *nulls, int column, Datum value) {
     values[column] = value;
     nulls[column] = false;
 }
 
+/* The columns of a refused url, of its first fault. */
 static void put_refusal(const request *request, urlcheck_finding found, Datum *values, bool *nulls) {
     char name[NAME_ROOM];
 
@@ -155,6 +161,7 @@ static void put_refusal(const request *request, urlcheck_finding found, Datum *v
     put(values, nulls, MESSAGE, PointerGetDatum(message_text(request, found)));
 }
 
+/* The columns of a valid url: those of its parts that it has. */
 static void put_parts(slice url, const urlcheck_spans *parts, Datum *values, bool *nulls) {
     for (int number = 0; number < PART_COUNT; number++) {
         urlcheck_span span = part_of(parts, number);

@@ -11,8 +11,10 @@ static int read_text(slice *text, sqlite3_value *value) {
     return text->bytes != NULL;
 }
 
+/* (an argument that isn't given counts as NULL) */
 static int is_null(sqlite3_value *value) { return !value || sqlite3_value_type(value) == SQLITE_NULL; }
 
+/* Reads the profile's name, or leaves the standard one, whose number is 0. */
 static reading read_profile(request *request, sqlite3_value *profile) {
     slice name;
     int number;

@@ -6,9 +6,10 @@ SQLITE_EXTENSION_INIT1
 /* What a function says of a url: what is handed to each as its user data. */
 typedef enum question { IS_VALID, REQUIRE, RULE, PLACE, MESSAGE, RESOLVE, MEND, MEND_KIND, MEND_OFFERED, PARTS } question;
 
-/* The room that most texts fit in. */
+/* The room that most texts fit in, so that one call writes them; a longer one is written by a second call. */
 enum { MOST = 512 };
 
+/* Which of the functions SQLite calls. */
 static question question_of(sqlite3_context *call) { return (question)(intptr_t)sqlite3_user_data(call); }
 
 /* Ends the call with an error where its text wasn't checked. */
@@ -23,7 +24,7 @@ static int stops(sqlite3_context *call, const request *request, urlcheck_finding
     return 1;
 }
 
-/* Reads the arguments: false where the call has ended. A base that is constant is checked once. */
+/* Reads the arguments: false if the call has ended. A base that is constant is checked once. */
 static int read_call(sqlite3_context *call, int count, sqlite3_value **values, request *request) {
     const urlcheck_base *held = count > 1 ? sqlite3_get_auxdata(call, 1) : NULL;
     reading read = read_request(request, values[0], count > 1 ? values[1] : NULL, count > 2 ? values[2] : NULL, held);
@@ -42,11 +43,13 @@ static int read_call(sqlite3_context *call, int count, sqlite3_value **values, r
     return 1;
 }
 
+/* Answers a part; without one the answer stays NULL, which SQLite begins with. */
 static void result_part(sqlite3_context *call, slice url, urlcheck_span span) {
     if (span.present)
         sqlite3_result_text64(call, (const char *)url.bytes + span.start, span.length, SQLITE_TRANSIENT, SQLITE_UTF8);
 }
 
+/* Answers what the function says of a refused url; a function of its parts says NULL. */
 static void result_refusal(sqlite3_context *call, const request *request, urlcheck_finding found) {
     char words[MESSAGE_ROOM], said[ERROR_ROOM];
 
@@ -60,7 +63,7 @@ static void result_refusal(sqlite3_context *call, const request *request, urlche
     }
 }
 
-/* What is said of a url's verdict, its first fault and its parts. */
+/* What is said about a url's verdict, its first fault and its parts. */
 static void say(sqlite3_context *call, int count, sqlite3_value **values) {
     question question = question_of(call);
     request request;
@@ -116,6 +119,7 @@ static void say_mended(sqlite3_context *call, int count, sqlite3_value **values)
         sqlite3_result_int(call, answer.offered != 0);
 }
 
+/* The version of the library, as text. */
 static void say_version(sqlite3_context *call, int count, sqlite3_value **values) {
     uint32_t number = urlcheck_version();
     char *said = sqlite3_mprintf("%u.%u.%u", number / 10000, number / 100 % 100, number % 100);
@@ -126,6 +130,7 @@ static void say_version(sqlite3_context *call, int count, sqlite3_value **values
     if (!said) sqlite3_result_error_nomem(call);
 }
 
+/* A function by its name, what it says, and what answers. */
 typedef struct function {
     const char *name;
     intptr_t question;
@@ -143,6 +148,7 @@ static const function functions[] = {
     {"url_mend_offered", MEND_OFFERED, say_mended},
 };
 
+/* SQLite calls this when it loads the extension. Each function is registered for one, two and three arguments. */
 __attribute__((visibility("default"))) int sqlite3_modurlcheck_init(sqlite3 *database, char **message,
                                                                      const sqlite3_api_routines *routines) {
     const int flags = SQLITE_UTF8 | SQLITE_DETERMINISTIC | SQLITE_INNOCUOUS;

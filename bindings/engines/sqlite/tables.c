@@ -1,20 +1,23 @@
 /*
- * The tables of (url [, base [, profile]]): url_check has a row with all that is said of a url, and url_faults one for
- * each of its faults. The arguments are hidden columns after the others.
+ * The tables of (url [, base [, profile]]): url_check has a row with all that is said about a url, and url_faults one
+ * for each of its faults. The arguments are hidden columns after the others.
  */
 #include "arguments.h"
 
 SQLITE_EXTENSION_INIT3
 
+/* The columns of url_faults and of url_check, in the order of the statements below, and after them the hidden ones. */
 enum { RULE, PLACE, MESSAGE, FAULT_COLUMNS };
 enum { VALID, FIRST_RULE, FIRST_PLACE, FIRST_MESSAGE, PARTS, CHECK_COLUMNS = PARTS + PART_COUNT };
 enum { URL, BASE, PROFILE, ARGUMENTS };
 
+/* A table, which SQLite knows by its head. */
 typedef struct table {
     sqlite3_vtab head;
     int columns; /* before the hidden ones */
 } table;
 
+/* A reading of a table by one statement. */
 typedef struct cursor {
     sqlite3_vtab_cursor head;
     sqlite3_value *arguments[ARGUMENTS]; /* copies, null if not given */
@@ -25,6 +28,7 @@ typedef struct cursor {
     size_t at;
 } cursor;
 
+/* Makes a table with these columns, of which `count` come before the hidden ones. */
 static int connect_to(sqlite3 *database, const char *columns, int count, sqlite3_vtab **out) {
     int code = sqlite3_declare_vtab(database, columns);
     table *made;
@@ -62,13 +66,14 @@ static int disconnect(sqlite3_vtab *made) {
     return SQLITE_OK;
 }
 
+/* Ends a call with an error. SQLite takes the message over; without memory for one it is null. */
 static int fail(sqlite3_vtab *made, char *message) {
     sqlite3_free(made->zErrMsg);
     made->zErrMsg = message;
     return message ? SQLITE_ERROR : SQLITE_NOMEM;
 }
 
-/* Which constraint gives each argument: false where one that is given can't be used in this plan. */
+/* Which constraint gives each argument: false if one that is given can't be used in this plan. */
 static int find_arguments(const sqlite3_index_info *info, int columns, int found[ARGUMENTS]) {
     for (int at = 0; at < info->nConstraint; at++) {
         int argument = info->aConstraint[at].iColumn - columns;
@@ -79,6 +84,10 @@ static int find_arguments(const sqlite3_index_info *info, int columns, int found
     return 1;
 }
 
+/*
+ * Plans a reading: the arguments become its values, and idxNum has a bit for each that is given. A plan in which a
+ * given argument isn't usable is refused, so SQLite looks for another. A table has few rows, and so a low cost.
+ */
 static int best_index(sqlite3_vtab *made, sqlite3_index_info *info) {
     int found[ARGUMENTS] = {-1, -1, -1}, count = 0;
 
@@ -122,7 +131,7 @@ static int close_cursor(sqlite3_vtab_cursor *head) {
     return SQLITE_OK;
 }
 
-/* The rows of url_faults. */
+/* The rows of url_faults. Few texts have more than 16 faults; for those that have, the library is called again. */
 static int list_faults(cursor *held, urlcheck_finding *found) {
     size_t room = 16;
     urlcheck_fault_count answer;
@@ -140,6 +149,7 @@ static int list_faults(cursor *held, urlcheck_finding *found) {
     return SQLITE_OK;
 }
 
+/* Checks the url of a reading, which gives the rows of its table. */
 static int find_rows(cursor *held) {
     sqlite3_vtab *made = held->head.pVtab;
     urlcheck_finding found;
@@ -158,6 +168,7 @@ static int find_rows(cursor *held) {
     return message ? fail(made, message) : SQLITE_NOMEM;
 }
 
+/* Begins a reading: `given` has the bits that best_index has set. Without a url, or for NULL, there are no rows. */
 static int filter(sqlite3_vtab_cursor *head, int given, const char *text, int count, sqlite3_value **values) {
     cursor *held = (cursor *)head;
     int next = 0;
@@ -196,7 +207,7 @@ static void result_fault(sqlite3_context *call, const request *request, urlcheck
     }
 }
 
-/* The same of the first fault. */
+/* A column of the first fault, whose message names the code point in texts of any length. */
 static void result_first(sqlite3_context *call, const request *request, urlcheck_finding found, int column) {
     char words[MESSAGE_ROOM];
     urlcheck_fault fault = {found.rule, found.place, found.byte_place};
@@ -207,6 +218,7 @@ static void result_first(sqlite3_context *call, const request *request, urlcheck
         result_fault(call, request, fault, column);
 }
 
+/* A column of url_check: of a valid url its parts, of a refused one its first fault. */
 static void result_answer(sqlite3_context *call, const cursor *held, int column) {
     urlcheck_finding found = held->answer.found;
     int is_valid = found.verdict == URLCHECK_VALID;
@@ -224,6 +236,7 @@ static void result_answer(sqlite3_context *call, const cursor *held, int column)
     }
 }
 
+/* A column of the row; those after the table's own are the arguments again. */
 static int result_column(sqlite3_vtab_cursor *head, sqlite3_context *call, int column) {
     const cursor *held = (const cursor *)head;
     int columns = ((const table *)head->pVtab)->columns;

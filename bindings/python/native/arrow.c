@@ -41,10 +41,12 @@ struct ArrowArrayStream {
     void *private_data;
 };
 
+/* The flag of a schema by which texts may be missing: ARROW_FLAG_NULLABLE. */
 enum { NULLABLE = 2 };
 
 /* ---- what comes in */
 
+/* The error for an array that isn't as the interface says; null, to be returned. */
 static PyObject *refuse_array(const char *why) {
     PyErr_Format(PyExc_ValueError, "the array is broken: %s", why);
     return NULL;
@@ -54,7 +56,7 @@ static PyObject *refuse_array(const char *why) {
 typedef struct arrow_call {
     state *state;
     texts texts;
-    int64_t *widened; /* its offsets, by malloc, where the array has ones of 32 bits */
+    int64_t *widened; /* its offsets, by malloc, if the array has ones of 32 bits */
     request request;
 } arrow_call;
 
@@ -84,7 +86,7 @@ static int read_offsets(const struct ArrowArray *array, int is_wide, arrow_call 
     return texts->offsets != NULL;
 }
 
-/* Reads the texts of an array: false and an error where it has none. */
+/* Reads the texts of an array: false and an error if it has none. */
 static int read_texts(PyObject *schema_capsule, PyObject *array_capsule, arrow_call *call) {
     const struct ArrowSchema *schema = PyCapsule_GetPointer(schema_capsule, "arrow_schema");
     const struct ArrowArray *array = schema ? PyCapsule_GetPointer(array_capsule, "arrow_array") : NULL;
@@ -113,6 +115,7 @@ static int read_call(PyObject *args, const char *format, arrow_call *call, int *
            && read_valid_setting(call->state, base, profile, &call->request);
 }
 
+/* Gives back what a call holds. */
 static void drop_call(arrow_call *call) {
     free(call->widened);
     drop_request(&call->request);
@@ -171,7 +174,7 @@ PyObject *native_write_arrow(PyObject *module, PyObject *args) {
 
 /* ---- what goes out */
 
-/* The bits of a mark for each byte of a bytearray: 1 where it is the value, or where it isn't; and how many are 0. */
+/* The bits of a mark for each byte of a bytearray: 1 if it is the value, or if it isn't; and how many are 0. */
 PyObject *native_bits(PyObject *module, PyObject *args) {
     PyObject *given, *made, *answer = NULL;
     int value, is_equal;
@@ -202,6 +205,7 @@ typedef struct handed {
     struct ArrowArray dictionary;
 } handed;
 
+/* What a reader of a schema calls when it is done. A NULL callback says that it was released, as the interface asks. */
 static void release_schema(struct ArrowSchema *schema) {
     if (schema->dictionary) {
         if (schema->dictionary->release) schema->dictionary->release(schema->dictionary);
@@ -210,6 +214,7 @@ static void release_schema(struct ArrowSchema *schema) {
     schema->release = NULL;
 }
 
+/* The same of an array, perhaps in another thread, so the interpreter's lock is taken to give back its buffers. */
 static void release_array(struct ArrowArray *array) {
     handed *handed = array->private_data;
     PyGILState_STATE lock;
@@ -222,6 +227,7 @@ static void release_array(struct ArrowArray *array) {
     array->release = NULL;
 }
 
+/* What Python calls for a capsule that nobody has: one that no reader took over is released here. */
 static void drop_schema(PyObject *capsule) {
     struct ArrowSchema *schema = PyCapsule_GetPointer(capsule, "arrow_schema");
 
@@ -310,7 +316,7 @@ PyObject *native_export(PyObject *module, PyObject *args) {
 
 /* ---- a stream of arrays */
 
-/* The next array of a stream in a capsule: None at its end, null and an error where it gives none. */
+/* The next array of a stream in a capsule: None at its end, null and an error if it gives none. */
 static PyObject *next_array(struct ArrowArrayStream *stream) {
     struct ArrowArray *array = calloc(1, sizeof *array);
     const char *said;
@@ -336,6 +342,7 @@ static PyObject *next_array(struct ArrowArrayStream *stream) {
     return capsule;
 }
 
+/* The schema of a stream in a capsule, or null and an error. */
 static PyObject *schema_of(struct ArrowArrayStream *stream) {
     struct ArrowSchema *schema = calloc(1, sizeof *schema);
     PyObject *capsule;

@@ -11,15 +11,17 @@ typedef struct line {
     size_t start, length;
 } line;
 
+/* What was found of the lines of a list. */
 typedef struct lines {
     line *refused; /* by malloc */
     size_t count, room;
     size_t all; /* lines, the valid ones too */
 } lines;
 
-/* A line of more bytes than this isn't checked. */
+/* What is found of a line that is too long: a number that no outcome of the library has. */
 enum { TOO_LONG = 253 };
 
+/* Appends a line: false if there is no memory. */
 static int append_line(lines *lines, line refused) {
     if (lines->count == lines->room) {
         size_t room = lines->room ? 2 * lines->room : 64;
@@ -31,6 +33,7 @@ static int append_line(lines *lines, line refused) {
     return 1;
 }
 
+/* What is found of a line; of one with more than `most` bytes, that it is too long. */
 static urlcheck_finding find_line(const uint8_t *text, size_t length, const request *request, size_t most) {
     const urlcheck_finding too_long = {TOO_LONG, 0, 0, 0};
 
@@ -38,8 +41,8 @@ static urlcheck_finding find_line(const uint8_t *text, size_t length, const requ
 }
 
 /*
- * Checks each line. It ends with LF, and one CR before that isn't a part of it; what follows the last LF is a line where it
- * isn't empty. What stopped it is given, URLCHECK_VALID if nothing did.
+ * Checks each line. It ends with LF, and one CR before that isn't a part of it; what follows the last LF is a line if it
+ * isn't empty. What stopped the check is given, or URLCHECK_VALID if nothing did.
  */
 static urlcheck_finding check_each_line(const uint8_t *data, size_t length, const request *request, size_t most, lines *out) {
     const urlcheck_finding valid = {URLCHECK_VALID, 0, 0, 0}, no_memory = {URLCHECK_MEMORY, 0, 0, 0};
@@ -58,6 +61,7 @@ static urlcheck_finding check_each_line(const uint8_t *data, size_t length, cons
     return valid;
 }
 
+/* The name of what a line violates: one of these two, or null and a rule of texts. */
 static const char *name_of(state *state, const line *refused, PyObject **rule) {
     if (refused->found.verdict == TOO_LONG) return "line-too-long";
     if (refused->found.verdict == URLCHECK_NO_UTF8) return "not-utf8";

@@ -4,11 +4,13 @@
 #include <stdlib.h>
 #include <string.h>
 
-/* A piece has so many texts at most, and ends after the text that makes it so long. */
+/* A piece has at most so many texts, and ends after the text that makes it so long: it needs little memory, and the
+ * lock is given up and taken again only once for it. */
 enum { PIECE_TEXTS = 4096, PIECE_BYTES = 1 << 18 };
 
 /* ---- over texts in one buffer, without Python */
 
+/* Whether a text is missing, as its bit says. */
 static int is_missing_at(const texts *texts, size_t at) {
     size_t bit = texts->first + at;
 
@@ -57,7 +59,7 @@ urlcheck_mended make_one(const uint8_t *text, size_t length, const request *requ
     return made;
 }
 
-/* Room for so many bytes more: false if there is no memory. */
+/* Room for this many bytes more: false if there is no memory. */
 static int make_room(makings *out, size_t more) {
     size_t room = out->room;
     uint8_t *data;
@@ -168,6 +170,7 @@ static int is_missing(PyObject *one, PyObject *missing) {
     return number != number;
 }
 
+/* Appends the UTF-8 of a text: false and an error if it has none, or there is no memory. */
 static int append_text(piece *piece, PyObject *text) {
     PyObject *bytes = PyUnicode_AsUTF8String(text);
     const uint8_t *from;
@@ -267,7 +270,7 @@ static int run_piece(list_call *call, const texts *texts, size_t from) {
     return !call->texts || put_made(call, texts->count, from);
 }
 
-/* What is asked of so many texts of a list, piece by piece: false and an error where one isn't checked. */
+/* What is asked of this many texts of a list, piece by piece: false and an error if one isn't checked. */
 static int run_list(list_call *call, size_t count) {
     size_t done = 0;
     piece *piece = calloc(1, sizeof *piece);

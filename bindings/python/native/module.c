@@ -17,6 +17,7 @@ static PyObject *native_prepare(PyObject *module, PyObject *args) {
     return made;
 }
 
+/* The version of the library, as a number. */
 static PyObject *native_version(PyObject *module, PyObject *args) {
     (void)module, (void)args;
     return PyLong_FromUnsignedLong(urlcheck_version());
@@ -97,6 +98,7 @@ static PyMethodDef methods[] = {
     {NULL, NULL, 0, NULL},
 };
 
+/* Makes the names of fields and parts once, so that no answer has to. Python calls it when the module is loaded. */
 static int begin(PyObject *module) {
     static const char *const parts[PART_COUNT] = {"scheme", "host", "port", "path", "query", "fragment"};
     state *state = PyModule_GetState(module);
@@ -118,6 +120,7 @@ static int begin(PyObject *module) {
 /* The objects that the state holds, one after the other. */
 enum { HELD = sizeof(state) / sizeof(PyObject *) };
 
+/* (what Python's collector asks of a module that holds objects) */
 static int visit_all(PyObject *module, visitproc visit, void *arg) {
     PyObject **held = PyModule_GetState(module);
 

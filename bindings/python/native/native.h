@@ -11,6 +11,10 @@
 
 #include "urlcheck.h"
 
+/*
+ * How many there are of each, counted from 0; no rule and no kind has the number 0. The package hands over as many when
+ * it is loaded (see native.use in __init__.py), and the module refuses another count.
+ */
 enum { PART_COUNT = 6, RULE_COUNT = 16, NO_UTF8_RULE = 15, KIND_COUNT = 4, PROFILE_COUNT = 3 };
 
 /* What the module holds: objects of Python, and nothing else. */
@@ -44,18 +48,18 @@ typedef struct request {
 /* The arguments (text, base, profile) of a call, of which the last two may be null, or false and an error. */
 int read_arguments(PyObject *args, PyObject *named, const char *format, PyObject *arguments[3]);
 
-/* Reads a base and a profile, either of which may be null, into a request of zeros: false and an error where they are none. */
+/* Reads a base and a profile, either of which may be null, into a request of zeros: false and an error if it can't. */
 int read_setting(state *state, PyObject *base, PyObject *profile, request *request);
 
-/* The same if the base has to be valid. */
+/* Reads a base and a profile as read_setting does: false and an error also if the base isn't valid. */
 int read_valid_setting(state *state, PyObject *base, PyObject *profile, request *request);
 
-/* Reads the arguments of a call into a request of zeros: false and an error where they aren't text, no base or no profile. */
+/* Reads the arguments of a call into a request of zeros: false and an error if one of them isn't right. */
 int read_request(state *state, PyObject *arguments[3], request *request);
 
 void drop_request(request *request);
 
-/* False, with an error, where a text wasn't checked. */
+/* False, with an error, if a text wasn't checked. */
 int is_checked(state *state, urlcheck_finding found);
 
 /* The start and the length of the bytes of an object of type `bytes`. */
@@ -101,7 +105,7 @@ PyObject *native_takes_unit(PyObject *module, PyObject *args);
 PyObject *native_example_place(PyObject *module, PyObject *args);
 
 /*
- * Texts that follow each other in one buffer: text i is data[offsets[i] .. offsets[i + 1]), and is missing where its bit
+ * Texts that follow each other in one buffer: text i is data[offsets[i] .. offsets[i + 1]), and is missing if its bit
  * of `present`, from the bit `first` on, is 0.
  */
 typedef struct texts {
@@ -121,7 +125,7 @@ typedef struct findings {
 
 enum { MISSING = 255 };
 
-/* What is made of each text: where it is neither refused nor missing a text, otherwise nothing. */
+/* What is made of each text: a text if it is neither refused nor missing, otherwise nothing. */
 typedef struct makings {
     uint8_t *data; /* by malloc */
     size_t length, room;
@@ -132,7 +136,7 @@ typedef struct makings {
 /*
  * Checks texts, or makes others of them, by a request's base and profile. Nothing of Python is touched, so the lock needs
  * not be held. The count is given, or the number of the first text that wasn't checked and why: its verdict is
- * URLCHECK_NO_OFFSETS where its offsets are out of order.
+ * URLCHECK_NO_OFFSETS if its offsets are out of order.
  */
 size_t check_all(const texts *texts, const request *request, findings out, urlcheck_finding *why);
 size_t make_texts(const texts *texts, const request *request, int mends, makings *out, urlcheck_finding *why);
@@ -147,7 +151,7 @@ PyObject *refuse_texts(state *state, urlcheck_finding why, size_t at);
 /* A new bytearray and its bytes, or null and an error. */
 PyObject *new_bytes(size_t count, size_t width, void *bytes);
 
-/* New bytearrays for what is found of so many texts, as a tuple: the verdicts, and of all the rules and the places too. */
+/* New bytearrays for what is found of this many texts, as a tuple: the verdicts, and if `is_all` rules and places. */
 PyObject *new_findings(size_t count, int is_all, findings *out);
 
 #endif

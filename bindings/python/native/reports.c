@@ -18,6 +18,7 @@ typedef struct writing {
     urlcheck_reported reported;
 } writing;
 
+/* The calls of the library, each with what it takes of a writing. */
 static urlcheck_written write_begin(const writing *writing, uint8_t *out, size_t room) {
     return urlcheck_report_begin(writing->format, writing->unit, out, room);
 }
@@ -43,7 +44,7 @@ static urlcheck_written write_message(const writing *writing, uint8_t *out, size
                             (size_t)writing->place, out, room);
 }
 
-/* False, with an error, where a call gave nothing. */
+/* False, with an error, if a call gave nothing. */
 static int is_given(urlcheck_finding found) {
     static const char *const reasons[] = {
         [URLCHECK_NO_PROFILE] = "no profile has this number",
@@ -65,6 +66,7 @@ static int is_given(urlcheck_finding found) {
     return 0;
 }
 
+/* Writes it once, if the text is long without the interpreter's lock. */
 static urlcheck_written written_once(const writing *writing, uint8_t *out, size_t room) {
     PyThreadState *thread = writing->length < LONG ? NULL : PyEval_SaveThread();
     urlcheck_written written = writing->call(writing, out, room);

@@ -20,6 +20,7 @@ PyObject *refuse_text(PyObject *given, const char *what) {
     return NULL;
 }
 
+/* (without names, the arguments are taken as they are, which takes less time than parsing them) */
 int read_arguments(PyObject *args, PyObject *named, const char *format, PyObject *arguments[3]) {
     static char *names[] = {"text", "base", "profile", NULL};
     Py_ssize_t count = PyTuple_Size(args);

@@ -9,8 +9,10 @@ enum { LONG = 16384 };
 /* What most answers fit in: so many bytes, so many faults. */
 enum { MOST = 512, MOST_FAULTS = 16 };
 
+/* Gives up the interpreter's lock for a long text, so that other threads run meanwhile. */
 static PyThreadState *unlocked(const request *request) { return request->length < LONG ? NULL : PyEval_SaveThread(); }
 
+/* Takes the lock again, if it was given up. */
 static void locked(PyThreadState *thread) {
     if (thread) PyEval_RestoreThread(thread);
 }
@@ -57,6 +59,7 @@ static PyObject *at_place(state *state, PyObject *type, uint32_t rule, size_t pl
     return made(type, state, fields);
 }
 
+/* The refusal of a text. */
 static PyObject *refused(state *state, urlcheck_finding found) {
     return at_place(state, state->refused, found.rule, found.place);
 }
@@ -72,6 +75,7 @@ static PyObject *part_of(const request *request, state *state, urlcheck_span spa
     return text_of(request->data + span.start, span.length);
 }
 
+/* A valid text with its parts. Of ASCII the text itself is cut, since its places are those of the bytes. */
 static PyObject *valid(state *state, const request *request, const urlcheck_spans *parts) {
     const urlcheck_span spans[PART_COUNT] = {parts->scheme, parts->host,  parts->port,
                                              parts->path,   parts->query, parts->fragment};
@@ -122,7 +126,7 @@ PyObject *native_is_valid(PyObject *module, PyObject *args, PyObject *named) {
     return read_arguments(args, named, "O|OO:is_valid", arguments) ? check_answer(module, arguments, 0) : NULL;
 }
 
-/* Writes a text into `most`, or where it is longer into memory of its own, which is to be freed: null if there is none. */
+/* Writes a text into `most`, or if it is longer into memory of its own, which is to be freed: null if there is none. */
 static uint8_t *write_text(const request *request, int mends, uint8_t *most, urlcheck_mended *answer) {
     PyThreadState *thread = unlocked(request);
     uint8_t *out = most;
@@ -137,12 +141,14 @@ static uint8_t *write_text(const request *request, int mends, uint8_t *most, url
     return out;
 }
 
+/* The text of a URL record, or a refusal. */
 static PyObject *resolved_answer(state *state, const uint8_t *out, const urlcheck_mended *answer) {
     if (!is_checked(state, answer->found)) return NULL;
     if (answer->found.verdict == URLCHECK_REFUSED) return refused(state, answer->found);
     return text_of(out, answer->length);
 }
 
+/* A mended text, None for a valid one, or a refusal if the edits give no valid text. */
 static PyObject *mended_answer(state *state, const uint8_t *out, const urlcheck_mended *answer) {
     PyObject *fields;
 
@@ -162,6 +168,7 @@ static PyObject *mended_answer(state *state, const uint8_t *out, const urlcheck_
     return made(state->mended, state, fields);
 }
 
+/* What resolve and mend share: they read the arguments, write a text, and answer it. */
 static PyObject *write_answer(PyObject *module, PyObject *arguments[3], int mends) {
     state *state = PyModule_GetState(module);
     PyObject *object = NULL;
@@ -190,6 +197,7 @@ PyObject *native_mend(PyObject *module, PyObject *args, PyObject *named) {
     return read_arguments(args, named, "O|OO:mend", arguments) ? write_answer(module, arguments, 1) : NULL;
 }
 
+/* Has the library list the faults, as many as there is room for. */
 static urlcheck_fault_count list_once(const request *request, urlcheck_fault *out, size_t room) {
     PyThreadState *thread = unlocked(request);
     urlcheck_fault_count answer =
@@ -199,6 +207,7 @@ static urlcheck_fault_count list_once(const request *request, urlcheck_fault *ou
     return answer;
 }
 
+/* The faults as a list of objects. */
 static PyObject *fault_list(state *state, const urlcheck_fault *faults, size_t count) {
     PyObject *list = PyList_New((Py_ssize_t)count);
 

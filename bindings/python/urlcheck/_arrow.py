@@ -15,7 +15,8 @@ def is_arrow(texts: object) -> bool:
 
 class Column:
     """An answer as an array of Arrow, which other libraries take by ``__arrow_c_array__``, as
-    ``pyarrow.array(column)``."""
+    ``pyarrow.array(column)``. A layout is a format string of Arrow's C data interface: ``b`` truths, ``c`` bytes, ``l``
+    numbers of 64 bits, ``U`` texts with offsets of 64 bits. native/arrow.c hands out these and no others."""
 
     def __init__(self, layout: str, length: int, missing: int, buffers: Tuple[Any, ...], names: Any = None) -> None:
         self._column = (layout, length, missing, buffers, names)
@@ -29,6 +30,7 @@ class Column:
 
     @classmethod
     def truths(cls, verdicts: bytearray, missing: int) -> "Column":
+        """Whether each text is valid, by the verdicts, of which 0 means valid; missing where the verdict says so."""
         present, count = native.bits(verdicts, missing, False)
         return cls("b", len(verdicts), count, (present if count else None, native.bits(verdicts, 0, True)[0]))
 
@@ -53,11 +55,12 @@ class Column:
 
     @classmethod
     def texts(cls, data: bytes, offsets: bytearray, marks: bytearray) -> "Column":
+        """Texts in one buffer, by the offsets between them; missing where the mark is 0."""
         present, count = native.bits(marks, 0, False)
         return cls("U", len(marks), count, (present if count else None, offsets, data))
 
     def like(self, texts: object) -> Any:
-        """The column as an array of pyarrow, where the texts are one, otherwise as it is."""
+        """The column as an array of pyarrow, if the texts are one, otherwise as it is."""
         return Column.joined([self], texts)
 
     @staticmethod
@@ -91,4 +94,5 @@ def _imported(pyarrow: Any, column: Column) -> Any:
 
 
 def _exported(chunk: Any) -> Tuple[object, object]:
+    """Refuses an array of a pyarrow before version 14, which hands out no capsules."""
     raise TypeError("an array that has __arrow_c_array__ is wanted, as pyarrow 14 and later give")

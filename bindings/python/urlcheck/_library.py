@@ -1,4 +1,4 @@
-"""The library, called by the extension module ``_native``, and what is said where Python has none that fits."""
+"""The library, called by the extension module ``_native``, and what is said if Python has no module that fits."""
 
 import os
 import sys
@@ -18,8 +18,8 @@ def _is_asked_for() -> bool:
 
 
 def _unloaded(why: str) -> BaseException:
-    """What is raised where no module fits: an ``ImportError``, and for the program an end with status 2, once its
-    standard error says why."""
+    """What is raised if no module fits: an ``ImportError``, and for the program an end with status 2, once its standard
+    error says why."""
     said = (
         "the module urlcheck._native {}; the wheel of a release has it, and 'tools/build-library DIR' makes it in a "
         "checkout"

@@ -13,6 +13,7 @@ from ._arrow import Column, is_arrow
 from ._library import native
 
 _MISSING = 255
+"""The verdict of a missing text, as native.h has it."""
 _NO_UTF8 = "no-utf8"
 _RULES: Tuple[Optional[str], ...] = (None, *(native.text(0, rule) for rule in range(1, 15)), _NO_UTF8)
 """The names of the rules by their numbers, and after them of bytes that aren't UTF-8, as an Arrow array may hold."""
@@ -24,16 +25,16 @@ class Findings(NamedTuple):
     valid: Any
     """Whether the text is valid."""
     rule: Any
-    """The rule that it violates first; missing where it is valid."""
+    """The rule that it violates first; missing if it is valid."""
     place: Any
-    """The place of that, in code points from 0; missing where it is valid."""
+    """The place of that, in code points from 0; missing if it is valid."""
 
 
 class Mendings(NamedTuple):
     """Valid texts in place of many, a column each."""
 
     text: Any
-    """The text itself where it is valid, otherwise one made of it by local edits, or missing where they give none."""
+    """The text itself if it is valid, otherwise one made of it by local edits, or missing if they give none."""
     kind: Any
     """How it differs from a refused text: ``same``, ``escaped`` or ``changed``, as ``MendKind`` says."""
 
@@ -58,8 +59,7 @@ def is_valid_many(texts: Iterable[Optional[str]], base: AnyBase = None, profile:
 
 
 def resolve_many(texts: Iterable[Optional[str]], base: AnyBase = None, profile: Profile = Profile.STANDARD) -> Any:
-    """The text of the URL of each text, as ``resolve`` gives it, missing where a text is refused: see
-    ``check_many``."""
+    """The text of the URL of each text, as ``resolve`` gives it, missing if a text is refused: see ``check_many``."""
     return _kind_of(texts).write(texts, base, profile, False)[0]
 
 
@@ -69,14 +69,15 @@ def mend_many(texts: Iterable[Optional[str]], base: AnyBase = None, profile: Pro
 
 
 def _missing() -> Tuple[Any, ...]:
-    """What stands for a missing text: that of pandas only when it was imported."""
+    """What stands for a missing text: also that of pandas, but only if pandas was imported."""
     return None, getattr(sys.modules.get("pandas"), "NA", None)
 
 
 class _Lists:
-    """Lists, and what else is iterated over."""
+    """Lists, and what else is iterated over. Each kind of column has these calls, which the functions above make."""
 
     def listed(self, texts: Any) -> List[Any]:
+        """The texts as a list, which is what the module reads."""
         if isinstance(texts, (str, bytes)):
             raise TypeError("texts are wanted, not one {}".format(type(texts).__name__))
         return texts if type(texts) is list else list(texts)
@@ -86,6 +87,7 @@ class _Lists:
         return native.check_texts(self.listed(texts), _missing(), base, profile, is_all)
 
     def check(self, texts: Any, base: AnyBase, profile: Profile) -> Findings:
+        """What ``check_many`` gives."""
         verdicts, rules, places = self.found(texts, base, profile, True)
         numbers = memoryview(places).cast("q").tolist()
         return Findings(
@@ -95,23 +97,28 @@ class _Lists:
         )
 
     def is_valid(self, texts: Any, base: AnyBase, profile: Profile) -> Any:
+        """What ``is_valid_many`` gives."""
         return _truths(self.found(texts, base, profile, False)[0])
 
     def write(self, texts: Any, base: AnyBase, profile: Profile, mends: bool) -> Tuple[Any, Any]:
+        """What ``mend_many`` gives, or the texts of URLs."""
         return native.write_texts(self.listed(texts), _missing(), base, profile, mends)
 
 
 _TRUTHS: List[Optional[bool]] = [True] + [False] * (_MISSING - 1) + [None]
+"""Whether a text is valid, by its verdict: 0 means that it is."""
 
 
 def _truths(verdicts: bytearray) -> List[Optional[bool]]:
+    """Whether each text is valid, or ``None`` for a missing one. (A table takes less time than a comparison each.)"""
     return list(map(_TRUTHS.__getitem__, verdicts))
 
 
 class _Arrays(_Lists):
-    """Arrays of numpy, of which a text is an object."""
+    """Arrays of numpy, whose texts are objects."""
 
     def listed(self, texts: Any) -> List[Any]:
+        """The texts of an array of one dimension."""
         if texts.ndim != 1:
             raise ValueError("an array of one dimension is wanted, not of {}".format(texts.ndim))
         if texts.dtype.kind not in "OUT":
@@ -120,6 +127,7 @@ class _Arrays(_Lists):
         return listed
 
     def truths(self, verdicts: bytearray) -> Any:
+        """Whether each text is valid: an array of objects only when a text is missing, which a truth can't say."""
         import numpy
 
         numbers = numpy.frombuffer(verdicts, numpy.uint8)
@@ -154,15 +162,17 @@ def _objects(columns: Tuple[List[Any], List[Any]]) -> Tuple[Any, Any]:
 
 
 class _Series(_Lists):
-    """Columns of pandas, with their index."""
+    """Columns of pandas, with their index. Texts that are held by Arrow are read where they are."""
 
     def found(self, texts: Any, base: AnyBase, profile: Profile, is_all: bool) -> Tuple[bytearray, ...]:
+        """The verdicts of the texts, and of all the rules and the places too."""
         array = _arrow_of(texts)
         if array is not None:
             return _Arrow().found(array, base, profile, is_all)
         return native.check_texts(texts.tolist(), _missing(), base, profile, is_all)
 
     def truths(self, texts: Any, verdicts: bytearray) -> Any:
+        """Whether each text is valid, in a column that knows missing values."""
         import numpy
         import pandas
 
@@ -176,6 +186,7 @@ class _Series(_Lists):
 
         verdicts, rules, places = self.found(texts, base, profile, True)
         numbers = numpy.frombuffer(rules, numpy.uint8)
+        # (a category counts from 0, and -1 is missing, where a rule counts from 1)
         names = pandas.Categorical.from_codes(numbers.astype(numpy.int8) - 1, categories=list(_RULES[1:]))
         columns = (names, pandas.arrays.IntegerArray(numpy.frombuffer(places, numpy.int64), numbers == 0))
         made = (pandas.Series(column, index=texts.index, name=texts.name) for column in columns)
@@ -200,6 +211,7 @@ class _Series(_Lists):
 
 
 _KINDS = ["same", "escaped", "changed"]
+"""The kinds of mended texts, in the order of their numbers from 1."""
 
 
 def _arrow_of(texts: Any) -> Any:
@@ -209,9 +221,10 @@ def _arrow_of(texts: Any) -> Any:
 
 
 class _Arrow(_Lists):
-    """Arrays of Arrow, by its C data interface."""
+    """Arrays of Arrow, by its C data interface: one piece, or several of which the answers are joined."""
 
     def found(self, texts: Any, base: AnyBase, profile: Profile, is_all: bool) -> Tuple[bytearray, ...]:
+        """The verdicts of the texts, and of all the rules and the places too."""
         chunks = Column.chunks(texts)
         parts = [native.check_arrow(schema, array, base, profile, is_all) for schema, array in chunks]
         if len(parts) == 1:
@@ -252,7 +265,8 @@ def _whole(parts: List[Tuple[bytes, bytearray, bytearray]]) -> Tuple[bytes, byte
 
 
 def _lowered(marks: bytearray) -> bytearray:
-    """The kinds of mended texts of their marks, 0 where there is none."""
+    """The kinds of mended texts by their marks, 0 where there is none. (A mark is 1 for a text that was valid, and 1
+    more than its kind for a mended one.)"""
     return marks.translate(bytes([0, 0, 1, 2, 3]) + bytes(251))
 
 

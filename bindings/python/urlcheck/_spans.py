@@ -1,5 +1,5 @@
-"""A list of links, checked by spans of its bytes: each has the lines that begin in it, so that no span asks another
-where a line ends. Each is read where it is checked, and no more of the list than it."""
+"""A list of links, checked by spans of its bytes: each span has the lines that begin in it, so that no span has to ask
+another where a line ends. Each is read where it is checked, and no more of the list than that."""
 
 import os
 from typing import BinaryIO, List, NamedTuple, Tuple
@@ -19,6 +19,7 @@ class Span(NamedTuple):
     end: int
 
     def halves(self) -> Tuple["Span", "Span"]:
+        """Two spans of half the length, to find which of its lines a worker fails at."""
         middle = (self.start + self.end) // 2
         return Span(self.file, self.start, middle), Span(self.file, middle, self.end)
 
@@ -41,7 +42,7 @@ class Checked(NamedTuple):
 
 
 def spans_of(file: str, size: int, length: int) -> List[Span]:
-    """The spans of a file of so many bytes, each of the length but the last."""
+    """The spans of a file of this many bytes, each of the given length except the last."""
     return [Span(file, start, min(start + length, size)) for start in range(0, size, length)]
 
 

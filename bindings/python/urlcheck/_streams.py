@@ -46,12 +46,12 @@ def as_utf8() -> None:
 
 
 def is_closed_pipe(error: OSError) -> bool:
-    """Whether what reads the output has ended. (Windows has no error of its own for that.)"""
+    """Whether the reader of the output has ended. (Windows has no error of its own for that.)"""
     return isinstance(error, BrokenPipeError) or sys.platform == "win32" and error.errno == errno.EINVAL
 
 
 def closed() -> OSError:
-    """What is raised where a stream was closed before the start."""
+    """What is raised if a stream was closed before the start."""
     return OSError(errno.EBADF, os.strerror(errno.EBADF))
 
 
@@ -61,8 +61,8 @@ def tell(line: str) -> None:
 
 
 def say(lines: str) -> None:
-    """Writes lines to standard error, in one piece: others may write there at the same time. Where that takes nothing
-    the status is alone."""
+    """Writes lines to standard error, in one piece, since others may write there at the same time. If that takes
+    nothing, only the status says what happened."""
     try:
         if sys.stderr is not None:
             sys.stderr.write(lines)

@@ -25,9 +25,10 @@ from ._spans import Checked, Span, check, spans_of
 SPAN = 16_000_000
 """How many bytes a span has."""
 LEAST = 65_536
-"""A span of so many bytes isn't halved any more."""
+"""A span of at most this many bytes isn't halved any more."""
 AHEAD = 4
-"""How many spans are given out for each worker, or wait until those before them are checked."""
+"""How many spans for each worker are given out, or wait until those before them are checked: so a worker always has a
+next one, and little is held here."""
 
 
 class Stopped(Exception):
@@ -53,6 +54,7 @@ class Report:
         self._file, self._before = "", 0
 
     def write(self, part: Part) -> None:
+        """Writes the refused lines of the next part. Numbers in a file are counted from its first line on."""
         if part.span.file != self._file:
             self._file, self._before = part.span.file, self.lines
         if part.checked is None:
@@ -74,6 +76,7 @@ class Report:
         self.bad += len(part.checked.refused)
 
     def end(self) -> None:
+        """Writes the counts."""
         counts = {"links": self.lines, "ok": self.lines - self.bad, "bad": self.bad}
         if self.is_json:
             self.out.write(json.dumps({**counts, "rules": dict(self.rules)}, sort_keys=True) + "\n")
@@ -89,6 +92,7 @@ class Bar:
         self.size, self.is_shown, self.begun, self.done = size, is_shown, time.monotonic(), 0
 
     def move(self, part: Part, lines: int) -> None:
+        """Moves the bar by the bytes of a part: 30 signs are the whole."""
         self.done += part.span.end - part.span.start
         if self.is_shown:
             seconds = max(time.monotonic() - self.begun, 0.001)
@@ -99,6 +103,7 @@ class Bar:
             sys.stderr.flush()
 
     def end(self) -> None:
+        """Leaves the line."""
         if self.is_shown:
             sys.stderr.write("\n")
 
@@ -136,6 +141,7 @@ class Run:
             yield from self.ready()
 
     def ready(self) -> Iterator[Part]:
+        """The parts at the front of the order that are known: only they can be reported."""
         while self.order and self.order[0] in self.known:
             yield self.known.pop(self.order.popleft())
 
@@ -174,6 +180,7 @@ class Run:
         self.is_alone = False
 
     def checked(self, future: Any) -> None:
+        """Keeps what was found of a span, until those before it are known."""
         try:
             found: Checked = future.result(timeout=self.patience)
         except Exception as error:  # (what its worker had checked went with it)
@@ -185,7 +192,7 @@ class Run:
         self.known[span] = Part(span, found, "")
 
     def give_up(self, future: Any, why: str) -> None:
-        """Tries a span that failed once more, then its halves, and where it is small alone: what fails then is
+        """Tries a span that failed once more, then its halves, and when it is small by itself: what fails then is
         named."""
         span = self.out.pop(future)
         future.cancel()
@@ -213,6 +220,7 @@ def _stop_for(error: Optional[BaseException], span: Span) -> None:
 
 
 def _words(given: Optional[List[str]]) -> argparse.Namespace:
+    """The options of the command line."""
     about, _, _ = (__doc__ or "").partition("\n\n")
     words = argparse.ArgumentParser(prog="urlcheck.cluster", description=about.replace("``", ""))
     words.add_argument("lists", nargs="+", metavar="LIST", help="a file that each worker sees by this name")
@@ -251,6 +259,7 @@ def _client(words: argparse.Namespace) -> Any:
 
 
 def _sizes(files: List[str]) -> Dict[str, int]:
+    """The size of each list, in bytes. Raises ``Stopped`` before anything is checked if one can't be read."""
     sizes: Dict[str, int] = {}
     for file in files:
         if os.path.abspath(file) in sizes:
@@ -264,6 +273,7 @@ def _sizes(files: List[str]) -> Dict[str, int]:
 
 
 def _check_all(words: argparse.Namespace, report: Report) -> None:
+    """Checks the lists, span by span, on the workers."""
     profile = Profile[words.profile.upper()]
     base = None if words.base is None else Base(words.base, profile)
     if words.span < LEAST:

@@ -92,7 +92,9 @@ def _documents(files: List[str], settings: Settings) -> Tuple[List[Tuple[str, Op
 
 
 def _excluded_by(settings: Settings) -> Callable[[str], Tuple[Excluded, ...]]:
+    """What says of a folder which patterns leave out documents below it: those of the run, and of its configuration."""
     def excluded_of(name: str) -> Tuple[Excluded, ...]:
+        """The patterns for a folder of this name."""
         config = configuration_of(configured_folder(name)) if settings.is_configured else NONE
         return settings.excluded + config.excluded
 
@@ -159,6 +161,7 @@ def _counted(counts: Counts, given: Asked) -> str:
 
 
 def _number(count: int, noun: str) -> str:
+    """A count with its noun, in the plural unless it is 1."""
     return "{} {}{}".format(count, noun, "" if count == 1 else "s")
 
 

@@ -38,7 +38,7 @@ KINDS_BY_LANGUAGE = {
     **{"xml": "xml", "svg": "xml", "xhtml": "xml", "rss": "xml", "rst": "rst", "restructuredtext": "rst"},
     **{"css": "css", "links": LIST},
 }
-"""The kind of a document by the client's name of its language, where its name says none."""
+"""The kind of a document by the client's name for its language, if its own name says none."""
 
 _LIST_END = ".links"
 
@@ -117,8 +117,8 @@ class Server(MethodDispatcher):  # type: ignore[misc]
         return self.status
 
     def __getitem__(self, method: str) -> Callable[[Any], Any]:
-        """What answers a method. Before ``initialize`` none is answered but that and ``exit``, and after ``shutdown``
-        ``exit`` alone."""
+        """What answers a method. Before ``initialize`` only that and ``exit`` are answered, and after ``shutdown`` only
+        ``exit``."""
         answer: Callable[[Any], Any] = super().__getitem__(method)
         if method not in ("initialize", "exit") and not self._is_initialized:
             raise JsonRpcException("the server isn't initialized", _NOT_INITIALIZED)
@@ -152,7 +152,7 @@ class Server(MethodDispatcher):  # type: ignore[misc]
         }
 
     def m_initialized(self, **_: Any) -> None:
-        """Asks for the settings, where the client has them."""
+        """Asks for the settings, if the client has them."""
         self._ask_settings()
 
     def m_shutdown(self, **_: Any) -> None:
@@ -171,11 +171,13 @@ class Server(MethodDispatcher):  # type: ignore[misc]
             self._set(settings.get("urlcheck", settings))
 
     def _ask_settings(self) -> None:
+        """Asks the client for its settings, if it can answer that."""
         if self._asks_settings:
             asked = self._endpoint.request("workspace/configuration", {"items": [{"section": "urlcheck"}]})
             asked.add_done_callback(self._take_settings)
 
     def _take_settings(self, answered: Any) -> None:
+        """Takes the client's answer. One that failed changes nothing."""
         if answered.cancelled() or answered.exception() is not None:
             return
         settings = answered.result()
@@ -228,6 +230,7 @@ class Server(MethodDispatcher):  # type: ignore[misc]
             self._publish(document.uri, [], None)
 
     def _changed_now(self, document: Document, wait: float = 0) -> None:
+        """Notes that a text has changed, and has it checked after so many seconds. The lock is held."""
         document.changes += 1
         document.seen = None
         # (a text that is typed into is checked now and then, and not at the end alone)
@@ -267,9 +270,11 @@ class Server(MethodDispatcher):  # type: ignore[misc]
         return None
 
     def _superseding(self, document: Document, changes: int) -> Callable[[], bool]:
+        """What says whether a check of a text is no longer wanted, for the one that runs it."""
         return lambda: self._is_superseded(document, changes)
 
     def _is_superseded(self, document: Document, changes: int) -> bool:
+        """Whether a text has changed since, or was closed."""
         return document.changes != changes or self._documents.get(document.uri) is not document
 
     def _checked(self, document: Document, text: str, is_superseded: Callable[[], bool]) -> Optional[Seen]:
@@ -302,19 +307,21 @@ class Server(MethodDispatcher):  # type: ignore[misc]
         return seen and seen._replace(remarks=seen.remarks + remarks)
 
     def _publish(self, uri: str, diagnostics: List[Json], number: Optional[int]) -> None:
+        """Sends the diagnostics of a text to the client, with the version of the text that they are about."""
         said: Json = {"uri": uri, "diagnostics": diagnostics}
         if number is not None:
             said["version"] = number
         self._endpoint.notify("textDocument/publishDiagnostics", said)
 
     def _seeing(self, uri: str) -> Callable[[], Seen]:
-        """What gives what is seen in a text as it is now, once that is known. It raises ``JsonRpcException`` where the
+        """What gives what is seen in a text as it is now, once that is known. It raises ``JsonRpcException`` if the
         text changes before."""
         with self._changed:
             document = self._documents.get(uri)
             changes = document.changes if document is not None else 0
 
         def seen() -> Seen:
+            """Waits until the text was checked."""
             until = time.monotonic() + MOST_WAITED
             with self._changed:
                 while document is not None:
@@ -335,6 +342,7 @@ class Server(MethodDispatcher):  # type: ignore[misc]
         seeing, wanted = self._seeing(textDocument["uri"]), _range_of({"start": position, "end": position})
 
         def hover() -> Optional[Json]:
+            """The answer, once the text was checked."""
             found = _at(seeing(), wanted)
             if not found:
                 return None
@@ -354,6 +362,7 @@ class Server(MethodDispatcher):  # type: ignore[misc]
         seeing, within = self._seeing(textDocument["uri"]), _range_of(range)
 
         def actions() -> List[Json]:
+            """The answer, once the text was checked."""
             seen = seeing()
             found = [it for it in _at(seen, within) if it.mended is not None]
             uri, severity = textDocument["uri"], self._options.severity
@@ -381,6 +390,7 @@ def _is_wanted(kind: str, wanted: Any) -> bool:
 
 
 def _number(document: Json) -> Optional[int]:
+    """The version of a text, if the client counts them."""
     number = document.get("version")
     return number if isinstance(number, int) else None
 
@@ -406,6 +416,7 @@ def _configuration(uri: str) -> Configuration:
 
 
 def _range_of(given: Json) -> Range:
+    """A range of the protocol as two places."""
     start, end = given["start"], given["end"]
     return (start["line"], start["character"]), (end["line"], end["character"])
 
@@ -416,28 +427,34 @@ def _at(seen: Seen, range: Range) -> List[Mistake]:
 
 
 def _place(place: Tuple[int, int]) -> Json:
+    """A place as the protocol has it."""
     return {"line": place[0], "character": place[1]}
 
 
 def _span(range: Range) -> Json:
+    """A range as the protocol has it."""
     return {"start": _place(range[0]), "end": _place(range[1])}
 
 
 def _diagnostic(found: Mistake, severity: int) -> Json:
+    """A mistake as the protocol has it, with the address of its rule."""
     said = _said(found.range, severity, found.rule, found.message)
     said["codeDescription"] = {"href": address_of(found.rule)}
     return said
 
 
 def _remark(remark: Remark) -> Json:
+    """A remark on the whole text as the protocol has it."""
     return _said(remark.range, _INFORMATION if remark.code == NOTE else _WARNING, remark.code, remark.message)
 
 
 def _said(range: Range, severity: int, code: str, message: str) -> Json:
+    """What diagnostics and remarks share."""
     return {"range": _span(range), "severity": severity, "source": "urlcheck", "code": code, "message": message}
 
 
 def _edit(found: Mistake) -> Json:
+    """The edit that writes a mended text."""
     return {"range": _span(found.whole), "newText": found.mended}
 
 

@@ -43,7 +43,7 @@ class Plugin(_PLUGINS.BasePlugin):  # type: ignore[misc]
     )
 
     def on_config(self, config: Any, **_: Any) -> Any:
-        """Takes the settings. Raises MkDocs's ``PluginError`` where one is wrong."""
+        """Takes the settings. Raises MkDocs's ``PluginError`` if one is wrong."""
         failed: Any = importlib.import_module("mkdocs.exceptions").PluginError
         try:
             project = configuration_of(os.path.dirname(os.path.abspath(config["config_file_path"] or "mkdocs.yml")))
@@ -64,7 +64,7 @@ class Plugin(_PLUGINS.BasePlugin):  # type: ignore[misc]
         return config
 
     def on_page_markdown(self, markdown: str, page: Any, config: Any, files: Any, **_: Any) -> Optional[str]:
-        """Checks what the author wrote: the page's file as it is, where no other plugin changed its text."""
+        """Checks what the author wrote: the page's file as it is, if no other plugin changed its text."""
         self._literals = Literals()
         self._seen: Set[str] = set()
         self._path = str(page.file.abs_src_path or "")
@@ -99,7 +99,7 @@ class Plugin(_PLUGINS.BasePlugin):  # type: ignore[misc]
         return None
 
     def _tell_made(self, name: str, link: Link) -> None:
-        """Warns of a link of the page's HTML, where it is wrong: at the place where its text is in the page's file."""
+        """Warns about a link in the page's HTML, if it is wrong, at the place where its text is in the page's file."""
         source = self._literals.source(self._path) if self._path else None
         texts = (link.text, _ABOVE.sub("", link.text)) if self._checker.wrong(link) is not None else ()
         found = next(filter(None, (self._literals.find(self._path, self._first, it) for it in texts)), None)
@@ -111,7 +111,8 @@ class Plugin(_PLUGINS.BasePlugin):  # type: ignore[misc]
             self._tell(name, found[0], source)
 
     def _tell(self, name: str, link: Link, source: Optional[Source]) -> None:
-        """Warns of a link, where it is wrong and isn't meant so: at its place in this source, if that is known."""
+        """Warns about a link, if it is wrong and isn't meant like that, at its place in this source, if that is
+        known."""
         wrong, is_left_out = self._ignoring.wrong(self._checker, link)
         if wrong is None or is_left_out or any(it.search(link.text) for it in self._ignored):
             return

@@ -18,7 +18,7 @@ from . import AnyBase, Profile, check_many, is_valid_many, mend_many, resolve_ma
 
 @register_series_accessor("urlcheck")
 class Links:
-    """What is said of each text of a Series, as columns with its index. A missing text has missing answers."""
+    """What is found of each text of a Series, as columns with its index. A missing text has missing answers."""
 
     def __init__(self, texts: "Series[Any]") -> None:
         if texts.dtype == object or str(texts.dtype).startswith("str"):

@@ -22,7 +22,7 @@ def is_valid(urls: "pd.Series") -> "pd.Series":
 
 
 def rule(urls: "pd.Series") -> "pd.Series":
-    """The rule that each url violates first, null where it is valid: of type ``string``."""
+    """The rule that each url violates first, null if it is valid: of type ``string``."""
     return _plain(check_many(urls).rule)
 
 
@@ -32,12 +32,12 @@ def place(urls: "pd.Series") -> "pd.Series":
 
 
 def resolve(urls: "pd.Series") -> "pd.Series":
-    """The text of the URL of each url, null where it isn't valid: of type ``string``."""
+    """The text of the URL of each url, null if it isn't valid: of type ``string``."""
     return _plain(resolve_many(urls))
 
 
 def mend(urls: "pd.Series") -> "pd.Series":
-    """Each url where it is valid, otherwise a valid one in its place, or null: of type ``string``."""
+    """Each url if it is valid, otherwise a valid one in its place, or null: of type ``string``."""
     return _plain(mend_many(urls).text)
 
 
@@ -48,6 +48,7 @@ def findings(
     column."""
 
     def checked(batches: Iterable[Any]) -> Iterator[Any]:
+        """The batches with their new columns."""
         import pyarrow
 
         for batch in batches:
@@ -59,11 +60,11 @@ def findings(
 
 
 def findings_schema(before: str) -> str:
-    """The schema of what ``findings`` gives, after that of what it is given, in Spark's words."""
+    """The schema of what ``findings`` gives, after that of its input, in Spark's words."""
     return before + ", valid boolean, rule string, place long"
 
 
 def _plain(column: Any) -> Any:
-    """A column of objects, ``None`` where an answer is missing."""
+    """A column of objects, ``None`` for a missing answer."""
     plain = column.astype(object)
     return plain.where(plain.notna(), None)

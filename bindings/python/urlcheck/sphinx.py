@@ -32,7 +32,7 @@ class _Said(NamedTuple):
     line: int
     text: str
     markup: Optional[str] = ""
-    """How it is written, where docutils says that; none for HTML."""
+    """How it is written, if docutils says that; none for HTML."""
 
 
 class _Found(NamedTuple):
@@ -93,7 +93,7 @@ def _settings(app: Any) -> _Settings:
 
 
 def _check_document(app: Any, tree: Any) -> None:
-    """Checks the links that the author of a document wrote; what Sphinx makes of its own isn't there yet."""
+    """Checks the links that the author of a document wrote, before Sphinx adds its own."""
     settings, literals = _settings(app), Literals()
     path = os.path.abspath(app.env.doc2path(app.env.docname))
     written = literals.source(path)
@@ -137,7 +137,7 @@ def _tell_all(settings: _Settings, found: List[_Found], comments: List[Comment],
 
 
 def _links_of(settings: _Settings, literals: Literals, said: _Said) -> Iterator[Tuple[Link, bool]]:
-    """The links that a node says and that may be refused, and whether it is known where each is."""
+    """The links of a node that may be refused, and whether it is known where each is."""
     if said.markup is None:
         yield from rst_links.links_of_raw(literals, said.path, said.line, said.text)
     elif _is_sought(settings, said):
@@ -185,7 +185,7 @@ def _place(node: Any, path: str) -> Tuple[str, int]:
 
 
 def _tell(settings: _Settings, found: _Found, ignoring: Ignoring) -> None:
-    """Warns of a link, where it is wrong and isn't meant so."""
+    """Warns about a link, if it is wrong and isn't meant like that."""
     said, source, link = found
     wrong, is_left_out = ignoring.wrong(settings.checker, link)
     if wrong is None or is_left_out or any(it.search(said.text) for it in settings.ignored):

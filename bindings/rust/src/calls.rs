@@ -13,26 +13,31 @@ fn parts_of(base: Option<&str>) -> (*const u8, usize) {
     base.map_or((ptr::null(), 0), |base| (base.as_ptr(), base.len()))
 }
 
+/// The pointer to a base that was checked before, or null.
 fn pointer_to(base: Option<&ffi::Base>) -> *const ffi::Base {
     base.map_or(ptr::null(), |base| base)
 }
 
+/// The verdict on a text, with its parts.
 pub fn check(text: &str, profile: u32, base: Option<&ffi::Base>) -> ffi::Answer {
     // SAFETY: the bytes of `text` and the base are borrowed for the call.
     unsafe { ffi::urlcheck_check(text.as_ptr(), text.len(), profile, pointer_to(base)) }
 }
 
+/// Whether a text is valid, without its parts.
 pub fn is_valid(text: &str, profile: u32, base: Option<&ffi::Base>) -> bool {
     // SAFETY: as in `check`.
     unsafe { ffi::urlcheck_is_valid(text.as_ptr(), text.len(), profile, pointer_to(base)) }
 }
 
+/// Checks a base once, for all texts that are checked against it.
 pub fn prepare(base: &str, profile: u32) -> ffi::Base {
     // SAFETY: the bytes of `base` are borrowed for the call.
     unsafe { ffi::urlcheck_prepare(base.as_ptr(), base.len(), profile) }
 }
 
-/// The violations of a text, all of them.
+/// The violations of a text, all of them. Few texts have more than four; for those that have, the library is called
+/// again.
 pub fn faults(text: &str, profile: u32, base: Option<&ffi::Base>) -> (ffi::Finding, Vec<ffi::Fault>) {
     let mut faults = Vec::with_capacity(4);
     loop {
@@ -43,7 +48,7 @@ pub fn faults(text: &str, profile: u32, base: Option<&ffi::Base>) -> (ffi::Findi
             ffi::urlcheck_faults(text.as_ptr(), text.len(), profile, pointer_to(base), out, room)
         };
         if answer.count <= room {
-            // SAFETY: the library has written so many elements.
+            // SAFETY: the library has written this many elements.
             unsafe { faults.set_len(answer.count) };
             return (answer.found, faults);
         }
@@ -51,7 +56,7 @@ pub fn faults(text: &str, profile: u32, base: Option<&ffi::Base>) -> (ffi::Findi
     }
 }
 
-/// Calls `write` with a buffer of so many bytes, and again with one that is long enough where it wants more. It says
+/// Calls `write` with a buffer of this many bytes, and again with one that is long enough if it needs more. It says
 /// how many bytes its text has, which are UTF-8 and written where they have room.
 fn text_of<A>(room: usize, mut write: impl FnMut(*mut u8, usize) -> (A, usize)) -> (A, String) {
     let mut bytes = Vec::with_capacity(room);
@@ -59,7 +64,7 @@ fn text_of<A>(room: usize, mut write: impl FnMut(*mut u8, usize) -> (A, usize)) 
         let room = bytes.capacity();
         let (answer, length) = write(bytes.as_mut_ptr(), room);
         if length <= room {
-            // SAFETY: the library has written so many bytes.
+            // SAFETY: the library has written this many bytes.
             unsafe { bytes.set_len(length) };
             // (what the library writes is UTF-8; to see that costs less than to rely on it)
             return (answer, String::from_utf8(bytes).expect("liburlcheck writes UTF-8"));
@@ -68,11 +73,12 @@ fn text_of<A>(room: usize, mut write: impl FnMut(*mut u8, usize) -> (A, usize)) 
     }
 }
 
-/// A buffer of this length holds the URL of nearly every text of which nothing is percent-encoded.
+/// A buffer of this length holds the URL of nearly every text in which nothing is percent-encoded.
 fn usual_room(text: &str, base: Option<&str>) -> usize {
     text.len() + base.map_or(0, str::len) + 4
 }
 
+/// The URL record of a text, and its text.
 pub fn resolve(text: &str, profile: u32, base: Option<&str>) -> (ffi::Record, String) {
     let (start, length) = parts_of(base);
     text_of(usual_room(text, base), |out, room| {
@@ -82,6 +88,7 @@ pub fn resolve(text: &str, profile: u32, base: Option<&str>) -> (ffi::Record, St
     })
 }
 
+/// What to write in place of a text, if it is refused.
 pub fn mend(text: &str, profile: u32, base: Option<&str>) -> (ffi::Mended, String) {
     let (start, length) = parts_of(base);
     text_of(usual_room(text, base), |out, room| {
@@ -91,6 +98,7 @@ pub fn mend(text: &str, profile: u32, base: Option<&str>) -> (ffi::Mended, Strin
     })
 }
 
+/// The sentence on a violation of a text. The room is that of most sentences.
 pub fn message(text: &str, profile: u32, rule: u32, place: usize) -> (ffi::Finding, String) {
     text_of(128, |out, room| {
         // SAFETY: the bytes of `text` are borrowed for the call; `out` has `room` bytes of its own.
@@ -102,7 +110,7 @@ pub fn message(text: &str, profile: u32, rule: u32, place: usize) -> (ffi::Findi
     })
 }
 
-/// One of the library's fixed texts; the empty one if there is none.
+/// One of the library's fixed texts; the empty one if there is none. The room is that of most of them.
 pub fn fixed_text(what: u32, number: u32) -> String {
     let write = |out, room| {
         // SAFETY: `out` has `room` bytes of its own.
@@ -125,6 +133,7 @@ pub struct Texts {
 }
 
 impl Texts {
+    /// Joins texts, which costs one copy of each and no call for each.
     pub fn collect<I: IntoIterator>(texts: I) -> Self
     where
         I::Item: AsRef<str>,
@@ -137,6 +146,7 @@ impl Texts {
         all
     }
 
+    /// How many texts there are: one less than there are offsets.
     pub fn count(&self) -> usize {
         self.offsets.len() - 1
     }
@@ -151,11 +161,13 @@ pub struct Columns {
 }
 
 impl Columns {
+    /// Columns of this many texts, before anything is found: the outcome is an error until a call has set it.
     fn of(count: usize) -> Self {
         Self { outcome: ffi::MEMORY, verdicts: vec![0; count], rules: vec![0; count], places: vec![0; count] }
     }
 }
 
+/// What is found of each of the texts, in one call.
 pub fn check_many(texts: &Texts, profile: u32, base: Option<&ffi::Base>) -> Columns {
     let mut columns = Columns::of(texts.count());
     // SAFETY: the texts and the base are borrowed for the call, there are `count` + 1 offsets, and each column is a
@@ -177,7 +189,7 @@ pub fn check_many(texts: &Texts, profile: u32, base: Option<&ffi::Base>) -> Colu
     columns
 }
 
-/// What `check_many` finds of the texts alone, their URLs one after the other, and the ends of these.
+/// What `check_many` finds of the texts without a base, their URLs one after another, and the ends of these.
 pub fn resolve_many(texts: &Texts, profile: u32) -> (Columns, String, Vec<u64>) {
     let mut columns = Columns::of(texts.count());
     let mut ends = vec![0; texts.offsets.len()];

@@ -1,7 +1,10 @@
-//! The functions and structs of `urlcheck.h`, as this crate calls them. Its comments say what each requires.
+//! The functions and structs of `urlcheck.h`, as this crate calls them. The comments of that header say what each
+//! requires and answers, and a change of it has to be made here by hand: the sizes below, which it asserts too, and the
+//! range of versions in `build.rs` are what notices a difference.
 
 use std::mem::size_of;
 
+/// The outcomes of `urlcheck_outcome` that a call of this crate can end with.
 pub const VALID: u32 = 0;
 pub const REFUSED: u32 = 1;
 pub const BASE_REFUSED: u32 = 3;

@@ -62,7 +62,7 @@ fn range(ends: &[u64]) -> Range<usize> {
     index(ends[0])..index(ends[1])
 }
 
-/// What the columns say of each text.
+/// What the columns say about each text. If nothing was checked, memory ran out, and the program ends as `fail` says.
 fn rows_of(texts: &Texts, columns: &Columns) -> Vec<Result<(), Violation>> {
     if columns.outcome != ffi::DONE {
         fail(columns.outcome)
@@ -70,6 +70,7 @@ fn rows_of(texts: &Texts, columns: &Columns) -> Vec<Result<(), Violation>> {
     (0..texts.count()).map(|row| row_of(texts, columns, row)).collect()
 }
 
+/// What the columns say about a text. Only the place in code points is in them, so that in bytes is counted here.
 fn row_of(texts: &Texts, columns: &Columns, row: usize) -> Result<(), Violation> {
     match u32::from(columns.verdicts[row]) {
         ffi::VALID => Ok(()),

@@ -1,11 +1,12 @@
-/* The allocator of platform.h, over the heap. */
+/* The allocator of platform.h for the module: the proved code's blocks come from the heap of heap.h. */
 #include "platform.h"
 
 #include "heap.h"
 
-/* Where the block of a refused call is. */
+/* Its address is what a refused call answers, which may not be 0 (see `attempt` in platform.h). Nothing reads it. */
 static char nothing;
 
+/* A block, or NULL, as the pair that the proved code reads. */
 static attempt attempt_of(void *block) {
     return (attempt){block != NULL, (uint64_t)(uintptr_t)(block != NULL ? block : (void *)&nothing)};
 }

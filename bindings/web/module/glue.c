@@ -27,9 +27,10 @@ uint32_t answer[ANSWER_WORDS];
 void *out;
 urlcheck_base held;
 
+/* (the compiler's addresses have 64 bits, and `wasm-opt` makes them 32-bit ones, which a number of JavaScript holds) */
 static uint32_t address_of(const void *it) { return (uint32_t)(uintptr_t)it; }
 
-/* Makes rooms of so many bytes for the text and the base. Gives 0, and leaves the rooms, if there is no memory. */
+/* Makes rooms of this many bytes for the text and the base. Gives 0, and leaves the rooms, if there is no memory. */
 uint32_t make_rooms(uint32_t text_bytes, uint32_t base_bytes) {
     return heap_lay_out(text_bytes, base_bytes);
 }
@@ -53,10 +54,12 @@ void say(const urlcheck_finding *found, uint64_t length) {
 /* Where a part ends that isn't there. */
 #define ABSENT 0xffffffff
 
+/* Where a part ends, in bytes of the text. */
 static uint32_t end_of(const urlcheck_span *part) {
     return part->present ? (uint32_t)(part->start + part->length) : ABSENT;
 }
 
+/* Answers where the parts of a valid text end. For another text these words mean nothing. */
 static void say_parts(const urlcheck_spans *parts) {
     answer[SCHEME_END] = end_of(&parts->scheme);
     answer[HOST_END] = end_of(&parts->host);
@@ -81,6 +84,7 @@ void prepare(uint32_t base_length, uint32_t profile) {
     say(&held.found, 0);
 }
 
+/* Checks the text that is in its room, and answers its verdict and its parts. */
 void check(uint32_t length, uint32_t profile, uint32_t is_held) {
     urlcheck_answer checked;
     heap_empty();
@@ -108,11 +112,12 @@ void faults(uint32_t length, uint32_t profile, uint32_t is_held) {
 /* How long a base is; a length below 0 says that there is none. */
 static uint32_t bytes_of_base(int32_t base_length) { return base_length < 0 ? 0 : (uint32_t)base_length; }
 
-/* The room that a first call has for a URL's text, or a mended one: most texts fit. */
+/* The room that a first call has for a URL's text, or a mended one: one with 256 bytes more than it is made of fits. */
 static uint64_t room_for(uint32_t length, int32_t base_length) {
     return (uint64_t)length + bytes_of_base(base_length) + 256;
 }
 
+/* Whether this many bytes are the same: then the caller's string is the answer, and no other has to be made. */
 static bool are_same(const uint8_t *one, const uint8_t *other, uint32_t length) {
     return __builtin_memcmp(one, other, length) == 0;
 }

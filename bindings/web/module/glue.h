@@ -38,7 +38,7 @@ extern urlcheck_base held;
 /* Answers what was found, and a length. */
 void say(const urlcheck_finding *found, uint64_t length);
 
-/* Gives up the blocks after the mark, and takes so many bytes for `out`; if there are none it says so. */
+/* Gives up the blocks after the mark, and takes this many bytes for `out`; if there are none it says so. */
 bool takes_out(uint64_t mark, uint64_t bytes);
 
 /*

@@ -1,6 +1,7 @@
 /* See heap.h. The heap is one block after the other from the rooms' end on; it never shrinks the engine's memory. */
 #include "heap.h"
 
+/* A page of WebAssembly, and the multiple at which a block begins that anything may be in. */
 enum { PAGE = 65536, ALIGNMENT = 16 };
 
 /* Addresses have to fit into 32 bits, the one after the last byte too. */
@@ -24,12 +25,14 @@ static uint64_t bottom;    /* where the heap begins; 0 before the rooms are laid
 static uint64_t top;       /* where it is free */
 static uint64_t last;      /* where the last block begins */
 
+/* The next address that is a multiple of a power of two. */
 static uint64_t aligned(uint64_t address, uint64_t alignment) { return (address + alignment - 1) & ~(alignment - 1); }
 
+/* Where the text's room begins: after the module's static data. */
 static uint64_t text_room(void) { return aligned(memory_start(), ALIGNMENT); }
 
 /*
- * Whether the memory reaches up to `end`; it is grown where it doesn't. Its end says whether the engine has grown it:
+ * Whether the memory reaches up to `end`; it is grown if it doesn't. Its end says whether the engine has grown it:
  * the answer of the growth is widened to 64 bits by `wasm-opt`, and a refusal isn't -1 then.
  */
 static bool reaches(uint64_t end) {

@@ -23,10 +23,10 @@ void heap_empty(void);
 uint64_t heap_mark(void);
 void heap_return(uint64_t mark);
 
-/* A block of so many bytes at a multiple of `alignment`, a power of two; NULL where the engine gives no more memory. */
+/* A block of this many bytes at a multiple of `alignment`, a power of two; NULL if the engine gives no more memory. */
 void *heap_take(uint64_t size, uint64_t alignment);
 
-/* The block with its first `kept` bytes, and so many bytes long; it may have moved. NULL: it is as it was. */
+/* The block with its first `kept` bytes, and this many bytes long; it may have moved. NULL: it is as it was. */
 void *heap_resize(void *block, uint64_t kept, uint64_t size, uint64_t alignment);
 
 /* Gives up the block if it is the last one, otherwise keeps it until the heap is emptied. */

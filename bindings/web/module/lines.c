@@ -24,7 +24,7 @@ typedef struct {
     uint32_t next;    /* where the line after them begins */
 } lines_checked;
 
-/* The rows that a call has room for. After them the next one goes on. */
+/* The rows that a call has room for: 112 KB. If there are more, lines.js calls again from the line after them. */
 enum { ROWS = 4096 };
 
 /* The first line from `from` on: where its text begins, how long that is, and where the next line begins. */
@@ -54,6 +54,7 @@ static urlcheck_line next_refused_with(const uint8_t *lines, size_t length, size
     return (urlcheck_line){.start = length, .next = length, .passed = passed};
 }
 
+/* The next line that is empty or isn't valid, alone or against the base. */
 static urlcheck_line next_refused(const uint8_t *lines, size_t length, size_t from, bool is_held, uint32_t profile) {
     if (is_held) return next_refused_with(lines, length, from);
     urlcheck_line line;
@@ -85,7 +86,7 @@ static void take_before(lines_checked *checked, const urlcheck_line *line) {
 
 /*
  * Checks the lines from the byte `from` on, as many as the rows have room for. What the lines before took of the heap
- * is given up where a line finds no memory, and before each row: so only a line that has none alone ends the call.
+ * is given up if a line finds no memory, and before each row: so only a line that has none alone ends the call.
  */
 void check_lines(uint32_t length, uint32_t from, uint32_t profile, uint32_t is_held) {
     heap_empty();

@@ -79,6 +79,7 @@ typedef struct {
     size_t length;
 } fixed_text;
 
+/* Takes one, or says that there is no memory. */
 static bool takes_text(fixed_text *taken, uint32_t what, uint32_t number) {
     if (!takes_out(heap_mark(), LONGEST)) return false;
     *taken = (fixed_text){out, urlcheck_text(what, number, out, LONGEST)};

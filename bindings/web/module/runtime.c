@@ -1,4 +1,7 @@
-/* What the compiler's code calls, and other machines find in their C library. */
+/*
+ * What the compiler's code calls, and other machines find in their C library; a module has none. These are copies of
+ * bytes, 32 and 8 at a time, and numbers of 128 bits. Their names and their meaning are the compiler's.
+ */
 #include <stddef.h>
 #include <stdint.h>
 
@@ -7,6 +10,7 @@ typedef struct __attribute__((packed, may_alias)) {
     uint64_t word[4];
 } block;
 
+/* The same of 8 bytes. */
 typedef struct __attribute__((packed, may_alias)) {
     uint64_t whole;
 } word;

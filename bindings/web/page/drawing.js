@@ -1,7 +1,7 @@
 // Draws a text: its parts in their colours, the wrong places numbered, and what can't be seen by its number.
 import { element } from './elements.js'
 
-/** So many units of a text are drawn, and so many of its faults. */
+/** At most this many units of a text are drawn, and of its faults: more elements would make the page slow. */
 export const DRAWN_UNITS = 3000
 export const DRAWN_FAULTS = 100
 
@@ -38,7 +38,7 @@ function appendPoints(parent, text) {
   if (run) parent.append(run)
 }
 
-/** An index that isn't within a surrogate pair. */
+/** The index, or the one before it if it is within a surrogate pair: half a pair can't be drawn. */
 function between(text, index) {
   return (text.charCodeAt(index) & 0xfc00) === 0xdc00 ? index - 1 : index
 }
@@ -115,7 +115,7 @@ export function drawnText(text, ranges, faults) {
   return drawn
 }
 
-/** So many units of a text are in a row of a report, and so many before the wrong place. */
+/** The units of a text in a row of a report, and those before the wrong place. */
 const SHOWN_UNITS = 300
 const SHOWN_BEFORE = 200
 

@@ -7,24 +7,28 @@ import { ReportView } from './report-view.js'
 import { FIRST_TEXT, addressOf, readState } from './state.js'
 import { showText } from './text-view.js'
 
-/** A pasted list of more units is checked as a file is, and isn't in the field. */
+/** A pasted list of more units is checked as a file is, and not put into the field, which would make the page slow. */
 const LONGEST_IN_FIELD = 500_000
 /** So long, in milliseconds, the page waits for the next key before it checks a list or writes its address. */
 const LIST_PAUSE = 250
 const ADDRESS_PAUSE = 250
 
+/** What the hint below the profiles says of each. */
 const PROFILES = {
   standard: 'The URL Standard’s valid URL strings.',
   wide: 'Also _ and hyphens anywhere in domains, and any segments after an authority.',
   parser: 'Each text that the Standard’s parser accepts without a validation error, and no other.'
 }
 
+// (the module loads while the fields are filled)
 const loading = load()
 const state = readState()
 /** A list or a document that was dropped, chosen or pasted: its name, and its file, or the document's text. */
 const given = { list: null, html: null }
+/** The checker and the report on a list, once the module is loaded. */
 let urlcheck = null
 let report = null
+/** The timers of `later`, by name. */
 const waiting = new Map()
 
 /** Does something once no other call with the same name has come for a while. */
@@ -33,6 +37,7 @@ function later(name, pause, action) {
   waiting.set(name, setTimeout(action, pause))
 }
 
+/** Writes the state into the address; not with each key, since browsers limit how often that may be done. */
 function showAddress() {
   later('address', ADDRESS_PAUSE, () => history.replaceState(null, '', addressOf(state)))
 }
@@ -56,6 +61,7 @@ function showView() {
   byId('profile-hint').textContent = PROFILES[state.profile]
 }
 
+/** Puts a text and a base into the fields, and checks them: what a button with an example does. */
 function tryText(text, base) {
   state.text = text
   state.base = base
@@ -64,6 +70,7 @@ function tryText(text, base) {
   byId('text').focus()
 }
 
+/** Checks the list in the field, or the one that was given as a file. */
 function checkList() {
   const { profile, base } = state
   if (!given.list && state.list.trim() === '') return report.clear()
@@ -80,6 +87,7 @@ function baseOf(named) {
   return { base: state.base, note: `its base ${named} is refused (${resolved.rule}), so the base below is taken` }
 }
 
+/** Checks the links of the document that was given. */
 function checkHtml() {
   if (!given.html) return report.clear()
   const { base: named, links } = linksOf(given.html.text)
@@ -112,6 +120,7 @@ function takeList(name, file) {
   check()
 }
 
+/** Takes a file as what it is: a document by its name or type, or in the view of documents; otherwise a list. */
 async function takeFile(file, view) {
   const isHtml = /\.x?html?$/i.test(file.name) || file.type === 'text/html'
   if (view === 'html' || (isHtml && view !== 'list')) {
@@ -137,6 +146,7 @@ function readAddress() {
   check()
 }
 
+/** Has the fields check with each change. */
 function listenToFields() {
   byId('input').addEventListener('submit', event => event.preventDefault())
   byId('text').addEventListener('input', () => {
@@ -167,6 +177,7 @@ function listenToFields() {
   }
 }
 
+/** Has the links between the views change the view, without loading the page again. */
 function listenToViews() {
   for (const link of document.querySelectorAll('nav a')) {
     link.addEventListener('click', event => {
@@ -181,6 +192,7 @@ function listenToViews() {
   addEventListener('hashchange', readAddress)
 }
 
+/** Has files be taken that are chosen, or dropped anywhere on the page. */
 function listenToFiles() {
   for (const view of ['list', 'html']) {
     byId(`${view}-file`).addEventListener('change', ({ target }) => {
@@ -239,6 +251,7 @@ try {
   byId('version').textContent = `Version ${urlcheck.version}.`
   fillExamples()
   check()
+  // (for who measures how soon the page answers)
   performance.mark('urlcheck-first-answer')
 } catch (error) {
   byId('verdict').className = 'verdict bad'

@@ -1,13 +1,15 @@
 // A list, read piece by piece as `urlcheck lint` reads a file: each piece has whole lines, and a line with too many
-// bytes is a piece of its own. A byte order mark at a file's start isn't a part of the first line.
+// bytes is a piece of its own. A byte order mark at a file's start isn't a part of the first line. (The module cuts a
+// piece into lines; here are only the ends of pieces, since the browser hands out a file bit by bit.)
 
-/** A line has at most so many bytes. */
+/** A line has at most this many bytes, as in `urlcheck lint`, which reports a longer one and doesn't check it. */
 export const LONGEST_LINE = 65536
 
 const LF = 10
 const CR = 13
 const BYTE_ORDER_MARK = [0xef, 0xbb, 0xbf]
 
+/** The bytes of one array and then of another. */
 function joined(one, other) {
   if (one.length === 0) return other
   const whole = new Uint8Array(one.length + other.length)

@@ -3,10 +3,10 @@
 import { button, counted, element, plural } from './elements.js'
 import { shownText } from './drawing.js'
 
-/** So many refused lines are shown at first, and with each further press. */
+/** This many refused lines are shown at first, and with each further press. */
 const ROWS = 100
 
-/** How the page calls a format, if not by its own name, and how the name of its file ends, if not with `txt`. */
+/** What the page calls a format, unless by its own name, and the ending of its file's name, unless that is `txt`. */
 const NAMES = {
   gnu: 'lines', caret: 'lines with carets', json: 'JSON', github: 'GitHub', sarif: 'SARIF', junit: 'JUnit', gitlab: 'GitLab',
   rdjson: 'reviewdog'
@@ -20,6 +20,7 @@ function download(blob, name) {
   setTimeout(() => URL.revokeObjectURL(link.href), 60_000)
 }
 
+/** The report's part of the page. What it asks of the worker, and what the worker sends, is said in worker.js. */
 export class ReportView {
   /**
    * @param {HTMLElement} section where the report is
@@ -67,6 +68,7 @@ export class ReportView {
     this.section.replaceChildren()
   }
 
+  /** Makes the elements of a report, empty and most of them hidden, for the messages of the worker to fill. */
   build(note) {
     this.line = element('p', { class: 'verdict busy', role: 'status' }, 'Checking …')
     this.progress = element('progress', { max: '1', value: '0', 'aria-label': 'Progress' })
@@ -90,6 +92,7 @@ export class ReportView {
     this.section.replaceChildren(this.line, ...notes, this.running, this.chart, this.rows)
   }
 
+  /** A button that downloads the refused lines in a format. */
   downloadButton(format) {
     const attributes = { class: 'button', 'data-format': format }
     return button(NAMES[format] ?? format, () => this.ask('download', { format }), attributes)
@@ -105,6 +108,7 @@ export class ReportView {
     if (message.kind === 'failed') this.showFailure(message)
   }
 
+  /** The line above the report: a sign by its kind, a word, and the rest. */
   say(kind, word, rest) {
     const sign = { good: '✓', bad: '✕', busy: '…' }[kind]
     this.line.className = `verdict ${kind}`
@@ -112,10 +116,12 @@ export class ReportView {
       element('strong', {}, word), ' ', element('span', { class: 'rest' }, rest))
   }
 
+  /** How many lines or links were checked, and how many of them are refused. */
   countsText({ count, refused }) {
     return `${plural(count, this.unit, `${this.unit}s`)}, ${counted(refused)} refused`
   }
 
+  /** Shows how far the job is, and the first refused lines as soon as there are some. */
   showProgress(message) {
     this.progress.value = message.total ? message.done / message.total : 1
     this.say('busy', `${Math.floor(100 * this.progress.value)} %`, this.countsText(message))
@@ -124,6 +130,7 @@ export class ReportView {
     if (this.shown === 0 && this.refused > 0 && !this.isAsked) this.askRows()
   }
 
+  /** Shows how the job ended: only then may the refused lines be downloaded. */
   showEnd(message) {
     this.running.remove()
     this.refused = message.refused
@@ -136,6 +143,7 @@ export class ReportView {
     this.showMore()
   }
 
+  /** Shows why nothing was checked: the base is refused, or the worker failed. */
   showFailure({ message, base }) {
     this.running.remove()
     if (!base) {
@@ -166,11 +174,13 @@ export class ReportView {
         element('tbody', {}, ...rows)))
   }
 
+  /** Asks the worker for the next rows. */
   askRows() {
     this.isAsked = true
     this.ask('rows', { from: this.shown, count: ROWS })
   }
 
+  /** Appends rows. Those that aren't the next ones were asked for twice, and are passed over. */
   showRows({ from, rows }) {
     this.isAsked = false
     if (from !== this.shown) return
@@ -186,6 +196,7 @@ export class ReportView {
     this.showMore()
   }
 
+  /** Shows the button for more rows, with how many are left. */
   showMore() {
     const left = this.refused - this.shown
     this.more.hidden = left <= 0

@@ -1,10 +1,11 @@
 // What the page shows, in its own address after `#`, so that a case can be sent as a link.
 
+/** The views: one text, a list of links, or the links of a document. The first one is shown if the address has none. */
 const VIEWS = ['text', 'list', 'html']
-/** A text or list of more units isn't written into the address. */
+/** A text or list of more units isn't written into the address, which would be too long to send. */
 const LONGEST = 4000
 
-/** The names that an address may have for a profile; it needs none for the first. */
+/** The names that an address may have for a profile; the first is meant if it has none. */
 const PROFILES = ['standard', 'wide', 'parser']
 
 /** What the page begins with. */

@@ -4,7 +4,7 @@ import { BaseRefused } from '../urlcheck.js'
 import { button, byId, counted, element, plural } from './elements.js'
 import { DRAWN_FAULTS, PARTS, drawnText, shownText } from './drawing.js'
 
-/** All faults of a text of more units aren't asked for, but the first alone. */
+/** Of a longer text, in UTF-16 units, only the first fault is asked for: all of them take too long for each key. */
 const LONGEST_FOR_FAULTS = 200_000
 
 /**
@@ -39,7 +39,7 @@ function insteadOf(urlcheck, text, options) {
   }
 }
 
-/** What the browser's own parser makes of the text, or null where it refuses it. */
+/** What the browser's own parser makes of the text, or null if it refuses it. */
 function browsersUrl(text, base) {
   try {
     return base === '' ? new URL(text) : new URL(text, base)
@@ -58,11 +58,13 @@ function verdictLine(said) {
   return ['bad', 'Refused', more > 0 ? `${where}, and ${plural(more, 'more violation', 'more violations')}` : where]
 }
 
+/** Shows the verdict: a sign in the colour of its kind, the word, and what is to be added. */
 function showVerdict(said) {
   const [kind, word, rest] = verdictLine(said)
   const line = byId('verdict')
   line.className = `verdict ${kind}`
   line.replaceChildren(
+    // (readers of the page hear the word; the sign says the same to the eye)
     element('span', { class: 'sign', 'aria-hidden': 'true' }, kind === 'good' ? '✓' : '✕'),
     element('strong', {}, word), ' ', element('span', { class: 'rest' }, rest))
 }
@@ -87,7 +89,7 @@ const KINDS = {
   changed: 'look whether this is what was meant'
 }
 
-/** How a mended text is named that isn't offered. */
+/** What a mended text is called that isn't offered, in the words that the reports of the library have, too. */
 const NAMED_AS = {
   same: 'the same URL, written validly, is ',
   escaped: 'the same text, percent-encoded, is ',
@@ -102,6 +104,7 @@ function insteadLine({ text, kind, isOffered }, base, onTry) {
     element('span', { class: 'hint' }, ` ${KINDS[kind]}`))
 }
 
+/** Shows the text, or the base if that is refused, with its parts or its wrong places, and what to write instead. */
 function showDrawn(text, base, said, onTry) {
   const card = byId('drawn')
   card.hidden = said.kind === 'unchecked'
@@ -122,11 +125,11 @@ function example({ text, base, meant }, onTry) {
     base === null ? null : element('span', { class: 'hint' }, ` against ${base}`))
 }
 
-/** So many faults are told, and so many places of those that are told alike. */
+/** The most faults that are listed, and places of those that share a sentence: more would make the page slow. */
 const TOLD_FAULTS = 1000
 const NAMED_PLACES = 12
 
-/** The faults of which the same is said, in the order of the first of each, with their numbers in the drawn text. */
+/** The faults that share a sentence, in the order of the first of each, with their numbers in the drawn text. */
 function bySentence(urlcheck, text, faults, profile) {
   const found = new Map()
   faults.slice(0, TOLD_FAULTS).forEach((fault, at) => {
@@ -145,10 +148,12 @@ function firstOf(list) {
   return { first: list.slice(0, NAMED_PLACES), more: Math.max(0, list.length - NAMED_PLACES) }
 }
 
+/** The number of a fault, as it is drawn in the text. */
 function numberMark(number) {
   return element('span', { class: 'number', 'aria-hidden': 'true' }, String(number))
 }
 
+/** The faults that share a sentence: where they are, what the rule asks, and an example. */
 function faultItem(urlcheck, { rule, sentence, numbers, places }, onTry) {
   const { asks, section, example: shown } = urlcheck.explain(rule)
   const { first, more } = firstOf(places)
@@ -163,6 +168,7 @@ function faultItem(urlcheck, { rule, sentence, numbers, places }, onTry) {
     example(shown, onTry))
 }
 
+/** Shows the faults of the text, and what of them isn't shown. */
 function showFaults(urlcheck, text, profile, said, onTry) {
   const faults = said.faults ?? []
   const parts = []
@@ -196,6 +202,7 @@ function recordRows(resolved) {
   }
 }
 
+/** The values of the browser's URL in the same rows, without the delimiters that its properties have. */
 function browserRows(url) {
   if (url === null) return null
   const orNone = word => (word === '' ? null : word)
@@ -210,9 +217,10 @@ function browserRows(url) {
   }
 }
 
-/** So many units of a value are shown. */
+/** At most this many units of a value are shown. */
 const LONGEST_VALUE = 2000
 
+/** A value in a row of the comparison. On narrow windows `data-column` takes the place of the head (see tables.css). */
 function cell(column, rows, name) {
   const common = { role: 'cell', 'data-column': column }
   const made = (attributes, ...children) => element('td', { ...common, ...attributes }, ...children)
@@ -239,6 +247,7 @@ function comparisonTable(ours, theirs) {
       element('tbody', { role: 'rowgroup' }, ...names.map(row))))
 }
 
+/** Shows the record next to what the browser makes of the text. */
 function showComparison(text, base, said) {
   const card = byId('comparison')
   card.hidden = said.kind === 'unchecked'
@@ -251,6 +260,7 @@ function showComparison(text, base, said) {
     ...(ours || theirs ? [comparisonTable(ours, theirs)] : []))
 }
 
+/** What the two have in common, in a sentence. */
 function noteOn(ours, theirs) {
   if (ours === null) {
     const browsers = theirs === null ? 'the browser refuses it too' : 'the browser silently makes a URL of it'
@@ -261,7 +271,7 @@ function noteOn(ours, theirs) {
   return isSame ? 'Both are the same.' : 'The browser makes another URL of it: they differ.'
 }
 
-/** Shows what is said of a text. */
+/** Shows what is said about a text. */
 export function showText(urlcheck, { text, base, profile }, onTry) {
   const said = checkText(urlcheck, text, base, profile)
   showVerdict(said)

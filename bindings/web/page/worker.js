@@ -5,13 +5,14 @@
 import { BaseRefused, load } from '../urlcheck.js'
 import { piecesOf } from './pieces.js'
 
-/** So long, in milliseconds, lines are checked before messages are read, and so often progress is told. */
+/** Lines are checked for so long, in milliseconds, before messages are read, and progress is told so often. */
 const TURN = 20
 const TELLING = 100
-/** So many links are checked at a time, and so many diagnostics are joined to a piece of a file. */
+/** The links that are checked between two looks at the time, and the diagnostics in a piece of a file. */
 const LINKS = 1000
 const JOINED = 10_000
 
+/** The types of the files of reports, by their formats; other reports are plain text. */
 const JSON_TYPE = 'application/json'
 const XML_TYPE = 'application/xml'
 const TYPES = {
@@ -27,6 +28,7 @@ function messagesAreRead() {
   return new Promise(done => setTimeout(done, 0))
 }
 
+/** One check of a source: what was found so far, from which rows and files are made when the page asks for them. */
 class Job {
   constructor(urlcheck, { number, source, name, base, profile }) {
     this.urlcheck = urlcheck
@@ -43,6 +45,7 @@ class Job {
     this.done = 0
   }
 
+  /** How much there is to check: links, or bytes of a file. */
   total() {
     return this.source.kind === 'links' ? this.source.links.length : this.source.file.size
   }
@@ -96,6 +99,7 @@ class Job {
     }
   }
 
+  /** Checks the source, and between its pieces reads messages, one of which may stop it, and tells how far it is. */
   async run() {
     let [turn, told] = [performance.now(), performance.now()]
     for await (const done of this.checkedPieces()) {
@@ -161,6 +165,7 @@ class Job {
   }
 }
 
+/** Begins a job in place of the one before, and tells the page how it ended. */
 async function checkAsked(asked) {
   if (job) job.isStopped = true
   let mine

@@ -63,7 +63,7 @@ fn main(rt: HostRuntime) -> io::Result<()> {
     print!(rt; "{said}")
 }
 
-// A word, or what stands for it if it isn't given.
+// An argument, or what stands for it if it isn't given.
 fn word_at<'w>(words: &'w [String], at: usize, otherwise: &'w str) -> &'w str {
     match words.get(at) {
         Some(word) => word.as_str(),
@@ -84,7 +84,7 @@ fn texts_in<'b>(alloc: Global, bytes: &'b [u8]) -> Result<Vec<&'b str>, AllocErr
     Ok(texts)
 }
 
-// How many of the texts are valid, asked so many times; none if the mode doesn't ask.
+// How many of the texts are valid, checked this many times; none if the mode doesn't check.
 fn count_in_rounds(
     mode: &str,
     rounds: u32,
@@ -116,7 +116,7 @@ fn count_checked(texts: &[&str], setting: Setting<'_>) -> Result<usize, AllocErr
     Ok(valid)
 }
 
-// How many of the texts are valid without a base, by `check_alone`, which is called here alone.
+// How many of the texts are valid without a base, by `check_alone`, which nothing else here calls.
 fn count_alone(texts: &[&str], setting: Setting<'_>) -> Result<usize, AllocError> {
     let mut valid = 0usize;
     for text in texts {
@@ -138,7 +138,7 @@ fn count_valid(texts: &[&str], setting: Setting<'_>) -> Result<usize, AllocError
     Ok(valid)
 }
 
-// How many of the texts are valid, found by making the text of each one's URL.
+// How many of the texts are valid, found by making the text of the URL of each.
 fn count_resolved(
     texts: &[&str],
     setting: Setting<'_>,
@@ -178,7 +178,7 @@ fn record_text(text: &str, setting: Setting<'_>) -> Result<String, ResolveFault>
     Ok(record.text(setting.alloc)?)
 }
 
-// A `1` for each valid text and a `0` for each other, and a line's end.
+// A `1` for each valid text and a `0` for every other one, and a line feed.
 fn verdicts_on(texts: &[&str], setting: Setting<'_>) -> Result<String, AllocError> {
     let mut verdicts = String::new(setting.alloc);
     for text in texts {
@@ -191,7 +191,7 @@ fn verdicts_on(texts: &[&str], setting: Setting<'_>) -> Result<String, AllocErro
     Ok(verdicts)
 }
 
-// A line for each text, with the text of its URL where it has one.
+// A line for each text, with the text of its URL if it has one.
 fn texts_of(texts: &[&str], setting: Setting<'_>, written: Written) -> Result<String, AllocError> {
     let mut lines = String::new(setting.alloc);
     for text in texts {

@@ -1,6 +1,6 @@
-//! The second parser alone: reads the lines of standard input, has the crate `url` parse each, and says how many lines
-//! there are and how many of them are URLs by that parser. With a word each is read against this URL. A line ends with
-//! LF; the buffer of lines is kept.
+//! The second parser by itself: reads the lines of standard input, has the crate `url` parse each, and says how many
+//! lines there are and how many of them are URLs by that parser. With a word each is read against this URL. A line ends
+//! with LF; the buffer of lines is kept.
 #![tactic(auto)]
 
 use std::alloc::Global;
@@ -33,7 +33,7 @@ fn main(rt: HostRuntime) -> io::Result<()> {
     println!(rt; "{lines} lines, {urls} parsed")
 }
 
-// The base, where one is given.
+// The base, if one is given.
 fn base_of(alloc: Global, word: Option<&str>) -> ParseResult<Option<Url>> {
     match word {
         Some(word) => Ok(Some(Url::parse(alloc, word)?)),

@@ -2,8 +2,8 @@
 //! bench/failed_allocations.py, which has each of the call's allocations refused in turn. The first line says how many
 //! allocations to make before the call, the second names the call, the third the profile, the fourth has the base,
 //! empty when there is none, and the rest is the text, the list or the vector file, which is checked under the standard
-//! profile. No other allocation is made but by the call and, where there is a base, by what resolves it. The status is
-//! 3 if the call is out of memory.
+//! profile. Nothing else allocates but the call and, if there is a base, what resolves it. The status is 3 if the call
+//! is out of memory.
 #![tactic(auto)]
 
 use std::alloc::{AllocError, Global};
@@ -30,7 +30,7 @@ struct Asked<'b> {
     text: &'b str,
 }
 
-// How a call ends: with its answer, which is printed, or without memory for it.
+// How a call ends: with its answer, which is printed, or because memory ran out.
 #[derive(Clone, Copy)]
 enum End {
     Answered,
@@ -55,6 +55,7 @@ fn main(rt: HostRuntime) -> ExitCode {
     }
 }
 
+// Reads what standard input asks for, line by line.
 fn asked_in(bytes: &[u8]) -> Option<Asked<'_>> {
     let text = str::from_utf8(bytes).ok()?;
     let (before, rest) = text.split_once('\n')?;
@@ -80,7 +81,7 @@ fn profile_of(name: &str) -> Option<Profile> {
     }
 }
 
-// Makes so many allocations, and gives their memory back.
+// Makes this many allocations, and frees them.
 fn allocate(alloc: Global, count: usize) -> Result<(), AllocError> {
     for _ in 0..count {
         let _room: Vec<u8> = Vec::with_capacity(alloc, 1)?;
@@ -88,7 +89,7 @@ fn allocate(alloc: Global, count: usize) -> Result<(), AllocError> {
     Ok(())
 }
 
-// Calls what is asked for, over the base's record where the call takes one.
+// Makes the call that is asked for, with the base's record if the call takes one.
 fn ended<R: Print + AllocGlobal>(rt: &R, asked: &Asked<'_>) -> End {
     match asked.call {
         "domain" => domain_ended(rt, asked),
@@ -107,6 +108,7 @@ fn ended<R: Print + AllocGlobal>(rt: &R, asked: &Asked<'_>) -> End {
     }
 }
 
+// Makes one of the calls that take the base's record.
 fn record_ended<R: Print + AllocGlobal>(rt: &R, asked: &Asked<'_>, base: Option<&Record>) -> End {
     match asked.call {
         "check" => verdict_ended(rt, asked, base),
@@ -263,13 +265,14 @@ fn vectors_ended<R: Print + AllocGlobal>(rt: &R, file: &str) -> End {
     }
 }
 
-// Prints the prefix of a page after which so much room is left.
+// Prints the prefix of a page that leaves this much room.
 fn print_page<R: Print>(rt: &R, page: &[u8], room: usize) -> io::Result<()> {
     let prefix = page.get(..page.len().saturating_sub(room)).unwrap_or(&[]);
     let text = str::from_utf8(prefix).unwrap_or("not UTF-8\n");
     print!(rt; "{text}")
 }
 
+// The end of a call whose answer was printed. If that failed, nothing is said about the call.
 fn printed(outcome: io::Result<()>) -> End {
     match outcome {
         Ok(()) => End::Answered,

@@ -72,7 +72,8 @@ impl Sink for ScriptSink<'_> {
 
     ghost failed = { λ s. s.failures };
 
-    /// Answers as the list says, and takes so many bytes of the piece as far as it has them and there is room for them.
+    /// Answers as the list says: takes as many bytes of the piece as the answer allows, the piece has and there is room
+    /// for.
     fn write(&mut self, from: &[u8]) -> Result<usize, DeviceFault>
         requires { self.old.failures < 2 ^ 64 - 1 }
         ensures plays { PlaysWrite self.old.answers self.old.room (length from.now) result self.new.answers }

@@ -7,7 +7,7 @@ use std::alloc::AllocError;
 use std::io::{self, Read};
 use uv_io::{DeviceFault, FromReader, Sink, Source};
 
-// A reader that fails at its second call, and before and after it gives one byte.
+// A reader whose second call fails; before and after that it gives one byte a call.
 #[derive(Drop)]
 struct Faltering {
     calls: u8,
@@ -63,7 +63,7 @@ fn counts_a_failed_read(rt: HostRuntime) {
 }
 
 // A piece longer than the room for it comes in two reads, a failure takes nothing from what follows it, and after the
-// last answer is the end.
+// last answer comes the end.
 #[test]
 fn plays_reads(rt: HostRuntime) {
     let answers: [Result<&[u8], DeviceFault>; 4] = [
@@ -91,7 +91,7 @@ fn refuses_an_empty_piece(rt: HostRuntime) {
     assert!(rt; ScriptSource::new(&[]).is_some());
 }
 
-// Whether one write of the bytes takes so many, through the bound, or fails when no number is wanted.
+// Whether one write through the bound takes this many of the bytes, or fails if no number is given.
 fn takes<S: Sink>(sink: &mut S, bytes: &[u8], wanted: Option<usize>) -> bool
     requires { S.failed sink.old < 2 ^ 64 - 1 }
     ensures { S.failed sink.new < S.failed sink.old + 2 }

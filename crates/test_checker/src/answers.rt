@@ -3,8 +3,8 @@ ghost use Rattle.std.specs.Prelude.{◌≡◌, ◌↔◌, IsTrue, Some};
 
 use uv_model::Rule;
 
-/// Whether an answer was given, none if memory ran out, and is the wanted one: the refusal's place, in code points from
-/// 0, and its rule, or none of a valid text.
+/// Whether an answer was given (there is none if memory ran out) and is the wanted one: the refusal's place, in code
+/// points from 0, and its rule, or nothing for a valid text.
 pub fn is_wanted(answer: Option<Option<(usize, Rule)>>, wanted: Option<(usize, Rule)>) -> bool
     ensures { IsTrue result ↔ (answer ≡ Some wanted) }
 {

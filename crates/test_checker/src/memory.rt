@@ -9,10 +9,10 @@ use uv_grammar::{Verdict, check};
 use uv_host::domain;
 use uv_model::{Profile, Record, Rule};
 
-// A text, whether it is against a base, and its refusal.
+// A text, whether it is checked against a base, and its refusal.
 type Row = (&'static str, bool, Option<(usize, Rule)>);
 
-// Texts of whose host no form is made, each alone or against the base `http://h/`, and their refusals.
+// Texts whose host needs no form, each alone or against the base `http://h/`, and their refusals.
 const ROWS: [Row; 19] = [
     ("urn:a", false, None),
     ("http://1.2.3.4/a/b", false, None),
@@ -38,7 +38,7 @@ const ROWS: [Row; 19] = [
     ("http://1.2.3/", false, Some((7, Rule::HostNumber))),
 ];
 
-// What `check` answers: none if memory ran out, and otherwise the refusal, where there is one.
+// What `check` answers: none if memory ran out, and otherwise the refusal, if there is one.
 fn answer(alloc: Global, text: &str, base: Option<&Record>) -> Option<Option<(usize, Rule)>> {
     match check(alloc, text, base, Profile::Standard) {
         Ok(Verdict::Yes(_)) => Some(None),
@@ -53,7 +53,7 @@ fn is_answered(alloc: Global, row: &Row, base: &Record) -> bool {
     is_wanted(answer(alloc, row.0, base), row.2)
 }
 
-// The text of the first row that is answered otherwise.
+// The first text that is answered otherwise than its row says.
 fn first_wrong(alloc: Global, base: &Record) -> Option<&'static str> {
     for row in ROWS.iter() {
         if !is_answered(alloc, row, base) {
@@ -69,7 +69,7 @@ fn makes_form(alloc: Global, text: &str) -> bool {
 }
 
 // What is seen while there is no memory: whether a form is made, whether a text whose host needs one is answered, and
-// the first row that is answered otherwise than it says.
+// the first row whose answer is wrong.
 fn seen_without_memory(
     alloc: Global,
     base: &Record,

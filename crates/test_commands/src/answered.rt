@@ -3,7 +3,7 @@ ghost use Rattle.std.specs.Prelude.{◌≡◌, ◌↔◌, IsTrue};
 
 use uv_cli::CheckEnd;
 
-/// Whether a command that ended so, and wrote these bytes, has the end and the lines that are wanted.
+/// Whether a command that ended like this, and wrote these bytes, has the wanted end and the wanted lines.
 pub fn is_answer(end: CheckEnd, written: &[u8], wanted: CheckEnd, lines: &str) -> bool
     ensures { IsTrue result ↔ ((end ≡ wanted) × (written.now ≡ lines.now)) }
 {

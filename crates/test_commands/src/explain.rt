@@ -1,5 +1,5 @@
-//! Explanations of rules: that of one rule, the name of none, and each failed write.
-//! tests/runs/explain.cases.sh has all rules.
+//! Explanations of rules: one rule, a name that no rule has, and each failed write. tests/runs/explain.cases.sh has all
+//! rules.
 
 use scripted_streams::ScriptSink;
 use std::alloc::Global;
@@ -35,7 +35,7 @@ fn explains_a_rule(rt: HostRuntime) -> Result<(), Fail> {
     Ok(())
 }
 
-// A name of no rule after the name of one: nothing is written.
+// After the name of a rule comes a name that no rule has: nothing is written.
 #[test]
 fn knows_no_other_names(rt: HostRuntime) -> Result<(), Fail> {
     let mut out = ToWriter::new(Vec::new(rt.alloc()));
@@ -60,7 +60,7 @@ fn fails_after(alloc: Global, writes: &[Result<usize, DeviceFault>]) -> Result<b
     )
 }
 
-// Each write after so many short ones fails in turn.
+// With this many short writes before it, each write fails in turn.
 #[test]
 fn reports_each_failed_write(rt: HostRuntime) -> Result<(), Fail> {
     let mut writes: Vec<Result<usize, DeviceFault>> = Vec::new(rt.alloc());

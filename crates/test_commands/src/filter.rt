@@ -29,7 +29,7 @@ fn writes_the_lines(rt: HostRuntime) -> Result<(), Fail> {
     ends(&rt, &every(), &[Ok(list)], &[Ok(1000), Ok(1000)], wanted)
 }
 
-// A read that fails stops the filter: what was counted is said, and what failed.
+// A failed read stops the filter: the counts are reported, and what failed.
 #[test]
 fn stops_at_a_failed_read(rt: HostRuntime) -> Result<(), Fail> {
     let wanted = Wanted {
@@ -42,7 +42,7 @@ fn stops_at_a_failed_read(rt: HostRuntime) -> Result<(), Fail> {
     ends(&rt, &every(), &reads, &[Ok(1000)], wanted)
 }
 
-// So does a write.
+// A failed write stops the filter too: the counts are reported, and what failed.
 #[test]
 fn stops_at_a_failed_write(rt: HostRuntime) -> Result<(), Fail> {
     let wanted = Wanted {

@@ -16,7 +16,7 @@ pub(crate) struct Wanted<'w> {
     pub written: &'w str,
 }
 
-/// A run of a job over an input of these reads and an output of these writes ends so.
+/// Checks that a run of a job over an input of these reads and an output of these writes ends as wanted.
 pub(crate) fn ends(
     rt: &(impl Abort + Files + Eprint + AllocGlobal),
     job: &Job,

@@ -1,6 +1,6 @@
-//! Tests of the commands: what `uv_cli` writes of texts and of lists, how each job ends, and what it says where a read
-//! or a write fails. They are above that crate, so that it isn't proved twice. Whether a command answers a text as is
-//! wanted is said by one function that is proved. What the program writes of many texts and lists is in tests/runs/.
+//! Tests of the commands: what `uv_cli` writes for texts and for lists, how each job ends, and what it says if a read
+//! or a write fails. They are in a crate above that one, so that it isn't proved twice. The one function that compares
+//! a command's answer with the wanted one is proved. tests/runs/ has what the program writes for many texts and lists.
 #![tactic(auto)]
 
 mod answered;

@@ -32,7 +32,7 @@ fn job(alloc: Global, other: Option<&str>) -> Result<Job, Fail> {
     }))
 }
 
-// A failed read of the input is reported, and what was read before it is reported.
+// A failed read of the input is reported, and so are the lines that were read before it.
 #[test]
 fn goes_on_after_a_failed_read(rt: HostRuntime) -> Result<(), Fail> {
     let wanted = Wanted {
@@ -45,7 +45,7 @@ fn goes_on_after_a_failed_read(rt: HostRuntime) -> Result<(), Fail> {
     ends(&rt, &job(rt.alloc(), None)?, &reads, &[Ok(1000)], wanted)
 }
 
-// A write that fails stops the lint: what was counted is said, and the write, and no further file is opened.
+// A write that fails stops the lint: the counts and the failed write are reported, and no further file is opened.
 #[test]
 fn stops_at_a_failed_write(rt: HostRuntime) -> Result<(), Fail> {
     let wanted = Wanted {

@@ -1,4 +1,4 @@
-//! Why a file isn't read and an output isn't written, for the reasons that no run can have the system give.
+//! Why a file isn't read and an output isn't written, for reasons that no run can make the system give.
 
 use std::io::ErrorKind;
 use std::test::Fail;

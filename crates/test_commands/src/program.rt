@@ -3,7 +3,7 @@ use std::io::{self, ErrorKind, Write};
 use uv_cli::program::finished;
 use uv_cli::{CliFault, End, WatchedWriter, status};
 
-// A writer that takes everything, and whose flush fails so, if it does.
+// A writer that takes everything, and whose flush fails like this, if it fails.
 #[derive(Drop)]
 struct Held {
     fails: Option<ErrorKind>,

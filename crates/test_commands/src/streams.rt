@@ -1,5 +1,5 @@
-//! Checks over sinks that play a list of answers: each write fails in turn, after short ones, in each profile, of the
-//! first violation and of all of them.
+//! Checks over sinks that play a list of answers. Each write fails in turn, after short ones: in each profile, and with
+//! the first violation or all of them.
 
 use scripted_streams::ScriptSink;
 use std::alloc::Global;
@@ -9,7 +9,7 @@ use uv_cli::{CheckEnd, CliFault, run_check, run_faults};
 use uv_io::{DeviceFault, Sink};
 use uv_model::{Extent, Profile, Refusal, Rule};
 
-// A text, its base, by what it is checked, how many of its violations are wanted, and what is written of it.
+// A text, its base, how it is checked, how many of its violations are wanted, and what is written.
 #[derive(Clone, Copy)]
 struct Row<'r> {
     text: &'r str,
@@ -135,8 +135,8 @@ const ROWS: [Row<'static>; 15] = [
 // More writes than a check of the rows makes.
 const MOST_WRITES: usize = 200;
 
-// Whether the writes suffice for the whole output. If they don't, the one after them fails, and a beginning of the
-// output is written.
+// Whether the writes suffice for the whole output. If they don't, the write after them fails, and only the beginning of
+// the output is written.
 fn writes_all(
     rt: &(impl Abort + AllocGlobal),
     row: &Row<'_>,
@@ -158,7 +158,7 @@ fn writes_all(
     Ok(false)
 }
 
-// Each write after so many short ones fails in turn, until none does.
+// With this many short writes before it, each write fails in turn, until none does.
 fn fails_each_write(
     rt: &(impl Abort + AllocGlobal),
     row: &Row<'_>,
@@ -201,7 +201,7 @@ fn has_written(
     Ok(matches!(answer, Err(CliFault::Write)) && out.bytes() == prefix.as_bytes())
 }
 
-// A sink that takes nothing, and one whose write fails within the output.
+// One sink takes nothing, and the write of another fails within the output.
 #[test]
 fn reports_what_a_sink_takes(rt: HostRuntime) -> Result<(), Fail> {
     assert!(rt; has_written(rt.alloc(), &[Ok(0)], "")?);
@@ -209,7 +209,7 @@ fn reports_what_a_sink_takes(rt: HostRuntime) -> Result<(), Fail> {
     Ok(())
 }
 
-// Of a refused base nothing is written: a sink that would fail isn't asked.
+// Nothing is written for a refused base: a sink that would fail isn't called.
 #[test]
 fn asks_no_sink_for_a_refused_base(rt: HostRuntime) -> Result<(), Fail> {
     let mut out = ScriptSink::new(rt.alloc(), 0, &[])?;

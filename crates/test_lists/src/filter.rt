@@ -1,6 +1,5 @@
-//! Lists that are written out, and what a filter writes of them, worked out by hand: what to write in place of a text
-//! by the URL Standard, and the ends of the lines as they were. Each read and each write is made to fail in turn,
-//! after short ones.
+//! Lists, each with what a filter writes for it, worked out by hand: what to write in place of a text by the URL
+//! Standard, and the line ends as they were. Each read and each write is made to fail in turn, after short ones.
 ghost use Rattle.std.specs.Prelude.{◌<◌};
 
 use crate::line_ends::line_feeds;
@@ -39,7 +38,7 @@ const COUNTS: FilterCounts = FilterCounts {
     too_long: 0,
 };
 
-// More writes than a run makes, of which each takes all that it is given.
+// More writes than a run makes, each of which takes everything.
 const TAKEN: [Result<usize, DeviceFault>; 100] = [Ok(1_000_000); 100];
 
 // What a run over these reads and writes answers, its counts, and what it has written.
@@ -62,7 +61,7 @@ fn mends_each_line_and_keeps_its_end(rt: HostRuntime) -> Result<(), Fail> {
     Ok(())
 }
 
-// After these reads one fails: of the lines that have ended, which are so many, all is written, and no more.
+// After these reads one fails: the lines that have ended, which are this many, are written, and no more.
 fn fails_after(
     rt: &(impl Abort + AllocGlobal),
     reads: &[Result<&[u8], DeviceFault>],
@@ -76,7 +75,7 @@ fn fails_after(
     Ok(())
 }
 
-// Each read after so many pieces fails in turn. Where none fails all is written.
+// With this many pieces read before it, each read fails in turn. If none fails, everything is written.
 fn fails_each_read(rt: &(impl Abort + AllocGlobal), length: usize) -> Result<(), Fail>
     requires { 0 < length }
 {
@@ -102,7 +101,7 @@ fn writes_the_lines_before_a_failed_read(rt: HostRuntime) -> Result<(), Fail> {
     Ok(())
 }
 
-// A text with so many bytes, of which each is a space, but for those at its start.
+// A text with this many bytes: its start, and then spaces.
 fn long_line(alloc: Global, length: usize) -> Result<Vec<u8>, AllocError> {
     let mut line = Vec::new(alloc);
     line.extend_from_slice(b"http://h/")?;
@@ -110,7 +109,7 @@ fn long_line(alloc: Global, length: usize) -> Result<Vec<u8>, AllocError> {
     Ok(line)
 }
 
-// All that was read of a line that is too long is written, and the line is counted.
+// Whatever was read of a line that is too long is written, and the line is counted.
 #[test]
 fn writes_a_long_line_before_a_failed_read(rt: HostRuntime) -> Result<(), Fail> {
     let mut line = long_line(rt.alloc(), 65_538)?;
@@ -160,7 +159,7 @@ fn writes_all(
     Ok(false)
 }
 
-// Each write after so many short ones fails in turn, until none does.
+// With this many short writes before it, each write fails in turn, until none does.
 fn fails_each_write(
     rt: &(impl Abort + AllocGlobal),
     list: &[u8],

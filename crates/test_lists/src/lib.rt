@@ -1,7 +1,7 @@
-//! Tests of lists: how `uv_lines` cuts one into lines and what a reporter says of each, what `uv_links` and `uv_lint`
-//! report, and what `uv_filter` writes in place of its lines, over readers and writers that fail too. They are above
-//! these crates, so that none of them is proved twice. How many lines have ended is counted by one function that is
-//! proved.
+//! Tests of lists: how `uv_lines` cuts a list into lines and what a reporter says about each, what `uv_links` and
+//! `uv_lint` report, and what `uv_filter` writes in place of its lines, also over readers and writers that fail. They
+//! are in a crate above these, so that none of them is proved twice. The one function that counts how many lines have
+//! ended is proved.
 #![tactic(auto)]
 
 #[cfg(test)]

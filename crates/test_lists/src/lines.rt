@@ -1,5 +1,4 @@
-//! Runs over lists written out, in a frame, with a reporter that says the number of each line and how many bytes it
-//! has.
+//! Runs over given lists, in a frame, with a reporter that says the number of each line and how many bytes it has.
 ghost use Rattle.std.specs.Prelude.{◌≡◌, ℕ, ◌≤◌, ◌++◌, List, OnErr, OnOk, codes};
 
 use std::alloc::{AllocError, Global};
@@ -9,7 +8,7 @@ use uv_lines::{Frame, Line, LineFault, LineLimits, ReportFault, Reporter, StopFa
 
 mod parts;
 
-// Says `NUMBER:BYTES `, `NUMBER:- ` of a line that is too long, and `.` after the last line.
+// Says `NUMBER:BYTES `, `NUMBER:- ` for a line that is too long, and `.` after the last line.
 #[derive(Drop)]
 struct Lengths {
     lines: u64,
@@ -52,7 +51,7 @@ impl Reporter for Lengths {
     }
 }
 
-// Pushes what is said of a line with this number.
+// Appends what is said about a line with this number.
 fn push_length(
     alloc: Global,
     number: u64,
@@ -91,7 +90,7 @@ fn ran(
     (answer, reporter.lines, writer.into_writer())
 }
 
-// A run over these bytes, of whose lines each may have four bytes, answers so, and writes this.
+// Checks that a run over these bytes, whose lines may have four bytes each, gives this answer and writes this.
 fn says(
     rt: &(impl Abort + AllocGlobal),
     bytes: &[u8],
@@ -111,7 +110,7 @@ fn says(
     assert!(rt; written.as_slice() == text.as_bytes());
 }
 
-// The lines of lists, with an empty line, a CR before LF and at the end, no line, and lines of the most bytes and more.
+// Lists with an empty line, a CR before LF and at the end, no line, and lines of the most bytes and more.
 #[test]
 fn reports_on_lines_in_order(rt: HostRuntime) {
     says(&rt, b"a\n\nbcd\n", 100, Ok(()), 3, "<1:1 2:0 3:3 .>");
@@ -124,8 +123,8 @@ fn reports_on_lines_in_order(rt: HostRuntime) {
     says(&rt, b"abcdefgh", 100, Ok(()), 1, "<1:- .>");
 }
 
-// After as many lines as may come a further one is a fault. What was said of those is out, and the end of the frame,
-// but not what is said after the last line.
+// A line after the last one that may come is a fault. What was said about the lines before it is written, and the end
+// of the frame, but not what is said after the last line.
 #[test]
 fn stops_after_the_last_line_that_may_come(rt: HostRuntime) {
     let fault = Err(LineFault::Stop(StopFault::TooManyLines));

@@ -16,13 +16,13 @@ fn takes_limits_up_to_the_largest(rt: HostRuntime) {
     assert!(rt; standard.line_bytes() == 65_536 && standard.lines() == 1_000_000_000);
 }
 
-// A fault has these words.
+// Checks that a fault has these words.
 fn is_named(rt: &(impl Abort + AllocGlobal), fault: LinkFault, want: &str) -> Result<(), Fail> {
     assert!(rt; fault.to_string(rt.alloc())?.as_str() == want);
     Ok(())
 }
 
-// The words that the program says of a fault.
+// The words for a fault that the program prints.
 #[test]
 fn names_faults(rt: HostRuntime) -> Result<(), Fail> {
     is_named(&rt, LinkFault::Stop(StopFault::Memory), "memory")?;

@@ -1,6 +1,6 @@
-//! Reports on a file over readers and writers that play a list of answers: each read and each write made to fail in
-//! turn, after short ones, and a file of too many lines. What is reported on which line, in each format, the runs of
-//! the program show.
+//! Reports on a file over readers and writers that play a list of answers: each read and each write is made to fail in
+//! turn, after short ones, and a file has too many lines. The runs of the program show what is reported on which line,
+//! in each format.
 ghost use Rattle.std.specs.Prelude.{◌<◌};
 
 use crate::line_ends::line_feeds;
@@ -16,7 +16,7 @@ use uv_report::{Columns, Format};
 
 const LIST: &[u8] = b"b\r\nhttp://h/\n\n\xff\nurn:a b";
 
-// The report on it: a line at its begin, three diagnostics and a line at its end.
+// The report on it: a line at its beginning, three diagnostics and a line at its end.
 const REPORT: &str = "<file name=\"list\">\n\
     <error line=\"1\" column=\"1\" severity=\"error\" message=\"there is no scheme and no base\" \
     source=\"urlcheck.no-scheme\"/>\n\
@@ -37,7 +37,7 @@ const SETTING: LintSetting<'static> = LintSetting {
     form: LineForm::Plain,
 };
 
-// More writes than a run makes, of which each takes all that it is given.
+// More writes than a run makes, each of which takes everything.
 const TAKEN: [Result<usize, DeviceFault>; 100] = [Ok(1_000_000); 100];
 
 // What a run over these reads and writes answers, how many lines it has checked and refused, and what it has written.
@@ -58,7 +58,7 @@ fn counts_of(counts: LintCounts) -> (u64, u64) {
     (counts.lines, counts.refused)
 }
 
-// How many lines are checked and how many refused among so many of the list's first lines.
+// How many lines are checked, and how many refused, among this many of the list's first lines.
 fn counts_on(lines: usize) -> (u64, u64) {
     match lines {
         0 => (0, 0),
@@ -76,7 +76,7 @@ fn before_end(report: &[u8]) -> &[u8] {
         .unwrap_or(&[])
 }
 
-// A run over these reads answers so, and writes the report on so many lines, with its end.
+// Checks that a run over these reads gives this answer, and writes the report on this many lines, with its end.
 fn answers(
     rt: &(impl Abort + AllocGlobal),
     reads: &[Result<&[u8], DeviceFault>],
@@ -92,8 +92,8 @@ fn answers(
     Ok(())
 }
 
-// Each read after so many pieces fails in turn: the report on the lines that have ended is written, with its end.
-// Where none fails the report is whole.
+// With this many pieces read before it, each read fails in turn: the report on the lines that have ended is written,
+// with its end. If none fails, the report is whole.
 fn fails_each_read(rt: &(impl Abort + AllocGlobal), length: usize) -> Result<(), Fail>
     requires { 0 < length }
 {
@@ -137,7 +137,7 @@ fn writes_all(
     Ok(false)
 }
 
-// Each write after so many short ones fails in turn, until none does.
+// With this many short writes before it, each write fails in turn, until none does.
 fn fails_each_write(rt: &(impl Abort + AllocGlobal), length: usize) -> Result<(), Fail> {
     let mut writes = Vec::new(rt.alloc());
     for _ in 0..MOST_WRITES {
@@ -173,7 +173,7 @@ fn reports_a_failed_write_after_a_failed_read(rt: HostRuntime) -> Result<(), Fai
     Ok(())
 }
 
-// A line of so many carets after its scheme.
+// A line with a scheme and then this many carets.
 fn line_of_carets(alloc: Global, count: usize) -> Result<Vec<u8>, AllocError> {
     let mut line = Vec::new(alloc);
     line.extend_from_slice(b"urn:")?;
@@ -181,8 +181,8 @@ fn line_of_carets(alloc: Global, count: usize) -> Result<Vec<u8>, AllocError> {
     Ok(line)
 }
 
-// If each code point of a line is wrong, its first diagnostics are written before the others are said: where the second
-// write fails, what the first one has written are whole diagnostics, and the line isn't counted.
+// If each code point of a line is wrong, its first diagnostics are written before the others are said. If the second
+// write fails, what the first one has written is whole diagnostics, and the line isn't counted.
 #[test]
 fn writes_a_long_line_in_parts(rt: HostRuntime) -> Result<(), Fail> {
     let line = line_of_carets(rt.alloc(), 6_999)?;
@@ -202,7 +202,8 @@ fn writes_a_long_line_in_parts(rt: HostRuntime) -> Result<(), Fail> {
     Ok(())
 }
 
-// A run over the file, which may have two lines of three bytes each, answers so after a report on the first line.
+// Checks that a run over the file, which may have two lines of three bytes each, gives this answer after a report on
+// the first line.
 fn stops(
     rt: &(impl Abort + AllocGlobal),
     bytes: &[u8],
@@ -231,7 +232,7 @@ fn stops(
     Ok(())
 }
 
-// After as many lines as may come a further one is a fault, and the file's end is written.
+// A line after the last one that may come is a fault, and the file's end is written.
 #[test]
 fn stops_after_the_last_line_that_may_come(rt: HostRuntime) -> Result<(), Fail> {
     stops(&rt, b"abcd\n\n", Ok(()))?;

@@ -5,7 +5,7 @@ ghost use Rattle.std.specs.Str.{IsAscii, IsNotAscii};
 use std::alloc::{AllocError, Global};
 use uv_model::Text;
 
-/// An ASCII text, empty in place of any other.
+/// An ASCII text; the empty one in place of any other.
 pub fn ascii(alloc: Global, text: &str) -> Result<Text, AllocError>
     ensures kept { IsAscii text.now → IfOk result (λ made. made ≡ text.now) }
     ensures emptied { IsNotAscii text.now → IfOk result (λ made. made ≡ []) }

@@ -1,6 +1,6 @@
-//! Tests of records: what `uv_model` says of code points, names, records and their texts, and which records
-//! `uv_resolve` makes. They are above these crates, so that none of them is proved twice. The texts that their
-//! records are made of are made by one function that is proved.
+//! Tests of records: what `uv_model` says about code points, names, records and their texts, and which records
+//! `uv_resolve` makes. They are in a crate above these, so that none of them is proved twice. The one function that
+//! makes the texts of their records is proved.
 #![tactic(auto)]
 
 mod ascii_texts;

@@ -1,5 +1,5 @@
-//! Paths of segments in one text: what is appended is after what was there, and the last segment goes alone. So it
-//! is with the list of these segments, and with a copy of each.
+//! Paths of segments in one text: what is appended comes after what was there, and only the last segment is taken away.
+//! The same holds for the list of these segments, and for a copy of each.
 
 use crate::ascii_texts::ascii;
 use std::alloc::{AllocError, Global};
@@ -13,7 +13,7 @@ fn path_of(alloc: Global, first: &str, others: &str) -> Result<PathText, AllocEr
     Ok(path)
 }
 
-// Whether the list has these texts, which are with a `/` between each two.
+// Whether the list has these texts, which are joined by `/`.
 fn are_texts(list: &TextList, joined: &str) -> bool {
     let mut left = list.iter();
     for wanted in joined.split('/') {

@@ -1,5 +1,5 @@
-//! Records with every field, copied and written: the copy has each field, and the text of a record is after what
-//! was written before. The cases of `tests/vectors/` have more texts of records.
+//! Records with every field, copied and written: the copy has each field, and the text of a record comes after what was
+//! written before. The cases of `tests/vectors/` have more texts of records.
 
 use std::alloc::{AllocError, Global};
 use uv_model::{Host, ListedTexts, Profile, Record, UrlPath, push_ipv4, push_ipv6, push_port};
@@ -32,7 +32,7 @@ fn is_opaque_host_record(record: &Record) -> bool {
 }
 
 // Whether each field is that of `https://EXAMPLE.com:443/a/../b?x='y'#é`: the scheme, the domain, the segment, the
-// query and the fragment as they are denoted.
+// query and the fragment that it denotes.
 fn is_domain_record(record: &Record) -> bool {
     let host = match record.host() {
         Some(Host::Domain(form)) => form.as_str() == "example.com",

@@ -1,6 +1,6 @@
-//! The records of texts written out, alone or against a base. Each expected text, field and refusal is worked out by
-//! hand from the URL Standard's sections 3.4 to 4.5 and docs/DECISIONS.md, never from a run of this code. The cases of
-//! `tests/vectors/` are more of them, which the built program runs.
+//! The records of given texts, alone or against a base. Each expected text, field and refusal is worked out by hand
+//! from the URL Standard's sections 3.4 to 4.5 and docs/DECISIONS.md, never from a run of this code. The cases of
+//! `tests/vectors/`, which the built program runs, have more of them.
 
 use std::alloc::{AllocError, Global};
 use uv_model::{Profile, Record, Refusal, Rule};
@@ -8,7 +8,7 @@ use uv_resolve::{ResolveFault, resolve, resolve_serialized};
 
 mod memory;
 
-// The record of a text alone.
+// The record of a text without a base.
 fn record_of(alloc: Global, text: &str) -> Result<Record, ResolveFault> {
     resolve(alloc, text, None, Profile::Standard)
 }

@@ -1,4 +1,4 @@
-//! Rows of records that are well formed and of such that aren't, by the rules of section 4.1 of the URL Standard.
+//! Rows of records that are well formed and of records that aren't, by the rules of section 4.1 of the URL Standard.
 
 use crate::ascii_texts::ascii;
 use crate::texts::segments;
@@ -8,7 +8,7 @@ use uv_model::{Host, Profile, UrlPath, well_formed};
 // A scheme, a port, and whether a record with them is well formed.
 type Row = (&'static str, Option<u16>, bool);
 
-// Whether each profile checks so of a record with this scheme, host, port and path, and nothing else.
+// Whether each profile gives this verdict on a record with this scheme, host, port and path, and nothing else.
 fn are_checked(
     scheme: &str,
     host: Option<&Host>,
@@ -112,7 +112,7 @@ fn checks_empty_and_absent_hosts(rt: HostRuntime) -> Result<(), AllocError> {
     Ok(())
 }
 
-// Whether a profile checks a record with a domain that has a `_`, and an empty first segment, to be well formed.
+// Whether a profile takes a record with a domain that has a `_`, and an empty first segment, as well formed.
 fn is_wide(alloc: Global, scheme: &str, profile: Profile) -> Result<bool, AllocError> {
     let path = segments(alloc, &["", "a"])?;
     let host = Host::Domain(ascii(alloc, "a_b")?);
@@ -133,7 +133,7 @@ fn has_path(scheme: &str, host: Option<&Host>, path: &UrlPath) -> bool {
     well_formed(scheme, host, None, path, None, None, Profile::Standard)
 }
 
-// Whether a path of these segments may be after `foo:`.
+// Whether a path of these segments may come after `foo:`.
 fn takes_segments(alloc: Global, texts: &[&str]) -> Result<bool, AllocError> {
     Ok(has_path("foo", None, &segments(alloc, texts)?))
 }
@@ -164,7 +164,7 @@ fn checks_paths_without_segments(rt: HostRuntime) -> Result<(), AllocError> {
     Ok(())
 }
 
-// Whether an opaque path may be after the scheme.
+// Whether an opaque path may come after the scheme.
 fn takes_opaque(
     alloc: Global,
     scheme: &str,

@@ -1,10 +1,10 @@
-//! Columns of places that are asked for in any order, which no run of the program does, and those beyond the greatest
+//! Columns of places that are asked for in any order, which no run of the program does, and columns beyond the greatest
 //! number of 64 bits. Each is worked out by hand from the code points of a text.
 
 use std::process::Abort;
 use uv_report::{ColumnCounter, Columns};
 
-// The columns of these places of the text, which are asked for in this order, are these.
+// Checks that the columns of these places of the text, asked for in this order, are these.
 fn counts(rt: &impl Abort, columns: Columns, rows: &[(usize, u64)]) {
     let mut counter = ColumnCounter::new(columns, 1, "e\u{301}\u{65E5}\u{1F600}\ta");
     for (place, column) in rows {
@@ -86,7 +86,7 @@ fn counts_from_before_the_first_column(rt: HostRuntime) {
     assert!(rt; counter.column(1) == 8);
 }
 
-// The greatest number of 64 bits stands for each column beyond it.
+// The greatest number of 64 bits stands for every column beyond it.
 fn stops(rt: &impl Abort, columns: Columns) {
     let mut counter = ColumnCounter::new(columns, u64::MAX - 1, "\u{1F600}a\t");
     assert!(rt; counter.column(0) == u64::MAX - 1);

@@ -1,4 +1,4 @@
-//! A diagnostic of the tests.
+//! A diagnostic for the tests.
 ghost use Rattle.std.specs.Prelude.{◌≡◌, ◌+◌, ◌-◌, ◌^◌, [], None, min};
 ghost use Rattle.uv_report.specs.Diagnostic.{diagnostic_view};
 

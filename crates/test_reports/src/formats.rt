@@ -10,7 +10,7 @@ use uv_model::{MendKind, Profile, Refusal, Rule};
 use uv_report::{Completion, Diagnostic, Fix, Format, Region, end_of};
 use uv_sentences::{Checked, LineViolation, SeenText, Wording, message};
 
-// Where no text is carried there is no line to show and no place below it.
+// If no text is carried, there is no line to show and no place below it.
 #[test]
 fn shows_no_line_without_a_text(rt: HostRuntime) -> Result<(), Fail> {
     let none = SeenText::new("");
@@ -20,7 +20,7 @@ fn shows_no_line_without_a_text(rt: HostRuntime) -> Result<(), Fail> {
     Ok(())
 }
 
-// A rule that the library doesn't have has no number among the rules of a document of SARIF.
+// A rule that the library doesn't have has no number among the rules of a SARIF document.
 #[test]
 fn takes_a_rule_of_the_callers_own(rt: HostRuntime) -> Result<(), Fail> {
     let link = SeenText::new("page.html");
@@ -33,7 +33,7 @@ fn takes_a_rule_of_the_callers_own(rt: HostRuntime) -> Result<(), Fail> {
     Ok(())
 }
 
-// Reviewdog names the page of a rule where there is one.
+// Reviewdog names the page of a rule if there is one.
 #[test]
 fn names_a_page_where_there_is_one(rt: HostRuntime) -> Result<(), Fail> {
     let link = SeenText::new("page.html");
@@ -49,7 +49,7 @@ fn names_a_page_where_there_is_one(rt: HostRuntime) -> Result<(), Fail> {
     Ok(())
 }
 
-// Within what the text is follows the message, with the escapes of the format.
+// Where in the file the text is follows the message, with the escapes of the format.
 #[test]
 fn says_within_what_the_text_is(rt: HostRuntime) -> Result<(), Fail> {
     let link = SeenText::new("page.html");
@@ -74,7 +74,7 @@ fn stays_on_one_line(rt: HostRuntime) -> Result<(), Fail> {
     Ok(())
 }
 
-// A text that goes on in another line is replaced over both.
+// A text that goes on in another line is replaced in both.
 #[test]
 fn replaces_a_text_over_two_lines(rt: HostRuntime) -> Result<(), Fail> {
     let link = SeenText::new("a b");
@@ -109,7 +109,7 @@ fn replaces_a_text_over_two_lines(rt: HostRuntime) -> Result<(), Fail> {
     Ok(())
 }
 
-// A text that may be written nowhere in the file is said, but isn't an edit of it.
+// A text that can't be written anywhere in the file is shown, but isn't an edit of it.
 #[test]
 fn edits_no_file_without_a_region(rt: HostRuntime) -> Result<(), Fail> {
     let link = SeenText::new("a b");
@@ -147,7 +147,7 @@ fn says_no_more_of_a_domain_with_nothing_wrong(rt: HostRuntime) -> Result<(), Fa
     Ok(())
 }
 
-// The end of a document says that the run has not succeeded, and why.
+// The end of a document says that the run didn't succeed, and why.
 #[test]
 fn says_in_sarif_that_the_run_was_stopped(rt: HostRuntime) {
     let end = end_of(Format::Sarif, Completion::Stopped);

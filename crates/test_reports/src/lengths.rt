@@ -1,4 +1,4 @@
-//! Plain links of each length near the lengths of the loads in which they are read, with other bytes at each place, as
+//! Plain links of each length near the lengths of the loads by which they are read, with other bytes at each place, as
 //! the second parser reads them. Each expected answer is by the URL that the URL Standard, section 4.4, makes of them.
 
 use std::alloc::{AllocError, Global};
@@ -6,7 +6,8 @@ use std::process::Abort;
 use std::test::Fail;
 use uv_compare::reads_as;
 
-// What a text begins with, so many small letters, of which this is in place of one, and what it ends with.
+// A text that begins with this, goes on with this many lower-case letters, one of which is replaced by this, and ends
+// with that.
 fn with_letters(
     alloc: Global,
     begin: &str,
@@ -23,14 +24,14 @@ fn with_letters(
     Ok(text)
 }
 
-// A text is the text of the URL that the second parser reads of it, or it isn't.
+// Checks whether a text is the text of the URL that the second parser reads in it.
 fn is_own(rt: &(impl Abort + AllocGlobal), text: &String, wanted: bool) -> Result<(), Fail> {
     let found = reads_as(rt.alloc(), None, text.as_str(), text.as_str())?;
     assert!(rt; found == wanted, "{text}");
     Ok(())
 }
 
-// So it is with a name that has this at a place.
+// Checks whether a link whose name has this at a place is the text of its URL.
 fn is_own_name(
     rt: &(impl Abort + AllocGlobal),
     count: usize,
@@ -42,7 +43,7 @@ fn is_own_name(
     is_own(rt, &text, wanted)
 }
 
-// So it is with a path that has this at a place.
+// Checks whether a link whose path has this at a place is the text of its URL.
 fn is_own_path(
     rt: &(impl Abort + AllocGlobal),
     count: usize,

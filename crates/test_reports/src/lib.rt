@@ -1,6 +1,6 @@
-//! Tests of the second parser, `uv_compare`, and of what `uv_sentences` and `uv_report` say if no run of the program
-//! reaches it: columns in any order, and diagnostics that no line gives. They are above these crates, so that none of
-//! them is proved twice. The diagnostics that are reported are made by one function that is proved.
+//! Tests of the second parser, `uv_compare`, and of what `uv_sentences` and `uv_report` say where no run of the program
+//! gets to: columns in any order, and diagnostics that no line gives. They are in a crate above these, so that none of
+//! them is proved twice. The one function that makes the reported diagnostics is proved.
 #![tactic(auto)]
 
 #[cfg(test)]

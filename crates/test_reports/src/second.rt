@@ -3,7 +3,7 @@
 use std::process::Abort;
 use uv_compare::{RoomFault, read_as, reading, reads_as, reads_same, serial};
 
-// The second parser reads the text, alone, as the URL of this text, or refuses it.
+// Checks that the second parser reads the text, without a base, as the URL of this text, or refuses it.
 fn reads(
     rt: &(impl Abort + AllocGlobal),
     text: &str,
@@ -27,7 +27,7 @@ fn reads_texts_alone(rt: HostRuntime) -> Result<(), RoomFault> {
     reads(&rt, "http://h:70000/", None)
 }
 
-// The second parser reads each of these as the text before it, or as another URL, or refuses one of them.
+// Checks that the second parser reads each of these as the text before it, or as another URL, or refuses one of them.
 fn compares(rt: &(impl Abort + AllocGlobal), rows: &[(&str, &str, bool)]) -> Result<(), RoomFault> {
     for (text, other, wanted) in rows {
         assert!(rt; reads_same(rt.alloc(), None, text, other)? == *wanted);
@@ -136,7 +136,7 @@ fn compares_other_texts(rt: HostRuntime) -> Result<(), RoomFault> {
     )
 }
 
-// The second parser's URL has the text that was asked for, or another one.
+// The second parser's URL has the text that was asked for, or it has another one.
 #[test]
 fn compares_texts(rt: HostRuntime) -> Result<(), RoomFault> {
     let alloc = rt.alloc();

@@ -1,6 +1,6 @@
-//! Tests of units and of hosts that no run of the program reaches: sets of bytes, what is known of a name without
-//! ToASCII, and domains while no memory is left. They are above `uv_text` and `uv_host`, so that neither is proved
-//! twice. Texts that repeat a piece are made by one function that is proved.
+//! Tests of units and of hosts that no run of the program gets to: sets of bytes, what is known about a name without
+//! ToASCII, and domains while no memory is left. They are in a crate above `uv_text` and `uv_host`, so that neither is
+//! proved twice. The function that repeats a piece of text is proved.
 #![tactic(auto)]
 
 #[cfg(test)]

@@ -15,7 +15,7 @@ fn name_end(text: &str) -> usize {
     name_prefix(&Tail::of(text)).unwrap_or(NONE)
 }
 
-// In each text of the table a name ends there.
+// Checks that in each text of the table a name ends where it says.
 fn end_at(rt: &impl Abort, rows: &[(&str, usize)]) {
     for (text, end) in rows {
         assert!(rt; name_end(*text) == *end, "{text}");
@@ -45,7 +45,7 @@ fn ends_after_a_letter_or_a_digit(rt: HostRuntime) {
     );
 }
 
-// After letters of each length a name ends so many bytes after them or nowhere.
+// Checks that after letters of each length a name ends this many bytes after them, or nowhere.
 fn ends_after_letters(
     rt: &(impl Abort + AllocGlobal),
     after: &str,
@@ -77,10 +77,10 @@ fn ends_alike_at_each_length(rt: HostRuntime) -> Result<(), AllocError> {
     ends_after_letters(&rt, "-_:80", NONE)
 }
 
-// What a name of so many bytes is, of which all are `a` but the one at a place: by hand from the URL Standard, section
-// 3.3, and UTS #46, section 4.1. A domain's form has lower-case letters, digits, `-` and the full stop, under the wide
-// profile `_` too. A label has 1 to 63 bytes, and under the standard profile no hyphen at an edge; the last one may be
-// empty.
+// What a name of this many bytes is, in which all but the one at a place are `a`: by hand from the URL Standard,
+// section 3.3, and UTS #46, section 4.1. A domain's form has lower-case letters, digits, `-` and the full stop, under
+// the wide profile `_` too. A label has 1 to 63 bytes, and under the standard profile no hyphen at an edge; the last
+// one may be empty.
 fn answer_of(byte: u8, place: usize, length: usize, profile: Profile) -> Option<PlainAnswer> {
     let after = length.saturating_sub(place).saturating_sub(1);
     let is_wide = profile == Profile::Wide;
@@ -104,7 +104,7 @@ fn answer_of(byte: u8, place: usize, length: usize, profile: Profile) -> Option<
     })
 }
 
-// A name of so many `a`, but for one byte at a place.
+// A name of this many `a`, except for one byte at a place.
 fn name_with(alloc: Global, byte: u8, place: usize, length: usize) -> Result<String, AllocError> {
     let mut name = String::new(alloc);
     for at in 0..length {
@@ -113,7 +113,7 @@ fn name_with(alloc: Global, byte: u8, place: usize, length: usize) -> Result<Str
     Ok(name)
 }
 
-// Checks what is answered on so many letters with each ASCII byte at a place among them, by two profiles.
+// Checks what is answered for this many letters with each ASCII byte at a place among them, by two profiles.
 fn answers_on_each_byte(
     rt: &(impl Abort + AllocGlobal),
     length: usize,
@@ -140,7 +140,7 @@ fn answers_on_each_byte_at_each_place(rt: HostRuntime) -> Result<(), AllocError>
     Ok(())
 }
 
-// What is said of a name without ToASCII, which has to be asked of one that is unknown.
+// What is said about a name without ToASCII, which has to be asked about a name that is unknown.
 fn answer_name(name: &str, profile: Profile) -> &'static str {
     match plain_answer(name, profile) {
         Some(PlainAnswer::Domain) => "domain",
@@ -150,14 +150,14 @@ fn answer_name(name: &str, profile: Profile) -> &'static str {
     }
 }
 
-// The answer on each name of the table, without ToASCII, under the profile.
+// Checks the answer on each name of the table, without ToASCII, under the profile.
 fn are_answers(rt: &impl Abort, profile: Profile, rows: &[(&str, &str)]) {
     for (name, answer) in rows {
         assert!(rt; answer_name(*name, profile) == *answer, "{name}");
     }
 }
 
-// Hyphens at an edge of a label, in its third and fourth place, and `xn--`, of which ToASCII has to be asked.
+// Hyphens at an edge of a label and in its third and fourth place, and `xn--`, about which ToASCII has to be asked.
 #[test]
 fn reads_the_hyphens_of_labels(rt: HostRuntime) {
     are_answers(
@@ -179,8 +179,8 @@ fn reads_the_hyphens_of_labels(rt: HostRuntime) {
     );
 }
 
-// What is known of names under the standard profile: hyphens in the third and fourth place, and at an edge of a label
-// (UTS #46, section 4.1), the code points of a form, and what ToASCII has to be asked for.
+// What is known about names under the standard profile: hyphens in the third and fourth place, and at an edge of a
+// label (UTS #46, section 4.1), the code points of a form, and what ToASCII has to be asked for.
 #[test]
 fn answers_on_names_without_toascii(rt: HostRuntime) {
     are_answers(
@@ -197,7 +197,7 @@ fn answers_on_names_without_toascii(rt: HostRuntime) {
     );
 }
 
-// What is known of names by the wider profiles without ToASCII.
+// What the wider profiles know about names without ToASCII.
 #[test]
 fn answers_on_more_names_without_toascii(rt: HostRuntime) {
     are_answers(

@@ -1,10 +1,10 @@
-//! Texts that repeat a piece, so that what is after it comes at each length.
+//! Texts that repeat a piece, so that what comes after it is tried at each length.
 ghost use Rattle.std.specs.Prelude.{◌≡◌, ◌++◌, IfOk, string_bytes};
 ghost use Rattle.std.specs.List.{repeat};
 
 use std::alloc::{AllocError, Global};
 
-/// A piece so many times, and what is after it.
+/// A piece this many times, and what comes after it.
 pub fn repeated_before(
     alloc: Global,
     piece: &str,

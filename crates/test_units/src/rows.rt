@@ -25,7 +25,7 @@ fn plain_run(bytes: &[u8]) -> usize {
     count
 }
 
-// Checks the run against a plain count, with each byte at each place of a prefix of so many bytes.
+// Checks the run against a plain count, with each byte at each place of a prefix of this many bytes.
 fn counts_plainly(rt: &impl Abort, length: usize)
     requires { length ≤ 97 }
 {

@@ -1,4 +1,4 @@
-//! What a test does that wants no memory to be left.
+//! Helpers for a test that needs all memory to be taken.
 
 use std::alloc::Global;
 
@@ -20,8 +20,8 @@ fn take_block(alloc: Global, size: usize, held: &mut Vec<Vec<u8>>) -> usize {
 }
 
 /// Takes all the memory that there is, down to blocks of eight bytes. An allocator keeps what was freed by its size, so
-/// every small size is asked for, and not the powers of two alone. Under `rt try` this takes too little: its tests run
-/// with an allocator that has set room aside for each size.
+/// every small size is asked for, not only the powers of two. Under `rt try` this takes too little: its tests run with
+/// an allocator that has set room aside for each size.
 pub(crate) fn take_all(alloc: Global, held: &mut Vec<Vec<u8>>) {
     let mut size = 1usize << 46;
     for _ in 0..400_000u32 {

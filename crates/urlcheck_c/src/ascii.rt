@@ -1,13 +1,13 @@
-//! Texts that are ASCII, as most are: they are found so by lanes, and are UTF-8 then.
+//! Texts that are ASCII, as most are. They are recognized by lanes, and need no further look for UTF-8.
 ghost use Rattle.std.specs.Prelude.{◌≡◌, ◌≤◌, ◌<◌, ◌↔◌, IsTrue, IsUtf8, MatchOption, length};
 ghost use Rattle.std.specs.Str.{IsAscii};
 
 use std::simd::prelude::*;
 
-// As many bytes as two loads hold.
+// This many bytes fill two loads.
 const TWO_LOADS: usize = 64;
 
-/// The bytes as a text, where they are ASCII.
+/// The bytes as a text, if they are ASCII.
 #[inline(always)]
 pub(crate) fn ascii_text(bytes: &[u8]) -> Option<&str>
     ensures { MatchOption result (¬ (IsAscii bytes.now)) (λ text. (text.now ≡ bytes.now) × IsUtf8 bytes.now) }
@@ -19,7 +19,8 @@ pub(crate) fn ascii_text(bytes: &[u8]) -> Option<&str>
     }
 }
 
-// Whether all bytes are ASCII. Two loads see most texts, the first of them and the last, which may overlap.
+// Whether all bytes are ASCII. For most texts two loads are enough, the first of the text and the last, which may
+// overlap.
 #[inline(always)]
 fn is_ascii(bytes: &[u8]) -> bool
     ensures { IsTrue result ↔ IsAscii bytes.now }
@@ -34,7 +35,8 @@ fn is_ascii(bytes: &[u8]) -> bool
     is_load_ascii(u8x32::from_slice(bytes)) && is_load_ascii(last)
 }
 
-// Whether fewer than 32 bytes are all ASCII. Two halves of a load, which may overlap, see 16 and more.
+// Whether fewer than 32 bytes are all ASCII. For 16 bytes and more, two halves of a load, which may overlap, are
+// enough.
 #[inline(always)]
 fn is_short_ascii(bytes: &[u8]) -> bool
     requires { length bytes.now < 32 }

@@ -11,7 +11,7 @@ use std::alloc::{AllocError, Global};
 use uv_grammar::{BaseKind, BaseScheme, Verdict, check_alone};
 use uv_model::Profile;
 
-/// A base, checked alone: what a verdict on a text asks of it. It is made by `urlcheck_prepare` alone.
+/// A base, checked by itself: what a verdict on a text needs to know about it. Only `urlcheck_prepare` makes one.
 #[repr(C)]
 #[derive(Clone, Copy)]
 pub struct Base {
@@ -28,7 +28,8 @@ pub struct Base {
     pub empty_host: u32,
 }
 
-/// Checks the bytes of a base alone under the profile with this number, for calls that are given the base after that.
+/// Checks the bytes of a base by themselves, under the profile with this number, for later calls that are given the
+/// base.
 #[unsafe(no_mangle)]
 pub extern "C" fn urlcheck_prepare(alloc: Global, base: &[u8], profile: u32) -> Base
     ensures { IsPreparedBase profile base.now result }
@@ -49,7 +50,7 @@ fn kind_of(alloc: Global, base: &[u8], profile: u32) -> Result<BaseKind, Finding
     kind_denoted(alloc, base, profile)
 }
 
-// The kind of what the bytes of a base denote alone: its parts say it, so no record is made.
+// The kind of what the bytes of a base denote by themselves: its parts say it, so no record is made.
 fn kind_denoted(alloc: Global, base: &[u8], profile: Profile) -> Result<BaseKind, Finding>
     ensures { IsKindDenoted profile base.now result }
 {
@@ -101,7 +102,7 @@ impl Base {
         }
     }
 
-    // What was found of a base that this profile refuses. Any other that isn't read was never prepared by it.
+    // What was found of a base that this profile refuses. Any other base that can't be read was never prepared by it.
     fn fault(&self, profile: u32) -> Finding
         ensures { result ≡ base_fault profile self.now }
     {
@@ -111,7 +112,7 @@ impl Base {
         Finding::plain(CallOutcome::NoBase)
     }
 
-    // The kind that the numbers of a base say: none if no scheme has its number, as 0.
+    // The kind that the numbers of a base say, or none if no scheme has its number, such as 0.
     #[inline(always)]
     fn kind(&self) -> Option<BaseKind>
         ensures { result ≡ kind_in self.now }
@@ -127,7 +128,7 @@ impl Base {
     }
 }
 
-// Whether that is found of a base that its profile refuses.
+// Whether this is found of a base that its profile refuses.
 fn is_refused_base(found: Finding) -> bool
     ensures { result ≡ is_refused_base found }
 {
@@ -169,7 +170,7 @@ fn scheme_with(number: u32) -> Option<BaseScheme>
 pub(crate) struct CheckRequest<'t> {
     /// The text.
     pub(crate) text: &'t str,
-    /// The kind of the base, where one is given.
+    /// The kind of the base, if one is given.
     pub(crate) kind: Option<BaseKind>,
     /// The profile by which it is checked.
     pub(crate) profile: Profile,
@@ -184,7 +185,7 @@ pub(crate) fn given_base(base: &Base, has_base: bool) -> Option<&Base>
 }
 
 /// What is to be checked of the bytes of a text under the profile with this number, alone or against a base that was
-/// prepared by it, or why nothing is: a profile is read first, then the text, and then the base.
+/// prepared by it; or why nothing is. The profile is read first, then the text, and then the base.
 #[inline(always)]
 pub(crate) fn asked<'t>(
     text: &'t [u8],

@@ -17,17 +17,17 @@ use std::alloc::Global;
 pub struct Batch {
     /// The number of the outcome: 9 if the texts were checked, otherwise why nothing was.
     pub outcome: u32,
-    /// The first text whose offsets are wrong, where the outcome says that some are, otherwise 0.
+    /// The first text whose offsets are wrong, if the outcome says that some are, otherwise 0.
     pub row: usize,
     /// How many texts are valid.
     pub valid: usize,
-    /// How many bytes were to be written, where texts were asked for, otherwise 0.
+    /// How many bytes were to be written, if texts were asked for, otherwise 0.
     pub length: usize,
 }
 
-/// Checks texts that are one after the other in a buffer, under the profile with this number, alone or against a base
-/// as `urlcheck_check` has it. The three columns get each text's verdict, its rule, both as numbers, and its place in
-/// code points; a column without room for all is left out. If nothing is checked, nothing is written.
+/// Checks texts that are one after another in a buffer, under the profile with this number, alone or against a base as
+/// `urlcheck_check` has it. The three columns get each text's verdict, its rule, both as numbers, and its place in code
+/// points; a column that hasn't room for all of them is left out. If nothing is checked, nothing is written.
 #[unsafe(no_mangle)]
 pub extern "C" fn urlcheck_check_many(
     alloc: Global,
@@ -55,7 +55,7 @@ pub extern "C" fn urlcheck_check_many(
     )
 }
 
-// Checks texts that are one after the other in a buffer, alone or against a base, and fills the three columns.
+// Checks texts that are one after another in a buffer, alone or against a base, and fills the three columns.
 fn checked(
     alloc: Global,
     texts: &[u8],
@@ -85,7 +85,7 @@ fn checked(
     }
 }
 
-// Checks each text, and gives how many are valid.
+// Checks each text, and counts the valid ones.
 fn check_rows(
     alloc: Global,
     texts: &[u8],
@@ -115,7 +115,7 @@ fn check_rows(
     valid
 }
 
-/// Puts a value into a column at its row, where the column has room for all rows.
+/// Puts a value into a column at its row, if the column has room for all rows.
 #[inline(always)]
 pub(crate) fn put<T: Copy>(column: &mut [T], rows: usize, row: usize, value: T)
     requires { row < rows }
@@ -127,7 +127,7 @@ pub(crate) fn put<T: Copy>(column: &mut [T], rows: usize, row: usize, value: T)
 }
 
 impl Batch {
-    /// Nothing was checked.
+    /// The answer if nothing was checked.
     pub(crate) fn unchecked(outcome: CallOutcome, row: usize) -> Batch
         ensures { result ≡ unchecked_batch outcome row }
     {

@@ -7,8 +7,7 @@ use crate::places::{after_passed, bytes_before};
 use crate::reports::fault_lists::Fault;
 use uv_model::Refusal;
 
-/// Writes the bytes to the start of `out` if they fit, and gives their length. Where `out` is shorter it stays as it
-/// is.
+/// Writes the bytes to the start of `out` if they fit, and gives their length. If `out` is shorter, it stays as it is.
 pub(crate) fn write_prefix(bytes: &[u8], out: &mut [u8]) -> usize
     ensures { IsWritten bytes.now out.old out.new result }
 {
@@ -18,7 +17,7 @@ pub(crate) fn write_prefix(bytes: &[u8], out: &mut [u8]) -> usize
     bytes.len()
 }
 
-/// Writes as many faults of a text as the buffer holds to its prefix.
+/// Writes as many faults of a text to the start of the buffer as it holds.
 pub(crate) fn store(text: &str, found: &[Refusal], out: &mut [Fault])
     ensures { out.new ≡ stored text.now found.now out.old }
 {
@@ -30,7 +29,7 @@ pub(crate) fn store(text: &str, found: &[Refusal], out: &mut [Fault])
     }
 }
 
-// Writes the faults to the start of a buffer that holds them.
+// Writes the faults to the start of a buffer that has room for them.
 fn store_all(text: &str, found: &[Refusal], out: &mut [Fault])
     requires { length found.now ≤ length out.old }
     ensures { out.new ≡ map (fault_of text.now) found.now ++ drop (length found.now) out.old }

@@ -28,7 +28,7 @@ pub struct Answer {
 }
 
 /// Whether the bytes are a valid URL string (URL Standard, section 4.3) under the profile with this number: alone, or
-/// where `has_base` is true against a base that `urlcheck_prepare` made under the same profile.
+/// if `has_base` is true against a base that `urlcheck_prepare` made under the same profile.
 #[unsafe(no_mangle)]
 pub extern "C" fn urlcheck_check(
     alloc: Global,
@@ -42,7 +42,7 @@ pub extern "C" fn urlcheck_check(
     answer_to(alloc, text, profile, given_base(base, has_base))
 }
 
-/// What was found of a text, without its parts: its verdict and its rule are small numbers.
+/// What was found of a text, without its parts. Its verdict and its rule are small numbers.
 #[inline(always)]
 pub(crate) fn found_of(alloc: Global, text: &[u8], profile: u32, base: Option<&Base>) -> Finding
     ensures found { IsFound profile (option_copied base.entry) text.now result }
@@ -88,8 +88,8 @@ fn verdict_on<'t>(alloc: Global, request: &CheckRequest<'t>) -> Result<Verdict<'
     }
 }
 
-// The answer by the verdict on a text: with the parts of a valid one, or with what the checker says in their place. The
-// verdict is lent, so that a valid text's parts are read where the checker left them.
+// The answer by the verdict on a text: with the parts of a valid one, or with what the checker says instead. The
+// verdict is borrowed, so that a valid text's parts are read where the checker left them.
 #[inline(always)]
 fn answer_of(text: &str, verdict: &Result<Verdict<'_>, AllocError>) -> Answer
     requires { (profile : Profile) × (base : Option Url) × IfOk verdict.now (IsVerdict profile base (chars text.now)) }

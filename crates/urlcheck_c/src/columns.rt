@@ -19,7 +19,7 @@ pub struct Counted {
     pub column: u64,
 }
 
-/// The column of a place, in code points, of a text that begins in this column, in the unit with this number.
+/// The column of a place, in code points, of a text that begins in this column, counted in the unit with this number.
 #[unsafe(no_mangle)]
 pub extern "C" fn urlcheck_column(text: &[u8], unit: u32, start: u64, place: usize) -> Counted
     ensures { IsColumnAnswer text.now unit start place result }
@@ -51,7 +51,7 @@ pub(crate) fn is_in_range(number: u64) -> bool
 }
 
 impl Counted {
-    // There is no column, for this reason.
+    // The answer if there is no column, for this reason.
     fn refused(outcome: CallOutcome) -> Counted
         ensures { result ≡ uncounted (plain_finding outcome) }
     {

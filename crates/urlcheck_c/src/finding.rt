@@ -17,11 +17,11 @@ pub struct Finding {
     /// 5 out of memory, 6 no profile has the number, 7 no base of the profile, 8 the text violates a rule and a mended
     /// text is given. include/urlcheck.h has the numbers of batches and reports, from 9 on; only that file has 18.
     pub verdict: u32,
-    /// The number of the violated rule, from 1 to 14, where the text or the base is refused, otherwise 0.
+    /// The number of the violated rule, from 1 to 14, if the text or the base is refused, otherwise 0.
     pub rule: u32,
-    /// The first wrong place in code points from 0, of the text or, where the verdict is about it, of the base.
+    /// The first wrong place, in code points from 0: of the text or, if the verdict is about the base, of the base.
     pub place: usize,
-    /// The first wrong place in bytes from 0, of the text or, where the verdict is about it, of the base.
+    /// The first wrong place, in bytes from 0: of the text or, if the verdict is about the base, of the base.
     pub byte_place: usize,
 }
 
@@ -34,7 +34,7 @@ pub(crate) enum CallOutcome {
     Refused,
     /// The text isn't UTF-8.
     NoUtf8,
-    /// The base violates a rule alone.
+    /// The base by itself violates a rule.
     BaseRefused,
     /// The base isn't UTF-8.
     BaseNoUtf8,
@@ -62,13 +62,13 @@ pub(crate) enum CallOutcome {
     NoPlace,
     /// A line or a column isn't from 1 to 4294967295.
     NoColumn,
-    /// An offset is less than the one before it, or after the texts' end.
+    /// An offset is less than the one before it, or beyond the end of the texts.
     NoOffsets,
     /// The name of the file isn't UTF-8.
     FileNoUtf8,
     /// The mended text isn't UTF-8.
     MendedNoUtf8,
-    /// The name or the address of a rule, a message, or what it is within isn't UTF-8.
+    /// One of these isn't UTF-8: the name or the address of a rule, a message, or what says where the text is.
     ReportedNoUtf8,
     /// No wording of sentences has the number.
     NoWording,
@@ -146,7 +146,7 @@ impl Finding {
     }
 }
 
-// How many code points the bytes hold, where they are UTF-8.
+// How many code points the bytes hold, if they are UTF-8.
 fn count_valid(bytes: &[u8]) -> usize
     ensures { IsUtf8 bytes.now → result ≡ length (chars bytes.now) }
 {

@@ -1,5 +1,5 @@
-//! The layout of what C gets: the sizes that include/urlcheck.h asserts too. In each size there is no room for a field
-//! at another place than there.
+//! The layout of the structs that C gets: their sizes, which include/urlcheck.h asserts too. The fields fill each size,
+//! so none of them can be at another place than in C.
 
 use crate::bases::Base;
 use crate::batches::Batch;

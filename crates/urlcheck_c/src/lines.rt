@@ -12,7 +12,7 @@ use uv_lines::{line_end, line_text};
 #[repr(C)]
 #[derive(Clone, Copy)]
 pub struct Line {
-    /// What was found of its text; the verdict is 0 if no further line is refused.
+    /// What was found of its text; the verdict is 0 if no more lines are refused.
     pub found: Finding,
     /// Where it begins.
     pub start: usize,
@@ -20,11 +20,11 @@ pub struct Line {
     pub length: usize,
     /// Where the line after it begins.
     pub next: usize,
-    /// How many valid lines were passed before it.
+    /// How many valid lines come before it.
     pub passed: usize,
 }
 
-/// The first line of a buffer, from this byte on, that isn't valid alone under the profile with this number. A line
+/// The first line of a buffer, from this byte on, that isn't valid by itself under the profile with this number. A line
 /// ends with LF, and one CR before that isn't a part of it; what follows the last LF is a line if it isn't empty.
 #[unsafe(no_mangle)]
 pub extern "C" fn urlcheck_next_refused(
@@ -44,7 +44,7 @@ pub extern "C" fn urlcheck_next_refused(
     next_refused(alloc, lines, from, profile)
 }
 
-// The first line of a buffer, from this byte of it on, that isn't valid alone under the profile with this number.
+// The first line of a buffer, from this byte on, that isn't valid by itself under the profile with this number.
 fn next_refused(alloc: Global, lines: &[u8], from: usize, profile: u32) -> Line
     requires { from ≤ length lines.now }
     ensures { IsFound profile lines.now from result }
@@ -75,7 +75,7 @@ fn next_refused(alloc: Global, lines: &[u8], from: usize, profile: u32) -> Line
     }
 }
 
-// The first line of bytes, and how many of them it takes with its end.
+// The first line of bytes, and how many bytes it takes with its end.
 #[derive(Clone, Copy)]
 struct FirstLine<'l> {
     text: &'l [u8],
@@ -101,7 +101,7 @@ fn first_line(rest: &[u8]) -> FirstLine<'_>
 }
 
 impl Line {
-    // No line was looked for.
+    // The answer if no line was looked for.
     fn none(outcome: CallOutcome) -> Line
         ensures { result ≡ no_line outcome }
     {

@@ -16,17 +16,17 @@ use uv_sentences::intention_of;
 pub struct Mended {
     /// The verdict.
     pub found: Finding,
-    /// How the mended text is to the text: 1 the same URL, 2 escaped alone, 3 changed, 0 if there is none.
+    /// How the mended text relates to the text: 1 the same URL, 2 only escaped, 3 changed, 0 if there is none.
     pub kind: u32,
-    /// 1 if reports say to write the mended text in the text's place, otherwise 0.
+    /// 1 if reports offer the mended text in place of the text, otherwise 0.
     pub offered: u32,
     /// The length in bytes of the mended text, 0 if there is none.
     pub length: usize,
 }
 
-/// Writes a valid URL string in place of refused bytes, as `uv_mend` makes it of them, to the start of `out`, where it
-/// fits. Else, and where there is none, `out` stays as it is. The bytes are read alone, or where `has_base` is true
-/// against the bytes of a base, which is checked alone under the same profile.
+/// Writes a valid URL string in place of refused bytes, as `uv_mend` makes it of them, to the start of `out`, if it
+/// fits. Otherwise, and if there is none, `out` stays as it is. The bytes are read alone, or if `has_base` is true
+/// against the bytes of a base, which is checked by itself under the same profile.
 #[unsafe(no_mangle)]
 pub extern "C" fn urlcheck_mend(
     alloc: Global,
@@ -54,7 +54,7 @@ fn request_mended(alloc: Global, request: &Request<'_>, out: &mut [u8]) -> Mende
     }
 }
 
-// What is made of the text, as C sees it; a mended text is written where it fits.
+// What is made of the text, as C sees it; a mended text is written if it fits.
 fn said(text: &str, mending: &Mending, out: &mut [u8]) -> Mended
     ensures { IsSaid text.now mending.now out.old out.new result }
 {
@@ -73,7 +73,7 @@ fn said(text: &str, mending: &Mending, out: &mut [u8]) -> Mended
 }
 
 impl Mended {
-    // No mended text.
+    // The answer without a mended text.
     fn none(found: Finding) -> Mended
         ensures { result ≡ unmended found }
     {

@@ -1,9 +1,9 @@
-//! Where texts begin and end that are one after the other in one buffer: each by its offset, which the one before it ends
-//! at, and the last by one more.
+//! Where texts begin and end that are one after another in a buffer: each begins at its offset and ends at the next
+//! one, so there is one offset more than there are texts.
 ghost use Rattle.std.specs.Prelude.{◌≡◌, ◌<◌, IsTrue, ◌↔◌, length};
 ghost use Rattle.urlcheck_c.specs.Offsets.{IsFirstWrong, IsRow, row_count, row_text};
 
-/// How many texts there are: one less than offsets, and none without an offset.
+/// How many texts there are: one less than offsets, and none if there are no offsets.
 #[inline(always)]
 pub(crate) fn row_count(offsets: &[u64]) -> usize
     ensures { result ≡ row_count offsets.now }
@@ -21,7 +21,7 @@ pub(crate) fn row_text<'t>(texts: &'t [u8], offsets: &[u64], row: usize) -> &'t 
     &texts[offsets[row] as usize..offsets[row + 1] as usize]
 }
 
-/// The first text whose offsets don't ascend or don't lie in a buffer of so many bytes.
+/// The first text whose offsets descend or don't lie within a buffer of this many bytes.
 pub(crate) fn first_wrong(offsets: &[u64], bytes: usize) -> Option<usize>
     ensures { IsFirstWrong bytes offsets.now result }
 {
@@ -33,7 +33,7 @@ pub(crate) fn first_wrong(offsets: &[u64], bytes: usize) -> Option<usize>
     None
 }
 
-// Whether the offsets of a text ascend, and lie in a buffer of so many bytes.
+// Whether the offsets of a text ascend and lie within a buffer of this many bytes.
 #[inline(always)]
 fn is_row(offsets: &[u64], bytes: usize, row: usize) -> bool
     requires { row < row_count offsets.now }

@@ -12,7 +12,7 @@ pub(crate) fn byte_place(text: &str, place: usize) -> usize
     bytes_before(text, after_code_points(text, place), place)
 }
 
-/// How many bytes are before what follows so many code points.
+/// How many bytes come before what follows this many code points.
 pub(crate) fn bytes_before(text: &str, left: &str, place: usize) -> usize
     requires { chars left.now ≡ drop place (chars text.now) }
     ensures { result ≡ byte_place text.now place }
@@ -20,7 +20,7 @@ pub(crate) fn bytes_before(text: &str, left: &str, place: usize) -> usize
     text.len() - left.len()
 }
 
-/// What follows the code points before a place, where the code points before another place are passed already.
+/// What follows the code points before a place, found from another place up to which the text was already walked.
 pub(crate) fn after_passed<'t>(text: &'t str, left: &'t str, passed: usize, place: usize) -> &'t str
     requires { chars left.now ≡ drop passed (chars text.now) }
     ensures { chars result.now ≡ drop place (chars text.now) }

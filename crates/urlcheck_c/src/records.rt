@@ -1,4 +1,4 @@
-//! The record that a valid text denotes: its text, and where its parts are there.
+//! The record that a valid text denotes: its text, and where the parts are in that.
 ghost use Rattle.std.specs.Prelude.{◌≡◌};
 ghost use Rattle.uv_model.specs.Records.Url.{Url};
 ghost use Rattle.uv_resolve.specs.Layout.{IsLaid};
@@ -16,7 +16,7 @@ use crate::spans::Spans;
 use std::alloc::Global;
 use uv_resolve::{LaidUrl, ResolveFault, resolve_laid};
 
-/// What a text is, and what is where in the text of its record.
+/// What a text is, and where each part is in the text of its record.
 #[repr(C)]
 #[derive(Clone, Copy)]
 pub struct PlacedRecord {
@@ -33,10 +33,9 @@ pub struct PlacedRecord {
     pub opaque_path: u32,
 }
 
-/// Writes the text of the record that the bytes denote (URL Standard, sections 4.4 and 4.5) to the start of `out`,
-/// where it fits, and tells where its parts are. Else, and where the bytes denote none, `out` stays as it is. The bytes
-/// are read alone, or where `has_base` is true against the bytes of a base, which is checked alone under the same
-/// profile.
+/// Writes the text of the record that the bytes denote (URL Standard, sections 4.4 and 4.5) to the start of `out`, if
+/// it fits, and says where its parts are. Otherwise, and if the bytes denote none, `out` stays as it is. The bytes are
+/// read alone, or if `has_base` is true against the bytes of a base, which is checked by itself under the same profile.
 #[unsafe(no_mangle)]
 pub extern "C" fn urlcheck_resolve(
     alloc: Global,
@@ -68,7 +67,7 @@ fn request_placed(alloc: Global, request: &Request<'_>, out: &mut [u8]) -> Place
     }
 }
 
-// The record's text, written where it fits, and what is where.
+// The record's text, written if it fits, and where its parts are.
 fn placed(laid: &LaidUrl, out: &mut [u8]) -> PlacedRecord
     requires { (url : Url) × IsLaid url laid.now }
     ensures { (url : Url) → IsLaid url laid.now → IsPlaced url out.old out.new result }
@@ -84,7 +83,7 @@ fn placed(laid: &LaidUrl, out: &mut [u8]) -> PlacedRecord
 }
 
 impl PlacedRecord {
-    // No record, since this was found.
+    // The answer without a record, since this was found.
     fn none(found: Finding) -> PlacedRecord
         ensures { result ≡ no_record found }
     {

@@ -1,4 +1,4 @@
-//! What is round the diagnostics of a report, and what its formats have.
+//! What comes before and after the diagnostics of a report, and what its formats can do.
 ghost use Rattle.std.specs.Prelude.{◌≡◌, IfOk, string_bytes};
 ghost use Rattle.uv_report.specs.Report.{begin_text, file_begin_text, file_end_text};
 ghost use Rattle.urlcheck_c.specs.Report.{IsBeginAnswer, IsEndAnswer, IsFileBeginAnswer, IsFileEndAnswer};
@@ -40,6 +40,7 @@ pub extern "C" fn urlcheck_report_begin(
     given(&begin(alloc, format, columns), out)
 }
 
+// What a report begins with, as a text of its own.
 fn begin(alloc: Global, format: Format, columns: Columns) -> Result<String, AllocError>
     ensures { IfOk result (λ text. string_bytes text ≡ begin_text format columns) }
 {
@@ -48,7 +49,7 @@ fn begin(alloc: Global, format: Format, columns: Columns) -> Result<String, Allo
     Ok(text)
 }
 
-/// Writes what is before the diagnostics of a file.
+/// Writes what comes before the diagnostics of a file.
 #[unsafe(no_mangle)]
 pub extern "C" fn urlcheck_report_file_begin(
     alloc: Global,
@@ -67,6 +68,7 @@ pub extern "C" fn urlcheck_report_file_begin(
     }
 }
 
+// What comes before the diagnostics of a file, as a text of its own.
 fn file_begin(alloc: Global, format: Format, file: &str) -> Result<String, AllocError>
     ensures { IfOk result (λ text. string_bytes text ≡ file_begin_text format file.now) }
 {
@@ -75,7 +77,7 @@ fn file_begin(alloc: Global, format: Format, file: &str) -> Result<String, Alloc
     Ok(text)
 }
 
-/// Writes what is after the diagnostics of a file.
+/// Writes what comes after the diagnostics of a file.
 #[unsafe(no_mangle)]
 pub extern "C" fn urlcheck_report_file_end(alloc: Global, format: u32, out: &mut [u8]) -> Written
     ensures { IsFileEndAnswer format out.old out.new result }
@@ -86,6 +88,7 @@ pub extern "C" fn urlcheck_report_file_end(alloc: Global, format: u32, out: &mut
     }
 }
 
+// What comes after the diagnostics of a file, as a text of its own.
 fn file_end(alloc: Global, format: Format) -> Result<String, AllocError>
     ensures { IfOk result (λ text. string_bytes text ≡ file_end_text format) }
 {
@@ -94,7 +97,7 @@ fn file_end(alloc: Global, format: Format) -> Result<String, AllocError>
     Ok(text)
 }
 
-/// Writes what a report ends with, by the number of how the run over its files has ended. It takes no memory.
+/// Writes what a report ends with, by the number that says how the run over its files has ended. It takes no memory.
 #[unsafe(no_mangle)]
 pub extern "C" fn urlcheck_report_end(format: u32, completion: u32, out: &mut [u8]) -> Written
     ensures { IsEndAnswer format completion out.old out.new result }
@@ -133,6 +136,7 @@ pub extern "C" fn urlcheck_takes_unit(format: u32, unit: u32) -> bool
     }
 }
 
+// Whether a format takes columns in the unit with this number.
 fn takes(format: Format, unit: u32) -> bool
     ensures { result ≡ takes_columns_of (spec.unit_of unit) format }
 {

@@ -1,4 +1,4 @@
-//! What a call asks: a text, a base and a profile, read from what C gave.
+//! What a call asks for: a text, a base and a profile, read from what C gave.
 ghost use Rattle.std.specs.Prelude.{◌≡◌, option_copied};
 ghost use Rattle.urlcheck_c.specs.Finding.{profile_of};
 ghost use Rattle.urlcheck_c.specs.Request.{IsBaseRead, IsPrepared, IsTextRead, given};
@@ -15,13 +15,13 @@ use uv_resolve::{ResolveFault, resolve};
 pub(crate) struct Request<'t> {
     /// The text.
     pub(crate) text: &'t str,
-    /// What the base denotes alone.
+    /// What the base by itself denotes.
     pub(crate) base: Option<Record>,
     /// The profile by which both are checked.
     pub(crate) profile: Profile,
 }
 
-/// What is to be read of the bytes of a text, alone or against the bytes of a base, or why nothing is.
+/// What is to be read of the bytes of a text, alone or against the bytes of a base; or why nothing is.
 pub(crate) fn prepared<'t>(
     alloc: Global,
     text: &'t [u8],
@@ -91,7 +91,7 @@ fn text_beyond_ascii(bytes: &[u8], fault: CallOutcome) -> Result<&str, Finding>
     }
 }
 
-/// What the bytes of a base denote alone.
+/// What the bytes of a base by themselves denote.
 pub(crate) fn base_of(alloc: Global, base: &[u8], profile: Profile) -> Result<Record, Finding>
     ensures { IsBaseRead profile base.now result }
 {

@@ -9,7 +9,7 @@ ghost use Rattle.urlcheck_c.specs.Span.{AreSpans, extent, no_spans, span_of, spa
 
 use uv_grammar::Parts;
 
-/// A part of a text, in bytes. Where it is absent all fields are zero.
+/// A part of a text, in bytes. If it is absent, all fields are zero.
 #[repr(C)]
 #[derive(Clone, Copy)]
 pub struct Span {
@@ -17,8 +17,8 @@ pub struct Span {
     pub start: usize,
     /// How long it is.
     pub length: usize,
-    /// 1 if the text has it, otherwise 0. C reads the first byte as its `bool`. The field has the room of C's padding
-    /// too, which would else be written for itself, in pieces.
+    /// 1 if the text has it, otherwise 0. C reads the first byte as its `bool`. The field also fills the padding that C
+    /// has after it, which would otherwise be written separately, in pieces.
     pub present: u64,
 }
 
@@ -71,7 +71,7 @@ pub(crate) fn placed(text: &str, parts: &Parts<'_>) -> Spans
     laid(text.len(), parts)
 }
 
-// The places of parts that are one after the other, with their delimiters.
+// The places of parts that come one after another, with their delimiters.
 #[inline(always)]
 fn laid(whole: usize, parts: &Parts<'_>) -> Spans
     requires { whole ≡ whole_extent parts.now }

@@ -12,11 +12,11 @@ use crate::reports::report_numbers::{format_of, unit_of, violation_of};
 use uv_model::Rule;
 use uv_sentences::{LineViolation, explain};
 
-/// Writes a fixed text to the start of `out` if it fits, and gives its length: 0 if there is none. It is told by what
-/// is asked for and by the number of what it is about. For a rule of texts or of lines: 0 its name, 1 its sentence and
-/// 3 what it requires. For a rule of texts: 2 where it is in the URL Standard, 4 its section there, 5 the base of its
-/// example, 6 the example and 7 a valid text that may have been meant. 8 the name of a format, and 9 the name of a
-/// unit.
+/// Writes a fixed text to the start of `out` if it fits, and gives its length, which is 0 if there is none. The first
+/// number says what is asked for, and the second what it is about. For a rule of texts or of lines: 0 its name, 1 its
+/// sentence and 3 what it requires. For a rule of texts: 2 where it is in the URL Standard, 4 its section there, 5 the
+/// base of its example, 6 the example and 7 a valid text that may have been meant. 8 the name of a format, and 9 the
+/// name of a unit.
 #[unsafe(no_mangle)]
 pub extern "C" fn urlcheck_text(what: u32, number: u32, out: &mut [u8]) -> usize
     ensures { IsTextAnswer what number out.old out.new result }
@@ -24,7 +24,8 @@ pub extern "C" fn urlcheck_text(what: u32, number: u32, out: &mut [u8]) -> usize
     write_prefix(fixed_text(what, number).as_bytes(), out)
 }
 
-/// The place at which the example of the rule with this number is refused, in code points, or 0 without such a rule.
+/// The place at which the example of the rule with this number is refused, in code points, or 0 if no rule has the
+/// number.
 #[unsafe(no_mangle)]
 pub extern "C" fn urlcheck_example_place(rule: u32) -> usize
     ensures { result ≡ example_place rule }
@@ -35,7 +36,7 @@ pub extern "C" fn urlcheck_example_place(rule: u32) -> usize
     }
 }
 
-// The text that is asked for, or no text.
+// The text that is asked for, or an empty one.
 fn fixed_text(what: u32, number: u32) -> &'static str
     ensures { IsFixedText what number result.now }
 {
@@ -46,7 +47,7 @@ fn fixed_text(what: u32, number: u32) -> &'static str
     }
 }
 
-// The name of the format with this number, or no text.
+// The name of the format with this number, or an empty text.
 fn format_name(number: u32) -> &'static str
     ensures { result.now ≡ format_name_or_none (spec.format_of number) }
 {
@@ -56,7 +57,7 @@ fn format_name(number: u32) -> &'static str
     }
 }
 
-// The name of the unit with this number, or no text.
+// The name of the unit with this number, or an empty text.
 fn unit_name(number: u32) -> &'static str
     ensures { result.now ≡ unit_name_or_none (spec.unit_of number) }
 {
@@ -66,7 +67,7 @@ fn unit_name(number: u32) -> &'static str
     }
 }
 
-// A text of the rule with this number, or no text.
+// A text of the rule with this number, or an empty one.
 fn rule_text(what: u32, number: u32) -> &'static str
     requires format { what ≢ 8 }
     requires unit { what ≢ 9 }
@@ -78,7 +79,7 @@ fn rule_text(what: u32, number: u32) -> &'static str
     }
 }
 
-// A text of what is wrong with a text or a line.
+// A text on what is wrong with a text or a line.
 fn violation_text(what: u32, violation: LineViolation) -> &'static str
     ensures exact { has_words what (Some violation) ≡ false → result.now ≡ violation_text what violation }
     ensures example { is_in_range 4 7 what ≡ true → IsLine result.now }
@@ -92,7 +93,7 @@ fn violation_text(what: u32, violation: LineViolation) -> &'static str
     }
 }
 
-// A text that explains what is wrong with a text; of a line that isn't checked there is none.
+// A text that explains what is wrong with a text; there is none for a line that isn't checked.
 fn explanation_text(what: u32, violation: LineViolation) -> &'static str
     requires sentence { what ≢ 1 }
     requires help { what ≢ 3 }

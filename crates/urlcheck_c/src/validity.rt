@@ -13,8 +13,8 @@ use std::alloc::{AllocError, Global};
 use uv_grammar::{is_valid, is_valid_of_kind};
 
 /// Whether the bytes are known to be a valid URL string (URL Standard, section 4.3) under the profile with this number,
-/// alone or against a base as `urlcheck_check` has it. The answer is no even if memory runs out, of a text whose
-/// verdict asks for it, and if nothing is checked.
+/// alone or against a base as `urlcheck_check` has it. The answer is also no if memory runs out, for a text whose
+/// verdict needs some, and if nothing is checked.
 #[unsafe(no_mangle)]
 pub extern "C" fn urlcheck_is_valid(
     alloc: Global,

@@ -18,14 +18,14 @@ pub struct Written {
 }
 
 impl Written {
-    /// There is no text, since this was found.
+    /// The answer without a text, since this was found.
     pub(crate) fn none(found: Finding) -> Written
         ensures { result ≡ unwritten found }
     {
         Written { found, length: 0 }
     }
 
-    /// There is no text, for this reason.
+    /// The answer without a text, for this reason.
     pub(crate) fn refused(outcome: CallOutcome) -> Written
         ensures { result ≡ unwritten (plain_finding outcome) }
     {
@@ -33,7 +33,7 @@ impl Written {
     }
 }
 
-/// Writes a text to the start of the buffer, where it fits.
+/// Writes a text to the start of the buffer, if it fits.
 pub(crate) fn given(text: &Result<String, AllocError>, out: &mut [u8]) -> Written
     ensures { (bytes : List ℕ) → IfOk text.now (λ t. string_bytes t ≡ bytes) → IsGiven bytes out.old out.new result }
 {
@@ -43,7 +43,7 @@ pub(crate) fn given(text: &Result<String, AllocError>, out: &mut [u8]) -> Writte
     }
 }
 
-/// Writes a text to the start of the buffer, where it fits, and gives its length in bytes.
+/// Writes a text to the start of the buffer, if it fits, and gives its length in bytes.
 pub(crate) fn text_given(text: &str, out: &mut [u8]) -> Written
     ensures { IsTextGiven text.now out.old out.new result }
 {

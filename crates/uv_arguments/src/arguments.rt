@@ -11,13 +11,13 @@ use std::env::FillError;
 use std::rt::Env;
 use std::str::from_utf8;
 
-// What ends the text that stands for an argument which isn't UTF-8. No argument of a process holds it.
+// The end of the text that stands for an argument which isn't UTF-8. No argument of a process can contain it.
 const MARK: char = '\0';
 
 // How many bytes of an argument are read at first.
 const ROOM: usize = 256;
 
-/// What gives the arguments of a process, each by its number. The first is the program's name.
+/// The source of the arguments of a process, each by its number. The first is the program's name.
 pub trait Arguments {
     // The argument with a number may be these bytes, or not be there.
     ghost gives: { Self → ℕ → Option (List ℕ) → Type 0 };
@@ -35,7 +35,7 @@ pub struct OwnArguments<'a, R> {
 }
 
 impl<'a, R: Env> OwnArguments<'a, R> {
-    /// Those that this runtime gives.
+    /// The arguments that this runtime gives.
     pub fn new(rt: &'a R) -> OwnArguments<'a, R> {
         OwnArguments { rt }
     }
@@ -50,8 +50,8 @@ impl<R: Env> Arguments for OwnArguments<'_, R> {
     }
 }
 
-/// The words of all arguments, in order. For an argument that isn't UTF-8 is a text that says so, by its number,
-/// and ends with a NUL: it can be no file's name.
+/// The words of all arguments, in order. In place of an argument that isn't UTF-8 comes a text that says so, by its
+/// number, and ends with a NUL: it can't be a file's name.
 pub fn words_of<A: Arguments>(alloc: Global, arguments: &A) -> Result<Vec<String>, AllocError>
     ensures { IfOk result (λ words. AreWords (A.gives arguments.now) (map string_bytes words.items)) }
 {
@@ -66,7 +66,7 @@ pub fn words_of<A: Arguments>(alloc: Global, arguments: &A) -> Result<Vec<String
     Err(AllocError)
 }
 
-// Reads the word of the argument with a number, if there is one, by a room that grows until it suffices.
+// Reads the word of the argument with a number, if there is one, into a room that grows until it suffices.
 fn read_word<A: Arguments>(
     alloc: Global,
     arguments: &A,
@@ -124,7 +124,7 @@ fn mark(alloc: Global, number: usize, hyphen: bool) -> Result<String, AllocError
     }
 }
 
-/// What is said of an argument that isn't UTF-8, by the text that stands for it; and nothing of another text.
+/// What is said about an argument that isn't UTF-8, by the text that stands for it; nothing for any other text.
 pub fn said_of(text: &str) -> Option<&str>
     ensures { option_copied result ≡ said_of text.now }
 {
@@ -144,7 +144,7 @@ pub fn without_hyphen(text: &str) -> &str
     }
 }
 
-/// What is said of the first argument that isn't UTF-8, unless each such argument is a file of a lint, which goes on
+/// What is said about the first argument that isn't UTF-8, unless each such argument is a file of a lint, which goes on
 /// without it.
 pub fn refused<'a>(texts: &'a [String], job: Option<&Job>) -> Option<&'a str>
     ensures { option_copied result
@@ -166,7 +166,7 @@ fn count_of_files(job: Option<&Job>) -> usize
     }
 }
 
-// What is said of the first of the texts that stands for an argument that isn't UTF-8.
+// What is said about the first of the texts that stands for an argument that isn't UTF-8.
 fn first_said(texts: &[String]) -> Option<&str>
     ensures { option_copied result ≡ first_said (map string_bytes texts.now) }
 {

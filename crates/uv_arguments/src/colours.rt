@@ -5,7 +5,7 @@ ghost use Rattle.uv_arguments.specs.Colours.{colours_asked, named_colours};
 /// When a report that people read has colours.
 #[derive(Clone, Copy, Debug, PartialEq, Eq)]
 pub enum Colours {
-    /// At a terminal, unless the environment says something else.
+    /// At a terminal, unless the environment says otherwise.
     Auto,
     /// Always.
     Always,
@@ -14,7 +14,7 @@ pub enum Colours {
 }
 
 impl Colours {
-    /// Each of them, in the order of docs and help.
+    /// All of them, in the order of docs and help.
     pub fn in_order() -> [Colours; 3] {
         [Colours::Auto, Colours::Always, Colours::Never]
     }
@@ -28,7 +28,7 @@ impl Colours {
         }
     }
 
-    /// What has this name, or `None` if nothing has it.
+    /// The one with this name, or `None` if there is none.
     pub fn of_name(name: &str) -> Option<Colours>
         ensures { result ≡ named_colours name.now }
     {
@@ -41,7 +41,7 @@ impl Colours {
     }
 }
 
-/// When colours are wanted by `--color WHEN`, which is `auto` if it isn't given; or the name that says nothing of it.
+/// When `--color WHEN` asks for colours, which is `auto` if it isn't given; or the name, if it isn't one of these.
 pub(crate) fn colours_asked<'a>(name: Option<&'a str>) -> Result<Colours, &'a str>
     ensures { MatchResult result (λ colours. colours_asked (option_map (λ t. t.now) name.entry) ≡ Ok colours)
         (λ other. colours_asked (option_map (λ t. t.now) name.entry) ≡ Err other.now) }

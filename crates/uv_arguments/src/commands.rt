@@ -11,7 +11,8 @@ use crate::help;
 use clap::{Arg, ArgAction, Command};
 use std::alloc::{AllocError, Global};
 
-// The usage of the commands that take options. If these are given, `clap`'s own shows them as if they had to be.
+// The usages of the commands that take options. The usage that `clap` makes itself shows options as if they were
+// required.
 const CHECK_USAGE: &str = "urlcheck check [OPTIONS] <TEXT>";
 
 const LINT_USAGE: &str = "urlcheck lint [OPTIONS] <FILE>...";
@@ -48,7 +49,7 @@ pub(crate) fn urlcheck<'a>(alloc: Global) -> Result<Command<'a>, AllocError>
     and_command(program, explain(alloc))
 }
 
-// The command with one subcommand more, if no allocation failed.
+// The command with one more subcommand, if no allocation failed.
 fn and_command<'a>(
     command: Result<Command<'a>, AllocError>,
     other: Result<Command<'a>, AllocError>,
@@ -59,7 +60,7 @@ fn and_command<'a>(
     command?.subcommand(other?)
 }
 
-// The command with one argument more, if no allocation failed.
+// The command with one more argument, if no allocation failed.
 fn and_arg<'a>(
     command: Result<Command<'a>, AllocError>,
     arg: Arg<'a>,
@@ -86,7 +87,7 @@ fn bare<'a>(
         .after_long_help(notes)
 }
 
-// A command without arguments, with a usage in place of `clap`'s own.
+// A command without arguments, with its own usage in place of `clap`'s.
 fn used<'a>(
     alloc: Global,
     name: &'a str,
@@ -100,6 +101,7 @@ fn used<'a>(
     bare(alloc, name, about, examples, notes).override_usage(usage)
 }
 
+// The command `check`. Its arguments, and those of each command below, are in the order of the help.
 fn check<'a>(alloc: Global) -> Result<Command<'a>, AllocError>
     ensures { IfOk result (IsApp check_command) }
 {
@@ -242,6 +244,7 @@ fn flag<'a>(alloc: Global, name: &'a str, heading: &'a str, help: &'a str) -> Ar
         .help(help)
 }
 
+// The option `--base`. This and the options below are each one argument of one or more commands.
 fn base<'a>(alloc: Global) -> Arg<'a>
     ensures rule { rule_of result ≡ option_rule (codes "base") }
     ensures local { result.global ≡ false }
@@ -360,6 +363,7 @@ fn files<'a>(alloc: Global) -> Arg<'a>
         .help("A list of links, one a line; - is standard input")
 }
 
+// The text of `check`, which may begin with a hyphen after `--`.
 fn text<'a>(alloc: Global) -> Arg<'a>
     ensures rule { rule_of result ≡ text_rule }
     ensures local { result.global ≡ false }

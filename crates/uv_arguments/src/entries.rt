@@ -1,4 +1,4 @@
-//! The entries of a command, as `clap` has read them: whether one is there, and its values.
+//! The entries of a command, as `clap` has read them: whether an entry is there, and its values.
 ghost use Rattle.std.specs.Prelude.{◌≡◌, IfOk, map, option_map, string_bytes};
 ghost use Rattle.clap.specs.Words.{all_of, first_of, found_of, rows_of};
 ghost use Rattle.uv_arguments.specs.Requests.{extent_in, has_flag};

@@ -1,5 +1,5 @@
-//! The texts of the help: examples of each command for its short form, and for its long form what the command prints,
-//! its exit statuses and the examples. Lines have at most 80 columns.
+//! The texts of the help: for its short form examples of each command, and for its long form also what the command
+//! prints, and its exit statuses. Lines have at most 80 columns.
 
 pub(crate) const ABOUT: &str =
     "Checks how links are written (WHATWG URL Standard). Opens no connection.";
@@ -134,6 +134,7 @@ Examples:
   urlcheck explain host-missing
   urlcheck explain --url host-missing percent";
 
+/// The help of options: a first line for the short form, and for the long form also their values.
 pub(crate) const PROFILE: &str = "What to accept [default: standard]
 [possible values: standard, wide, parser]";
 

@@ -14,20 +14,20 @@ pub enum Job {
         base: Option<String>,
         /// How many of its violations are wanted.
         extent: Extent,
-        /// By which profile it is checked, and the base too.
+        /// The profile by which it is checked, and the base too.
         profile: Profile,
     },
     /// To say what is wrong with the lines of files.
     Lint(LintJob),
-    /// To say it under a name of the standard input, which is none of the files.
+    /// To do that under a name for the standard input, which isn't one of the files.
     LintWithoutInput,
-    /// To say it under an empty name of the standard input.
+    /// To do that under an empty name for the standard input.
     LintUnnamed,
     /// To report on the lines of the standard input.
     Links {
         /// The base's text, if there is a base.
         base: Option<String>,
-        /// By which profile the lines are checked, and the base too.
+        /// The profile by which the lines are checked, and the base too.
         profile: Profile,
     },
     /// To say what to write in place of a text.
@@ -36,12 +36,12 @@ pub enum Job {
         text: String,
         /// The base's text, if there is a base.
         base: Option<String>,
-        /// By which profile it is checked, and the base too.
+        /// The profile by which it is checked, and the base too.
         profile: Profile,
     },
-    /// To write the lines of the standard input, mended where they can be.
+    /// To write the lines of the standard input, mended if they can be.
     Filter(FilterJob),
-    /// To mend one text by `--only`, `--all-mended` or `--quiet`, which are of lists alone.
+    /// To mend one text by `--only`, `--all-mended` or `--quiet`, which are only for lists.
     FilterOfText,
     /// To mend several texts.
     SeveralTexts,
@@ -49,7 +49,7 @@ pub enum Job {
     InPlace {
         /// The names of the files, or none.
         files: Vec<String>,
-        /// By what their lines are mended.
+        /// How their lines are mended.
         asked: FilterJob,
     },
     /// To run the cases of a file of vectors.
@@ -59,24 +59,24 @@ pub enum Job {
     },
     /// To say what rules require, or where they are in the URL Standard.
     Explain {
-        /// The rules' names, in order, or none where each rule is meant.
+        /// The rules' names, in order, or none if every rule is meant.
         rules: Vec<String>,
-        /// What is told of each of them.
+        /// What is said about each of them.
         told: Told,
     },
-    /// To check by a profile that there is none of.
+    /// To check by a profile that doesn't exist.
     UnknownProfile {
         /// The name that no profile has.
         name: String,
     },
-    /// To report with colours at a time that there is no word for.
+    /// To report with colours at a time that isn't one of those known.
     UnknownColours {
-        /// The name that says nothing of when.
+        /// The name that isn't one.
         name: String,
     },
 }
 
-/// What is told of a rule.
+/// What is said about a rule.
 #[derive(Clone, Copy, Debug, PartialEq, Eq)]
 pub enum Told {
     /// Its explanation.
@@ -85,7 +85,7 @@ pub enum Told {
     Address,
 }
 
-/// The files whose lines are checked, by what, and how what is wrong with them is reported.
+/// The files whose lines are checked, how they are checked, and how what is wrong with them is reported.
 #[derive(Drop)]
 pub struct LintJob {
     /// The names of the files. `-` is the standard input.
@@ -94,7 +94,7 @@ pub struct LintJob {
     pub base: Option<String>,
     /// How many of the violations of a line are wanted.
     pub extent: Extent,
-    /// By which profile the lines are checked, and the base too.
+    /// The profile by which the lines are checked, and the base too.
     pub profile: Profile,
     /// The name of the format, if one is named.
     pub format: Option<String>,
@@ -104,22 +104,22 @@ pub struct LintJob {
     pub located: bool,
     /// When a report that people read has colours.
     pub colours: Colours,
-    /// The name under which the standard input is reported on, if another one than `-`.
+    /// The name under which the standard input is reported, if not as `-`.
     pub stdin_name: Option<String>,
     /// Whether no counts are wanted.
     pub quiet: bool,
 }
 
-/// By what the lines of the standard input are mended.
+/// How the lines of the standard input are mended.
 #[derive(Drop)]
 pub struct FilterJob {
     /// The base's text, if there is a base.
     pub base: Option<String>,
-    /// By which profile the lines are checked, and the base too.
+    /// The profile by which the lines are checked, and the base too.
     pub profile: Profile,
-    /// The name of the kind of the mended texts that are wanted, if not all are.
+    /// The name of the kind of mended texts that are wanted, unless all are.
     pub only: Option<String>,
-    /// Whether mended texts are wanted too that reports don't offer.
+    /// Whether mended texts that reports don't offer are wanted too.
     pub all: bool,
     /// Whether no counts are wanted.
     pub quiet: bool,

@@ -10,12 +10,12 @@ use uv_model::Profile;
 pub(crate) enum Asked<'a> {
     /// This one.
     Known(Profile),
-    /// One with this name, which no profile has.
+    /// This name, which isn't a profile's.
     Unknown(&'a str),
 }
 
 /// The profile that is asked for by `--wide`, which stands for `--profile wide`, or by `--profile NAME`: the standard
-/// one with neither, and none with both.
+/// one if neither is given, and none if both are.
 pub(crate) fn asked_for<'a>(is_wide: bool, name: Option<&'a str>) -> Option<Asked<'a>>
     ensures { option_map wanted_view result ≡ wanted_by is_wide (option_map (λ t. t.now) name.entry) }
 {

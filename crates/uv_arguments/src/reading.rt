@@ -23,7 +23,7 @@ use uv_model::Profile;
 /// Why the arguments give no job.
 #[derive(Debug, Drop)]
 pub enum WordsFault {
-    /// The arguments are refused, or ask for help or the version. The error has the text to show.
+    /// The arguments are refused, or ask for help or the version. The error holds the text to show.
     Words(Error),
     /// An allocation failed.
     Memory,
@@ -48,7 +48,7 @@ impl WordsFault {
 ///
 /// The job has the command, the texts and the options that the arguments give. There is none if `clap` takes the
 /// arguments, but they name no command, no TEXT or no FILE, or give both `--wide` and `--profile`. A RULE, a FORMAT, a
-/// UNIT, a KIND and a NAME may be any text; a PROFILE that is the name of none gives the job that says so.
+/// UNIT, a KIND and a NAME may be any text; a PROFILE that doesn't exist gives the job that says so.
 pub fn read_words(alloc: Global, words: &[&str]) -> Result<Option<Job>, WordsFault>
     ensures job { IfOk result (λ job. option_map asked_by job
         ≡ request_of (subcommand_of urlcheck (map (λ word. word.now) words.now))) }
@@ -69,6 +69,7 @@ pub fn read_words(alloc: Global, words: &[&str]) -> Result<Option<Job>, WordsFau
     }
 }
 
+// Tells `clap`'s error of memory from those that have a text to show.
 fn fault(error: Error) -> WordsFault
     ensures memory { kind_of error ≡ ErrorKind.OutOfMemory → result ≡ WordsFault.Memory }
     ensures from { IsFrom error result }
@@ -137,7 +138,7 @@ fn explain_in(alloc: Global, entries: &ArgMatches<'_>) -> Result<Option<Job>, Al
     Ok(Some(Job::Explain { rules, told }))
 }
 
-// What a command's entries ask to be told of a rule.
+// What a command's entries ask to be told about a rule.
 fn told_by(entries: &ArgMatches<'_>) -> Told
     ensures { result ≡ told_in (rows_of (found_of entries.now)) }
 {
@@ -155,7 +156,7 @@ fn profile_asked<'a>(entries: &ArgMatches<'a>) -> Option<Asked<'a>>
     asked_for(has(entries, "wide"), value(entries, "profile"))
 }
 
-// The job of a command that checks by a profile.
+// The job of a command that checks under a profile.
 fn checked_in(
     alloc: Global,
     name: &str,
@@ -229,14 +230,14 @@ fn mend_in(
     }
 }
 
-// Whether a command's entries have what is of a filter alone.
+// Whether a command's entries have an option that only a filter takes.
 fn is_filtered(entries: &ArgMatches<'_>) -> bool
     ensures { result ≡ is_filtered (rows_of (found_of entries.now)) }
 {
     has(entries, "quiet") || has(entries, "all-mended") || value(entries, "only").is_some()
 }
 
-// By what a command's entries ask for lines to be mended.
+// How a command's entries ask for lines to be mended.
 fn filter_in(
     alloc: Global,
     entries: &ArgMatches<'_>,
@@ -278,7 +279,7 @@ fn lint_in(
     }
 }
 
-// The lint of these files that a command's entries ask for, with colours at such times.
+// The lint of these files that a command's entries ask for, with colours as they say.
 fn lint_of(
     alloc: Global,
     entries: &ArgMatches<'_>,

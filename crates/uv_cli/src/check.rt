@@ -17,16 +17,16 @@ use uv_resolve::{ResolveFault, resolve, resolve_base};
 pub enum CheckEnd {
     /// The text is valid, and the lines of its record were written.
     Valid,
-    /// The text is refused, and the line of its refusal was written, or by `run_faults` a line for each of its faults.
+    /// The text is refused. The line of its refusal was written, or by `run_faults` a line for each of its faults.
     Refused,
-    /// The base's text is refused alone, for this reason. Nothing was written.
+    /// The base's text by itself is refused, for this reason. Nothing was written.
     BaseRefused(Refusal),
 }
 
-/// Checks a text by a profile, alone or against a base, and writes what it says of it: the lines of a valid text's
-/// record, or the line of a refused text's first violation.
+/// Checks a text by a profile, alone or against a base, and writes the answer: the lines of a valid text's record, or
+/// the line of a refused text's first violation.
 ///
-/// The base is resolved alone under the same profile, before the text is looked at. An error of memory leaves the
+/// The base by itself is resolved under the same profile, before the text is looked at. An error of memory leaves the
 /// output as it was; an error of a write leaves a beginning of what was to be written.
 pub fn run_check<S: Sink>(
     alloc: Global,
@@ -50,8 +50,8 @@ pub fn run_check<S: Sink>(
     check_with_base(alloc, text, base, profile, Extent::First, out)
 }
 
-/// Checks a text as `run_check` does, and writes for a refused one a line for each of its violations, by place and at
-/// one place by the rule's number.
+/// Checks a text as `run_check` does, and writes for a refused one a line for each of its violations, ordered by place
+/// and at one place by the rule's number.
 pub fn run_faults<S: Sink>(
     alloc: Global,
     text: &str,
@@ -74,7 +74,7 @@ pub fn run_faults<S: Sink>(
     check_with_base(alloc, text, base, profile, Extent::All, out)
 }
 
-// Checks a text against a base's text, and writes what it says of it.
+// Checks a text against a base's text, and writes the answer.
 fn check_with_base<S: Sink>(
     alloc: Global,
     text: &str,
@@ -108,7 +108,7 @@ fn parser_runs_against(text: &str, base: Option<&str>, profile: Profile)
     ensures { RunsAgainst profile base.entry (chars text.now) }
 {}
 
-// Checks a text against a record as base, and writes what it says of it.
+// Checks a text against a record as base, and writes the answer.
 fn check_against<S: Sink>(
     alloc: Global,
     text: &str,
@@ -133,7 +133,7 @@ fn check_against<S: Sink>(
     }
 }
 
-// What a check says of a text against a record as base, and how it ends.
+// What a check says about a text against a record as base, and how it ends.
 fn say(
     alloc: Global,
     text: &str,
@@ -154,7 +154,7 @@ fn say(
     }
 }
 
-// The lines of a text that is refused so: one for the refusal, or one for each of its faults.
+// The lines on a refused text: one for the refusal, or one for each of its faults.
 fn refused_lines(
     alloc: Global,
     text: &str,

@@ -1,4 +1,4 @@
-//! How the program ends: with which exit status, and what it says of that on standard error.
+//! How the program ends: with which exit status, and what it says about that on standard error.
 ghost use Rattle.std.specs.Prelude.{◌≡◌, IfOk, option_copied, string_bytes};
 ghost use Rattle.uv_cli.specs.Ends as spec;
 ghost use Rattle.uv_cli.specs.Ends.{base_refused_text, error_text, fixed_text, fixed_vectors_text, malformed_text};
@@ -28,29 +28,29 @@ pub enum End {
     Shown,
     /// The arguments are refused.
     Words,
-    /// An argument that has to be the name of a rule is the name of none.
+    /// An argument that should name a rule names none.
     UnknownRule,
-    /// An argument that has to be the name of a format is the name of none.
+    /// An argument that should name a format names none.
     UnknownFormat,
-    /// An argument that has to be the name of what columns count is the name of nothing.
+    /// An argument that should name what columns count names nothing.
     UnknownColumns,
     /// The format has no word for what columns are to count.
     ColumnsRefused,
-    /// An argument that has to be the name of a profile is the name of none.
+    /// An argument that should name a profile names none.
     UnknownProfile,
-    /// An argument that has to be the name of a kind of mended texts is the name of none.
+    /// An argument that should name a kind of mended texts names none.
     UnknownKind,
-    /// The base's text is refused alone, for this reason.
+    /// The base's text by itself is refused, for this reason.
     BaseRefused(Refusal),
     /// An allocation failed, or a write or a flush failed.
     Fault(CliFault),
-    /// The lint of files has come to this.
+    /// The lint of files has ended like this.
     Linted(Linted),
-    /// The filter of lines has come to this.
+    /// The filter of lines has ended like this.
     Filtered(Filtered),
     /// The run over a list stopped.
     Stopped(LinkFault),
-    /// The run over a vector file ended so.
+    /// The run over a vector file ended like this.
     Vectors(VectorEnd),
     /// The vector file can't be opened or read.
     Unread,
@@ -68,7 +68,7 @@ pub(crate) fn end_of_check(gave: Result<CheckEnd, CliFault>) -> End
     }
 }
 
-/// The end of what a list gave: valid where every line is ok.
+/// The end of what a list gave: valid if every line is ok.
 pub(crate) fn end_of_list(gave: Result<Counts, LinkFault>) -> End
     ensures { result ≡ spec.end_of_list gave }
 {
@@ -105,7 +105,7 @@ pub(crate) fn end_of_explanation(gave: Result<ExplainEnd, CliFault>) -> End
     }
 }
 
-/// The end where a vector file isn't read.
+/// The end if a vector file isn't read.
 pub(crate) fn end_without_file(fault: FileFault) -> End
     ensures { result ≡ spec.end_without_file fault }
 {
@@ -115,7 +115,7 @@ pub(crate) fn end_without_file(fault: FileFault) -> End
     }
 }
 
-/// The end where the arguments give no job.
+/// The end if the arguments give no job.
 pub(crate) fn end_without_job(fault: &WordsFault) -> End
     ensures { result ≡ spec.end_without_job fault.now }
 {
@@ -131,7 +131,7 @@ pub(crate) fn end_without_job(fault: &WordsFault) -> End
     }
 }
 
-/// The end once all is written and flushed, or once that failed: then what was printed is not whole.
+/// The end once all is written and flushed, or once that failed: then what was printed isn't whole.
 pub(crate) fn end_after_output(end: End, is_out: bool) -> End
     ensures { result ≡ spec.end_after_output end is_out }
 {
@@ -167,8 +167,8 @@ pub fn status(end: End) -> u8
     }
 }
 
-/// What is said on standard error at the end: the last line, which says to a script why there is a status above 1, or
-/// nothing; of a lint and a filter also the counts.
+/// What is said on standard error at the end: the last line, which tells a script why there is a status above 1, or
+/// nothing; for a lint and a filter also the counts.
 pub fn error_line(alloc: Global, end: End) -> Result<String, AllocError>
     ensures { IfOk result (λ text. string_bytes text ≡ error_text end) }
 {
@@ -178,7 +178,7 @@ pub fn error_line(alloc: Global, end: End) -> Result<String, AllocError>
     }
 }
 
-/// The last line on standard error where it is words alone, or nothing: it takes no memory.
+/// The last line on standard error if it is only words, or nothing: it takes no memory.
 pub(crate) fn fixed_line(end: End) -> Option<&'static str>
     ensures { option_copied result ≡ fixed_text end }
 {
@@ -195,7 +195,7 @@ pub(crate) fn fixed_line(end: End) -> Option<&'static str>
     }
 }
 
-// The line of a vector file that isn't run, where it is words alone.
+// The line on a vector file that isn't run, if it is only words.
 fn fixed_vectors_line(end: VectorEnd) -> Option<&'static str>
     ensures { option_copied result ≡ fixed_vectors_text end }
 {
@@ -208,7 +208,7 @@ fn fixed_vectors_line(end: VectorEnd) -> Option<&'static str>
     }
 }
 
-/// The last line where it has numbers, with the counts of a lint or a filter before it.
+/// The last line if it has numbers, with the counts of a lint or a filter before it.
 pub(crate) fn numbered_line(alloc: Global, end: End) -> Result<String, AllocError>
     ensures { IfOk result (λ text. string_bytes text ≡ numbered_text end) }
 {
@@ -221,6 +221,7 @@ pub(crate) fn numbered_line(alloc: Global, end: End) -> Result<String, AllocErro
     }
 }
 
+// The last line for a vector file in which the value with this number isn't a case.
 #[tactic(auto, unfolding(crate::specs::Ends::malformed_text))]
 fn malformed_line(alloc: Global, number: usize) -> Result<String, AllocError>
     ensures { IfOk result (λ text. string_bytes text ≡ malformed_text number) }
@@ -228,6 +229,7 @@ fn malformed_line(alloc: Global, number: usize) -> Result<String, AllocError>
     format!(in alloc; "vector {number} malformed\n")
 }
 
+// The last line for a base that is refused.
 #[tactic(auto, unfolding(crate::specs::Ends::base_refused_text))]
 fn base_refused_line(alloc: Global, refusal: Refusal) -> Result<String, AllocError>
     ensures { IfOk result (λ text. string_bytes text ≡ base_refused_text refusal) }
@@ -237,6 +239,7 @@ fn base_refused_line(alloc: Global, refusal: Refusal) -> Result<String, AllocErr
     format!(in alloc; "base refused {place} {name}\n")
 }
 
+// The last line for a run over a list that stopped.
 fn listed_line(fault: LinkFault) -> &'static str
     ensures { result.now ≡ listed_text fault }
 {

@@ -1,5 +1,5 @@
-//! The command `explain`: what rules require, their sections of the URL Standard, and an example, of some rules or of
-//! each; or the addresses of these sections.
+//! The command `explain`: for some rules or each, what they require, their sections of the URL Standard, and an
+//! example; or the addresses of these sections.
 ghost use Rattle.std.specs.Prelude.{◌≡◌, ◌+◌, ◌-◌, ◌^◌, ◌<◌, IfOk, OnOk};
 ghost use Rattle.uv_cli.specs.Explain.{HasExplained, HasWrittenText};
 
@@ -14,14 +14,15 @@ use uv_messages::explanations::explained;
 pub enum ExplainEnd {
     /// What was asked for was written.
     Explained,
-    /// The name belongs to no rule and to no violation with a line. Nothing was written.
+    /// The name is neither a rule's nor that of another violation of a line. Nothing was written.
     Unknown,
 }
 
-/// Writes what the rules with these names ask, where they are, and an example of each, in the order of the names and
-/// with an empty line between two; without a name it writes this of each rule, in the order of their numbers. By the
-/// name of a violation with a line that isn't checked it writes what a line is asked. If `told` asks for addresses, it
-/// writes for each rule the address of its section of the URL Standard, in a line, and nothing if it has none.
+/// Writes what the rules with these names require, where the Standard says so, and an example of each, in the order of
+/// the names, with an empty line between them. Without a name it writes this for every rule, in the order of their
+/// numbers. For the name of a violation by which a line isn't checked, it writes what a line has to be. If `told` asks
+/// for addresses, it writes for each rule the address of its section of the URL Standard, in a line, or nothing if it
+/// has none.
 ///
 /// An error of memory leaves the output as it was; an error of a write leaves a beginning of what was to be written.
 pub fn run_explain<S: Sink>(

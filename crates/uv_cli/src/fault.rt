@@ -1,4 +1,4 @@
-//! Why a command's output is not whole, and the line of what stopped a run over lines.
+//! Why a command's output isn't whole, and the line on what stopped a run over lines.
 ghost use Rattle.std.specs.Prelude.{◌≡◌};
 ghost use Rattle.uv_cli.specs.declared.fault.CliFault.TheVariants as cli;
 ghost use Rattle.uv_cli.specs.Ends.{fault_of_vectors};
@@ -9,7 +9,7 @@ use thiserror::Error;
 use uv_lines::StopFault;
 use uv_vectors::VectorFault;
 
-/// Why a command's output is not whole.
+/// Why a command's output isn't whole.
 #[derive(Clone, Copy, Debug, PartialEq, Eq, Error)]
 pub enum CliFault {
     /// An allocation failed. Nothing of the output was written.
@@ -39,7 +39,7 @@ impl From<VectorFault> for CliFault {
     }
 }
 
-/// The line of what stopped a run over lines.
+/// The line on what stopped a run over lines.
 pub(crate) fn stop_line(fault: StopFault) -> &'static str
     ensures { result.now ≡ stop_text fault }
 {
@@ -52,7 +52,7 @@ pub(crate) fn stop_line(fault: StopFault) -> &'static str
     }
 }
 
-/// The line of what stopped a run over lines, if something did.
+/// The line on what stopped a run over lines, if something did.
 pub(crate) fn stopped_line(stopped: Option<StopFault>) -> &'static str
     ensures { result.now ≡ stopped_text stopped }
 {

@@ -15,9 +15,9 @@ use uv_mend::MendKind;
 use uv_model::Record;
 use uv_resolve::{ResolveFault, resolve_base};
 
-/// Writes each line of an input, mended where there is a mended text of the kind with the name, or any if none is
-/// named, and otherwise as it was: alone or against the base, which is resolved alone, before anything is read. The
-/// base and the name are the texts that the job has.
+/// Writes each line of an input, mended if there is a mended text of the kind with the name, or of any kind if none is
+/// named, and otherwise as it was. The lines are read alone or against the base, which is resolved by itself, before
+/// anything is read. The base and the name are the texts that the job has.
 pub(crate) fn filter_lines<I: Source, S: Sink>(
     alloc: Global,
     job: &FilterJob,

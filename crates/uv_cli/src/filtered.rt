@@ -1,4 +1,4 @@
-//! What a filter of lines has come to.
+//! How a filter of lines has ended.
 ghost use Rattle.std.specs.Prelude.{◌≡◌, ◌==◌, IfOk, string_bytes};
 ghost use Rattle.uv_cli.specs.Filtered as spec;
 ghost use Rattle.uv_cli.specs.Filtered.{counts_text, filter_status, filtered_text, lines_text, mended_count};
@@ -9,7 +9,7 @@ use std::alloc::{AllocError, Global};
 use uv_filter::FilterCounts;
 use uv_lines::StopFault;
 
-/// What a filter of lines has come to: what was counted, and what went wrong.
+/// How a filter of lines has ended: what was counted, and what went wrong.
 #[derive(Clone, Copy, PartialEq, Eq)]
 pub struct Filtered {
     /// What has become of the lines.
@@ -18,12 +18,12 @@ pub struct Filtered {
     pub stopped: Option<StopFault>,
     /// Whether no counts are wanted.
     pub is_quiet: bool,
-    /// Whether a file stays as it was since it can't be read or written.
+    /// Whether a file stays as it was because it can't be read or written.
     pub is_file_left: bool,
 }
 
 impl Filtered {
-    /// What a filter has come to by its counts and its answer.
+    /// How a filter has ended, by its counts and its answer.
     pub(crate) fn new(
         counts: FilterCounts,
         answer: Result<(), StopFault>,
@@ -39,7 +39,7 @@ impl Filtered {
         }
     }
 
-    /// What the filter has come to after a further file of which this was counted.
+    /// How the filter stands after one more file, with these counts.
     pub(crate) fn with_counts(self, counts: FilterCounts) -> Filtered
         ensures { result ≡ spec.with_counts self counts }
     {
@@ -51,7 +51,7 @@ impl Filtered {
         }
     }
 
-    /// What the filter has come to after a further file that stays as it was, since something failed.
+    /// How the filter stands after one more file, which stays as it was because something failed.
     pub(crate) fn with_file_left(self) -> Filtered
         ensures { result ≡ spec.with_file_left self }
     {
@@ -63,7 +63,7 @@ impl Filtered {
         }
     }
 
-    /// What the filter has come to where this stopped it.
+    /// How the filter stands if this stopped it.
     pub(crate) fn with_fault(self, fault: StopFault) -> Filtered
         ensures { result ≡ spec.with_fault self fault }
     {
@@ -82,8 +82,8 @@ impl Filtered {
         refused(self.counts) == 0
     }
 
-    /// The exit status: 3 if something stopped the filter; otherwise 2 if a file stays as it was since it can't be read
-    /// or written; otherwise 1 if a line stays refused; otherwise 0.
+    /// The exit status: 3 if something stopped the filter; otherwise 2 if a file stays as it was because it can't be
+    /// read or written; otherwise 1 if a line stays refused; otherwise 0.
     pub(crate) fn status(self) -> u8
         ensures { result ≡ filter_status self }
     {
@@ -98,7 +98,7 @@ impl Filtered {
         }
     }
 
-    /// What is said on standard error at the end: the counts, where they are wanted, and what stopped the filter.
+    /// What is said on standard error at the end: the counts, if they are wanted, and what stopped the filter.
     pub(crate) fn error_lines(self, alloc: Global) -> Result<String, AllocError>
         ensures { IfOk result (λ lines. string_bytes lines ≡ filtered_text self) }
     {
@@ -141,6 +141,7 @@ fn counts_line(alloc: Global, counts: FilterCounts) -> Result<String, AllocError
     Ok(line)
 }
 
+// The first part of the line of counts: how many lines there were.
 #[tactic(auto, unfolding(crate::specs::Filtered::lines_text))]
 fn lines_part(alloc: Global, count: u64) -> Result<String, AllocError>
     ensures { IfOk result (λ part. string_bytes part ≡ lines_text count) }
@@ -149,6 +150,7 @@ fn lines_part(alloc: Global, count: u64) -> Result<String, AllocError>
     format!(in alloc; "urlcheck: {count} {noun}")
 }
 
+// The second part of the line of counts: how many lines were mended, by kind.
 #[tactic(auto, unfolding(crate::specs::Filtered::mended_text))]
 fn mended_part(alloc: Global, counts: FilterCounts) -> Result<String, AllocError>
     ensures { IfOk result (λ part. string_bytes part ≡ mended_text counts) }
@@ -160,6 +162,7 @@ fn mended_part(alloc: Global, counts: FilterCounts) -> Result<String, AllocError
     format!(in alloc; ", {all} mended ({same} same, {escaped} escaped, {changed} changed)")
 }
 
+// The last part of the line of counts: how many lines stay refused.
 #[tactic(auto, unfolding(crate::specs::Filtered::refused_text))]
 fn refused_part(alloc: Global, count: u64) -> Result<String, AllocError>
     ensures { IfOk result (λ part. string_bytes part ≡ refused_text count) }

@@ -21,19 +21,19 @@ use uv_messages::messages::{Message, say};
 use uv_messages::unread::{unmended, unread};
 use uv_resolve::{ResolveFault, resolve_base};
 
-// What follows the file's name in the name of the new one, until that takes its place.
+// What comes after the file's name in the name of the new one, until that replaces it.
 const NEW: &str = ".urlcheck-new";
 
 // Why a file stays as it was.
 #[derive(Drop)]
 enum Left {
-    // Its lines were read, and none of them is mended.
+    // Its lines were read, and none of them needs mending.
     Unchanged(FilterCounts),
     // Memory ran out.
     Memory,
-    // It can't be read, by an error of this kind, if that is known.
+    // It can't be read, because of an error of this kind, if it is known.
     Unread(Option<ErrorKind>),
-    // It can't be written, or the new file can't, by an error of this kind, if that is known.
+    // It can't be written, or the new file can't, because of an error of this kind, if it is known.
     Unwritten(Option<ErrorKind>),
 }
 
@@ -43,12 +43,12 @@ impl From<AllocError> for Left {
     }
 }
 
-/// Mends the lines of files by what a job asks for, each in its place: alone or against the base, which is resolved
-/// alone, before a file is opened. The base and the name of the kind are the texts that the job has.
+/// Mends the lines of files as a job asks, each in its place: alone or against the base, which is resolved by itself,
+/// before a file is opened. The base and the name of the kind are the texts that the job has.
 ///
-/// What is written of a file goes to a new one next to it, which gets its permissions, and its name once it is whole. A
-/// file of which no line is mended stays untouched; so does one that can't be read or written, which is reported on
-/// standard error, and the next ones go on. A link is followed, and stays one.
+/// A file's new lines are written to a new file next to it, which gets its permissions and, once it is whole, its name.
+/// A file in which no line is mended stays untouched. So does one that can't be read or written: that is reported on
+/// standard error, and the next file is mended. A link is followed, and stays one.
 pub(crate) fn mend_files<R: Files + Eprint + AllocGlobal>(
     rt: &R,
     files: &[String],
@@ -76,7 +76,7 @@ pub(crate) fn mend_files<R: Files + Eprint + AllocGlobal>(
     }
 }
 
-// Mends the lines of the files, one after the other.
+// Mends the lines of the files, one after another.
 fn mend_each<R: Files + Eprint + AllocGlobal>(
     rt: &R,
     files: &[String],
@@ -94,7 +94,7 @@ fn mend_each<R: Files + Eprint + AllocGlobal>(
     filtered
 }
 
-// Mends the lines of the next file, and says why it stays as it was, where something failed.
+// Mends the lines of the next file, and says why it stays as it was, if something failed.
 fn mend_next<R: Files + Eprint + AllocGlobal>(
     rt: &R,
     file: &str,
@@ -151,7 +151,8 @@ fn mend_file<R: Files + AllocGlobal>(
     answer
 }
 
-// Why a file stays as it was whose own path isn't found: there is none, or the system's program replaces no file.
+// Why a file stays as it was whose own path isn't found: either there is none, or the system's program can't replace a
+// file.
 fn left_unfound(kind: ErrorKind) -> Left {
     match kind {
         ErrorKind::OutOfMemory => Left::Memory,
@@ -177,8 +178,8 @@ fn opened<R: Files>(rt: &R, path: &str) -> Result<R::File, Left> {
     }
 }
 
-// Writes the lines of an old file to a new one, mended, and gives the new one the permissions and the name of the old
-// one, where a line of it is mended.
+// Writes the lines of an old file to a new one, mended; if a line was mended, the new file gets the permissions and the
+// name of the old one.
 fn replaced<R: Files + AllocGlobal>(
     rt: &R,
     path: &str,
@@ -198,7 +199,7 @@ fn replaced<R: Files + AllocGlobal>(
     }
 }
 
-// Writes each line of a reader to a writer, mended where it can be, and gives the writer back with the counts.
+// Writes each line of a reader to a writer, mended if it can be, and gives the writer back with the counts.
 fn written_mended<I: Read + Drop, W: Write + Drop>(
     alloc: Global,
     old: I,
@@ -223,7 +224,7 @@ fn written_mended<I: Read + Drop, W: Write + Drop>(
     }
 }
 
-// Why a file stays as it was where its lines weren't read or written, by the kinds of the last errors of both.
+// Why a file stays as it was if its lines weren't read or written, by the kinds of the last errors of both.
 fn left_by(fault: StopFault, read: Option<ErrorKind>, written: Option<ErrorKind>) -> Left {
     match fault {
         StopFault::Memory => Left::Memory,

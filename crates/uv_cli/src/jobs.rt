@@ -23,13 +23,13 @@ use uv_messages::messages::say;
 use uv_model::{Extent, Profile};
 use uv_vectors::run_cases;
 
-/// Does what a job asks for: it checks the job's text, against the job's base and under the profile that the job names,
-/// or says what to write in its place, or says what is wrong with the lines of the job's files, or reports on the lines
-/// of the input, or mends them, or runs the cases of a vector file, or explains the job's rules, or each rule, or says
-/// where they are in the URL Standard.
+/// Does what a job asks for. It checks the job's text, against the job's base and under the profile that the job names,
+/// or says what to write in its place; it says what is wrong with the lines of the job's files; it reports on the lines
+/// of the input, or mends them; it runs the cases of a vector file; or it explains rules, or says where they are in the
+/// URL Standard.
 ///
-/// The file has the bytes of the job's file, and only a run of vectors looks at it. A lint opens its files itself. The
-/// input is read only by a list, by a filter, and by a lint for a file that is named `-`, and the output isn't flushed.
+/// `file` has the bytes of the job's file, which only a run of vectors uses. A lint opens its files itself. The input
+/// is read only by a list, by a filter, and by a lint for a file that is named `-`. The output isn't flushed.
 pub fn run_job<R: Files + Eprint + AllocGlobal, I: Source, S: Sink>(
     rt: &R,
     job: &Job,
@@ -115,7 +115,7 @@ fn filter_asked<I: Source, S: Sink>(
     )
 }
 
-// Mends the lines of files in their place, where there are some.
+// Mends the lines of files in their place, if there are some.
 fn files_asked<R: Files + Eprint + AllocGlobal>(rt: &R, files: &[String], asked: &FilterJob) -> End
     ensures { HasDoneInPlace files.now asked.now result }
 {
@@ -146,7 +146,7 @@ fn mend_text<S: Sink>(
     end_of_check(run_mend(alloc, text, base, profile, out))
 }
 
-// Tells so much of the rules with these names, or of each rule.
+// Says this about the rules with these names, or about every rule.
 fn explained<S: Sink>(alloc: Global, rules: &[String], told: Told, out: &mut S) -> End
     requires { S.failed out.old < 2 ^ 64 - 1 }
     ensures { HasRunExplain rules.now result

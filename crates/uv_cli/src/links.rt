@@ -11,8 +11,8 @@ use uv_links::{LinkLimits, run_links};
 use uv_model::{Profile, Record};
 use uv_resolve::{ResolveFault, resolve_base};
 
-/// Reports on the lines of an input at the largest limits, alone or against a base, which is resolved alone, before
-/// anything is read.
+/// Reports on the lines of an input with the largest limits, alone or against a base, which is resolved by itself,
+/// before anything is read.
 pub(crate) fn list_links<I: Source, S: Sink>(
     alloc: Global,
     base: Option<&str>,

@@ -34,14 +34,14 @@ const NONE_COUNTED: LintCounts = LintCounts {
     refused: 0,
 };
 
-/// Reports on the lines of the job's files, in their order: in the format with the name, or in the one of compilers,
-/// and alone or against the base, which is resolved alone, before anything is read. Columns count what the unit says,
-/// or what they count in the format. The base, the name and the unit are the texts that the job has. The input is read
+/// Reports on the lines of the job's files, in their order: in the format with the name, or in that of compilers, and
+/// alone or against the base, which is resolved by itself, before anything is read. Columns count what the unit says,
+/// or else what the format prefers. The base, the name and the unit are the texts that the job has. The input is read
 /// for each file named `-`.
 ///
-/// A file that can't be opened, or not be read to its end, is reported on standard error by its name, and the next
-/// files go on; of the input the end says it. Another fault stops the lint; what the report ends with is still written
-/// if no write has failed.
+/// A file that can't be opened or read to its end is reported on standard error by its name, and the lint goes on with
+/// the next file; if it is the input, the end says so. Any other fault stops the lint; the end of the report is still
+/// written if no write has failed.
 pub(crate) fn lint_files<R: Files + Eprint + AllocGlobal, I: Source, S: Sink>(
     rt: &R,
     job: &LintJob,
@@ -73,7 +73,7 @@ pub(crate) fn lint_files<R: Files + Eprint + AllocGlobal, I: Source, S: Sink>(
     }
 }
 
-/// The format with a name, or the one of compilers if none is named.
+/// The format with a name, or that of compilers if none is named.
 pub(crate) fn format_of(name: Option<&str>) -> Option<Format>
     ensures { result ≡ format_of name.entry }
 {
@@ -83,7 +83,7 @@ pub(crate) fn format_of(name: Option<&str>) -> Option<Format>
     }
 }
 
-// What columns count in a format by its name, or if nothing is named what they count there.
+// What columns count, by its name, or if nothing is named what the format prefers.
 fn columns_of(format: Format, name: Option<&str>) -> Option<Columns>
     ensures { result ≡ columns_of format name.entry }
 {
@@ -93,7 +93,7 @@ fn columns_of(format: Format, name: Option<&str>) -> Option<Columns>
     }
 }
 
-// What a line is, by whether each says where its link is.
+// What each line is: only a link, or a link with where it is.
 fn form_of(is_located: bool) -> LineForm
     ensures { result ≡ form_of is_located }
 {
@@ -168,7 +168,7 @@ fn write_piece<S: Sink>(out: &mut S, piece: &str, linted: Linted) -> Linted
     }
 }
 
-// Reports on the files, one after the other, and on the standard input under this name.
+// Reports on the files, one after another, and on the standard input under this name.
 fn lint_each<R: Files + Eprint + AllocGlobal, I: Source, S: Sink>(
     rt: &R,
     files: &[String],
@@ -247,7 +247,7 @@ fn lint_named<R: Files + Eprint + AllocGlobal, I: Source, S: Sink>(
     lint_opened(rt, file, setting, is_first, out)
 }
 
-// Reports on the input by this name, unless its count of failed reads is at its end.
+// Reports on the input under this name, unless its number of failed reads can't be counted any further.
 fn lint_input<I: Source, S: Sink>(
     alloc: Global,
     file: &str,
@@ -267,7 +267,7 @@ fn lint_input<I: Source, S: Sink>(
     run_lint(alloc, input, out, file, is_first, setting)
 }
 
-// Reports on the file that is opened by its name, and reports why it isn't read, if it isn't read to its end.
+// Opens the file with this name and reports on it, and says why, if it isn't read to its end.
 fn lint_opened<R: Files + Eprint + AllocGlobal, S: Sink>(
     rt: &R,
     file: &str,
@@ -302,7 +302,7 @@ fn lint_opened<R: Files + Eprint + AllocGlobal, S: Sink>(
     }
 }
 
-// A file whose name isn't UTF-8 is never read, which is reported.
+// Reports that a file whose name isn't UTF-8 isn't read.
 fn unnamed<R: Eprint + AllocGlobal>(rt: &R, said: &str) -> StopFault
     ensures { result ≡ StopFault.Read }
 {
@@ -310,7 +310,7 @@ fn unnamed<R: Eprint + AllocGlobal>(rt: &R, said: &str) -> StopFault
     StopFault::Read
 }
 
-// Why a file isn't opened. What isn't out of memory is reported.
+// Why a file isn't opened. Unless memory ran out, that is reported.
 fn unopened<R: Eprint + AllocGlobal>(rt: &R, file: &str, kind: ErrorKind) -> StopFault
     ensures fault { IsUnopened (Err result) }
     ensures why { IsWhyUnopened kind result }

@@ -1,4 +1,4 @@
-//! What a lint of files has come to.
+//! How a lint of files has ended.
 ghost use Rattle.std.specs.Prelude.{◌≡◌, IfOk, string_bytes};
 ghost use Rattle.uv_cli.specs.Linted as spec;
 ghost use Rattle.uv_cli.specs.Linted.{completion_of, counts_text, is_writable, lint_status, linted_text};
@@ -9,25 +9,25 @@ use uv_lines::StopFault;
 use uv_lint::LintCounts;
 use uv_report::Completion;
 
-/// What a lint of files has come to: what was counted, and what went wrong.
+/// How a lint of files has ended: what was counted, and what went wrong.
 #[derive(Clone, Copy, PartialEq, Eq)]
 pub struct Linted {
-    /// How many lines of all files were checked, and of how many something was found. Each is 2^64 - 1 at most.
+    /// How many lines of all files were checked, and in how many something was found. Each is at most 2^64 - 1.
     pub counts: LintCounts,
-    /// Whether a file couldn't be opened, or not be read to its end.
+    /// Whether a file couldn't be opened, or couldn't be read to its end.
     pub is_unread: bool,
     /// Whether the standard input is among these.
     pub is_input_unread: bool,
-    /// Whether a line was refused of a file that has the name of a document.
+    /// Whether a line was refused in a file that has the name of a document.
     pub is_document_refused: bool,
-    /// What stopped the lint, if something did. A failed read stops none.
+    /// What stopped the lint, if something did. A failed read doesn't.
     pub stopped: Option<StopFault>,
     /// Whether no counts are wanted.
     pub is_quiet: bool,
 }
 
 impl Linted {
-    /// What a lint has come to before its first file.
+    /// How a lint stands before its first file.
     pub(crate) fn new(is_quiet: bool) -> Linted
         ensures { result ≡ spec.no_file is_quiet }
     {
@@ -44,8 +44,8 @@ impl Linted {
         }
     }
 
-    /// What the lint has come to after a file of which so many lines were counted: the standard input, or another one,
-    /// with the name of a document or of something else.
+    /// How the lint stands after a file with these counts: the standard input or another one, with the name of a
+    /// document or of something else.
     pub(crate) fn with_file(
         self,
         is_input: bool,
@@ -63,8 +63,7 @@ impl Linted {
         }
     }
 
-    // The counts of the lint after a file of which so many lines were counted, with the name of a document or of
-    // something else.
+    // The counts of the lint after a file with these counts, with the name of a document or of something else.
     fn with_counts(self, is_document: bool, counts: LintCounts) -> Linted
         ensures { result ≡ spec.with_counts self is_document counts }
     {
@@ -82,8 +81,8 @@ impl Linted {
         }
     }
 
-    // What the lint has come to after a file that can't be opened, or not be read to its end: the standard input, or
-    // another one.
+    // How the lint stands after a file that can't be opened, or can't be read to its end: the standard input or another
+    // one.
     fn with_unread(self, is_input: bool) -> Linted
         ensures { result ≡ spec.with_unread self is_input }
     {
@@ -97,7 +96,7 @@ impl Linted {
         }
     }
 
-    /// What the lint has come to where this stopped it.
+    /// How the lint stands if this stopped it.
     pub(crate) fn with_fault(self, fault: StopFault) -> Linted
         ensures { result ≡ spec.with_fault self fault }
     {
@@ -125,7 +124,7 @@ impl Linted {
         !matches!(self.stopped, Some(StopFault::Write))
     }
 
-    /// Whether nothing was found so far, so that a next diagnostic is the first one.
+    /// Whether nothing was found so far, so that the next diagnostic is the first one.
     pub(crate) fn is_clean(self) -> bool
         ensures { result ≡ spec.is_clean self }
     {
@@ -161,7 +160,7 @@ impl Linted {
         }
     }
 
-    /// What is said on standard error at the end: the counts, where they are wanted, and what stopped the lint.
+    /// What is said on standard error at the end: the counts, if they are wanted, and what stopped the lint.
     pub(crate) fn error_lines(self, alloc: Global) -> Result<String, AllocError>
         ensures { IfOk result (λ lines. string_bytes lines ≡ linted_text self) }
     {
@@ -174,6 +173,7 @@ impl Linted {
     }
 }
 
+// The line of counts.
 #[tactic(auto, unfolding(crate::specs::Linted::counts_text))]
 fn counts_line(alloc: Global, counts: LintCounts) -> Result<String, AllocError>
     ensures { IfOk result (λ line. string_bytes line ≡ counts_text counts) }

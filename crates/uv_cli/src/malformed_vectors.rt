@@ -1,4 +1,4 @@
-//! Why the cases of a file of vectors aren't checked: what stands on standard error before the last line.
+//! Why the cases of a file of vectors aren't checked: what is printed on standard error before the last line.
 
 use std::alloc::{AllocError, Global};
 use std::fmt::InlineText;
@@ -9,8 +9,7 @@ use uv_vectors::{CaseFault, CasesEnd, JsonFault};
 // How many bytes of a key are shown.
 const KEY_BYTES: usize = 80;
 
-/// What is said where a run over the file of vectors with this name ended so: why none of its cases is checked, or
-/// nothing.
+/// What is said about a run over the file of vectors with this name: why none of its cases is checked, or nothing.
 pub(crate) fn said_of_vectors(
     alloc: Global,
     file: &str,
@@ -31,7 +30,7 @@ pub(crate) fn said_of_vectors(
     }
 }
 
-// The line of a file that isn't JSON.
+// The line on a file that isn't JSON.
 fn json_line(alloc: Global, name: &str, fault: JsonFault) -> Result<String, AllocError> {
     let (place, reason) = match fault {
         JsonFault::NotUtf8(place) => (place, "this isn't UTF-8"),
@@ -59,7 +58,7 @@ fn case_reason(alloc: Global, fault: &CaseFault) -> Result<String, AllocError> {
     reason.to_string(alloc)
 }
 
-// What is said of a key that no case has: of a long one the first bytes are shown.
+// What is said about a key that no case has; only the first bytes of a long one are shown.
 fn key_reason(alloc: Global, key: &str) -> Result<String, AllocError> {
     let shown = InlineText::<KEY_BYTES>::new().and_str(key, KEY_BYTES);
     let key = shown.as_str();

@@ -17,7 +17,7 @@ use uv_resolve::{ResolveFault, resolve_base};
 /// Says what to write in place of a text by a profile, alone or against a base, and writes that: `mended KIND` and the
 /// mended text, `valid`, or `none` and the line of the refusal. It ends with `Valid` if a valid text was found.
 ///
-/// The base is resolved alone under the same profile, before the text is looked at. An error of memory leaves the
+/// The base by itself is resolved under the same profile, before the text is looked at. An error of memory leaves the
 /// output as it was; an error of a write leaves a beginning of what was to be written.
 pub fn run_mend<S: Sink>(
     alloc: Global,
@@ -68,7 +68,7 @@ fn mend_against<S: Sink>(
     }
 }
 
-// What is said of a text against a record as base, and how it ends.
+// What is said about a text against a record as base, and how it ends.
 fn say_mending(
     alloc: Global,
     text: &str,

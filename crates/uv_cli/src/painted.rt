@@ -12,8 +12,8 @@ use std::str::from_utf8;
 use uv_arguments::{Colours, Job};
 use uv_report::Format;
 
-/// The format of the report that a job asks for, where that is to have colours: people read the format, and colours are
-/// asked for, or nothing is and the environment wants them or a terminal shows them.
+/// The format of the report that a job asks for, if it is to have colours. That takes two things: people read the
+/// format, and colours are asked for, or else the environment wants them or a terminal shows them.
 pub(crate) fn painted_format<R: Env>(rt: &R, job: &Job, is_terminal: bool) -> Option<Format> {
     let Job::Lint(asked) = job else {
         return None;
@@ -50,13 +50,13 @@ fn is_set<R: Env>(rt: &R, name: &str) -> bool {
     }
 }
 
-// Whether the terminal shows colours: it doesn't say that it shows text alone, and it isn't Emacs, whose compilations find
-// places in plain text.
+// Whether the terminal shows colours: it doesn't say that it shows only text, and it isn't Emacs, which finds places
+// only in plain text.
 fn shows_colours<R: Env>(rt: &R) -> bool {
     !is_dumb(rt) && !is_set(rt, "INSIDE_EMACS")
 }
 
-// Whether the terminal says that it shows text alone.
+// Whether the terminal says that it shows only text.
 fn is_dumb<R: Env>(rt: &R) -> bool {
     let mut room = [0; 8];
     match rt.var("TERM", &mut room) {
@@ -89,7 +89,7 @@ impl<W: Write> PaintedWriter<W> {
         }
     }
 
-    // Takes the next bytes, of which the last may end a line, and none before.
+    // Takes the next bytes, of which only the last may end a line.
     fn take(&mut self, piece: &[u8]) -> io::Result<()> {
         match piece.split_last() {
             Some((b'\n', rest)) => {

@@ -10,7 +10,7 @@ use uv_sentences::LineViolation;
 pub(crate) struct PaintedLine {
     /// Its text.
     pub(crate) text: String,
-    /// How many lines of the wrong text come after it: the text, and the marks below it.
+    /// How many lines on the wrong text come after it: the text, and the marks below it.
     pub(crate) left: u8,
 }
 
@@ -22,8 +22,8 @@ struct Head<'l> {
     rule: &'l str,
 }
 
-/// The line with its colours, of a report in this format, of which so many lines of the last wrong text were to come. A
-/// line that has colours stays as it is.
+/// The line with its colours, in a report in this format, if this many lines on the last wrong text were still to come.
+/// A line that already has colours stays as it is.
 pub(crate) fn painted_line(
     alloc: Global,
     line: &str,
@@ -52,7 +52,7 @@ pub(crate) fn painted_line(
     }
 }
 
-// What a line has that says where a link is and what is wrong there, if it is one.
+// The parts of a line that says where a link is and what is wrong there, if it is one.
 fn head_of(line: &str) -> Option<Head<'_>> {
     let (place, said) = line.split_once(": error: ")?;
     let (sentence, rule) = said.rsplit_once(" [")?;
@@ -63,8 +63,8 @@ fn head_of(line: &str) -> Option<Head<'_>> {
     })
 }
 
-// How many lines of the wrong text come after the line that says what is wrong, which ends with this rule: in the format
-// that shows the text two, but none of a line that is too long.
+// How many lines on the wrong text come after the line that says what is wrong, which ends with this rule. In the
+// format that shows the text there are two, but none for a line that is too long.
 fn lines_after(format: Format, rule: &str) -> u8 {
     match (format, rule.strip_suffix("]")) {
         (Format::Caret, Some(name)) if name != LineViolation::TooLong.name() => 2,
@@ -72,6 +72,7 @@ fn lines_after(format: Format, rule: &str) -> u8 {
     }
 }
 
+// The line that says where a link is and what is wrong there, with its colours.
 fn painted_head(alloc: Global, head: Head<'_>) -> Result<String, AllocError> {
     let Head {
         place,
@@ -88,7 +89,7 @@ fn painted_marks(alloc: Global, line: &str) -> Result<String, AllocError> {
     format!(in alloc; "\x1b[1;31m{line}\x1b[0m")
 }
 
-// A line that says what to write, or what isn't offered, or another line.
+// A line that says what to write, or what isn't offered; or any other line.
 fn painted_hint(alloc: Global, line: &str) -> Result<String, AllocError> {
     match line.split_once(": ") {
         Some((word @ ("help" | "note"), text)) => {

@@ -29,15 +29,15 @@ use uv_messages::messages::{Message, say};
 use uv_messages::refused_words::refused_words;
 use uv_messages::unread::{unread, unwritten};
 
-// What is said of arguments that `clap` takes, and that ask for nothing.
+// What is said about arguments that `clap` takes, but that ask for nothing.
 const NO_JOB: &str = "--wide is short for --profile wide: only one of them may be given";
 
-/// How the program ends, and whether anyone who read its output has gone: then the end isn't reported.
+/// How the program ends, and whether whoever read its output has gone: then the end isn't reported.
 #[derive(Clone, Copy)]
 pub struct Ended {
     /// The end.
     pub end: End,
-    /// Whether anyone who read the output has gone.
+    /// Whether whoever read the output has gone.
     pub is_closed: bool,
 }
 
@@ -55,6 +55,7 @@ pub fn run<R: Env + Files + Input + Print + Eprint + AllocGlobal>(rt: &R, is_ter
     }
 }
 
+// Reads the arguments and does what they ask for. An error means that there was no memory for the arguments.
 fn outcome<R: Env + Files + Input + Print + Eprint + AllocGlobal>(
     rt: &R,
     is_terminal: bool,
@@ -72,7 +73,7 @@ fn outcome<R: Env + Files + Input + Print + Eprint + AllocGlobal>(
     Ok(answered(rt, texts.as_slice(), &asked, is_terminal))
 }
 
-// Does what the arguments, which are these words, ask for, or says why there is nothing to do.
+// Does what these arguments ask for, or says why there is nothing to do.
 fn answered<R: Env + Files + Input + Print + Eprint + AllocGlobal>(
     rt: &R,
     words: &[&str],
@@ -96,7 +97,7 @@ fn refusal<R: Eprint + AllocGlobal>(rt: &R, why: &str) -> Ended
     open(End::Words)
 }
 
-// An end after which the output is still read.
+// An end while the output is still read.
 fn open(end: End) -> Ended
     ensures { result ≡ open_end end }
 {
@@ -106,7 +107,7 @@ fn open(end: End) -> Ended
     }
 }
 
-// Does a job over the runtime's streams, in colours where it asks for some.
+// Does a job over the runtime's streams, in colours if it asks for some.
 fn done<R: Env + Files + Input + Print + Eprint + AllocGlobal>(
     rt: &R,
     job: &Job,
@@ -128,7 +129,7 @@ fn done<R: Env + Files + Input + Print + Eprint + AllocGlobal>(
     }
 }
 
-// Does a job over the runtime's input and a writer, and says what is to be said of its end.
+// Does a job over the runtime's input and a writer, and prints what is to be said about its end.
 fn done_into<R: Files + Input + Eprint + AllocGlobal, W: Write + Drop>(
     rt: &R,
     job: &Job,
@@ -171,7 +172,7 @@ fn done_over<R: Files + Eprint + AllocGlobal, I: Source, W: Write + Drop>(
     (ended, out)
 }
 
-// The bytes of the job's file, and none if it has no file. It is reported why a file isn't read.
+// The bytes of the job's file, or none if it has no file. If a file isn't read, the reason is reported.
 fn file_of<R: Files + Eprint + AllocGlobal>(rt: &R, job: &Job) -> Result<Vec<u8>, FileFault>
     ensures { OnErr result (HasFile job.now) }
 {
@@ -185,7 +186,7 @@ fn file_of<R: Files + Eprint + AllocGlobal>(rt: &R, job: &Job) -> Result<Vec<u8>
     read
 }
 
-/// The end once the output is flushed, or once that failed: then it is the end of a failed write.
+/// The end once the output is flushed. If that failed, it is the end of a failed write.
 pub fn finished<W: Write>(end: End, out: &mut WatchedWriter<W>) -> Ended
     ensures ended { result ≡ ended_after end out.new.is_flushed out.new.fault }
     ensures bytes { Keeps (W.contents out.old.writer) (W.contents out.new.writer) }
@@ -197,15 +198,14 @@ pub fn finished<W: Write>(end: End, out: &mut WatchedWriter<W>) -> Ended
     }
 }
 
-// Whether anyone who read the output has gone, by the kind of the last error.
+// Whether whoever read the output has gone, by the kind of the last error.
 fn is_closed_by(fault: Option<ErrorKind>) -> bool
     ensures { result ≡ is_closed_by fault }
 {
     matches!(fault, Some(ErrorKind::BrokenPipe))
 }
 
-// Shows what the reader of the arguments, which are these words, says: help on standard output, a refusal on standard
-// error.
+// Shows what the reader of these arguments says: help on standard output, a refusal on standard error.
 fn shown<R: Print + Eprint + AllocGlobal>(rt: &R, words: &[&str], fault: &WordsFault) -> Ended
     ensures { HasShown fault.now result }
 {
@@ -224,7 +224,7 @@ fn shown<R: Print + Eprint + AllocGlobal>(rt: &R, words: &[&str], fault: &WordsF
     open(end)
 }
 
-// The end once help is printed, or once that failed.
+// The end once help is printed. If that failed, it is the end of a failed write.
 fn printed<R: Eprint + AllocGlobal>(rt: &R, end: End, answer: io::Result<()>) -> Ended
     ensures { MatchResult answer (λ done. result ≡ open_end end)
         (λ error. result ≡ ended_after end false (Some (error_kind error))) }
@@ -259,7 +259,7 @@ fn end_with<R: Eprint + AllocGlobal>(rt: &R, end: End) -> u8
     }
 }
 
-// Says the last line, or that there was no memory for it, and gives the exit status: the end's, or the one of no
+// Says the last line, or that there was no memory for it, and gives the exit status: that of the end, or that of no
 // memory.
 fn said<R: Eprint>(rt: &R, end: End, line: Result<String, AllocError>) -> u8
     ensures { MatchResult line (λ text. result ≡ status_of end)

@@ -1,4 +1,5 @@
-//! What is said on standard error before the last line: of how a job has ended, and of a file that a lint has read.
+//! What is said on standard error before the last line: about how a job has ended, and about a file that a lint has
+//! read.
 
 use crate::ends::End;
 use crate::fault::CliFault;
@@ -25,36 +26,36 @@ use uv_report::Format;
 use uv_resolve::{ResolveFault, resolve_base};
 use uv_sentences::{Checked, LineViolation, SeenText, Wording, is_offered, message};
 
-// How standard input is named.
+// What standard input is called.
 const INPUT: &str = "standard input";
 
-// What is said where standard input has a name, and isn't read.
+// What is said if standard input has a name and isn't read.
 const OF_INPUT: &str = "--stdin-name is the name of standard input: one of the FILEs has to be -";
 
-// What is said where standard input has an empty name.
+// What is said if standard input has an empty name.
 const OF_NO_NAME: &str = "--stdin-name is the name of standard input, and may not be empty";
 
-// What is said where one text is to be mended as lines are.
+// What is said if one text is to be mended by options for lines.
 const OF_LINES: &str =
     "--only, --all-mended and --quiet are for the lines of standard input, not for a TEXT";
 
-// What is said where files are to be mended in their place, and none is named.
+// What is said if files are to be mended in their place, and none is named.
 const OF_NO_FILES: &str =
     "--in-place mends the lines of files: name one, or leave it out for standard input";
 
-/// What was seen of a job's streams, or of a file.
+/// What was noticed about a job's streams, or about a file.
 #[derive(Clone, Copy)]
 pub(crate) struct Seen {
     /// The kind of the last error of a read, if one failed.
     pub(crate) read: Option<ErrorKind>,
     /// The kind of the last error of a write or a flush, if one failed.
     pub(crate) written: Option<ErrorKind>,
-    /// What the bytes that were read look like, where they don't look like lines of links.
+    /// What the bytes that were read look like, if they don't look like lines of links.
     pub(crate) content: Option<Content>,
 }
 
-/// What is said of a job that ended so: of a name that none has, of a stream that failed, of a base that is refused,
-/// and of what was likely meant.
+/// What is said about a job that ended like this: about a name that doesn't exist, a stream that failed, a base that is
+/// refused, and what was likely meant.
 pub(crate) fn said_at_end(
     alloc: Global,
     job: &Job,
@@ -74,7 +75,8 @@ pub(crate) fn said_at_end(
     }
 }
 
-// What is said of a job that names what there is none of, or asks for what doesn't go together; otherwise nothing.
+// What is said about a job that names something that doesn't exist, or asks for what doesn't go together; otherwise
+// nothing.
 fn said_of_names(alloc: Global, job: &Job, end: End) -> Result<Message, AllocError> {
     match (job, end) {
         (Job::LintWithoutInput, _) => Message::of(alloc, OF_INPUT),
@@ -104,8 +106,8 @@ fn or_empty(name: &Option<String>) -> &str {
     name.as_deref().unwrap_or("")
 }
 
-// What is said where a text is refused, or a line of a list of links: what is wrong with a text that is checked, and
-// what was likely meant instead.
+// What is said if a text is refused, or a line of a list of links: what is wrong with a text that is checked, and what
+// was likely meant instead.
 fn said_of_refused(
     alloc: Global,
     job: &Job,
@@ -140,8 +142,8 @@ fn said_of_refused(
     Ok(said)
 }
 
-// Pushes what is wrong with a text that is refused, in a sentence for each violation that was printed, and what to
-// write in place of the text, where that is offered.
+// Pushes what is wrong with a refused text, in a sentence for each violation that was printed, and what to write in
+// place of the text, if that is offered.
 fn push_violations(
     alloc: Global,
     said: &mut Message,
@@ -173,7 +175,7 @@ fn push_violations(
     push_offered(alloc, said, &seen, base.as_ref(), profile)
 }
 
-// By what a text was checked, as the sentence on what is wrong with it names that.
+// How a text was checked, in the words of the sentence on what is wrong with it.
 fn checked_by(
     alloc: Global,
     text: &str,
@@ -187,7 +189,7 @@ fn checked_by(
     })
 }
 
-// Pushes what to write in place of a text, where that is offered.
+// Pushes what to write in place of a text, if that is offered.
 fn push_offered(
     alloc: Global,
     said: &mut Message,
@@ -204,7 +206,7 @@ fn push_offered(
     }
 }
 
-// Why the job's base is refused: it is checked alone, so that it needs a scheme.
+// Why the job's base is refused. It is checked by itself, so it needs a scheme.
 fn said_of_base(alloc: Global, job: &Job, refusal: Refusal) -> Result<Message, AllocError> {
     let (base, profile) = base_of(job);
     let place = refusal.place;
@@ -234,7 +236,7 @@ fn base_of(job: &Job) -> (&str, Profile) {
     (base.as_deref().unwrap_or(""), profile)
 }
 
-// What is said of a lint: that standard input wasn't read, or the report not written, and what its files look like.
+// What is said about a lint: that standard input wasn't read, or the report not written, and what its files look like.
 fn said_of_linted(alloc: Global, linted: Linted, seen: Seen) -> Result<Message, AllocError> {
     let mut said = if linted.is_input_unread {
         unread(alloc, INPUT, seen.read)?
@@ -253,7 +255,7 @@ fn said_of_linted(alloc: Global, linted: Linted, seen: Seen) -> Result<Message, 
     Ok(said)
 }
 
-// What is said of a filter: that a stream failed, and what its input looks like.
+// What is said about a filter: that a stream failed, and what its input looks like.
 fn said_of_filtered(alloc: Global, filtered: Filtered, seen: Seen) -> Result<Message, AllocError> {
     let mut said = match filtered.stopped {
         Some(StopFault::Read) => unread(alloc, INPUT, seen.read)?,
@@ -266,8 +268,8 @@ fn said_of_filtered(alloc: Global, filtered: Filtered, seen: Seen) -> Result<Mes
     Ok(said)
 }
 
-/// What is said of a file with this name that a lint has read: that it wasn't to its end, and where a line of it is
-/// refused what it looks like, if it doesn't look like a list of links.
+/// What is said about a file with this name that a lint has read: that it wasn't read to its end; and if a line of it
+/// is refused, what the file looks like, unless it looks like a list of links.
 pub(crate) fn said_of_file(
     alloc: Global,
     file: &str,
@@ -285,7 +287,7 @@ pub(crate) fn said_of_file(
     Ok(said)
 }
 
-/// What is said of a file that a lint can't read, by the kind of the error, if it is known: why, and a hint.
+/// What is said about a file that a lint can't read, by the kind of the error, if it is known: why, and a hint.
 pub(crate) fn said_of_unread(
     alloc: Global,
     file: &str,
@@ -298,7 +300,7 @@ pub(crate) fn said_of_unread(
     Ok(said)
 }
 
-// Pushes what a list with this name looks like, if it doesn't look like one of links, for the command that reads it.
+// Pushes what a list with this name looks like, unless it looks like a list of links, for the command that reads it.
 fn push_content(
     alloc: Global,
     said: &mut Message,

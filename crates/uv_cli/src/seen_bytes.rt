@@ -1,4 +1,4 @@
-//! What is seen of the bytes that are read of a list: the first of them, and what ends its lines.
+//! What is noticed about the bytes that are read from a list: the first of them, and what ends its lines.
 
 use arrayvec::ArrayVec;
 use uv_messages::list_contents::{Content, LineEnds, content_of};
@@ -6,7 +6,7 @@ use uv_messages::list_contents::{Content, LineEnds, content_of};
 // How many bytes are kept.
 const KEPT: usize = 256;
 
-/// What is seen of the bytes that were read of a list.
+/// What is noticed about the bytes that were read from a list.
 #[derive(Drop)]
 pub(crate) struct SeenBytes {
     first: ArrayVec<u8, KEPT>,
@@ -14,7 +14,7 @@ pub(crate) struct SeenBytes {
 }
 
 impl SeenBytes {
-    /// What is seen before the first read.
+    /// What is known before the first read.
     pub(crate) fn new() -> SeenBytes {
         SeenBytes {
             first: ArrayVec::new(),
@@ -22,7 +22,7 @@ impl SeenBytes {
         }
     }
 
-    /// Sees further bytes that were read.
+    /// Looks at further bytes that were read.
     pub(crate) fn add(&mut self, bytes: &[u8]) {
         self.ends = match self.ends {
             LineEnds::Feeds => LineEnds::Feeds,
@@ -34,7 +34,7 @@ impl SeenBytes {
         let _ = self.first.try_extend_from_slice(&bytes[..room]);
     }
 
-    /// What the bytes look like, where they don't look like lines of links.
+    /// What the bytes look like, if they don't look like lines of links.
     pub(crate) fn content(&self) -> Option<Content> {
         content_of(self.first.as_slice(), self.ends)
     }

@@ -11,7 +11,7 @@ use uv_vectors::MOST_BYTES;
 pub(crate) enum FileFault {
     /// Memory ran out.
     Memory,
-    /// It can't be opened, or a read failed, by an error of this kind.
+    /// It can't be opened, or a read failed, because of an error of this kind.
     Unread(ErrorKind),
 }
 
@@ -27,7 +27,7 @@ impl FileFault {
     }
 }
 
-/// Reads a vector file: its bytes, or of a larger file one byte more than it may have.
+/// Reads a vector file. If it is larger than it may be, only one byte more than the limit is read, which shows that.
 pub(crate) fn read_vector_file<R: Files + AllocGlobal>(
     rt: &R,
     path: &str,
@@ -38,6 +38,7 @@ pub(crate) fn read_vector_file<R: Files + AllocGlobal>(
     }
 }
 
+// The bytes of a file up to the first that are too many.
 fn first_bytes<R: Files + AllocGlobal>(rt: &R, path: &str) -> io::Result<Vec<u8>> {
     let mut bytes = Vec::new(rt.alloc());
     fs::open(rt, path)?

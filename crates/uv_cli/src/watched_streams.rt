@@ -1,5 +1,6 @@
-//! Readers and writers that keep why a call of them failed, where the product's own keep only that one did. A reader
-//! keeps what is seen of its bytes too.
+//! Readers and writers that keep why a call of them failed, where the product's own only keep that it did. A reader
+//! also keeps what is noticed about its bytes, and a writer whether all is flushed: only then was all of the output
+//! written.
 ghost use Rattle.std.specs.Prelude.{◌≡◌, false, is_ok};
 ghost use Rattle.std.specs.Io.{ReadsAtMost, WritesAtMost};
 ghost use Rattle.std.specs.Io.KnownBytes.{Keeps, ReadConsumes, WriteAppends};
@@ -9,8 +10,8 @@ use crate::seen_bytes::SeenBytes;
 use std::io::{self, ErrorKind, Read, Write};
 use uv_messages::list_contents::Content;
 
-/// A reader, with the kind of its last error, if a read of it has failed, and with what is seen of the bytes that were
-/// read.
+/// A reader, with the kind of its last error, if a read of it has failed, and with what is noticed about the bytes that
+/// were read.
 #[derive(Drop)]
 pub(crate) struct WatchedReader<R> {
     reader: R,
@@ -19,7 +20,7 @@ pub(crate) struct WatchedReader<R> {
 }
 
 impl<R> WatchedReader<R> {
-    /// The reader, of which nothing was read yet.
+    /// The reader, before anything was read from it.
     pub(crate) fn new(reader: R) -> WatchedReader<R>
         ensures reader { result.reader ≡ reader }
         ensures fault { result.fault ≡ None }
@@ -38,7 +39,7 @@ impl<R> WatchedReader<R> {
         self.fault
     }
 
-    /// What the bytes that were read look like, where they don't look like lines of links.
+    /// What the bytes that were read look like, if they don't look like lines of links.
     pub(crate) fn content(&self) -> Option<Content> {
         self.seen.content()
     }
@@ -66,7 +67,7 @@ impl<R: Read> Read for WatchedReader<R> {
 }
 
 /// A writer, with the kind of its last error, if a write or a flush of it has failed, and whether it is flushed: no
-/// write came after the last flush, and that didn't fail.
+/// write came after the last flush, which didn't fail.
 #[derive(Drop)]
 pub struct WatchedWriter<W> {
     writer: W,
@@ -75,7 +76,7 @@ pub struct WatchedWriter<W> {
 }
 
 impl<W> WatchedWriter<W> {
-    /// The writer, of which no call has failed yet, and that isn't flushed.
+    /// The writer, before any call: it isn't flushed.
     pub fn new(writer: W) -> WatchedWriter<W>
         ensures { result ≡ record { writer = writer; fault = None; is_flushed = false } }
     {

@@ -9,7 +9,7 @@ use std::alloc::Global;
 use url::Url;
 use uv_model::Record;
 
-/// The URL that the second parser reads of a text, against the text of the base where there is one; none if it refuses
+/// The URL that the second parser reads in a text, against the text of the base if there is one; none if it refuses
 /// either.
 #[tactic(auto, unfolding(crate::specs::Second::reading))]
 pub fn reading(alloc: Global, base: Option<&Record>, text: &str) -> Result<Option<Url>, RoomFault>
@@ -25,7 +25,7 @@ pub fn reading(alloc: Global, base: Option<&Record>, text: &str) -> Result<Optio
     }
 }
 
-/// Whether the second parser reads both texts as URLs of one text, against the text of the base where there is one.
+/// Whether the second parser reads both texts as URLs with the same text, against the text of the base if there is one.
 #[tactic(auto, unfolding(crate::specs::Second::second_serial))]
 pub fn reads_same(
     alloc: Global,

@@ -8,8 +8,8 @@ use crate::plain_links::is_own_url;
 use std::alloc::Global;
 use url::{ParseError, ParseResult, Url};
 
-/// The URL that the second parser makes of a text, alone or against a base, where the URL's text is the written one;
-/// none if it makes another one, or refuses the text.
+/// The URL that the second parser makes of a text, alone or against a base, if the URL's text is the written one; none
+/// if it makes another one, or refuses the text.
 #[tactic(auto, unfolding(crate::specs::Second::second_serial, crate::specs::Second::text_against))]
 pub fn read_as(
     alloc: Global,
@@ -29,8 +29,8 @@ pub fn read_as(
     }
 }
 
-/// Whether the second parser makes of a text, alone or against a base, a URL that has the written text. Most links are
-/// the text of their URL, which is seen without a parse.
+/// Whether the second parser makes of a text, alone or against a base, a URL with the written text. Most links are the
+/// text of their URL, and for those no parse is needed to see it.
 pub fn reads_as(
     alloc: Global,
     base: Option<&Url>,

@@ -9,7 +9,7 @@ use std::alloc::AllocError;
 pub enum RoomFault {
     /// An allocation failed.
     Memory,
-    /// A text is longer than the second parser's can be, which is 4 GiB or more.
+    /// A text is longer than the second parser's can be: 4 GiB or more.
     Overflow,
 }
 

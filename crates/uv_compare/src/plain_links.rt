@@ -20,8 +20,8 @@ const PLAIN_ROWS: [u8; 16] = byte_rows!(
     | b']' | b'_' | b'|' | b'~'
 );
 
-/// Whether a text is seen to be the text of the URL that the second parser reads of it, against any base. Of some that
-/// are that isn't seen.
+/// Whether a text is recognized as the text of the URL that the second parser reads in it, against any base. A no means
+/// only that it wasn't recognized.
 pub(crate) fn is_own_url(text: &str) -> bool
     ensures { (base : Option Parts) → IsTrue result → text_against base text.now ≡ Some text.now }
 {
@@ -55,7 +55,7 @@ fn after_scheme(text: &str) -> Option<&str>
     Some(rest)
 }
 
-// What follows this at the start of a text.
+// What follows this prefix of a text.
 fn after<'t>(text: &'t str, front: &str) -> Option<&'t str>
     ensures { IfSome result (λ rest. text.now ≡ front.now ++ rest.now) }
 {
@@ -63,7 +63,7 @@ fn after<'t>(text: &'t str, front: &str) -> Option<&'t str>
     Some(rest)
 }
 
-// What is after the last dot of a name, or the name where it has none.
+// What is after the last dot of a name, or the whole name if it has none.
 fn last_label(name: &[u8]) -> &[u8]
     ensures { result.now ≡ (input.rsplit_once dot name.now).1 }
 {
@@ -73,6 +73,7 @@ fn last_label(name: &[u8]) -> &[u8]
     }
 }
 
+// Whether a label begins with a letter, so that it isn't a number.
 fn begins_with_letter(label: &[u8]) -> bool
     ensures { result ≡ char_spec.is_ascii_lowercase (slice_index label.now 0) }
 {
@@ -88,15 +89,15 @@ fn begins_with_slash(bytes: &[u8]) -> bool
     matches!(bytes, [b'/', ..])
 }
 
-// Whether bytes are seen to be plain.
+// Whether bytes are recognized as plain.
 fn is_plain(bytes: &[u8]) -> bool
     ensures { IsTrue result → spec.is_plain bytes.now ≡ true }
 {
     row_end(bytes, 0, &PLAIN_ROWS) == bytes.len() && has_no_dots(bytes)
 }
 
-// Whether no `.` and no `%`, with which the escape of one begins, follows a `/`. Each byte is looked at, so that many
-// are at once.
+// Whether no `/` is followed by `.`, or by `%`, which may begin the escape of a dot. It looks at each byte, so that the
+// compiler can look at many at once.
 fn has_no_dots(bytes: &[u8]) -> bool
     ensures { IsTrue result → HasNoDots bytes.now (length bytes.now) }
 {

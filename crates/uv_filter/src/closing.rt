@@ -1,4 +1,4 @@
-//! What is written of a line after what waits to be, the end of a list, and where memory runs out.
+//! What is written after the text that waits: for the last line, at the end of a list, and if memory runs out.
 ghost use Rattle.std.specs.Prelude.{◌≡◌, ℕ, ◌+◌, ◌-◌, ◌^◌, ◌<◌, List, [], Option, OnErr, OnOk, vec_len};
 ghost use Rattle.uv_lines.specs.Fault.{failed_within};
 ghost use Rattle.uv_filter.specs.Filtered.{Filtering};
@@ -12,7 +12,7 @@ use uv_io::{DeviceFault, Sink};
 use uv_lines::{ReportFault, write_out};
 
 impl<'b> Progress<'b> {
-    /// Appends what is written of the last line, if no LF ends it and it isn't written already.
+    /// Appends what is written for the last line, if no LF ends it and it isn't written already.
     pub(crate) fn append_last(&mut self, alloc: Global) -> Result<(), AllocError>
         ensures ends { OnOk result ((start : Filtering) (old : Option (List ℕ)) (read : List ℕ)
             (new : Option (List ℕ))
@@ -28,7 +28,7 @@ impl<'b> Progress<'b> {
         self.append_begun(alloc, false)
     }
 
-    /// Appends what is written of the line that has begun, and that an LF has ended or the end of the list.
+    /// Appends what is written for the line that has begun, which an LF or the end of the list has ended.
     pub(crate) fn append_begun(&mut self, alloc: Global, is_closed: bool) -> Result<(), AllocError>
         ensures added { OnOk result (Adds self.old.filter
             (record { bytes = self.old.begun.items; closed = is_closed }) self.old.text.items self.new.filter
@@ -47,7 +47,7 @@ impl<'b> Progress<'b> {
         Ok(())
     }
 
-    /// Writes what waits to be written, where memory ran out, and gives the fault.
+    /// Writes what waits to be written after memory ran out, and gives the fault.
     pub(crate) fn stop<W: Sink>(&mut self, writer: &mut W) -> ReportFault<AllocError>
         requires { W.failed writer.old < 2 ^ 64 - 1 }
         ensures stopped { Stops result self.old.text.items (W.contents writer.old) (W.contents writer.new) }

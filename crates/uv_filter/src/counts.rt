@@ -1,22 +1,22 @@
-//! What has become of the lines of a list.
+//! What became of the lines of a list.
 ghost use Rattle.std.specs.Prelude.{◌≡◌};
 ghost use Rattle.uv_filter.specs.Counts.{both, counted, is_mended, more, none_counted, with_kind};
 
 use crate::fate::Fate;
 use uv_mend::MendKind;
 
-/// What has become of the lines that aren't empty. Each number is 2^64 - 1 at most.
+/// What became of the lines that aren't empty. Each number is at most 2^64 - 1.
 #[derive(Clone, Copy, Debug, PartialEq, Eq)]
 pub struct FilterCounts {
     /// Lines that aren't empty.
     pub lines: u64,
     /// Those that are valid.
     pub valid: u64,
-    /// Those in whose place a text of kind `same` was written.
+    /// Those that were replaced by a text of kind `same`.
     pub same: u64,
-    /// Those in whose place one of kind `escaped` was.
+    /// Those that were replaced by one of kind `escaped`.
     pub escaped: u64,
-    /// Those in whose place one of kind `changed` was.
+    /// Those that were replaced by one of kind `changed`.
     pub changed: u64,
     /// Those that are refused and stay as they were.
     pub refused: u64,
@@ -43,7 +43,7 @@ impl FilterCounts {
         }
     }
 
-    /// Those of two lists together.
+    /// The counts of two lists together.
     pub fn with(self, other: FilterCounts) -> FilterCounts
         ensures { result ≡ both self other }
     {
@@ -84,7 +84,7 @@ impl FilterCounts {
         }
     }
 
-    // Counts a further mended text of this kind.
+    // Counts one more mended text of this kind.
     fn count_mended(&mut self, kind: MendKind)
         ensures { self.new ≡ with_kind self.old kind }
     {
@@ -96,7 +96,7 @@ impl FilterCounts {
     }
 }
 
-// One more, as far as the number goes.
+// One more, up to the greatest number.
 fn with_one(count: u64) -> u64
     ensures { result ≡ more count }
 {

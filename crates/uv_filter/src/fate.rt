@@ -2,7 +2,7 @@
 
 use uv_mend::MendKind;
 
-/// What becomes of a line: where there is a mended text that is written it is mended, and otherwise it stays as it was.
+/// What becomes of a line: if there is a mended text to write it is mended, and otherwise it stays as it was.
 #[derive(Drop)]
 pub(crate) enum Fate {
     /// It is empty, and isn't checked.
@@ -13,10 +13,10 @@ pub(crate) enum Fate {
     Mended {
         /// The mended text.
         text: String,
-        /// How it is to the refused one.
+        /// How it relates to the refused one.
         kind: MendKind,
     },
-    /// It is refused, and there is no mended text, or none of the kind that is written.
+    /// It is refused, and there is no mended text, or none of a kind that is written.
     Refused,
     /// It isn't UTF-8.
     NotUtf8,

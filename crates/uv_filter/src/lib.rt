@@ -1,4 +1,4 @@
-//! A filter of lists of links: each line mended where there is a text to write in its place, and otherwise as it was.
+//! A filter of lists of links: each line mended if there is a text to write in its place, and otherwise as it was.
 #![tactic(auto)]
 
 mod closing;

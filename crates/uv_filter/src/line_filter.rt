@@ -1,4 +1,4 @@
-//! What becomes of the lines of a list, one after the other.
+//! What becomes of the lines of a list, one after another.
 ghost use Rattle.std.specs.Prelude.{◌≡◌, ◌≢◌, [], IfOk, OnErr, OnOk};
 ghost use Rattle.uv_filter.specs.declared.fate.Fate.TheVariants as became;
 ghost use Rattle.uv_filter.specs.Fates.{IsFate, IsTextFate, mender_of};
@@ -18,11 +18,11 @@ use uv_lines::line_text;
 use uv_mend::{MendKind, Mending, mend};
 use uv_sentences::{SeenText, is_offered};
 
-// How many bytes a line may have, its end not counted.
+// How many bytes a line may have, not counting its end.
 const LINE_BYTES: usize = 65_536;
 
-/// What filters the lines of a list: by what they are mended, whether the next line is the first, and the counts of
-/// those before.
+/// The state of a filter between two lines: how lines are mended, whether the next line is the first, and the counts of
+/// the lines before.
 #[derive(Drop)]
 pub(crate) struct LineFilter<'b> {
     setting: FilterSetting<'b>,
@@ -44,7 +44,7 @@ impl<'b> Model for LineFilter<'b> {
 }
 
 impl<'b> LineFilter<'b> {
-    /// What filters a list before its first line.
+    /// The state before the first line.
     pub(crate) fn new(setting: FilterSetting<'b>) -> LineFilter<'b>
         ensures { result ≡ starting (mender_of setting.entry) }
     {
@@ -62,7 +62,7 @@ impl<'b> LineFilter<'b> {
         self.counts
     }
 
-    /// Counts a line that is too long, and isn't kept, if it isn't counted already.
+    /// Counts a line that is too long and so isn't kept, unless it is counted already.
     pub(crate) fn count_long(&mut self, is_counted: bool)
         ensures { self.new ≡ passing is_counted self.old }
     {
@@ -71,7 +71,8 @@ impl<'b> LineFilter<'b> {
         }
     }
 
-    /// Appends what is written of the next line, and counts it. The error is out of memory: then nothing has changed.
+    /// Appends what is written of the next line, and counts it. An error means that memory ran out: then nothing has
+    /// changed.
     pub(crate) fn filter(
         &mut self,
         alloc: Global,
@@ -95,7 +96,7 @@ impl<'b> LineFilter<'b> {
         }
     }
 
-    // Counts a line of which this has become.
+    // Counts a line, by what became of it.
     fn count(&mut self, fate: &Fate)
         ensures { self.new ≡ with_fate self.old fate.now }
     {
@@ -148,7 +149,7 @@ impl<'b> LineFilter<'b> {
 }
 
 // Whether a mended text of this kind is written in place of a text: it is of the kind that is asked for, and reports
-// offer it, where not all are written.
+// offer it, unless all are written.
 #[tactic(auto, unfolding(crate::specs::Fates::writes))]
 fn writes(setting: FilterSetting<'_>, text: &str, mended: &str, kind: MendKind) -> bool
     ensures { result ≡ spec.writes (mender_of setting.entry) text.now mended.now kind }

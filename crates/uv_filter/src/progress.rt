@@ -1,4 +1,4 @@
-//! A run between two parts of a list.
+//! The state of a run between two parts of a list.
 ghost use Rattle.std.specs.Prelude.{◌≡◌, ◌≤◌, [], false, vec_len};
 ghost use Rattle.uv_filter.specs.Fates.{mender_of};
 ghost use Rattle.uv_filter.specs.Filtered.{starting};
@@ -8,11 +8,11 @@ use crate::line_filter::LineFilter;
 use crate::setting::FilterSetting;
 use std::alloc::Global;
 
-/// How many bytes of a line whose end has not come are kept at most: as many as a line may have, and a CR.
+/// How many bytes of a line whose end hasn't come yet are kept at most: as many as a line may have, and a CR.
 pub(crate) const KEPT_BYTES: usize = 65_537;
 
-/// A run between two parts of a list: what has begun of a line that may be short enough, whether the line that has
-/// begun is too long already, and what is to be written of the lines before it.
+/// The state of a run between two parts of a list: what is kept of a line that may be short enough, whether the line
+/// that has begun is already too long, and what is still to be written for the lines before it.
 #[derive(Drop)]
 pub(crate) struct Progress<'b> {
     pub(crate) filter: LineFilter<'b>,
@@ -23,7 +23,7 @@ pub(crate) struct Progress<'b> {
 }
 
 impl<'b> Progress<'b> {
-    /// A run before the first part.
+    /// The state before the first part.
     pub(crate) fn new(alloc: Global, setting: FilterSetting<'b>) -> Progress<'b>
         ensures filter { result.filter ≡ starting (mender_of setting.entry) }
         ensures begun { (result.begun.items ≡ []) × (result.is_long ≡ false) }

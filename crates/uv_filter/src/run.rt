@@ -15,16 +15,16 @@ use std::alloc::{AllocError, Global};
 use uv_io::{Sink, Source};
 use uv_lines::{LineFault, ReportFault, StopFault, take_list};
 
-/// Writes each line of a list: with a mended text in place of a refused one, where there is one of a kind that is
-/// wanted, and otherwise as it was, byte for byte.
+/// Writes each line of a list: a mended text in place of a refused one, if there is one of a kind that is wanted, and
+/// otherwise the line as it was, byte for byte.
 ///
 /// A line ends with LF, and one CR before that is part of its end; a last part without LF is a line if it isn't empty.
-/// Each end is kept. A byte order mark at the list's start isn't a part of the first text, and is kept too. An empty
-/// line isn't checked, nor is one that isn't UTF-8 or has more than 65,536 bytes without its end. What is written of
-/// the lines that a read has ended is written before the next read, and so is all that was read of a line that is too
-/// long: memory doesn't grow with the list. The writer isn't flushed. The counts are those of the lines that were
-/// written, also after a fault. After a fault nothing is tried again, and how far the reader was read is open.
-/// `StopFault::TooManyLines` never comes.
+/// Each end is kept. A byte order mark at the list's start isn't a part of the first text, and is kept too. A line
+/// isn't checked if it is empty, isn't UTF-8 or has more than 65,536 bytes without its end. The lines that a read has
+/// ended are written before the next read, and so is all that was read of a line that is too long: memory doesn't grow
+/// with the list. The writer isn't flushed. The counts are those of the lines that were written, even after a fault.
+/// After a fault nothing is tried again, and how far the reader was read is left open. `StopFault::TooManyLines` never
+/// comes.
 pub fn run_filter<R: Source, W: Sink>(
     alloc: Global,
     reader: &mut R,

@@ -1,4 +1,4 @@
-//! The lines of a list, each written where it ends, and one that is too long as it comes.
+//! The lines of a list: each is written when it ends, and one that is too long as it comes.
 ghost use Rattle.std.specs.Prelude.{◌≡◌, ℕ, ◌+◌, ◌-◌, ◌^◌, ◌<◌, ◌≤◌, [], ◌++◌, OnErr, OnOk, length, take, vec_len};
 ghost use Rattle.std.specs.Io.KnownBytes.{Appends};
 ghost use Rattle.uv_lines.specs.Fault.{failed_within};
@@ -91,7 +91,7 @@ impl<'b> Taker for Progress<'b> {
 }
 
 impl<'b> Progress<'b> {
-    // Appends what is written of the line that an LF ends after this prefix of a part, and that isn't too long to be
+    // Appends what is written for the line that an LF ends after this prefix of a part, and that isn't too long to be
     // kept.
     fn close_short(&mut self, alloc: Global, prefix: &[u8]) -> Result<(), AllocError>
         requires { vec_len self.old.begun + length prefix.now ≤ 65537 }
@@ -113,8 +113,8 @@ impl<'b> Progress<'b> {
         self.append_begun(alloc, true)
     }
 
-    // Writes what waits to be written, what has begun of a line that is too long, and a further part of it, with which
-    // the line goes on or ends. The line is counted once.
+    // Writes what waits to be written, what is kept of a line that is too long, and a further part of it, which may end
+    // it. The line is counted once.
     fn pass_on<W: Sink>(
         &mut self,
         writer: &mut W,

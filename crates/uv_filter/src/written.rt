@@ -1,4 +1,4 @@
-//! What is written of a line.
+//! What is written for a line.
 ghost use Rattle.std.specs.Prelude.{◌≡◌, ◌≤◌, ◌++◌, OnErr, OnOk, length};
 ghost use Rattle.std.specs.Io.{StartsWith};
 ghost use Rattle.uv_filter.specs.Fates.{written_of};
@@ -9,14 +9,14 @@ use crate::fate::Fate;
 use std::alloc::AllocError;
 use uv_lines::{line_text, without_mark};
 
-/// A line: what is before its LF, or after the last one, and whether an LF ends it.
+/// A line: what comes before its LF, or after the last one, and whether an LF ends it.
 #[derive(Clone, Copy)]
 pub(crate) struct ListLine<'l> {
     pub(crate) bytes: &'l [u8],
     pub(crate) is_closed: bool,
 }
 
-/// What of a line's text is checked: in the first line a byte order mark isn't.
+/// The part of a line's text that is checked: in the first line not the byte order mark.
 pub(crate) fn checked(text: &[u8], is_first: bool) -> &[u8]
     ensures value { result.now ≡ spec.checked_of is_first text.now }
     ensures within { length result.now ≤ length text.now }
@@ -24,8 +24,8 @@ pub(crate) fn checked(text: &[u8], is_first: bool) -> &[u8]
     if is_first { without_mark(text) } else { text }
 }
 
-/// Appends what is written of a line of which this has become. The error is out of memory: `out` then still begins with
-/// what it held.
+/// Appends what is written for a line, by what became of it. An error means that memory ran out: `out` then still
+/// begins with what it held.
 pub(crate) fn push_written(
     out: &mut Vec<u8>,
     line: ListLine<'_>,
@@ -51,7 +51,7 @@ fn push_whole(out: &mut Vec<u8>, line: ListLine<'_>) -> Result<(), AllocError>
     push_feed(out, line.is_closed)
 }
 
-// The line with another text in place of what is checked.
+// The line with another text in place of what was checked.
 fn push_replaced(
     out: &mut Vec<u8>,
     line: ListLine<'_>,
@@ -84,7 +84,7 @@ fn push_between(
     push(out, after)
 }
 
-// The LF, where one ends the line.
+// The LF, if one ends the line.
 fn push_feed(out: &mut Vec<u8>, is_closed: bool) -> Result<(), AllocError>
     ensures ok { OnOk result (out.new.items ≡ out.old.items ++ feed_of is_closed) }
     ensures err { OnErr result (StartsWith out.new.items out.old.items) }
@@ -95,6 +95,7 @@ fn push_feed(out: &mut Vec<u8>, is_closed: bool) -> Result<(), AllocError>
     Ok(())
 }
 
+// Appends bytes.
 fn push(out: &mut Vec<u8>, bytes: &[u8]) -> Result<(), AllocError>
     ensures ok { OnOk result (out.new.items ≡ out.old.items ++ bytes.now) }
     ensures err { OnErr result (out.new.items ≡ out.old.items) }

@@ -24,19 +24,19 @@ use uv_model::{Profile, ends_in_number, is_domain_mark};
 pub enum DomainAnswer {
     /// A valid domain, with its ASCII form.
     Ascii(String),
-    /// Not a valid domain, and only since its form ends in a number.
+    /// Not a valid domain, and only because its form ends in a number.
     Number,
-    /// Not a valid domain, for another cause.
+    /// Not a valid domain, for another reason.
     Not,
 }
 
 /// Whether the text is a valid domain of the profile, and its ASCII form (URL Standard, section 3.3): ToASCII with the
 /// settings of the URL parser gives the form, its labels have 1 to 63 code points and the whole 1 to 253, and it
 /// doesn't end in a number. Under the standard profile ToASCII with the strict settings of UTS #46 gives the same form;
-/// under the wide profile the form holds letters, digits, `-`, `.` and `_` alone. A text with an ASCII code point other
-/// than these, or under the standard profile with `_`, isn't one, and that takes no memory. Under the parser's profile
-/// the text is percent-decoded before it, and any form will do that isn't empty and holds no forbidden domain code
-/// point. The error is out of memory.
+/// under the wide profile the form holds only letters, digits, `-`, `.` and `_`. A text with any other ASCII code
+/// point, or under the standard profile with `_`, isn't one, and to see that takes no memory. Under the parser's
+/// profile the text is percent-decoded before it, and any form will do that isn't empty and holds no forbidden domain
+/// code point. An error means that memory ran out.
 pub fn domain(alloc: Global, text: &str, profile: Profile) -> Result<DomainAnswer, AllocError>
     ensures answer { IfOk result (IsAnswer profile (chars text.now)) }
     ensures refused { IsWritten profile → spec.has_permitted profile (chars text.now) ≡ false
@@ -52,8 +52,7 @@ pub fn domain(alloc: Global, text: &str, profile: Profile) -> Result<DomainAnswe
     }
 }
 
-/// Whether all ASCII code points of the text are letters, digits and marks of a domain, where the profile asks for
-/// that.
+/// Whether all ASCII code points of the text are letters, digits and marks of a domain, if the profile requires that.
 fn is_written_so(text: &str, name: &Name<'_>, profile: Profile) -> bool
     requires { name.now ≡ text.now }
     ensures value { IsWritten profile → result ≡ spec.has_permitted profile (chars text.now) }
@@ -80,8 +79,8 @@ fn mapped_domain(alloc: Global, text: &str, profile: Profile) -> Result<DomainAn
     }
 }
 
-/// The lower case of a permitted text, where that is its form but for the lengths: the text is ASCII, and ToASCII
-/// leaves its lower case as it is. If there is none, that says nothing.
+/// The lower case of a permitted text, if that is its form apart from the lengths: the text is ASCII, and ToASCII
+/// leaves its lower case as it is. `None` means that this wasn't found out, not that there is no form.
 pub(crate) fn lower_form(
     alloc: Global,
     text: &str,
@@ -104,8 +103,8 @@ pub(crate) fn lower_form(
     }
 }
 
-/// Whether the lower case of an ASCII text isn't a form: under the standard profile for its hyphens, by the others for
-/// its code points. No verdict rests on the answer, and only the time of one does.
+/// Whether the lower case of an ASCII text isn't a form: under the standard profile because of its hyphens, under the
+/// others because of its code points. No verdict depends on the answer, only how long one takes.
 fn is_mapped_in_vain(name: &Name<'_>, profile: Profile) -> bool {
     match profile {
         Profile::Standard => !name.has_placed_hyphens(),
@@ -113,7 +112,7 @@ fn is_mapped_in_vain(name: &Name<'_>, profile: Profile) -> bool {
     }
 }
 
-/// Whether ToASCII with the settings of the profile leaves a name as it is. Where the answer is no, that says nothing.
+/// Whether ToASCII with the settings of the profile leaves a name as it is. A no means only that this isn't known.
 fn is_own_form(name: &Name<'_>, profile: Profile) -> bool
     ensures { IsTrue result → IsOwnForm profile name.now }
 {
@@ -124,7 +123,7 @@ fn is_own_form(name: &Name<'_>, profile: Profile) -> bool
     }
 }
 
-/// The answer on every text whose form this is but for its lengths.
+/// The answer on any text that has this form, apart from its lengths.
 fn check_form(form: String, profile: Profile) -> DomainAnswer
     requires { IsAscii (string_bytes form) }
     ensures { (text : List ℕ) → HasFormByLengths profile text (string_bytes form) → IsAnswer profile text result }
@@ -138,22 +137,22 @@ fn check_form(form: String, profile: Profile) -> DomainAnswer
     }
 }
 
-/// What a name is as a domain, where that is known without ToASCII. A valid one is its own ASCII form.
+/// What a name is as a domain, if that is known without ToASCII. A valid one is its own ASCII form.
 #[derive(Clone, Copy, PartialEq, Eq)]
 pub enum PlainAnswer {
     /// A valid domain.
     Domain,
-    /// Not a valid domain, and only since it ends in a number.
+    /// Not a valid domain, and only because it ends in a number.
     Number,
-    /// Not a valid domain, since its lengths or, under the standard profile, its hyphens are wrong: under the parser's
-    /// profile, since it is empty.
+    /// Not a valid domain, because its lengths or, under the standard profile, its hyphens are wrong; under the
+    /// parser's profile, because it is empty.
     Not,
 }
 
-/// What a name is as a domain of the profile (URL Standard, section 3.3), where that is known without ToASCII: a name
-/// of lower-case letters, digits and the marks of a domain, no label of which begins with `xn--`. It is its own form,
-/// but under the standard profile it has none if the strict settings of ToASCII refuse its hyphens. `None` for every
-/// other text. No memory is taken.
+/// What a name is as a domain of the profile (URL Standard, section 3.3), if that is known without ToASCII. It is known
+/// for a name of lower-case letters, digits and the marks of a domain, in which no label begins with `xn--`. Such a
+/// name is its own form, but under the standard profile it has none if the strict settings of ToASCII refuse its
+/// hyphens. `None` for every other text. No memory is taken.
 pub fn plain_answer(name: &str, profile: Profile) -> Option<PlainAnswer>
     ensures answer { IfSome result (IsPlainAnswer profile (chars name.now) name.now) }
     ensures plain { is_plain_name (chars name.now) ≡ true → IsSome result }
@@ -189,7 +188,7 @@ fn takes_hyphens(name: &Name<'_>, profile: Profile) -> bool
     }
 }
 
-/// The answer on a name that is its own form but for its lengths.
+/// The answer on a name that is its own form apart from its lengths.
 fn check_own(name: &str, profile: Profile) -> PlainAnswer
     requires { HasFormByLengths profile (chars name.now) name.now }
     ensures { IsPlainAnswer profile (chars name.now) name.now result }
@@ -245,8 +244,8 @@ fn form_of(alloc: Global, text: &str, profile: Profile) -> Result<Option<CowStr<
     }
 }
 
-/// The form that the strict settings give, if there is one with the lengths: those of the URL parser then give the
-/// same.
+/// The form that the strict settings give, if there is one with the right lengths: the settings of the URL parser then
+/// give the same.
 fn standard_form(alloc: Global, text: &str) -> Result<Option<CowStr<'_>>, AllocError>
     requires { spec.has_permitted Profile.Standard (chars text.now) ≡ true }
     ensures { IfOk result (λ answer. MatchOption answer (spec.HasNoForm Profile.Standard (chars text.now))
@@ -255,7 +254,7 @@ fn standard_form(alloc: Global, text: &str) -> Result<Option<CowStr<'_>>, AllocE
     fitting_form(alloc, text, AsciiDenyList::STD3, Hyphens::Check)
 }
 
-/// The form that the settings of the URL parser give, if it has the lengths and the code points of a domain alone.
+/// The form that the settings of the URL parser give, if it has the right lengths and only code points of a domain.
 fn wide_form(alloc: Global, text: &str) -> Result<Option<CowStr<'_>>, AllocError>
     requires { spec.has_permitted Profile.Wide (chars text.now) ≡ true }
     ensures { IfOk result (λ answer. MatchOption answer (spec.HasNoForm Profile.Wide (chars text.now))
@@ -271,7 +270,7 @@ fn wide_form(alloc: Global, text: &str) -> Result<Option<CowStr<'_>>, AllocError
     }
 }
 
-/// Whether a form has the lengths that the profile asks for: under the parser's profile it needn't be but some code
+/// Whether a form has the lengths that the profile requires: under the parser's profile it only has to have a code
 /// point.
 pub(crate) fn fits_lengths(form: &str, profile: Profile) -> bool
     ensures { result ≡ fits_lengths profile form.now }
@@ -282,7 +281,7 @@ pub(crate) fn fits_lengths(form: &str, profile: Profile) -> bool
     }
 }
 
-/// Whether each label of a form has 1 to 63 code points and the whole 1 to 253, a full stop at its end not counted.
+/// Whether each label of a form has 1 to 63 code points and the whole 1 to 253, not counting a full stop at its end.
 pub(crate) fn has_lengths(form: &str) -> bool
     ensures { result ≡ spec.has_lengths form.now }
 {

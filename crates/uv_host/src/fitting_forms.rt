@@ -1,5 +1,5 @@
-//! The forms that ToASCII gives of texts, where they have the lengths of a domain (URL Standard, sections 3.3 and 3.5;
-//! UTS #46, section 4).
+//! The forms that ToASCII gives of texts, if they have the lengths of a domain (URL Standard, sections 3.3 and 3.5; UTS
+//! #46, section 4).
 ghost use Rattle.std.specs.Cow.{cow_str_bytes};
 ghost use Rattle.std.specs.Prelude.{chars, encode_utf8_all, IfOk, IsTrue, None, option_map, ◌≡◌};
 ghost use Rattle.idna.specs.Uts46.{to_ascii, to_unicode};
@@ -15,11 +15,11 @@ use uv_text::count_code_points;
 /// The most code points of a label of a domain (URL Standard, section 3.3).
 const LONGEST_LABEL: usize = 63;
 
-/// The most of a whole domain, where a full stop at its end isn't counted.
+/// The most code points of a whole domain, not counting a full stop at its end.
 const LONGEST_NAME: usize = 253;
 
 /// The form that ToASCII gives with these settings, if it has the lengths of a domain. Punycode takes quadratic time,
-/// so a name that is too long in Unicode is refused before it is made. A text of few bytes needs no such look.
+/// so a name that is too long in Unicode is refused before it is made. A short text needs no such check.
 pub(crate) fn fitting_form<'a>(
     alloc: Global,
     text: &'a str,
@@ -41,9 +41,9 @@ pub(crate) fn fitting_form<'a>(
     }
 }
 
-/// Whether ToUnicode (UTS #46, section 4.3), which makes no Punycode, shows that no form of a text has the lengths of
-/// a domain: it refuses the text, as ToASCII then does, or it gives a label that is too long. Punycode has no fewer
-/// code points than what it stands for. Where the answer is no, that says nothing.
+/// Whether ToUnicode (UTS #46, section 4.3), which makes no Punycode, shows that no form of a text has the lengths of a
+/// domain: it refuses the text, as ToASCII then does, or it gives a label that is too long. Punycode has no fewer code
+/// points than what it stands for. A no means only that this isn't shown.
 fn is_misfit(
     alloc: Global,
     text: &str,
@@ -58,8 +58,8 @@ fn is_misfit(
     }
 }
 
-/// ToUnicode (UTS #46, section 4.3); `None` if it has an error. With a policy by which each label stays in Unicode
-/// `Uts46::process` gives that, and ends at the first error. `Uts46::to_unicode` would go on to mark each error.
+/// ToUnicode (UTS #46, section 4.3); `None` if it has an error. `Uts46::process` gives that with a policy by which each
+/// label stays in Unicode, and ends at the first error. `Uts46::to_unicode` would go on to mark each error.
 fn unicode_name<'a>(
     alloc: Global,
     text: &'a str,
@@ -87,7 +87,7 @@ fn unicode_name<'a>(
     }
 }
 
-/// Whether a name in Unicode, or a label of it, has more code points than any domain's. A full stop may be at its end.
+/// Whether a name in Unicode, or a label of it, has more code points than any domain's. It may end with a full stop.
 fn is_long_name(name: &str) -> bool
     ensures { result ≡ is_long_name (chars name.now) }
 {
@@ -111,7 +111,8 @@ fn has_long_label(name: &str) -> bool
     false
 }
 
-/// ToASCII (UTS #46, section 4.2), nontransitional, with CheckBidi and CheckJoiners, and no check of the lengths.
+/// ToASCII (UTS #46, section 4.2), nontransitional, with CheckBidi and CheckJoiners, and without the check of the
+/// lengths.
 fn ascii_form<'a>(
     alloc: Global,
     text: &'a str,

@@ -1,4 +1,4 @@
-//! Names of hosts by the kinds of their bytes, which one walk finds.
+//! Names of hosts, by the kinds of bytes in them, which a single walk finds.
 ghost use Rattle.idna.specs.declared.options.Hyphens.TheVariants.{Allow, Check};
 ghost use Rattle.idna.specs.Labels.{labels_of};
 ghost use Rattle.idna.specs.Validity.{passes_hyphens};
@@ -15,11 +15,13 @@ use std::marker::Model;
 use uv_model::Profile;
 use uv_text::byte_table;
 
-// The kinds of bytes, each a bit. Lower-case letters but `x`, digits and the full stop are of no kind.
+// The kinds of bytes, each a bit. Lower-case letters except `x`, digits and the full stop have no kind.
 const HYPHEN: u8 = 1;
 
+// A capital letter, which ToASCII lowers.
 const CAPITAL: u8 = 2;
 
+// `_`, which the wide profile permits.
 const LOW_LINE: u8 = 4;
 
 // Any other mark that a form under the parser's profile may hold.
@@ -28,9 +30,10 @@ const OTHER_MARK: u8 = 8;
 // A forbidden domain code point.
 const FORBIDDEN: u8 = 16;
 
+// A byte of a code point beyond ASCII.
 const BEYOND_ASCII: u8 = 32;
 
-// With which `xn--` begins.
+// The letter with which `xn--` begins.
 const LETTER_X: u8 = 64;
 
 // The kind of each byte.
@@ -45,24 +48,28 @@ const KINDS: [u8; 256] = byte_table! {
     _ => OTHER_MARK,
 };
 
-// The kinds beyond letters in lower case, digits and full stops.
+// The kinds other than letters in lower case, digits and full stops.
 const BEYOND_SIMPLE: u8 = HYPHEN | BEYOND_STANDARD_FORM;
 
-// The kinds beyond a form's code points, under each profile.
+// The kinds that a form doesn't hold, under each profile.
 const BEYOND_STANDARD_FORM: u8 = BEYOND_WIDE_FORM | LOW_LINE;
 
+// The kinds that a form doesn't hold under the wide profile, which permits `_`.
 const BEYOND_WIDE_FORM: u8 = BEYOND_PARSER_FORM | OTHER_MARK;
 
+// The kinds that a form doesn't hold under the parser's profile, which permits further marks.
 const BEYOND_PARSER_FORM: u8 = CAPITAL | FORBIDDEN | BEYOND_ASCII;
 
 // The kinds that a domain doesn't hold in any case of its letters, under each profile.
 const BEYOND_STANDARD: u8 = BEYOND_WIDE | LOW_LINE;
 
+// The kinds that a domain doesn't hold under the wide profile, which permits `_`.
 const BEYOND_WIDE: u8 = BEYOND_PARSER | OTHER_MARK;
 
+// The kind that a domain doesn't hold under the parser's profile, which permits further marks.
 const BEYOND_PARSER: u8 = FORBIDDEN;
 
-/// The bytes of a name, of which one walk has found the kinds. Contracts see the bytes.
+/// The bytes of a name, with the kinds that one walk found in them. Contracts see the bytes.
 #[derive(Drop)]
 pub(crate) struct Name<'n> {
     bytes: &'n [u8],
@@ -92,7 +99,7 @@ impl<'n> Name<'n> {
         }
     }
 
-    /// Whether it has lower-case letters, digits and full stops alone.
+    /// Whether it has only lower-case letters, digits and full stops.
     #[inline(always)]
     pub(crate) fn is_simple(&self) -> bool
         ensures { result ≡ list_all is_simple self.now }
@@ -100,7 +107,7 @@ impl<'n> Name<'n> {
         self.seen & BEYOND_SIMPLE == 0
     }
 
-    /// Whether it has the code points of a form alone: lower-case letters, digits and the marks of a domain.
+    /// Whether it has only the code points of a form: lower-case letters, digits and the marks of a domain.
     #[inline(always)]
     pub(crate) fn is_form(&self, profile: Profile) -> bool
         ensures { result ≡ list_all (spec.is_form_code_point profile) self.now }
@@ -161,12 +168,14 @@ fn kinds_of(bytes: &[u8]) -> u8
     seen
 }
 
+// Whether no label of a name begins with `xn--`.
 fn is_without_punycode(name: &[u8]) -> bool
     ensures { result ≡ list_all (passes_hyphens Hyphens.Allow) (labels_of name.now) }
 {
     name.split(|b| *b == b'.').all(|label| has_no_prefix(label))
 }
 
+// Whether a label doesn't begin with `xn--`, after which Punycode stands for other code points.
 #[tactic(auto, unfolding(idna::specs::Validity::passes_hyphens, idna::specs::Validity::has_ace_prefix))]
 fn has_no_prefix(label: &[u8]) -> bool
     ensures { result ≡ passes_hyphens Hyphens.Allow label.now }
@@ -174,12 +183,14 @@ fn has_no_prefix(label: &[u8]) -> bool
     !label.starts_with(b"xn--")
 }
 
+// Whether the hyphens of each label are where the strict settings of ToASCII permit them.
 fn has_placed_hyphens(name: &[u8]) -> bool
     ensures { result ≡ list_all (passes_hyphens Hyphens.Check) (labels_of name.now) }
 {
     name.split(|b| *b == b'.').all(|label| has_placed(label))
 }
 
+// Whether no hyphen is first or last in a label, or third and fourth (UTS #46, section 4.1).
 #[tactic(auto, unfolding(idna::specs::Validity::passes_hyphens))]
 fn has_placed(label: &[u8]) -> bool
     ensures { result ≡ passes_hyphens Hyphens.Check label.now }

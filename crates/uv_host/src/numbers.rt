@@ -6,7 +6,7 @@ ghost use Rattle.uv_model.specs.Hosts.Address.{Reads};
 ghost use Rattle.uv_model.specs.Hosts.Numbers.{IsNumbersText};
 ghost use Rattle.uv_host.specs.ParserHosts.{IsByteText, IsWeighedText, is_shortest, weight_of};
 
-/// The value of one to four numbers from 0 to 255 in shortest decimal form, with `.` between each two: each counts 256
+/// The value of one to four numbers from 0 to 255 in shortest decimal form, with `.` between them: each counts 256
 /// times less than the one before it, but the last always counts once, so that `1.2.3` has the value of `1.2.0.3` (URL
 /// Standard, section 3.5). `None` for every other text.
 pub fn numbers_value(text: &str) -> Option<u32>
@@ -15,8 +15,8 @@ pub fn numbers_value(text: &str) -> Option<u32>
     weighed_value(text, 3)
 }
 
-// The value of one number from 0 to 255 in shortest decimal form and at most so many more, with `.` between each two:
-// the first counts `weight_of(more)`, each after it 256 times less, but the last always once.
+// The value of one number from 0 to 255 in shortest decimal form and at most this many more, with `.` between them: the
+// first counts `weight_of(more)`, each after it 256 times less, but the last always once.
 fn weighed_value(text: &str, more: usize) -> Option<u32>
     requires { more ≤ 3 }
     ensures { Reads (IsWeighedText more) text.now result }
@@ -39,7 +39,7 @@ fn weighed_value(text: &str, more: usize) -> Option<u32>
     }
 }
 
-// What the first of several numbers counts, of which so many follow it at most.
+// How much the first of several numbers counts if at most this many follow it.
 fn weight_of(more: usize) -> u32
     requires { more ≤ 3 }
     ensures { result ≡ weight_of more }
@@ -65,7 +65,7 @@ fn byte_value(text: &str) -> Option<u8>
     }
 }
 
-// Digits alone, of which the first is `0` only when it is the only one.
+// Only digits, the first of which is `0` only if it is the only one.
 fn is_shortest(text: &[u8]) -> bool
     ensures { result ≡ is_shortest text.now }
 {

@@ -9,8 +9,9 @@ use crate::addresses::bracketed_ipv6;
 use uv_model::{Refusal, Rule, first_code_point};
 use uv_text::{UnitClass, count_code_points, split_units};
 
-/// What is wrong with the text of an opaque host: the least place, in code points from the text's start, and there the
-/// least rule. `None` for an empty text, an IPv6 text in brackets and an opaque host (URL Standard, section 3.4).
+/// What is wrong with the text of an opaque host: the least place, in code points from the text's start, and of several
+/// rules violated there the one with the least number. `None` for an empty text, an IPv6 text in brackets and an opaque
+/// host (URL Standard, section 3.4).
 pub fn opaque_fault(text: &str) -> Option<Refusal>
     ensures least { IsLeast (OpaqueHostViolation (chars text.now)) result }
     ensures within { StandsWithin (chars text.now) result }
@@ -33,7 +34,7 @@ pub(crate) fn starts_with_bracket(text: &str) -> bool
     }
 }
 
-/// The fault of a text that begins with `[`: it has one unless it is an IPv6 text in brackets.
+/// The fault of a text that begins with `[`: there is one unless the text is an IPv6 text in brackets.
 fn bracket_fault(text: &str) -> Option<Refusal>
     requires { spec.starts_with_bracket (chars text.now) ≡ true }
     ensures least { IsLeast (OpaqueHostViolation (chars text.now)) result }
@@ -65,7 +66,7 @@ pub fn opaque_unit_fault(text: &str) -> Option<Refusal>
     }
 }
 
-/// The rule that a code point violates if no unit of an opaque host begins.
+/// The rule that a code point violates if it doesn't begin a unit of an opaque host.
 fn host_rule(c: char) -> Rule
     ensures { result ≡ host_rule c }
 {

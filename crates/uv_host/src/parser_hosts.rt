@@ -26,16 +26,16 @@ pub enum ParserHost {
     Domain(String),
     /// An IPv4 address, with its value.
     Address(u32),
-    /// A form that ends in a number and isn't an address on which the host parser is silent.
+    /// A form that ends in a number and isn't an address that the host parser takes without an error.
     Number,
-    /// No form.
+    /// A text without a form.
     Not,
 }
 
 /// What the host parser makes of a text that isn't in brackets, without an error (URL Standard, sections 3.3 to 3.5):
 /// the text is percent-decoded, and ToASCII gives its form, which isn't empty and holds no forbidden domain code point.
-/// A form that ends in a number is one to four numbers from 0 to 255 in shortest decimal form. The error is out of
-/// memory.
+/// A form that ends in a number is one to four numbers from 0 to 255 in shortest decimal form. An error means that
+/// memory ran out.
 pub fn parser_host(alloc: Global, text: &str) -> Result<ParserHost, AllocError>
     ensures { IfOk result (IsParserAnswer (chars text.now)) }
 {
@@ -59,7 +59,7 @@ fn check_form(form: String) -> ParserHost
     }
 }
 
-// The form of a text, if it has one: its lower case, where ToASCII would leave that as it is.
+// The form of a text, if it has one: its lower case, if ToASCII would leave that as it is.
 fn any_form(alloc: Global, text: &str) -> Result<Option<String>, AllocError>
     ensures { IfOk result (λ answer. MatchOption answer (spec.HasNoForm Profile.Parser (chars text.now))
         (λ form. spec.IsForm Profile.Parser (chars text.now) (string_bytes form))) }
@@ -71,7 +71,7 @@ fn any_form(alloc: Global, text: &str) -> Result<Option<String>, AllocError>
     }
 }
 
-/// The form of a text by percent-decoding and ToASCII, if it has one. The error is out of memory.
+/// The form of a text by percent-decoding and ToASCII, if it has one. An error means that memory ran out.
 pub(crate) fn parser_form(alloc: Global, text: &str) -> Result<Option<String>, AllocError>
     ensures { IfOk result (λ answer. MatchOption answer (spec.HasNoForm Profile.Parser (chars text.now))
         (λ form. spec.IsForm Profile.Parser (chars text.now) (string_bytes form))) }
@@ -83,8 +83,8 @@ pub(crate) fn parser_form(alloc: Global, text: &str) -> Result<Option<String>, A
     taken_form(alloc, decoded)
 }
 
-// What ToASCII gives, if that isn't empty and holds no forbidden domain code point. Bytes that it leaves as they are
-// are not copied.
+// What ToASCII gives, if it isn't empty and holds no forbidden domain code point. Bytes that it leaves as they are
+// aren't copied.
 fn taken_form(alloc: Global, decoded: CowSlice<'_, u8>) -> Result<Option<String>, AllocError>
     ensures { IfOk result (λ form. option_map string_bytes form ≡ taken_form (cow_slice_items decoded.entry)) }
 {
@@ -101,8 +101,8 @@ fn taken_form(alloc: Global, decoded: CowSlice<'_, u8>) -> Result<Option<String>
     }
 }
 
-// Whether the bytes are the code points of a form, and ToASCII leaves them as they are. Where the answer is no, that
-// says nothing.
+// Whether the bytes are the code points of a form, and ToASCII leaves them as they are. A no means only that this isn't
+// known.
 fn is_own_form(decoded: &[u8]) -> bool
     ensures ascii { IsTrue result → IsAscii decoded.now }
     ensures own { IsTrue result → taken_form decoded.now ≡ Some decoded.now }
@@ -114,7 +114,7 @@ fn is_own_form(decoded: &[u8]) -> bool
     name.is_form(Profile::Parser) && name.is_without_punycode()
 }
 
-// The text of ASCII bytes, which are not copied.
+// The text of ASCII bytes, which aren't copied.
 fn text_of(bytes: Vec<u8>) -> Option<String>
     requires { IsAscii bytes.items }
     ensures { option_map string_bytes result ≡ Some bytes.items }

@@ -14,9 +14,9 @@ const SIGN_ROWS: [u8; 16] = byte_rows!(b'a'..=b'z' | b'0'..=b'9');
 // The hyphen and the full stop.
 const JOINT_ROWS: [u8; 16] = byte_rows!(b'-' | b'.');
 
-/// How many bytes a name has at the start of a text: lower-case letters and digits, with single hyphens and full stops
-/// between them, and the root's full stop at its end or none. It ends if none of these follows; no verdict rests on
-/// that, and only the time of one does, since a text whose name was missed or cut short is checked by its parts.
+/// How many bytes of a name are at the start of a text: lower-case letters and digits, with single hyphens and full
+/// stops between them, and possibly the root's full stop. The name ends where none of these follows. No verdict depends
+/// on that, only how long one takes, since a text whose name was missed or cut short is checked by its parts.
 #[inline(always)]
 pub fn name_prefix(text: &Tail<'_>) -> Option<usize>
     ensures { IfSome result (IsChainPrefix text.now) }
@@ -28,7 +28,7 @@ pub fn name_prefix(text: &Tail<'_>) -> Option<usize>
     Some(end)
 }
 
-// Where the bytes end that go on as such a name does, each from the one before it.
+// The end of the bytes that form such a name, each of which may follow the one before it.
 #[inline(always)]
 fn chain_end(text: &Tail<'_>) -> usize
     ensures { IsJoined false text.now result }
@@ -42,8 +42,8 @@ fn chain_end(text: &Tail<'_>) -> usize
     end + ahead
 }
 
-// How many of the 32 bytes from a place on go on so, where `signed` says whether a letter or a digit is before
-// them; and whether the last of them is one, where all do.
+// How many of the 32 bytes from a place on go on like this, where `signed` says whether a letter or a digit is before
+// them; and if all of them do, whether the last is a letter or a digit.
 #[inline(always)]
 fn chain_run(text: &Tail<'_>, place: usize, signed: bool) -> (usize, bool)
     requires { place ≤ length text.now }
@@ -59,8 +59,8 @@ fn chain_run(text: &Tail<'_>, place: usize, signed: bool) -> (usize, bool)
     (joined.trailing_ones() as usize, signs >> 31 == 1)
 }
 
-/// Whether such a name, with the root's full stop or without one, is in each profile a valid domain (URL Standard,
-/// section 3.3), which is its own ASCII form. Where the answer is no, that says nothing.
+/// Whether such a name, with or without the root's full stop, is a valid domain in each profile (URL Standard, section
+/// 3.3), and its own ASCII form. A no means only that this isn't known.
 #[inline(always)]
 pub fn is_plain_domain(name: &str) -> bool
     requires { is_rooted_chain name.now ≡ true }
@@ -78,7 +78,7 @@ pub fn is_plain_domain(name: &str) -> bool
     !is_number(name)
 }
 
-// Whether the last byte is a digit, as an address's is, the last label of which then isn't read.
+// Whether the last byte is a digit, as in an address. Then the last label isn't read.
 #[inline(always)]
 fn ends_in_digit(name: &[u8]) -> bool {
     match name {
@@ -87,8 +87,7 @@ fn ends_in_digit(name: &[u8]) -> bool {
     }
 }
 
-// Whether the last label ends with a letter that is in no number, as most do. Where the answer is no, that says
-// nothing.
+// Whether the last label ends with a letter that no number contains, as most do. A no means only that this wasn't seen.
 pub(crate) fn ends_in_word(name: &[u8]) -> bool
     ensures { IsTrue result → spec.ends_in_number name.now ≡ false }
 {
@@ -99,15 +98,15 @@ pub(crate) fn ends_in_word(name: &[u8]) -> bool
     }
 }
 
-// A lower-case letter between the hex digits and the `x` of a number. No number has `y` or `z` either, but few names
-// end with them, and so one comparison does.
+// A lower-case letter after the hex digits and before the `x` of a number. A number doesn't contain `y` or `z` either,
+// but few names end with them, so this comparison is enough.
 fn is_word_letter(b: u8) -> bool
     ensures { result ≡ is_word_letter b }
 {
     b > b'f' && b < b'x'
 }
 
-// Whether such a name has the lengths of a domain, as it has where it has no more bytes than one label may have.
+// Whether such a name has the lengths of a domain. It has them if it is no longer than one label may be.
 #[inline(always)]
 fn is_fitting(name: &str) -> bool
     requires { is_rooted_chain name.now ≡ true }

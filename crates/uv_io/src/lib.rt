@@ -1,4 +1,4 @@
-//! Readers and writers: what the inputs of this product are read from, and what its outputs are written to.
+//! Readers and writers: the sources of this product's inputs, and where its outputs go.
 #![tactic(auto)]
 
 mod readers;

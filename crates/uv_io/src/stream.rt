@@ -1,10 +1,10 @@
-//! Readers and writers: what the inputs of this product are read from, and what its outputs are written to.
+//! Readers and writers: the sources of this product's inputs, and where its outputs go.
 ghost use Rattle.std.specs.Prelude.{◌≡◌, ℕ, List, Option, OnOk, OnErr, take, ◌+◌, ◌-◌, ◌^◌, ◌<◌};
 ghost use Rattle.std.specs.Io.{ReadsAtMost, WritesAtMost};
 ghost use Rattle.std.specs.Io.KnownBytes.{Appends, ReadConsumes, WriteAppends};
 ghost use Rattle.uv_io.specs.Stream.{read_failures, write_failures};
 
-/// A read or a write failed, or a write took nothing of a piece that had bytes.
+/// A read or a write failed, or a write took none of a piece that had bytes.
 #[derive(Clone, Copy, Debug, PartialEq, Eq)]
 pub struct DeviceFault;
 
@@ -16,8 +16,8 @@ pub trait Source {
     // How many reads have failed.
     ghost failed: { Self → ℕ };
 
-    /// Puts the next bytes at the start of the piece, and says how many they are. On a piece that has room 0 is the
-    /// end: no byte is to come. An error gives none and leaves what is to come as it was.
+    /// Puts the next bytes at the start of the piece, and says how many they are. If the piece has room, 0 means the
+    /// end: no more bytes will come. An error gives no bytes and leaves those to come as they were.
     fn read(&mut self, into: &mut [u8]) -> Result<usize, DeviceFault>
         requires { failed self.old < 2 ^ 64 - 1 }
         ensures bound { ReadsAtMost result into.new }
@@ -37,15 +37,14 @@ pub trait Sink {
     // How many writes have failed.
     ghost failed: { Self → ℕ };
 
-    /// Takes a prefix of the piece, and says how many bytes that are. An error takes none.
+    /// Takes a prefix of the piece, and says how many bytes it took. With an error it took none.
     fn write(&mut self, from: &[u8]) -> Result<usize, DeviceFault>
         requires { failed self.old < 2 ^ 64 - 1 }
         ensures bound { WritesAtMost result from.now }
         ensures bytes { WriteAppends (contents self.old) (contents self.new) result from.now }
         ensures count { failed self.new ≡ failed self.old + write_failures result from.now };
 
-    /// How many writes have failed: those that answered an error, and those that took nothing of a piece that had
-    /// bytes.
+    /// How many writes have failed: those that answered an error, and those that took none of a piece that had bytes.
     fn failures(&self) -> u64
         ensures { result ≡ failed self.now };
 }

@@ -4,41 +4,41 @@ ghost use Rattle.uv_lines.specs.Fault as spec;
 
 use thiserror::Error;
 
-/// Why a run over a list stopped, and what it had written by then. How far the reader was read is open.
+/// Why a run over a list stopped, and what it had written by then. How far the reader was read is left open.
 #[derive(Clone, Copy, Debug, PartialEq, Eq, Error)]
 pub enum StopFault {
-    /// An allocation failed. What is written of whole lines was written.
+    /// An allocation failed. The output for whole lines was written.
     #[error("memory")]
     Memory,
-    /// A read failed. What is written of every line whose LF was read was written.
+    /// A read failed. The output for every line whose LF was read was written.
     #[error("read")]
     Read,
-    /// A write failed, or took nothing of a piece that had bytes. A beginning was written, perhaps cut within what is
-    /// written of a line.
+    /// A write failed, or took nothing from a piece that had bytes. The beginning of the output was written, perhaps
+    /// cut within the output for a line.
     #[error("write")]
     Write,
-    /// A further line began after as many as the limits allow. What is written of all those was written.
+    /// One more line began after as many as the limits allow. The output for all of those was written.
     #[error("too many lines")]
     TooManyLines,
-    /// 2^64 - 1 reads gave bytes, and none the end. What is written of whole lines was written.
+    /// 2^64 - 1 reads gave bytes, and none the end. The output for whole lines was written.
     #[error("endless")]
     Endless,
 }
 
-/// Why a run over a list stopped, where what takes its lines, or reports on them, has faults of its own.
+/// Why a run over a list stopped, if what takes its lines, or reports on them, has faults of its own.
 #[derive(Clone, Copy, Debug, PartialEq, Eq)]
 pub enum LineFault<F> {
     /// A fault of what takes the lines, or reports on them. The report on all lines before was written, and perhaps
-    /// whole parts of what it says of the next one.
+    /// whole parts of the report on the next one.
     Own(F),
     /// Any other fault.
     Stop(StopFault),
 }
 
-/// Why what is written of a line isn't whole.
+/// Why the output for a line isn't whole.
 #[derive(Clone, Copy, Debug, PartialEq, Eq)]
 pub enum ReportFault<F> {
-    /// What reports on the line, or takes it, couldn't go on.
+    /// What reports on the line, or takes it, can't go on.
     Reporter(F),
     /// A write failed.
     Write,

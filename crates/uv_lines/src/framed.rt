@@ -14,12 +14,12 @@ use crate::run::run_between;
 use std::alloc::Global;
 use uv_io::{DeviceFault, Sink, Source, write_whole};
 
-/// What is around the report on a list.
+/// What comes before and after the report on a list.
 #[derive(Clone, Copy)]
 pub struct Frame<'a> {
     /// What is written before the first line is read.
     pub begin: &'a [u8],
-    /// What is written after all else, also after each fault but one of a write.
+    /// What is written after everything else, even after a fault, unless it was a failed write.
     pub end: &'a [u8],
 }
 
@@ -36,14 +36,14 @@ impl Frame<'static> {
     }
 }
 
-/// Has a reporter report on each line of a list, in a frame, and gives the reporter back, as the last line on which it
-/// reported left it.
+/// Has a reporter report on each line of a list, in a frame, and gives the reporter back in the state after the last
+/// line.
 ///
 /// A line ends with LF, and one CR before that isn't a part of it; a last part without LF is a line if it isn't empty.
-/// What is said of the lines that a read has ended is written before the next read, and no more than 262,143 bytes wait
-/// where a line or a part has ended. What the reporter says after the last line is written if no fault came, and the
-/// frame's end after each fault but one of a write, even if the reporter's came between two parts of a line. The writer
-/// isn't flushed. After a fault nothing is tried again, and how far the reader was read is open.
+/// What is said about the lines that a read has ended is written before the next read, and no more than 262,143 bytes
+/// wait when a line or a part has ended. What the reporter says after the last line is written if no fault came. The
+/// frame's end is written after every fault except a failed write, even if the reporter failed between two parts of a
+/// line. The writer isn't flushed. After a fault nothing is tried again, and how far the reader was read is left open.
 #[tactic(none)]
 pub fn run_lines<R: Source, W: Sink, T: Reporter>(
     alloc: Global,
@@ -136,7 +136,7 @@ fn follow<W: Sink, F: Drop>(
     }
 }
 
-// Writes a piece, where it has any bytes.
+// Writes a piece, unless it is empty.
 fn write_some<W: Sink>(writer: &mut W, piece: &[u8]) -> Result<(), DeviceFault>
     requires { W.failed writer.old < 2 ^ 64 - 1 }
     ensures whole { OnOk result (Appends (W.contents writer.old) (W.contents writer.new) piece.now) }

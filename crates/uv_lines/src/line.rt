@@ -9,12 +9,12 @@ ghost use Rattle.uv_lines.specs.Lines.{line_feed};
 use crate::line_parts::without_return;
 use std::str::{Utf8Error, from_utf8};
 
-/// A line of a list. A list is looked at for UTF-8 by the piece, so that most lines are known to be texts.
+/// A line of a list. Whole pieces of a list are checked for UTF-8, so most lines are known to be text.
 #[derive(Clone, Copy)]
 pub enum Line<'l> {
     /// It is UTF-8.
     Text(&'l str),
-    /// It wasn't looked at, or isn't UTF-8.
+    /// It wasn't checked, or isn't UTF-8.
     Bytes(&'l [u8]),
 }
 
@@ -30,7 +30,7 @@ impl<'l> Line<'l> {
         }
     }
 
-    /// Its text, where it is UTF-8.
+    /// Its text, if it is UTF-8.
     #[inline(always)]
     pub fn text(self) -> Result<&'l str, Utf8Error>
         ensures cases { MatchResult result (λ text. (text.now ≡ bytes_of self.entry) × IsUtf8 (bytes_of self.entry))
@@ -66,7 +66,7 @@ fn text_without_return(text: &str) -> &str
     }
 }
 
-/// The line before an LF. It is given the text that the bytes begin with, as far as it is known.
+/// The line before an LF. `text` is the text that the bytes begin with, as far as it is known.
 #[inline(always)]
 pub(crate) fn line_before<'p>(bytes: &'p [u8], text: &'p str, end: usize) -> Line<'p>
     requires known { text.now ≡ take (length text.now) bytes.now }
@@ -81,7 +81,7 @@ pub(crate) fn line_before<'p>(bytes: &'p [u8], text: &'p str, end: usize) -> Lin
     }
 }
 
-/// The text that bytes begin with: the one that is known, where it has more than so many bytes, or the longest.
+/// The text that bytes begin with: the known one if it has more than this many bytes, otherwise the longest there is.
 #[inline(always)]
 pub(crate) fn text_beyond<'p>(bytes: &'p [u8], text: &'p str, end: usize) -> &'p str
     requires { text.now ≡ take (length text.now) bytes.now }
@@ -96,7 +96,7 @@ pub(crate) fn text_beyond<'p>(bytes: &'p [u8], text: &'p str, end: usize) -> &'p
     }
 }
 
-/// What of a text is after a line and its LF.
+/// What comes after a line and its LF in a text.
 #[inline(always)]
 pub(crate) fn text_after(text: &str, end: usize) -> &str
     requires { end < length text.now → slice_index text.now end ≡ line_feed }

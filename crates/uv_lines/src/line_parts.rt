@@ -1,4 +1,4 @@
-//! Where a line ends, and what of it is its text.
+//! Where a line ends, and which part of it is its text.
 ghost use Rattle.std.specs.Prelude.{◌≡◌, ◌+◌, ◌<◌, [], ◌∷◌, IfSome, None, drop, length, take};
 ghost use Rattle.std.specs.Str.Lines.{strip_carriage_return};
 ghost use Rattle.uv_lines.specs.Lines as spec;
@@ -7,7 +7,7 @@ ghost use Rattle.uv_lines.specs.Progress.{ended};
 
 use memchr::memchr;
 
-/// How many bytes are before the next LF, where there is one.
+/// How many bytes come before the next LF, if there is one.
 pub fn line_end(rest: &[u8]) -> Option<usize>
     ensures some { IfSome result (λ at. (at < length rest.now) × (split (take at rest.now) ≡ ([], take at rest.now))
         × (drop at rest.now ≡ line_feed ∷ drop (at + 1) rest.now)) }
@@ -16,7 +16,7 @@ pub fn line_end(rest: &[u8]) -> Option<usize>
     memchr(b'\n', rest)
 }
 
-/// The text of what is before an LF, or at the end of a list without one: an LF takes the CR before it with it.
+/// The text of what comes before an LF, or at the end of a list without one. An LF takes the CR before it with it.
 pub fn line_text(line: &[u8], is_closed: bool) -> &[u8]
     ensures { result.now ≡ ended is_closed line.now }
 {

@@ -1,4 +1,4 @@
-//! The lines of a list passed on: what is said of the lines of a piece is written before the next one is read.
+//! The lines of a list passed on: what is said about the lines of a piece is written before the next one is read.
 ghost use Rattle.std.specs.Prelude.{◌≡◌, ℕ, ◌+◌, ◌-◌, ◌^◌, ◌<◌, [], false};
 ghost use Rattle.uv_lines.specs.declared.limits.LineLimits.{LineLimits};
 ghost use Rattle.uv_lines.specs.Fault as spec;
@@ -68,7 +68,7 @@ impl<R: Reporter> Taker for Progress<R> {
         }
     }
 
-    // What is said of the last line is written even if it can't be reported on whole.
+    // What is said about the last line is written even if the report on it isn't whole.
     fn end_list<W: Sink>(
         &mut self,
         alloc: Global,
@@ -89,7 +89,7 @@ impl<R: Reporter> Taker for Progress<R> {
 }
 
 impl<R: Reporter> Progress<R> {
-    // Writes what waits to be written, where a fault came that isn't of a write, and gives the fault.
+    // Writes what waits to be written after a fault that wasn't a failed write, and gives the fault.
     fn stop<W: Sink>(&mut self, writer: &mut W, fault: LineFault<R::Fault>) -> LineFault<R::Fault>
         requires { spec.is_write fault ≡ false → W.failed writer.old < 2 ^ 64 - 1 }
         ensures left { (limits : LineLimits) → Turns (WaitingFault limits fault) (PassingFault limits result)

@@ -11,11 +11,11 @@ use crate::taker::Taker;
 use std::alloc::{AllocError, Global};
 use uv_io::{Sink, Source};
 
-// How many bytes of the list are read at a time.
+// How many bytes of the list are read at once.
 const PIECE_BYTES: usize = 65_536;
 
-/// Reads a list piece by piece, and has each line taken, and each part of a line that ends in no piece. What comes of
-/// the lines that a read has ended is written before the next read.
+/// Reads a list piece by piece, and has each line taken, and each part of a line that no piece ends. The output for the
+/// lines that a read has ended is written before the next read.
 #[tactic(none)]
 pub fn take_list<R: Source, W: Sink, T: Taker>(
     alloc: Global,
@@ -95,7 +95,8 @@ fn take_pieces<R: Source, W: Sink, T: Taker>(
     Err(LineFault::Stop(StopFault::Endless))
 }
 
-// Has each line that ends in a piece taken, and what the piece has of a further one, and then what waits written.
+// Has each line that ends in a piece taken, and the part of the next line that the piece has, and then has what waits
+// written.
 fn take_piece<W: Sink, T: Taker>(
     alloc: Global,
     writer: &mut W,

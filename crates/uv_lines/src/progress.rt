@@ -1,12 +1,12 @@
-//! A run between two pieces.
+//! The state of a run between two pieces.
 ghost use Rattle.std.specs.Prelude.{◌≡◌, ◌+◌, ◌<◌, ◌≤◌, [], vec_len};
 
 use crate::limits::LineLimits;
 use crate::reporter::Reporter;
 use std::alloc::Global;
 
-/// A run between two pieces: what of the begun line is kept, and what is said of the lines before it and isn't written
-/// yet.
+/// The state of a run between two pieces: what is kept of the line that has begun, and what waits to be written about
+/// the lines before it.
 #[derive(Drop)]
 pub(crate) struct Progress<R: Reporter> {
     pub(crate) reporter: R,
@@ -21,7 +21,7 @@ pub(crate) struct Progress<R: Reporter> {
 }
 
 impl<R: Reporter> Progress<R> {
-    /// A run before its first piece.
+    /// The state before the first piece.
     pub(crate) fn new(alloc: Global, reporter: R, limits: LineLimits) -> Progress<R>
         requires short { limits.line_bytes ≤ 65536 }
         requires bounded { limits.lines ≤ 1000000000 }

@@ -10,7 +10,7 @@ use crate::line::Line;
 use std::alloc::Global;
 use uv_io::Sink;
 
-/// What reports on the lines of a list, one after the other. What it says of a line may depend on those before it.
+/// What reports on the lines of a list, one after another. What it says about a line may depend on those before it.
 pub trait Reporter: Drop {
     /// Why it can't report on a line.
     type Fault: Drop;
@@ -22,16 +22,16 @@ pub trait Reporter: Drop {
     // more bytes than a line may have.
     ghost reports: { Self → Option (List ℕ) → List ℕ → Self → Type 0 };
 
-    // In this state it begins what it says of a line with these parts, and may come no further. A reporter that ends no
-    // part within a line has none.
+    // In this state it begins what it says about a line with these parts, and may not get any further. A reporter that
+    // ends no part within a line has none.
     ghost begins: { Self → Option (List ℕ) → List ℕ → Type 0 };
 
     /// Appends what the report says of the next line to the text that waits to be written. It may end parts of it
-    /// (`end_part`), so that no more waits however much is said of a line. None stands for a line that has more bytes
+    /// (`end_part`), so that little waits however much is said about a line. None stands for a line that has more bytes
     /// than a line may have.
     ///
-    /// After a fault the reporter is as it was. After one of its own nothing or whole parts of what it says of the line
-    /// came to what waits; after a failed write a prefix of that was written.
+    /// After a fault the reporter is as it was. After a fault of its own, either nothing was added to what waits, or
+    /// whole parts of what it says about the line. After a failed write, a prefix of that was written.
     fn report<W: Sink>(
         &mut self,
         alloc: Global,

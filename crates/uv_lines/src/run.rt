@@ -12,8 +12,7 @@ use crate::reporter::Reporter;
 use std::alloc::Global;
 use uv_io::{Sink, Source};
 
-/// Has a reporter report on each line of a list, and gives the reporter back, as the last line on which it reported
-/// left it.
+/// Has a reporter report on each line of a list, and gives the reporter back in the state after the last line.
 #[tactic(none)]
 pub(crate) fn run_between<R: Source, W: Sink, T: Reporter>(
     alloc: Global,

@@ -8,7 +8,7 @@ use crate::line::Line;
 use std::alloc::Global;
 use uv_io::Sink;
 
-/// What takes the lines of a list and the parts of lines that end in no piece, and writes what comes of them.
+/// What takes the lines of a list and the parts of lines that no piece ends, and writes the output for them.
 ///
 /// A fault leaves nothing that waits to be written, unless a write failed.
 pub trait Taker {
@@ -52,7 +52,7 @@ pub trait Taker {
             (bytes_of line.entry ++ line_feed ∷ rest) self.new (W.contents writer.new)) }
         ensures failed { IfErr result (λ e. W.failed writer.new ≡ W.failed writer.old + writes e) };
 
-    /// Takes a part of a line, with which a piece ends.
+    /// Takes a part of a line, at the end of a piece.
     fn take_part<W: Sink>(&mut self, writer: &mut W, part: &[u8]) -> Result<(), Self::Fault>
         requires writes { W.failed writer.old < 2 ^ 64 - 1 }
         requires line { split part.now ≡ ([], part.now) }
@@ -63,7 +63,7 @@ pub trait Taker {
             (W.contents writer.new)) }
         ensures failed { IfErr result (λ e. W.failed writer.new ≡ W.failed writer.old + writes e) };
 
-    /// Writes what waits at a piece's end.
+    /// Writes what waits at the end of a piece.
     fn end_piece<W: Sink>(&mut self, writer: &mut W) -> Result<(), Self::Fault>
         requires { W.failed writer.old < 2 ^ 64 - 1 }
         ensures stands { OnOk result (Turns stands stands self.old (W.contents writer.old) self.new
@@ -74,7 +74,7 @@ pub trait Taker {
             (W.contents writer.new)) }
         ensures failed { IfErr result (λ e. W.failed writer.new ≡ W.failed writer.old + writes e) };
 
-    /// Takes the end of the list: the line that no LF ends, where there is one.
+    /// Takes the end of the list: the line that no LF ends, if there is one.
     fn end_list<W: Sink>(&mut self, alloc: Global, writer: &mut W) -> Result<(), Self::Fault>
         requires { W.failed writer.old < 2 ^ 64 - 1 }
         ensures ends { OnOk result (Turns stands ends self.old (W.contents writer.old) self.new

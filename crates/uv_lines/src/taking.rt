@@ -1,4 +1,4 @@
-//! The lines of a list, each reported on where it ends.
+//! The lines of a list, each reported on when it ends.
 ghost use Rattle.std.specs.Prelude.{◌≡◌, ℕ, ◌+◌, ◌-◌, ◌^◌, ◌<◌, List, [], ◌∷◌, ◌++◌, IfErr, OnOk, OnErr};
 ghost use Rattle.std.specs.Prelude.{Option, false, take, vec_len};
 ghost use Rattle.uv_lines.specs.Line.{bytes_of};
@@ -86,7 +86,7 @@ impl<R: Reporter> Progress<R> {
         }
     }
 
-    /// Keeps the end of a piece, in which a line goes on or begins.
+    /// Keeps the end of a piece, with which a line goes on or begins.
     pub(crate) fn begin_line(&mut self, rest: &[u8]) -> Result<(), LineFault<R::Fault>>
         requires { split rest.now ≡ ([], rest.now) }
         ensures kind { IfErr result (λ e. is_write e ≡ false) }
@@ -108,8 +108,8 @@ impl<R: Reporter> Progress<R> {
         }
     }
 
-    // Keeps what of a line's next bytes decides what is said of it: two bytes more than a line may have, with or
-    // without a CR at their end, are too many.
+    // Keeps what is needed of a line's next bytes to know what to say about it: two bytes more than a line may have,
+    // with or without a CR at their end, are too many.
     fn keep(&mut self, more: &[u8]) -> Result<(), AllocError>
         requires { R.lines self.old.reporter < self.old.limits.lines }
         ensures kept { OnOk result (self.new.begun.items ≡
@@ -126,7 +126,7 @@ impl<R: Reporter> Progress<R> {
         }
     }
 
-    /// Reports on the line that has begun, which an LF has ended or the end of the list.
+    /// Reports on the line that has begun, which an LF or the end of the list has ended.
     pub(crate) fn report_begun<W: Sink>(
         &mut self,
         alloc: Global,
@@ -162,7 +162,7 @@ impl<R: Reporter> Progress<R> {
     }
 }
 
-// Reports on a line, which may have more bytes than a line may have.
+// Reports on a line, which may be longer than a line may be.
 fn report_on<R: Reporter, W: Sink>(
     alloc: Global,
     reporter: &mut R,

@@ -1,15 +1,15 @@
-//! What is said of lines and waits to be written.
+//! What is said about lines and waits to be written.
 ghost use Rattle.std.specs.Prelude.{◌≡◌, ℕ, ◌+◌, ◌-◌, ◌^◌, ◌<◌, [], OnOk, OnErr, length, take};
 ghost use Rattle.std.specs.Io.KnownBytes.{Appends};
 ghost use Rattle.uv_lines.specs.Waiting.{Passes};
 
 use uv_io::{DeviceFault, Sink, write_whole};
 
-// How many bytes may wait to be written where a part has ended, less than so many.
+// When a part has ended, fewer bytes than this may wait to be written.
 const MUCH_BYTES: usize = 262_144;
 
-/// Ends a part of what the report says of a line, or of a list: writes what waits to be written, where that has 262,144
-/// bytes or more.
+/// Ends a part of what the report says about a line, or about a list: writes what waits to be written, if that is
+/// 262,144 bytes or more.
 ///
 /// A reporter may end a part between any two bytes of what it says of a line. After a fault a prefix of what waited was
 /// written.

@@ -4,7 +4,7 @@ ghost use Rattle.uv_links.specs.Report.{count_line};
 
 use std::alloc::{AllocError, Global};
 
-/// How many lines a list had, and how they were reported: each once, as ok, as bad or as differing.
+/// How many lines a list had, and how they were reported: each once, as ok, bad or differing.
 #[derive(Clone, Copy, Debug, PartialEq, Eq)]
 pub struct Counts {
     /// All lines.

@@ -9,10 +9,10 @@ use thiserror::Error;
 use uv_compare::RoomFault;
 use uv_lines::StopFault;
 
-/// Why a run over a list of links stopped, and what it had written by then. How far the reader was read is open.
+/// Why a run over a list of links stopped, and what it had written by then. How far the reader was read is left open.
 #[derive(Clone, Copy, Debug, PartialEq, Eq, Error)]
 pub enum LinkFault {
-    /// The run over the list stopped. What is written of a line is its line of the report.
+    /// The run over the list stopped. The output for a line is its line of the report.
     #[error(transparent)]
     Stop(StopFault),
     /// A line's URL is longer than the second parser's texts can be. Whole lines of the report were written.
@@ -31,7 +31,7 @@ impl From<AllocError> for LinkFault {
     }
 }
 
-/// The fault of a run that wants the same room.
+/// The fault of a run that needs the same room.
 pub(crate) fn fault_of_room(fault: RoomFault) -> LinkFault
     ensures { result ≡ spec.fault_of_room fault }
 {

@@ -5,9 +5,10 @@ ghost use Rattle.uv_links.specs.Limits.{are_limits};
 // The largest limits.
 const MOST_LINE_BYTES: usize = 65_536;
 
+// The most lines that a list may have.
 const MOST_LINES: u64 = 1_000_000_000;
 
-/// How many bytes a line may have, its LF and a CR before that not counted, and how many lines may come.
+/// How many bytes a line may have, not counting its LF and a CR before that, and how many lines may come.
 #[derive(Clone, Copy, Debug, PartialEq, Eq)]
 pub struct LinkLimits {
     line_bytes: usize,

@@ -1,4 +1,4 @@
-//! What is said of a line, found.
+//! Finds what the report says about a line.
 ghost use Rattle.std.specs.Cow.{cow_str_bytes};
 ghost use Rattle.std.specs.Prelude.{◌≡◌, ◌≤◌, ◌↔◌, IfOk, IfErr, IsTrue, None, Some, length, option_copied};
 ghost use Rattle.std.specs.Str.{chars};
@@ -22,8 +22,8 @@ use uv_lines::Line;
 use uv_model::{Profile, Record};
 use uv_resolve::serialized_text;
 
-/// What the lines are checked against: the profile, the base, the base as the second parser reads it, and how many
-/// bytes a line may have.
+/// What lines are checked with: the profile, the base, the base as the second parser reads it, and how many bytes a
+/// line may have.
 #[derive(Drop)]
 pub(crate) struct LineChecker<'b> {
     profile: Profile,
@@ -78,7 +78,7 @@ impl<'b> LineChecker<'b> {
         self.line_bytes
     }
 
-    /// What is said of a line.
+    /// What is said about a line.
     pub(crate) fn check<'l>(&self, alloc: Global, line: Line<'l>) -> Result<Said<'l>, RoomFault>
         ensures { IfOk result (λ said. IsSaid self.now (bytes_of line.entry) (said_of said)) }
     {
@@ -91,7 +91,7 @@ impl<'b> LineChecker<'b> {
         }
     }
 
-    // What is said of a line that isn't too long and is UTF-8.
+    // What is said about a line that isn't too long and is UTF-8.
     fn check_text<'l>(&self, alloc: Global, text: &'l str) -> Result<Said<'l>, RoomFault>
         requires { length text.now ≤ self.now.line_bytes }
         ensures { IfOk result (λ said. IsSaid self.now text.now (said_of said)) }
@@ -102,8 +102,8 @@ impl<'b> LineChecker<'b> {
         }
     }
 
-    // What is said without a base of a line that isn't too long and is UTF-8. No one else calls `check_alone`, so the
-    // compiler puts it here.
+    // What is said, without a base, about a line that isn't too long and is UTF-8. Nothing else calls `check_alone`, so
+    // the compiler inlines it here.
     fn check_text_alone<'l>(&self, alloc: Global, text: &'l str) -> Result<Said<'l>, RoomFault>
         requires short { length text.now ≤ self.now.line_bytes }
         requires alone { self.now.base ≡ None }
@@ -112,7 +112,7 @@ impl<'b> LineChecker<'b> {
         self.check_answer(alloc, text, &check_alone(alloc, text, self.profile))
     }
 
-    // What is said against a base of a line that isn't too long and is UTF-8.
+    // What is said, against a base, about a line that isn't too long and is UTF-8.
     fn check_text_against<'l>(
         &self,
         alloc: Global,
@@ -126,7 +126,7 @@ impl<'b> LineChecker<'b> {
         self.check_answer(alloc, text, &check(alloc, text, Some(base), self.profile))
     }
 
-    // What is said of a text on which this is the checker's answer, which is large and stays where it was written.
+    // What is said about a text with this answer of the checker. The answer is large, and stays where it was written.
     fn check_answer<'l>(
         &self,
         alloc: Global,
@@ -147,7 +147,7 @@ impl<'b> LineChecker<'b> {
         }
     }
 
-    // What is said of a text that denotes a URL with this text.
+    // What is said about a text that denotes a URL with this text.
     fn compare<'l>(
         &self,
         alloc: Global,
@@ -174,7 +174,7 @@ impl<'b> LineChecker<'b> {
     }
 }
 
-// The base as the second parser reads its text, where it reads it as that text.
+// The base as the second parser reads its text, if it reads it as the same text.
 fn agreed(alloc: Global, base: &Record) -> Result<Url, LinkFault>
     ensures base { IfOk result (λ url. second_base (Some base.now) ≡ Some url) }
     ensures agrees { IfOk result (λ _. AgreesOnBase (Some base.now)) }

@@ -15,7 +15,7 @@ use uv_compare::RoomFault;
 use uv_io::Sink;
 use uv_lines::{Line, ReportFault, Reporter};
 
-/// What reports on a list of links: the checker of its lines, and the counts of the lines before.
+/// The state of a report on a list of links: the checker of its lines, and the counts of the lines before.
 #[derive(Drop)]
 pub(crate) struct LinkReporter<'b> {
     checker: LineChecker<'b>,
@@ -34,7 +34,7 @@ impl<'b> Model for LinkReporter<'b> {
 }
 
 impl<'b> LinkReporter<'b> {
-    /// What reports on a list before its first line.
+    /// The state before the first line.
     pub(crate) fn new(checker: LineChecker<'b>) -> LinkReporter<'b>
         ensures { result ≡ record { setting = checker.entry; counts = none_counted } }
     {
@@ -54,7 +54,7 @@ impl<'b> LinkReporter<'b> {
         self.counts
     }
 
-    // Appends the report's line of the next line, and counts it.
+    // Appends the report's line on the next line of the list, and counts it.
     fn say(
         &mut self,
         alloc: Global,
@@ -108,7 +108,7 @@ impl<'b> Reporter for LinkReporter<'b> {
 
     ghost begins = { λ before line parts. ⊥ };
 
-    // A line of the report is no longer than 20 digits and a few words, so that no part ends within it.
+    // A line of the report has at most 20 digits and a few words, so no part ends within it.
     fn report<W: Sink>(
         &mut self,
         alloc: Global,
@@ -136,7 +136,7 @@ impl<'b> Reporter for LinkReporter<'b> {
     }
 }
 
-// What is said of a line; none stands for one that is too long.
+// What is said about a line, where `None` stands for one that is too long.
 fn check_line<'l>(
     alloc: Global,
     checker: &LineChecker<'_>,
@@ -150,7 +150,7 @@ fn check_line<'l>(
     }
 }
 
-// The counts with a further line.
+// The counts with one more line.
 fn with_line(counts: Counts, said: &Said<'_>) -> Counts
     requires few { counts.lines < 2 ^ 64 - 1 }
     requires whole { counts.ok + counts.bad + counts.differs ≡ counts.lines }

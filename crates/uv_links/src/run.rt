@@ -16,13 +16,13 @@ use uv_io::{Sink, Source};
 use uv_lines::{Frame, LineFault, LineLimits, run_lines};
 use uv_model::{Profile, Record};
 
-/// Reports on a list of links: each of its lines is checked under the profile, against the base where there is one, and
-/// each accepted line compared with the crate `url`.
+/// Reports on a list of links: each of its lines is checked under the profile, against the base if there is one, and
+/// each accepted line is compared with what the crate `url` makes of it.
 ///
 /// A line ends with LF, and one CR before that isn't a part of it; a last part without LF is a line if it isn't empty.
-/// The base's text is compared before the first read. What is reported of the lines that a read has ended is written
-/// before the next read. The writer isn't flushed. After a fault nothing is tried again, and how far the reader was
-/// read is open.
+/// The base's text is compared before the first read. The report on the lines that a read has ended is written before
+/// the next read. The writer isn't flushed. After a fault nothing is tried again, and how far the reader was read is
+/// left open.
 #[tactic(none)]
 pub fn run_links<R: Source, W: Sink>(
     alloc: Global,

@@ -1,4 +1,4 @@
-//! What is said of one line, and the line of the report that says it.
+//! What is said about a line, and the line of the report that says it.
 ghost use Rattle.std.specs.Prelude.{◌≡◌, ◌++◌, OnErr, OnOk};
 ghost use Rattle.std.specs.Io.{StartsWith};
 ghost use Rattle.uv_links.specs.Report.{Refused, Same, report_line, said_text};
@@ -9,10 +9,10 @@ use std::alloc::AllocError;
 use std::borrow::CowStr;
 use uv_model::Refusal;
 
-/// What is said of a line.
+/// What is said about a line.
 #[derive(Drop)]
 pub(crate) enum Said<'l> {
-    /// It is accepted, and the second parser reads it as the same text, which is this one: the record's.
+    /// It is accepted, and the second parser reads it as the same text, which is that of its record.
     Same(CowStr<'l>),
     /// It is refused.
     Refused(Refusal),
@@ -24,8 +24,8 @@ pub(crate) enum Said<'l> {
     Differs,
 }
 
-/// Appends one line of the report, with its LF. The number is the line's in its list, from 1. The error is out of
-/// memory: `out` then still begins with what it held.
+/// Appends one line of the report, with its LF. The number is the line's in its list, from 1. An error means that
+/// memory ran out: `out` then still begins with what it held.
 #[tactic(auto, unfolding(crate::specs::Report::report_line))]
 pub(crate) fn push_line(out: &mut Vec<u8>, number: u64, said: &Said<'_>) -> Result<(), AllocError>
     ensures ok { OnOk result (out.new.items ≡ out.old.items ++ report_line number (said_of said.now)) }
@@ -50,6 +50,7 @@ fn push_said(out: &mut Vec<u8>, said: &Said<'_>) -> Result<(), AllocError>
     }
 }
 
+// What follows the number of a line that is ok: the text of its record.
 fn push_same(out: &mut Vec<u8>, text: &str) -> Result<(), AllocError>
     ensures ok { OnOk result (out.new.items ≡ out.old.items ++ said_text (Same text.now)) }
     ensures err { OnErr result (StartsWith out.new.items out.old.items) }
@@ -59,6 +60,7 @@ fn push_same(out: &mut Vec<u8>, text: &str) -> Result<(), AllocError>
     push(out, "\n")
 }
 
+// What follows the number of a refused line: the place and the rule.
 fn push_refusal(out: &mut Vec<u8>, refusal: Refusal) -> Result<(), AllocError>
     ensures ok { OnOk result (out.new.items ≡ out.old.items ++ said_text (Refused refusal)) }
     ensures err { OnErr result (StartsWith out.new.items out.old.items) }

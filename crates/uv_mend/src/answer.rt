@@ -1,4 +1,4 @@
-//! What is answered of a text that is to be mended.
+//! The answer for a text that is to be mended.
 use uv_model::{MendKind, Refusal};
 
 /// What to write in place of a text.
@@ -10,9 +10,9 @@ pub enum Mending {
     Mended {
         /// The mended text.
         text: String,
-        /// How it is to the refused one.
+        /// How it relates to the refused one.
         kind: MendKind,
     },
-    /// The local edits make no valid URL string of the text, which is refused by this.
+    /// The local edits make no valid URL string of the text, which is refused for this.
     Refused(Refusal),
 }

@@ -5,7 +5,7 @@ ghost use Rattle.uv_mend.specs.CodePoints.{IsLastOf};
 use std::alloc::{AllocError, Global};
 use uv_model::first_code_point;
 
-/// The code points of a text. The error is out of memory.
+/// The code points of a text. An error means that memory ran out.
 pub(crate) fn code_points(alloc: Global, text: &str) -> Result<Vec<char>, AllocError>
     ensures { IfOk result (λ list. list.items ≡ chars text.now) }
 {
@@ -14,7 +14,7 @@ pub(crate) fn code_points(alloc: Global, text: &str) -> Result<Vec<char>, AllocE
     Ok(list)
 }
 
-/// The text of code points. The error is out of memory.
+/// The text of code points. An error means that memory ran out.
 pub(crate) fn text_of(alloc: Global, list: &[char]) -> Result<String, AllocError>
     ensures bytes { IfOk result (λ text. string_bytes text ≡ encode_utf8_all list.now) }
     ensures chars { IfOk result (λ text. chars (string_bytes text) ≡ list.now) }
@@ -47,14 +47,14 @@ pub(crate) fn last_of(list: &[char]) -> Option<(&[char], char)>
     }
 }
 
-/// Appends code points. The error is out of memory.
+/// Appends code points. An error means that memory ran out.
 pub(crate) fn push_all(out: &mut Vec<char>, list: &[char]) -> Result<(), AllocError>
     ensures { OnOk result (out.new.items ≡ out.old.items ++ list.now) }
 {
     out.extend_from_slice(list)
 }
 
-/// Appends one code point. The error is out of memory.
+/// Appends one code point. An error means that memory ran out.
 pub(crate) fn push_one(out: &mut Vec<char>, c: char) -> Result<(), AllocError>
     ensures { OnOk result (out.new.items ≡ out.old.items ++ c ∷ []) }
 {
@@ -62,7 +62,7 @@ pub(crate) fn push_one(out: &mut Vec<char>, c: char) -> Result<(), AllocError>
     Ok(())
 }
 
-/// Appends the code points of a text. The error is out of memory.
+/// Appends the code points of a text. An error means that memory ran out.
 pub(crate) fn push_text(out: &mut Vec<char>, text: &str) -> Result<(), AllocError>
     ensures { OnOk result (out.new.items ≡ out.old.items ++ chars text.now) }
 {

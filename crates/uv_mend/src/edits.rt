@@ -1,4 +1,5 @@
-//! The edits of a text: what the URL parser passes over, and those by the rule that a text then still violates.
+//! The edits of a text: those of what the URL parser passes over, and those by the rule that the text then still
+//! violates.
 ghost use Rattle.std.specs.Prelude.{◌≡◌, ◌≤◌, IfOk, IfSome, chars, length, option_copied, option_map, string_bytes};
 ghost use Rattle.uv_mend.specs.Edits as spec;
 ghost use Rattle.uv_mend.specs.Rest.{EditHasRestOf};
@@ -11,8 +12,9 @@ use crate::stripped::stripped;
 use std::alloc::{AllocError, Global};
 use uv_model::{Record, Refusal, Rule};
 
-/// A text without what the parser takes off, with its slashes as they are read, and with escapes. The error is out of
-/// memory.
+/// A text without what the parser removes, with its slashes as the parser reads them, and with escapes. In this order,
+/// since what is removed may stand between slashes, and where the path begins depends on these. An error means that
+/// memory ran out.
 #[tactic(auto, unfolding(crate::specs::Edits::cleaned))]
 pub(crate) fn cleaned(
     alloc: Global,
@@ -29,7 +31,7 @@ pub(crate) fn cleaned(
     text_of(alloc, &list)
 }
 
-/// The edit of a text that is refused so, or `None` if its rule has none. The error is out of memory.
+/// The edit of a text for this refusal, or `None` if its rule has none. An error means that memory ran out.
 #[tactic(auto, unfolding(crate::specs::Edits::edit_of))]
 pub(crate) fn edit_of(
     alloc: Global,

@@ -1,4 +1,4 @@
-//! A text with what isn't a unit of its path, query and fragment written as the escapes of its UTF-8.
+//! A text in whose path, query and fragment everything that isn't a unit is written as the escapes of its UTF-8.
 ghost use Rattle.std.specs.Prelude.{◌≡◌, ◌++◌, IfOk, OnOk, chars, false, flat_map, string_bytes};
 ghost use Rattle.percent_encoding.specs.Percent as percent;
 ghost use Rattle.uv_model.specs.Units as units;
@@ -11,7 +11,7 @@ use std::alloc::{AllocError, Global};
 use uv_model::is_url_code_point;
 
 /// The text with each code point of the path, the query and the fragment that isn't a unit written as escapes. The
-/// scheme and the authority stay. The error is out of memory.
+/// scheme and the authority stay. An error means that memory ran out.
 pub(crate) fn escaped_text(alloc: Global, text: &str) -> Result<String, AllocError>
     ensures { IfOk result (λ out. chars (string_bytes out) ≡ escaped (chars text.now)) }
 {
@@ -21,7 +21,7 @@ pub(crate) fn escaped_text(alloc: Global, text: &str) -> Result<String, AllocErr
 }
 
 /// The code points of a text, with each of the path, the query and the fragment that isn't a unit written as escapes.
-/// The scheme and the authority stay. The error is out of memory.
+/// The scheme and the authority stay. An error means that memory ran out.
 #[tactic(auto, unfolding(crate::specs::Escapes::escaped))]
 pub(crate) fn escaped(alloc: Global, text: &[char]) -> Result<Vec<char>, AllocError>
     ensures { IfOk result (λ out. out.items ≡ escaped text.now) }
@@ -48,7 +48,7 @@ fn push_units(out: &mut Vec<char>, text: &[char]) -> Result<(), AllocError>
     Ok(())
 }
 
-// Appends one code point, which stays where it is a unit with what follows it, or the `#` before the fragment.
+// Appends one code point. It stays if it is a unit with what follows it, or the `#` before the fragment.
 #[tactic(auto, unfolding(crate::specs::Escapes::as_unit))]
 fn push_unit(
     out: &mut Vec<char>,

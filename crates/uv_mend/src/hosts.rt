@@ -11,8 +11,8 @@ use std::alloc::{AllocError, Global};
 use url::Url;
 use uv_model::{Class, Record};
 
-/// The text with the host of what the second parser reads; none if it reads none, no host, or a user name or a
-/// password. The error is out of memory.
+/// The text with the host that the second parser reads in it; none if it reads no URL, no host, or a user name or a
+/// password. An error means that memory ran out.
 pub(crate) fn rehosted(
     alloc: Global,
     text: &[char],
@@ -33,7 +33,7 @@ pub(crate) fn rehosted(
     Ok(Some(with_host(alloc, class, text, host)?))
 }
 
-// The host of a URL that has one, and no user name and no password.
+// The host of a URL that has one, and neither a user name nor a password.
 #[tactic(auto, unfolding(crate::specs::Hosts::plain_host))]
 fn plain_host(url: &Url) -> Option<&str>
     ensures { option_map chars (option_copied result) ≡ spec.plain_host url.now }
@@ -66,7 +66,7 @@ fn with_host(
     Ok(out)
 }
 
-// What is after the host with which a text begins.
+// What follows the host with which a text begins.
 fn after_host(class: Class, text: &[char]) -> &[char]
     ensures { result.now ≡ spec.after_host class false text.now }
 {
@@ -82,7 +82,7 @@ fn after_host(class: Class, text: &[char]) -> &[char]
     rest
 }
 
-// Whether a code point ends a host. A `:` within brackets doesn't: it is part of an IPv6 address.
+// Whether a code point ends a host. A `:` within brackets doesn't, since it is part of an IPv6 address.
 #[tactic(auto, unfolding(crate::specs::Hosts::ends_host))]
 fn ends_host(class: Class, within: bool, c: char) -> bool
     ensures { result ≡ spec.ends_host class within c }

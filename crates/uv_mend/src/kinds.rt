@@ -1,4 +1,4 @@
-//! How a mended text is to the refused one.
+//! How a mended text relates to the refused one.
 ghost use Rattle.std.specs.Prelude.{◌≡◌, ◌↔◌, IfOk, IsTrue, chars, option_copied};
 ghost use Rattle.uv_mend.specs.Escapes.{escaped};
 ghost use Rattle.uv_mend.specs.Kinds.{IsKind};
@@ -8,7 +8,7 @@ use crate::second_parser::reads_same;
 use std::alloc::{AllocError, Global};
 use uv_model::{MendKind, Record};
 
-/// The kind of a mended text. The error is out of memory.
+/// The kind of a mended text. An error means that memory ran out.
 pub(crate) fn kind_of(
     alloc: Global,
     text: &str,
@@ -26,7 +26,7 @@ pub(crate) fn kind_of(
     }
 }
 
-// Whether the mended text is the other with what isn't a unit written as escapes.
+// Whether the mended text is the other one with everything that isn't a unit written as escapes.
 fn is_escaped(alloc: Global, text: &str, mended: &str) -> Result<bool, AllocError>
     ensures { IfOk result (λ is. IsTrue is ↔ (chars mended.now ≡ escaped (chars text.now))) }
 {

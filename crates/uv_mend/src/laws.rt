@@ -1,10 +1,10 @@
-//! Laws over edited texts, each as the clause of a function that does nothing. What the crate `url` makes of a text is
-//! the definition that its contract names.
+//! Laws over edited texts. Each is the contract of a function with an empty body, so that it is proved and listed like
+//! any other contract. What the crate `url` makes of a text is the definition that its contract names.
 ghost use Rattle.uv_mend.specs.Escapes.{EscapedTextsAreEscapings};
 ghost use Rattle.uv_mend.specs.Readings.{StrippedTextsAreReadAlike, SlashedTextsAreReadAlike};
 
-/// A text in which what isn't a unit is written as escapes is the text with some of its code points as the escapes of
-/// their UTF-8, and nothing else.
+/// If everything that isn't a unit is written as escapes, the text is the same but for some of its code points, which
+/// are the escapes of their UTF-8.
 pub fn escaped_texts_are_escapings()
     ensures { EscapedTextsAreEscapings }
 {}

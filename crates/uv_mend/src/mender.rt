@@ -15,14 +15,14 @@ use uv_model::{Profile, Record, Refusal};
 /// as its author wrote it.
 ///
 /// First the edits by what the URL parser passes over: C0 controls and spaces at both ends, tabs, LF and CR go; in a
-/// text of a special scheme or of `file` each `\` before the query becomes `/`, and the slashes after the scheme
-/// become `//`, or `///` before the path of a `file` URL; every other code point of the path, the query and the
-/// fragment that may not be there, and each `%` without two hex digits, becomes the escapes of its UTF-8. Then,
-/// where a rule of the host is still violated, the host as the crate `url` writes it, unless there is a user name or a
-/// password; and `/.` before a path that begins with an empty segment, or with a drive letter after a host.
+/// text of a special scheme or of `file` each `\` before the query becomes `/`, and the slashes after the scheme become
+/// `//`, or `///` before the path of a `file` URL; every other code point of the path, the query and the fragment that
+/// may not be there, and each `%` without two hex digits, becomes the escapes of its UTF-8. Then, if a rule of the host
+/// is still violated, the host as the crate `url` writes it, unless there is a user name or a password; and `/.` before
+/// a path that begins with an empty segment, or with a drive letter after a host.
 ///
-/// A mended text was checked: it is valid. The time and the memory that are taken grow linearly with the text. The
-/// error is out of memory, which also stands for a text of which the crate `url` would make one of 4 GiB or more.
+/// A mended text was checked: it is valid. The time and the memory that this takes grow linearly with the text. An
+/// error means that memory ran out, or that the crate `url` would make a text of 4 GiB or more.
 pub fn mend(
     alloc: Global,
     text: &str,
@@ -37,7 +37,8 @@ pub fn mend(
     }
 }
 
-/// What `mend` says of a text whose refusal is known, so that it isn't checked again. The error is out of memory.
+/// The answer of `mend` for a text whose refusal is known, so that it isn't checked again. An error means that memory
+/// ran out.
 pub fn mend_refused(
     alloc: Global,
     text: &str,

@@ -36,8 +36,8 @@ impl Stop {
     }
 }
 
-/// Appends what is before the first code point that ends the prefix, and gives the rest. The error is out of
-/// memory.
+/// Appends what is before the first code point that ends the prefix, and gives the rest. An error means that memory ran
+/// out.
 pub(crate) fn push_before<'t>(
     out: &mut Vec<char>,
     text: &'t [char],
@@ -57,7 +57,8 @@ pub(crate) fn push_before<'t>(
     Ok(rest)
 }
 
-/// Appends the scheme and its `:`, where the text begins with them, and gives the rest. The error is out of memory.
+/// Appends the scheme and its `:`, if the text begins with them, and gives the rest. An error means that memory ran
+/// out.
 #[tactic(auto, unfolding(crate::specs::Prefixes::scheme_prefix, crate::specs::Prefixes::after_scheme))]
 pub(crate) fn push_scheme<'t>(
     out: &mut Vec<char>,
@@ -79,7 +80,8 @@ pub(crate) fn push_scheme<'t>(
     }
 }
 
-/// Appends `//` and the authority, where the text begins with them, and gives the rest. The error is out of memory.
+/// Appends `//` and the authority, if the text begins with them, and gives the rest. An error means that memory ran
+/// out.
 #[tactic(auto, unfolding(crate::specs::Prefixes::authority_prefix, crate::specs::Prefixes::after_authority))]
 pub(crate) fn push_authority<'t>(
     out: &mut Vec<char>,
@@ -136,7 +138,7 @@ pub(crate) fn starts_with_scheme(text: &[char]) -> bool
     }
 }
 
-// Whether code points of a scheme come, and then `:`.
+// Whether code points of a scheme follow, and then `:`.
 fn goes_on_to_colon(text: &[char]) -> bool
     ensures { result ≡ scheme.goes_on_to_colon text.now }
 {
@@ -160,7 +162,7 @@ fn is_scheme_code_point(c: char) -> bool
     c.is_ascii_alphanumeric() || c == '+' || c == '-' || c == '.'
 }
 
-/// The class of the text's scheme, otherwise of the base's, otherwise `Other`. The error is out of memory.
+/// The class of the text's scheme, or else of the base's, or else `Other`. An error means that memory ran out.
 pub(crate) fn class_against(
     alloc: Global,
     text: &[char],

@@ -22,8 +22,8 @@ pub(crate) enum Tried {
     Stuck,
 }
 
-/// What at most two edits make of a text, each by the least of what is wrong with what the one before left; none if an
-/// edit is wanting. The error is out of memory.
+/// What at most two edits make of a text, each for the least of what is wrong with what the one before left; none if
+/// there is no such edit. An error means that memory ran out.
 pub(crate) fn repaired(
     alloc: Global,
     text: String,
@@ -44,7 +44,7 @@ pub(crate) fn repaired(
     }
 }
 
-// What at most one edit makes of a text, by the least of what is wrong with it, where that is valid.
+// What at most one edit makes of a text, for the least of what is wrong with it, if that is valid.
 fn repaired_by_one(
     alloc: Global,
     text: String,
@@ -65,7 +65,7 @@ fn repaired_by_one(
     }
 }
 
-// The text itself, where it is valid.
+// The text itself, if it is valid.
 fn repaired_by_none(
     alloc: Global,
     text: String,
@@ -104,7 +104,7 @@ fn once_edited(
     }
 }
 
-// The least of what is wrong with a text, if anything is.
+// The least of what is wrong with a text, if anything is: by place, and at one place by the rule's number.
 fn least(
     alloc: Global,
     text: &str,

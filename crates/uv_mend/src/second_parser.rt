@@ -1,4 +1,4 @@
-//! What the second parser reads a text as, where the one error is out of memory.
+//! What the second parser reads a text as, with running out of memory as the only error.
 ghost use Rattle.std.specs.Prelude.{◌≡◌, ◌↔◌, IfOk, IsTrue, option_copied};
 ghost use Rattle.uv_compare.specs.Second as spec;
 ghost use Rattle.uv_compare.specs.Second.{ReadsSame};
@@ -7,8 +7,8 @@ use std::alloc::{AllocError, Global};
 use url::Url;
 use uv_model::Record;
 
-/// The URL that it reads of a text, against the text of the base where there is one; none if it refuses either. The
-/// error is out of memory, which also stands for a URL of 4 GiB or more.
+/// The URL that it reads in a text, against the text of the base if there is one; none if it refuses either. An error
+/// means that memory ran out, or that a URL would have 4 GiB or more.
 pub(crate) fn reading(
     alloc: Global,
     base: Option<&Record>,
@@ -22,7 +22,7 @@ pub(crate) fn reading(
     }
 }
 
-/// Whether it reads both texts as URLs of one text. The errors are those of `reading`.
+/// Whether it reads both texts as URLs with the same text. The errors are those of `reading`.
 pub(crate) fn reads_same(
     alloc: Global,
     base: Option<&Record>,

@@ -8,8 +8,8 @@ use crate::prefixes::{Stop, class_against, push_scheme, starts_with_scheme};
 use std::alloc::{AllocError, Global};
 use uv_model::{Class, Record};
 
-/// The text with its slashes as they are read, which changes one of class SpecialNotFile or File alone. The error is
-/// out of memory.
+/// The text with its slashes as they are read, which changes only a text of class SpecialNotFile or File. An error
+/// means that memory ran out.
 pub(crate) fn slashed(
     alloc: Global,
     text: &[char],
@@ -24,7 +24,7 @@ pub(crate) fn slashed(
     Ok(out)
 }
 
-// Appends what follows a scheme, or a text without one.
+// Appends what follows a scheme, or a text without a scheme.
 #[tactic(auto, unfolding(crate::specs::Slashes::slashed_after))]
 fn push_slashed(
     out: &mut Vec<char>,
@@ -42,7 +42,7 @@ fn push_slashed(
     }
 }
 
-// Whether the slashes at the start of a text are written again.
+// Whether the slashes at the start of a text are replaced.
 #[tactic(auto, unfolding(crate::specs::Slashes::renews_slashes))]
 fn renews_slashes(class: Class, has_scheme: bool, text: &[char]) -> bool
     ensures { result ≡ renews_slashes class has_scheme text.now }
@@ -54,7 +54,7 @@ fn renews_slashes(class: Class, has_scheme: bool, text: &[char]) -> bool
     }
 }
 
-// The slashes that are written there.
+// The slashes that replace them.
 fn new_slashes(class: Class) -> &'static [char]
     ensures { result.now ≡ new_slashes class }
 {
@@ -65,7 +65,7 @@ fn new_slashes(class: Class) -> &'static [char]
     }
 }
 
-// Appends a text with each code point before the query and the fragment as a slash where it is read as one.
+// Appends a text in which each code point before the query and the fragment is a slash if it is read as one.
 fn push_with_slashes(out: &mut Vec<char>, class: Class, text: &[char]) -> Result<(), AllocError>
     ensures { OnOk result (out.new.items ≡ out.old.items ++ with_slashes class text.now) }
 {
@@ -80,7 +80,7 @@ fn push_with_slashes(out: &mut Vec<char>, class: Class, text: &[char]) -> Result
     Ok(())
 }
 
-// A code point as a slash, where it is read as one.
+// A code point, or a slash if it is read as one.
 #[tactic(auto, unfolding(crate::specs::Slashes::as_slash))]
 fn as_slash(class: Class, c: char) -> char
     ensures { result ≡ as_slash class c }
@@ -118,6 +118,7 @@ fn starts_with_two_marks(text: &[char]) -> bool
     }
 }
 
+// Whether the parser reads a code point as a slash in a special URL.
 fn is_slash_mark(c: char) -> bool
     ensures { result ≡ spec.is_slash_mark c }
 {

@@ -1,11 +1,12 @@
-//! What the URL parser takes off its input before all else.
+//! What the URL parser removes from its input before anything else.
 ghost use Rattle.std.specs.Prelude.{◌≡◌, IfOk};
 ghost use Rattle.uv_mend.specs.Stripped as spec;
 
 use crate::code_points::{first_of, last_of, push_one};
 use std::alloc::{AllocError, Global};
 
-/// The text without C0 controls and spaces at both ends, and without tabs, LF and CR. The error is out of memory.
+/// The text without C0 controls and spaces at both ends, and without tabs, LF and CR. An error means that memory ran
+/// out.
 pub(crate) fn stripped(alloc: Global, text: &[char]) -> Result<Vec<char>, AllocError>
     ensures { IfOk result (λ out. out.items ≡ spec.stripped text.now) }
 {
@@ -56,12 +57,14 @@ fn on_one_line(alloc: Global, text: &[char]) -> Result<Vec<char>, AllocError>
     Ok(out)
 }
 
+// Whether the parser removes a code point from both ends of a text.
 fn is_control_or_space(c: char) -> bool
     ensures { result ≡ spec.is_control_or_space c }
 {
     c <= ' '
 }
 
+// Whether the parser removes a code point anywhere in a text.
 fn is_tab_or_newline(c: char) -> bool
     ensures { result ≡ spec.is_tab_or_newline c }
 {

@@ -1,5 +1,5 @@
-//! Explanations: what rules require, their sections of the URL Standard, and an example, of some rules or of each; or
-//! the addresses of these sections.
+//! Explanations: for some rules or each, what they require, their sections of the URL Standard, and an example; or the
+//! addresses of these sections.
 ghost use Rattle.std.specs.Prelude.{◌≡◌, IfOk, find, is_some};
 ghost use Rattle.uv_messages.specs.Explanations.{are_explained, has_number, is_explained};
 
@@ -10,31 +10,32 @@ use uv_arguments::Told;
 use uv_model::{Refusal, Rule};
 use uv_sentences::{LineViolation, explain};
 
-// What is explained by a name.
+// What a name has an explanation of.
 #[derive(Clone, Copy)]
 enum Topic {
-    // A rule by its example, or what else may be wrong with a line.
+    // A rule with its example, or something else that may be wrong with a line.
     Line(LineViolation),
     // The rule of documents that a link isn't empty.
     Empty,
-    // The rule of documents that a link isn't text.
+    // The rule of documents that a link isn't plain text.
     NoLink,
 }
 
-// What a link of a document may be wrong by besides the rules of URL strings.
+// The rules that a link of a document can violate besides those of URL strings.
 const EMPTY: &str = "rule empty
 means this link is empty, which its format forbids here
 asks A link of an image, a script, a frame, a form's address or a link element isn't empty.
 ";
 
+// The explanation of `no-link`.
 const NO_LINK: &str = "rule no-link
 means a space ends a link's destination, so that this is text and no link
 asks A destination of Markdown has no space, unless < and > enclose it: it is percent-encoded as %20.
 ";
 
-/// What is written where the rules with these names, or each rule, are to be told of: what they ask, where they are and
-/// an example of each, or the addresses of their sections of the URL Standard, where they have one. It is `None` if one
-/// of the names belongs to nothing that is explained.
+/// What is written about the rules with these names, or about every rule: what they require, where the Standard says
+/// so, and an example of each; or the addresses of their sections of the URL Standard, if they have one. It is `None`
+/// if one of the names has no explanation.
 pub fn explained(alloc: Global, names: &[String], told: Told) -> Result<Option<String>, AllocError>
     ensures { IfOk result (λ text. is_some text ≡ are_explained names.now) }
 {
@@ -57,7 +58,7 @@ pub fn explained(alloc: Global, names: &[String], told: Told) -> Result<Option<S
     Ok(Some(texts.as_slice().join(alloc, between)?))
 }
 
-// What has these names, in their order, where each of them names something.
+// What has these names, in their order, if each of them has an explanation.
 fn topics_of(alloc: Global, names: &[String]) -> Result<Option<Vec<Topic>>, AllocError>
     ensures { IfOk result (λ topics. is_some topics ≡ are_explained names.now) }
 {
@@ -126,13 +127,13 @@ fn rules(alloc: Global) -> Result<Vec<Topic>, AllocError> {
     Ok(topics)
 }
 
-// A rule by its example.
+// A rule with its example.
 fn example_of(rule: Rule) -> Topic {
     let place = explain(rule).place;
     Topic::Line(LineViolation::Refused(Refusal { place, rule }))
 }
 
-// What is told of a topic.
+// What is said about a topic.
 fn text_of(alloc: Global, topic: Topic, told: Told) -> Result<String, AllocError> {
     match (topic, told) {
         (Topic::Line(violation), Told::Explanation) => explanation(alloc, violation),
@@ -153,7 +154,7 @@ fn address_line(alloc: Global, violation: LineViolation) -> Result<String, Alloc
     Ok(line)
 }
 
-// What a violation is called, what is wrong, and what is asked; of a rule where that is, and its example.
+// What a violation is called, what is wrong, and what is required; for a rule also its section, and its example.
 fn explanation(alloc: Global, violation: LineViolation) -> Result<String, AllocError> {
     let mut text = String::new(alloc);
     push_line(&mut text, "rule ", violation.name())?;
@@ -166,7 +167,7 @@ fn explanation(alloc: Global, violation: LineViolation) -> Result<String, AllocE
     Ok(text)
 }
 
-// Pushes a text that a rule refuses, what its author may have meant, and that text mended, where it is another.
+// Pushes a text that a rule refuses, what its author may have meant, and that text mended, if it is different.
 fn push_example(alloc: Global, text: &mut String, refusal: Refusal) -> Result<(), AllocError> {
     let explanation = explain(refusal.rule);
     push_present(text, "base ", explanation.base)?;
@@ -176,7 +177,7 @@ fn push_example(alloc: Global, text: &mut String, refusal: Refusal) -> Result<()
     push_present(text, "mended ", mended_otherwise(refusal.rule))
 }
 
-// What `mend` writes in place of the text that a rule refuses, where it is another text than the meant one.
+// What `mend` writes in place of the text that a rule refuses, if it isn't the text that was meant.
 fn mended_otherwise(rule: Rule) -> Option<&'static str> {
     match rule {
         Rule::HostMissing => Some("https://a"),

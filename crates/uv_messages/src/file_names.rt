@@ -1,4 +1,4 @@
-//! What the end of a name says of a file: whether it is a list or a document.
+//! What the end of a file's name says about it: whether it is a list or a document.
 
 // How the names of lists end.
 const LIST_ENDS: [&str; 5] = [".txt", ".csv", ".tsv", ".json", ".links"];
@@ -18,19 +18,19 @@ const DOCUMENT_ENDS: [&str; 11] = [
     ".markdown",
 ];
 
-/// Whether a text looks like the name of a file: it ends as the name of a list or of a document does, and has no `:`,
-/// `?`, `#` or space, which are in a URL, and rarely in the name of a file.
+/// Whether a text looks like the name of a file: it ends like the name of a list or of a document, and has no `:`, `?`,
+/// `#` or space. These are in URLs, and rarely in the names of files.
 pub(crate) fn names_file(text: &str) -> bool {
     (has_end(text, &LIST_ENDS) || has_document_end(text))
         && !text.as_bytes().iter().any(|byte| b":?# ".contains(byte))
 }
 
-/// Whether a name ends as a document's does.
+/// Whether a name ends like a document's.
 pub fn has_document_end(name: &str) -> bool {
     has_end(name, &DOCUMENT_ENDS)
 }
 
-// Whether a name ends as one of these does, in any ASCII case.
+// Whether a name has one of these endings, in any ASCII case.
 fn has_end(name: &str, ends: &[&str]) -> bool {
     let name = name.as_bytes();
     ends.iter().any(|end| name[name.len().saturating_sub(end.len())..].eq_ignore_ascii_case(

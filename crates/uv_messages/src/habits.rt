@@ -1,6 +1,6 @@
-//! Options of other tools, by their names: what to write here in their place.
+//! Options of other tools, by their names, and what to write here instead.
 
-/// What to write in place of an option that other tools take, and no command of this program does, if it is known.
+/// What to write in place of an option that other tools take, and no command of this program does, if that is known.
 pub(crate) fn habit(name: &str) -> Option<&'static str> {
     match name {
         "--fix" | "--fix-only" | "--unsafe-fixes" | "--write" | "-w" => {

@@ -1,4 +1,4 @@
-//! Hints at what was meant, where something else was asked for.
+//! Hints at what was meant, if something else was asked for.
 
 use crate::file_names::{has_document_end, names_file};
 use crate::messages::Message;
@@ -12,11 +12,11 @@ pub enum Hint {
     NoCommand,
     /// The version is asked for by a word that isn't a command, or after a command.
     Version,
-    /// A word that is refused as an option looks like none.
+    /// A word that is refused as an option doesn't look like one.
     NoOption,
-    /// `check` is given a word too many.
+    /// `check` is given one word too many.
     OneTextOfCheck,
-    /// `mend` is.
+    /// `mend` is given one word too many.
     OneTextOfMend,
     /// `links` is given a file.
     FileOfLinks,
@@ -28,13 +28,13 @@ pub enum Hint {
     Link,
     /// `lint` refuses lines of a document.
     Document,
-    /// The text of `check` is the standard input's name.
+    /// The text of `check` is `-`, the name of standard input.
     InputOfCheck,
-    /// The text of `mend` is.
+    /// The text of `mend` is `-`, the name of standard input.
     InputOfMend,
     /// The text of `check` looks like the name of a list.
     ListOfCheck,
-    /// The text of `mend` does.
+    /// The text of `mend` looks like the name of a list.
     ListOfMend,
     /// The text of either looks like the name of a document.
     DocumentOfText,
@@ -73,8 +73,8 @@ impl Hint {
     }
 }
 
-/// Pushes what is said of a refused text that was likely meant as something else, if it was: the first hint where it is
-/// `-`; and if there is no base and it looks like the name of a file, the second one, or the one for a document.
+/// Pushes a hint for a refused text that was likely meant as something else: the first hint if it is `-`; and if there
+/// is no base and it looks like the name of a file, the second one, or the one for a document.
 pub fn push_text_hint(
     alloc: Global,
     said: &mut Message,
@@ -99,8 +99,8 @@ pub fn push_text_hint(
     )
 }
 
-/// The hint after a file with this name that a lint couldn't read, if there is one: where it is a folder, and if there
-/// is no such file and its name looks like a link.
+/// The hint for a file with this name that a lint couldn't read, if there is one: if it is a folder, or if there is no
+/// such file and its name looks like a link.
 pub fn file_hint(name: &str, why: Option<ErrorKind>) -> Option<Hint> {
     match (why, name.split_once(':')) {
         (Some(ErrorKind::IsADirectory), _) => Some(Hint::Folder),

@@ -1,9 +1,9 @@
-//! Contents of a list that aren't lines of links: what they look like, by what is seen of them.
+//! Contents of a list that aren't lines of links: what they look like, by the first bytes and by the line ends.
 
 use crate::unread::name_of;
 use std::alloc::{AllocError, Global};
 
-/// What a list looks like that isn't one of links, one per line.
+/// What a list looks like that hasn't one link per line.
 #[derive(Clone, Copy, PartialEq, Eq)]
 pub enum Content {
     /// It is compressed by gzip.
@@ -12,7 +12,7 @@ pub enum Content {
     Utf16,
     /// It looks like JSON.
     Json,
-    /// Its lines end by CR alone.
+    /// Its lines end with CR alone.
     Returns,
     /// It looks like a table with commas.
     Commas,
@@ -32,7 +32,7 @@ pub enum LineEnds {
 }
 
 impl Content {
-    // What is said of it after a name, and the command that writes the lines in it.
+    // What is said about it after a name, and the command that makes lines of it.
     fn text(self) -> &'static str {
         match self {
             Content::Gzip => "is compressed by gzip: gzip -dc FILE",
@@ -47,7 +47,7 @@ impl Content {
     }
 }
 
-/// The hint at what a list with this name looks like: how its lines are handed over to the command that reads one so.
+/// The hint at what a list with this name looks like: how to hand its lines to the command that reads it.
 pub fn content_line(
     alloc: Global,
     name: &str,
@@ -59,7 +59,7 @@ pub fn content_line(
     format!(in alloc; "{name} {text} | urlcheck {reader}")
 }
 
-/// What a list looks like, by its first bytes and by what ends its lines, if it doesn't look like one of links.
+/// What a list looks like, by its first bytes and by what ends its lines, unless it looks like a list of links.
 pub fn content_of(first: &[u8], ends: LineEnds) -> Option<Content> {
     match first {
         [0x1f, 0x8b, ..] => Some(Content::Gzip),
@@ -70,7 +70,7 @@ pub fn content_of(first: &[u8], ends: LineEnds) -> Option<Content> {
     }
 }
 
-// Whether a string is first in a list or an object of JSON, or in one that is first in such a one.
+// Whether JSON begins here: a list or an object, perhaps within another one, whose first item is a string.
 fn is_json(first: &[u8]) -> bool {
     match first.trim_ascii_start() {
         [b'[' | b'{', inner @ ..] => match inner.trim_ascii_start() {
@@ -81,7 +81,7 @@ fn is_json(first: &[u8]) -> bool {
     }
 }
 
-// The table whose columns the first line names, if it does: there is no space after a comma, as it is in a sentence.
+// The kind of table whose columns the first line names, if it does: it has no space after a comma, as a sentence has.
 fn table_of(first: &[u8]) -> Option<Content> {
     let end = first.iter().position(|byte| *byte == b'\n');
     let line = &first[..end.unwrap_or(first.len())];

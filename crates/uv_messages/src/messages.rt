@@ -6,7 +6,7 @@ use std::alloc::{AllocError, Global};
 use std::marker::Model;
 use uv_sentences::push_shown;
 
-/// Lines that begin with the program's name, and have nothing that a terminal obeys; or nothing.
+/// Lines that begin with the program's name, and contain nothing that controls a terminal; or nothing.
 #[derive(Drop)]
 pub struct Message {
     text: String,
@@ -64,8 +64,8 @@ fn line_text(alloc: Global, line: &str) -> Result<String, AllocError>
     Ok(text)
 }
 
-/// Writes a message to standard error, or that there was no memory for it. A failed write there has nowhere to be
-/// reported.
+/// Writes a message to standard error, or that there was no memory for it. If that write fails, there is nowhere to
+/// report it.
 pub fn say<R: Eprint>(rt: &R, message: Result<Message, AllocError>) {
     match message {
         Ok(message) => {

@@ -1,4 +1,4 @@
-//! Names that may have been meant: the names that there are, and which of them a word is near to.
+//! Names that may have been meant: the names that there are, and which of them a word is close to.
 
 use std::alloc::{AllocError, Global};
 use strsim::osa_distance;
@@ -7,7 +7,7 @@ use uv_arguments::arguments::without_hyphen;
 /// The names of the commands, in the order of the help.
 pub(crate) const COMMANDS: [&str; 6] = ["check", "lint", "links", "mend", "vectors", "explain"];
 
-/// The names that begin with a word, whatever its case; none begins with an empty one.
+/// The names that begin with a word, in any case; none for an empty word.
 pub(crate) fn longer_names<'n>(
     alloc: Global,
     word: &str,
@@ -23,9 +23,9 @@ pub(crate) fn longer_names<'n>(
     Ok(found)
 }
 
-/// The nearest of the names, if no more than a third of the word's letters, or one of a shorter word, have to be
-/// changed, taken away, added or swapped with the next one, whatever their case. Hyphens that an option begins with
-/// aren't letters.
+/// The nearest of the names, if at most a third of the word's letters, or one letter of a shorter word, has to be
+/// changed, removed, added or swapped with the next one, ignoring case. Hyphens at the start of an option aren't
+/// counted as letters.
 pub(crate) fn nearest<'n>(
     alloc: Global,
     word: &str,
@@ -44,8 +44,8 @@ pub(crate) fn nearest<'n>(
     Ok(near)
 }
 
-/// The name that a word was likely meant as: the nearest one, and if none is near the only one that it abbreviates,
-/// whatever its case.
+/// The name that a word was likely meant as: the nearest one, or if none is near the only one that it abbreviates,
+/// ignoring case.
 pub(crate) fn meant<'n>(
     alloc: Global,
     word: &str,
@@ -67,8 +67,8 @@ pub(crate) fn meant<'n>(
     Ok(found)
 }
 
-// Whether a word abbreviates a name: it begins as the name does, and its further letters are in the name in their
-// order. Hyphens that an option begins with don't count.
+// Whether a word abbreviates a name: it begins with the same letter, and its further letters are in the name in the
+// same order. Hyphens at the start of an option don't count.
 fn abbreviates(word: &str, name: &str) -> bool {
     match (stem(word), stem(name)) {
         ([first, rest @ ..], [initial, others @ ..]) => {
@@ -78,7 +78,7 @@ fn abbreviates(word: &str, name: &str) -> bool {
     }
 }
 
-// A word without the two hyphens or the one that it begins with, if it does.
+// A word without the one or two hyphens at its start, if it has any.
 fn stem(word: &str) -> &[u8] {
     without_hyphen(without_hyphen(word)).as_bytes()
 }

@@ -1,4 +1,4 @@
-//! Options that a command doesn't take, and values of options: what is said where it is given one of them.
+//! Options that a command doesn't take, and values of options: what is said if one of them is given.
 
 use crate::habits::habit;
 use crate::hints::Hint;
@@ -36,8 +36,8 @@ pub(crate) struct RefusedOption<'s, 'w> {
     word: &'w str,
 }
 
-/// The option that these words are refused for, by what `clap` says of them, if they are refused for one. Words after
-/// `--` aren't options.
+/// The option because of which these words are refused, according to what `clap` says about them, if there is one.
+/// Words after `--` aren't options.
 pub(crate) fn refused_option<'s, 'w>(
     words: &[&'w str],
     said: &'s str,
@@ -58,7 +58,7 @@ pub(crate) fn refused_option<'s, 'w>(
     None
 }
 
-// Whether an option is in a word: by its long name, or by one of the letters after one hyphen.
+// Whether an option is in a word: by its long name, or as one of the letters after a single hyphen.
 fn is_in(name: &str, word: &str) -> bool {
     if name.starts_with("--") {
         return before_value(word) == name;
@@ -66,12 +66,12 @@ fn is_in(name: &str, word: &str) -> bool {
     looks_like_option(word) && !word.starts_with("--") && word.contains(without_hyphen(name))
 }
 
-/// Whether a word begins as an option does, and isn't `-` alone.
+/// Whether a word begins like an option, and isn't just `-`.
 pub(crate) fn looks_like_option(word: &str) -> bool {
     matches!(word.as_bytes(), [b'-', _, ..])
 }
 
-// Whether a word may be an option: what is before its value, if it has one, has no other code points than names of
+// Whether a word may be an option: what comes before its value, if it has one, has only code points that names of
 // options have.
 fn may_be_option(word: &str) -> bool {
     before_value(word).as_bytes().iter().all(|byte| byte.is_ascii_alphanumeric()
@@ -107,7 +107,7 @@ fn has_value(name: &str) -> bool {
     )
 }
 
-// The names of what a command takes by name, in the order of the help.
+// The names of the options that a command takes, in the order of the help.
 fn names_of(alloc: Global, command: &str) -> Result<Vec<&'static str>, AllocError> {
     let mut names = Vec::new(alloc);
     for name in &NAMES {
@@ -118,8 +118,8 @@ fn names_of(alloc: Global, command: &str) -> Result<Vec<&'static str>, AllocErro
     Ok(names)
 }
 
-/// The hint at an option that a command doesn't take, if there is one: at `--`, which is before a text that looks like
-/// no option; at the commands that take it; or at what may have been meant.
+/// The hint at an option that a command doesn't take, if there is one: at `--`, which has to come before a text that
+/// begins with a hyphen but doesn't look like an option; at the commands that take it; or at what may have been meant.
 pub(crate) fn option_line(
     alloc: Global,
     command: &str,
@@ -146,13 +146,13 @@ pub(crate) fn option_line(
     Ok(Some(line))
 }
 
-// Whether a command takes texts, which may begin as an option does.
+// Whether a command takes texts, which may begin like an option.
 fn takes_texts(command: &str) -> bool {
     matches!(command, "check" | "mend")
 }
 
-// The hint at an option that no command takes: at what other tools mean by it, or at the one of the command's own that
-// is likely meant, which may be written with one hyphen.
+// The hint at an option that no command takes: at what other tools mean by it, or at the option of the command that was
+// likely meant, which may be written with one hyphen.
 fn other_option_line(
     alloc: Global,
     command: &str,
@@ -175,8 +175,7 @@ fn other_option_line(
     }
 }
 
-/// The hint where a command's text or file is missing, and its last word was taken as the value of an option, if it
-/// was.
+/// The hint if a command's text or file is missing, and its last word was taken as the value of an option.
 pub(crate) fn value_line(
     alloc: Global,
     command: &str,

@@ -8,9 +8,9 @@ use crate::unknown::unknown_line;
 use clap::error::ErrorKind;
 use std::alloc::{AllocError, Global};
 
-/// What is said of words that are refused, of which the first is the program's name: what `clap` says, and a hint at
-/// what was meant. Of `clap`'s tips it has those alone that are on no option, which they take for a text, and have no
-/// hint in their place.
+/// What is said about words that are refused, the first of which is the program's name: what `clap` says, and a hint at
+/// what was meant. Of `clap`'s tips only those are kept that don't take an option for a text, and that no hint
+/// replaces.
 pub fn refused_words(
     alloc: Global,
     words: &[&str],
@@ -36,7 +36,7 @@ pub fn refused_words(
     Ok(said)
 }
 
-// The word that names the command: the one after the program's name, and after `help` the next.
+// The word that names the command: the one after the program's name, or after `help` the next one.
 fn command_of<'w>(words: &[&'w str]) -> Option<&'w str> {
     match words {
         [_, "help", command, ..] => Some(*command),
@@ -45,7 +45,7 @@ fn command_of<'w>(words: &[&'w str]) -> Option<&'w str> {
     }
 }
 
-// The lines of what `clap` says, but for those that are empty, with its tips or without them.
+// The lines of what `clap` says, without the empty ones, and with or without its tips.
 fn of_clap(alloc: Global, message: &str, has_tips: bool) -> Result<Message, AllocError> {
     let mut said = Message::nothing(alloc);
     for line in message.lines() {
@@ -57,7 +57,7 @@ fn of_clap(alloc: Global, message: &str, has_tips: bool) -> Result<Message, Allo
     Ok(said)
 }
 
-// The line of the command that is likely meant, or of the option whose value the last word is, if there is one.
+// The line that names the command that was likely meant, or the option whose value the last word is, if there is one.
 fn near_line(
     alloc: Global,
     command: Option<&str>,
@@ -79,9 +79,9 @@ fn near_line(
     }
 }
 
-// The hint where words of this command, with this last one, are refused for this reason, if there is one: of no
-// command; of `links` and `check` with a word too many, whose last one doesn't look like an option; and of `lint`
-// without a file.
+// The hint for words of this command, with this last one, that are refused for this reason, if there is one: for no
+// command; for `links` and `check` with a word too many that doesn't look like an option; and for `lint` without a
+// file.
 fn words_hint(command: Option<&str>, last: Option<&str>, kind: ErrorKind) -> Option<Hint> {
     let is_word = matches!(last, Some(last) if !looks_like_option(last));
     match (kind, command) {

@@ -1,4 +1,4 @@
-//! Names that none has: of a rule, a format, a profile, a kind of mended texts, what columns count or when there are
+//! Names that don't exist: of a rule, a format, a profile, a kind of mended texts, a unit of columns, or a time for
 //! colours.
 
 use crate::explanations::is_explained;
@@ -34,19 +34,19 @@ const COLUMNS: [Columns; 4] = [
     Columns::Screen,
 ];
 
-/// What is said of a name that no format has.
+/// What is said about a name that no format has.
 pub fn unknown_format(alloc: Global, name: &str) -> Result<Message, AllocError> {
     let names: Vec<&str> = FORMATS.iter().map(|format| format.name()).collect(alloc)?;
     unknown(alloc, "format", &[name], names.as_slice())
 }
 
-/// What is said of a name that no kind has.
+/// What is said about a name that no kind has.
 pub fn unknown_kind(alloc: Global, name: &str) -> Result<Message, AllocError> {
     let names: Vec<&str> = KINDS.iter().map(|kind| kind.name()).collect(alloc)?;
     unknown(alloc, "kind", &[name], names.as_slice())
 }
 
-/// What is said of a name that no profile has.
+/// What is said about a name that no profile has.
 pub fn unknown_profile(alloc: Global, name: &str) -> Result<Message, AllocError> {
     let profiles = Profile::in_order();
     let names: Vec<&str> = profiles
@@ -56,20 +56,20 @@ pub fn unknown_profile(alloc: Global, name: &str) -> Result<Message, AllocError>
     unknown(alloc, "profile", &[name], names.as_slice())
 }
 
-/// What is said of a name that nothing has that columns count.
+/// What is said about a name that no unit of columns has.
 pub fn unknown_unit(alloc: Global, name: &str) -> Result<Message, AllocError> {
     let names: Vec<&str> = COLUMNS.iter().map(|columns| columns.name()).collect(alloc)?;
     unknown(alloc, "column unit", &[name], names.as_slice())
 }
 
-/// What is said of a name that doesn't say when there are colours.
+/// What is said about a name that doesn't say when there are colours.
 pub fn unknown_colours(alloc: Global, name: &str) -> Result<Message, AllocError> {
     let choices = Colours::in_order();
     let names: Vec<&str> = choices.iter().map(|colours| colours.name()).collect(alloc)?;
     unknown(alloc, "colour choice", &[name], names.as_slice())
 }
 
-/// What is said of what columns are to count where the format doesn't take it.
+/// What is said about a unit of columns that the format doesn't take.
 pub fn refused_unit(alloc: Global, format: Format, name: &str) -> Result<Message, AllocError> {
     let mut names: Vec<&str> = Vec::new(alloc);
     for columns in &COLUMNS {
@@ -86,8 +86,8 @@ pub fn refused_unit(alloc: Global, format: Format, name: &str) -> Result<Message
     Ok(said)
 }
 
-/// What is said where these names are to be explained, and some of them are those of no rule, nor of what else is found
-/// with a line.
+/// What is said if these names are to be explained, and some of them are neither those of rules nor of what else can be
+/// wrong with a line.
 pub fn unknown_rules(alloc: Global, rules: &[String]) -> Result<Message, AllocError> {
     let mut none: Vec<&str> = Vec::new(alloc);
     for rule in rules {
@@ -106,8 +106,8 @@ pub fn unknown_rules(alloc: Global, rules: &[String]) -> Result<Message, AllocEr
     unknown(alloc, "rule", none.as_slice(), names.as_slice())
 }
 
-// What is said of names that none has, by what is named: each with the nearest of the names, and if none is near with
-// those that begin so; and then the names that there are.
+// What is said about names that don't exist, by what they should name: each with the nearest name, or if none is near
+// with those that begin like it; and then all the names that there are.
 fn unknown(
     alloc: Global,
     noun: &str,
@@ -132,7 +132,7 @@ fn unknown(
     Ok(said)
 }
 
-/// The line of a name that none has, with the nearest one, if one is near.
+/// The line on a name that doesn't exist, with the nearest one, if one is near.
 pub(crate) fn unknown_line(
     alloc: Global,
     noun: &str,

@@ -1,10 +1,10 @@
-//! Files that can't be read, and an output that can't be written: why, and what is said of them on standard error.
+//! Files that can't be read, and an output that can't be written: why, and what standard error says about them.
 
 use crate::messages::Message;
 use std::alloc::{AllocError, Global};
 use std::io::ErrorKind;
 
-/// What is said of a file that wasn't read, by the kind of the error that the library gave, if it is known.
+/// What is said about a file that wasn't read, by the kind of the library's error, if it is known.
 pub fn unread(alloc: Global, file: &str, why: Option<ErrorKind>) -> Result<Message, AllocError> {
     let name = name_of(file);
     let reason = reason_of(why);
@@ -14,12 +14,12 @@ pub fn unread(alloc: Global, file: &str, why: Option<ErrorKind>) -> Result<Messa
     )
 }
 
-/// A file's name in a sentence: an empty one in quotes.
+/// A file's name in a sentence: in quotes if it is empty.
 pub fn name_of(file: &str) -> &str {
     if file.is_empty() { "''" } else { file }
 }
 
-// What is said of the reason.
+// The words for the reason.
 fn reason_of(why: Option<ErrorKind>) -> &'static str {
     match why {
         Some(ErrorKind::NotFound) => ": there is no such file",
@@ -35,7 +35,8 @@ fn reason_of(why: Option<ErrorKind>) -> &'static str {
     }
 }
 
-/// What is said of a file that stays as it was since it can't be written, by the kind of the error, if it is known.
+/// What is said about a file that stays as it was because it can't be written, by the kind of the error, if it is
+/// known.
 pub fn unmended(alloc: Global, file: &str, why: Option<ErrorKind>) -> Result<Message, AllocError> {
     let name = name_of(file);
     let reason = match why {
@@ -53,18 +54,18 @@ pub fn unmended(alloc: Global, file: &str, why: Option<ErrorKind>) -> Result<Mes
     )
 }
 
-/// What is said of an output that can't be written, by the kind of the error, if it is known.
+/// What is said about an output that can't be written, by the kind of the error, if it is known.
 pub fn unwritten(alloc: Global, why: Option<ErrorKind>) -> Result<Message, AllocError> {
     Message::of(alloc, unwritten_line(alloc, why)?.as_str())
 }
 
-/// The line of an output that can't be written.
+/// The line on an output that can't be written.
 pub fn unwritten_line(alloc: Global, why: Option<ErrorKind>) -> Result<String, AllocError> {
     let reason = reason_of_output(why);
     format!(in alloc; "standard output: can't be written{reason}")
 }
 
-// What is said of the reason of a failed write.
+// The words for the reason of a failed write.
 fn reason_of_output(why: Option<ErrorKind>) -> &'static str {
     match why {
         Some(ErrorKind::StorageFull) => ": no space is left",

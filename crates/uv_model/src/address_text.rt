@@ -12,14 +12,14 @@ use itoa::Buffer;
 use std::alloc::AllocError;
 use std::str::from_utf8_unchecked;
 
-// The text of an address is gathered in place, where the longest has room, and appended at once.
+// The text of an address is gathered in a value that has room for the longest, and appended at once.
 type AddressText = ArrayString<48>;
 
 // The hex digits in lower case.
 const HEX_DIGITS: &[u8; 16] = b"0123456789abcdef";
 
-/// Appends the four numbers of an IPv4 address, the highest first, with `.` between each two. An error means that
-/// memory ran out: `out` then still begins with what it held.
+/// Appends the four numbers of an IPv4 address, the highest first, with `.` between them. An error means that memory
+/// ran out: `out` then still begins with what it held.
 pub fn push_ipv4(out: &mut String, value: u32) -> Result<(), AllocError>
     ensures ok { OnOk result (string_bytes out.new ≡ string_bytes out.old ++ serial_ipv4 value) }
     ensures err { OnErr result (StartsWith (string_bytes out.new) (string_bytes out.old)) }
@@ -56,7 +56,7 @@ fn push_octet(text: &mut AddressText, number: u8)
     }
 }
 
-// ASCII bytes. If a caller's number of them is fixed, they are written in a few instructions and without a call.
+// ASCII bytes. If a caller passes a fixed number of them, they are written in a few instructions and without a call.
 #[tactic(auto, using(crate::proofs::Addresses::AddressTextLemmas::utf8_from_all))]
 #[inline(always)]
 fn push_ascii(text: &mut AddressText, bytes: &[u8])
@@ -68,8 +68,8 @@ fn push_ascii(text: &mut AddressText, bytes: &[u8])
     text.push_str(unsafe { from_utf8_unchecked(bytes) });
 }
 
-/// Appends a port after a `:`, where there is one. An error means that memory ran out: `out` then still begins with
-/// what it held.
+/// Appends `:` and a port, if there is one. An error means that memory ran out: `out` then still begins with what it
+/// held.
 pub fn push_port(out: &mut String, port: Option<u16>) -> Result<(), AllocError>
     ensures ok { OnOk result (string_bytes out.new ≡ string_bytes out.old ++ serial_port port) }
     ensures err { OnErr result (StartsWith (string_bytes out.new) (string_bytes out.old)) }
@@ -90,8 +90,8 @@ fn push_number(out: &mut String, number: u32) -> Result<(), AllocError>
     out.push_str(digits.format(number))
 }
 
-/// Appends the pieces of an IPv6 address in brackets, where `::` stands for the first longest run of two zero pieces or
-/// more. An error means that memory ran out: `out` then still begins with what it held.
+/// Appends the pieces of an IPv6 address in brackets, with `::` for the longest run of two or more zero pieces, or the
+/// first of several such runs. An error means that memory ran out: `out` then still begins with what it held.
 pub fn push_ipv6(out: &mut String, pieces: &[u16; 8]) -> Result<(), AllocError>
     ensures ok { OnOk result (string_bytes out.new ≡ string_bytes out.old ++ serial_ipv6 pieces.now) }
     ensures err { OnErr result (StartsWith (string_bytes out.new) (string_bytes out.old)) }
@@ -103,7 +103,7 @@ pub fn push_ipv6(out: &mut String, pieces: &[u16; 8]) -> Result<(), AllocError>
     out.push_str(text.as_str())
 }
 
-// The pieces, where `::` stands for the first longest run of two zero pieces or more.
+// The pieces, with `::` for the longest run of two or more zero pieces, or the first of several.
 #[tactic(auto, unfolding(std::specs::Net::Text::hex_groups_text))]
 fn push_pieces(text: &mut AddressText, pieces: &[u16])
     requires { length text.old.bytes + 5 * length pieces.now + 2 ≤ 48 }
@@ -120,7 +120,7 @@ fn push_pieces(text: &mut AddressText, pieces: &[u16])
     }
 }
 
-// Groups with `:` between each two.
+// Groups with `:` between them.
 fn push_groups(text: &mut AddressText, pieces: &[u16])
     requires { length text.old.bytes + 5 * length pieces.now ≤ 48 }
     ensures bytes { text.new.bytes ≡ text.old.bytes ++ address.groups_text pieces.now }
@@ -177,7 +177,7 @@ fn push_group(text: &mut AddressText, piece: u16)
     }
 }
 
-/// The start and the length of the longest run of zeros, and of two such runs the first.
+/// The start and the length of the longest run of zeros, or of the first of several.
 pub fn longest_zero_run(pieces: &[u16]) -> (usize, usize)
     ensures value { result ≡ address.longest_zero_run pieces.now }
     ensures within { result.0 + result.1 ≤ length pieces.now }

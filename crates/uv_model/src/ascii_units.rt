@@ -1,4 +1,4 @@
-//! Tests of ASCII texts, byte by byte: URL units and the code points that a text is without.
+//! Tests of ASCII texts, byte by byte: whether they are URL units, and whether a code point is in them.
 ghost use Rattle.std.specs.Prelude.{◌≡◌, ◌↔◌, IsTrue};
 ghost use Rattle.uv_model.specs.Path.{is_spaced, is_without};
 ghost use Rattle.uv_model.specs.Units as spec;
@@ -58,6 +58,7 @@ pub fn is_spaced(text: &[u8]) -> bool
     true
 }
 
+// Whether a byte, read as a code point, is a URL code point, or `%` before two hex digits.
 #[tactic(auto, unfolding(crate::specs::Units::is_unit_at))]
 fn is_unit_at(first: u8, rest: &[u8]) -> bool
     ensures { result ≡ spec.is_unit_at first rest.now }

@@ -1,4 +1,4 @@
-//! The code points at the start of a text, and what is after them.
+//! The code points at the start of a text, and what follows them.
 ghost use Rattle.std.specs.Prelude.{◌≡◌, [], ◌∷◌, MatchOption, drop};
 ghost use Rattle.std.specs.Str.{chars};
 ghost use Rattle.uv_model.specs.Units as spec;
@@ -14,7 +14,7 @@ pub fn first_code_point(text: &str) -> Option<(char, &str)>
     }
 }
 
-/// What is after so many code points of a text: nothing if it has no more.
+/// What follows this many code points of a text: nothing if it has no more.
 pub fn after_code_points(text: &str, count: usize) -> &str
     ensures { chars result.now ≡ drop count (chars text.now) }
 {
@@ -25,7 +25,7 @@ pub fn after_code_points(text: &str, count: usize) -> &str
     left
 }
 
-// What is after the first code point, if there is one.
+// What follows the first code point, if there is one.
 fn after_first(text: &str) -> &str
     ensures { chars result.now ≡ drop 1 (chars text.now) }
 {

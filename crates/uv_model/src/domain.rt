@@ -7,7 +7,7 @@ ghost use Rattle.uv_model.specs.Hosts.Domain as spec;
 use crate::profile::Profile;
 
 /// Whether a code point is one of the marks that a domain of the profile may hold besides letters and digits: `-` and
-/// `.`, under the wide profile also `_`, and by the parser's all other ASCII code points that aren't forbidden.
+/// `.`, under the wide profile also `_`, and under the parser's all other ASCII code points that aren't forbidden.
 pub fn is_domain_mark(c: char, profile: Profile) -> bool
     ensures { result ≡ spec.is_domain_mark profile c }
 {
@@ -31,15 +31,15 @@ pub fn is_forbidden_domain(c: char) -> bool
     }
 }
 
-/// Whether the text ends in a number (URL Standard, section 3.5, the ends-in-a-number checker): its last label, where
-/// one empty label at the end is dropped, is digits alone, or `0x` and then nothing or hex digits.
+/// Whether the text ends in a number (URL Standard, section 3.5, the ends-in-a-number checker): its last label, after
+/// one empty label at the end is dropped, has only digits, or is `0x` and then nothing or hex digits.
 pub fn ends_in_number(text: &str) -> bool
     ensures { result ≡ spec.ends_in_number (chars text.now) }
 {
     bytes_end_in_number(text.as_bytes())
 }
 
-/// The number rule on bytes.
+/// Whether bytes end in a number, as `ends_in_number` says of a text.
 #[tactic(auto, unfolding(crate::specs::Hosts::Domain::ends_in_number))]
 fn bytes_end_in_number(text: &[u8]) -> bool
     ensures { result ≡ spec.ends_in_number text.now }
@@ -58,7 +58,7 @@ fn without_root(text: &[u8]) -> &[u8]
     }
 }
 
-/// What is after the last full stop, where one full stop at the end isn't counted.
+/// What follows the last full stop, not counting one full stop at the end.
 fn last_label(text: &[u8]) -> &[u8]
     ensures { result.now ≡ spec.last_label text.now }
 {
@@ -70,7 +70,7 @@ fn last_label(text: &[u8]) -> &[u8]
     &name[start..]
 }
 
-/// Digits alone, and at least one.
+/// Only digits, and at least one.
 fn is_digits(label: &[u8]) -> bool
     ensures { result ≡ spec.is_digits label.now }
 {

@@ -6,7 +6,7 @@ ghost use Rattle.uv_model.specs.Records.Held.{held_text};
 use arrayvec::ArrayString;
 use std::alloc::{AllocError, Global};
 
-/// Where a text is: so many bytes may be held without an allocation.
+/// Where a text is: one of at most this many bytes needs no allocation.
 #[derive(Debug, Drop)]
 pub(crate) enum Held<const SHORT: usize> {
     /// In the value itself.
@@ -53,7 +53,7 @@ impl<const SHORT: usize> Held<SHORT> {
         }
     }
 
-    /// Keeps so many bytes at the start.
+    /// Keeps only this many bytes from the start.
     pub(crate) fn truncate(&mut self, length: usize)
         requires { IsSplitPoint (held_text self.old) length }
         ensures { held_text self.new ≡ take length (held_text self.old) }
@@ -65,7 +65,7 @@ impl<const SHORT: usize> Held<SHORT> {
     }
 }
 
-// Two texts, one after the other. An error means that memory ran out.
+// Two texts, one after the other, as a new one. An error means that memory ran out.
 fn joined(alloc: Global, first: &str, second: &str) -> Result<String, AllocError>
     ensures { IfOk result (λ whole. string_bytes whole ≡ first.now ++ second.now) }
 {

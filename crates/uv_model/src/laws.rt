@@ -1,4 +1,5 @@
-//! Laws over the definitions, each as the clause of a function that does nothing.
+//! Laws over the definitions. Each is the contract of a function with an empty body, so that it is proved and listed
+//! like any other contract.
 ghost use Rattle.uv_model.specs.Hosts.Address.{AreLibraryTexts};
 ghost use Rattle.uv_model.specs.Hosts.Domain.{StandardDomainsAreWide, WideDomainsAreParsers};
 ghost use Rattle.uv_model.specs.Laws.Addresses.{AddressesAreReadBack};
@@ -30,19 +31,19 @@ pub fn valid_texts_are_cut_into_their_parts()
     ensures { ValidTextsAreCutIntoTheirParts }
 {}
 
-/// A text that begins with a scheme and `:` has against every base the same cut, and in each profile the same valid
+/// A text that begins with a scheme and `:` has the same cut against every base, and in each profile the same valid
 /// parts and violations.
 pub fn texts_with_a_scheme_ignore_the_base()
     ensures { TextsWithASchemeIgnoreTheBase }
 {}
 
-/// A valid text has in each profile, against every base and against none, only one form, and only one text and value of
-/// each part.
+/// In each profile a valid text has only one form, and only one text and value of each part, whether against any base
+/// or against none.
 pub fn parts_of_a_valid_text_are_unique()
     ensures { PartsAreUnique }
 {}
 
-/// Cuts of texts that are written out, and violations of texts that are refused, each at its place.
+/// Cuts of given texts, and violations of refused texts, each at its place.
 pub fn cut_and_violation_rows()
     ensures { CutAndViolationRows }
 {}

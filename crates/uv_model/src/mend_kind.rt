@@ -1,15 +1,16 @@
-//! How a mended text is to the refused one.
+//! How a mended text relates to the refused one.
 ghost use Rattle.std.specs.Prelude.{◌≡◌};
 ghost use Rattle.uv_model.specs.MendKindName.{kind_name, named_kind};
 
-/// How a mended text is to the refused one.
+/// How a mended text relates to the refused one.
 #[derive(Clone, Copy, Debug, PartialEq, Eq)]
 pub enum MendKind {
     /// A second parser, the crate `url`, reads both as the same URL, against the base.
     Same,
-    /// Not so, but the mended text is the refused one with some of its code points percent-encoded, and nothing else.
+    /// It doesn't, but the mended text is the refused one with some of its code points percent-encoded, and nothing
+    /// else changed.
     Escaped,
-    /// Neither. The author has to look whether the mended text is what was meant.
+    /// Neither. The author has to look at whether the mended text is what was meant.
     Changed,
 }
 

@@ -1,4 +1,4 @@
-//! Texts of paths of segments, which grow and shrink by a segment at a time.
+//! Texts of paths of segments, which grow and shrink by one segment at a time.
 ghost use Rattle.std.specs.Prelude.{◌≡◌, ◌∷◌, ◌++◌, [], IfOk, OnOk, length, option_copied, string_bytes, take, true};
 ghost use Rattle.std.specs.Str.{IsAscii};
 ghost use Rattle.uv_model.specs.Ascii.{slash};
@@ -31,7 +31,7 @@ impl Model for PathText {
 }
 
 impl PathText {
-    /// A path without segments, which takes no memory.
+    /// A path without segments. It takes no memory.
     pub fn new(alloc: Global) -> PathText
         ensures { result ≡ [] }
     {
@@ -41,7 +41,7 @@ impl PathText {
         }
     }
 
-    /// A path without segments, with room for so many bytes. An error means that memory ran out.
+    /// A path without segments, with room for this many bytes. An error means that memory ran out.
     pub fn with_capacity(alloc: Global, room: usize) -> Result<PathText, AllocError>
         ensures { IfOk result (λ path. path ≡ []) }
     {
@@ -66,8 +66,8 @@ impl PathText {
         Ok(made)
     }
 
-    /// The path of the segments of a path's text, which isn't copied where it begins with `/`. An error means that
-    /// memory ran out.
+    /// The path of the segments of a path's text, which isn't copied if it begins with `/`. An error means that memory
+    /// ran out.
     pub fn of_string(alloc: Global, path: String) -> Result<PathText, AllocError>
         requires { IsAscii (string_bytes path) }
         ensures { IfOk result (λ made. made ≡ segments_of (string_bytes path)) }
@@ -107,7 +107,7 @@ impl PathText {
         self.push_pieces(segment)
     }
 
-    /// Appends the segments of a path, which has to be ASCII: the texts between its slashes, but for a `/` at its
+    /// Appends the segments of a path, which has to be ASCII: the texts between its slashes, ignoring a `/` at its
     /// start. An empty path has none. An error means that memory ran out, and perhaps an empty segment was appended.
     pub fn push_path(&mut self, path: &str) -> Result<(), AllocError>
         requires { IsAscii path.now }
@@ -122,7 +122,8 @@ impl PathText {
         }
     }
 
-    // A `/` and a text after it. A path in an allocation, as most that grow are, is asked once where it is.
+    // A `/` and a text after it. Most paths that grow are in an allocation, so where the text is held is asked only
+    // once.
     fn push_pieces(&mut self, text: &str) -> Result<(), AllocError>
         requires { IsAscii text.now }
         ensures { OnOk result (self.new ≡ self.old ++ pieces text.now) }
@@ -143,7 +144,7 @@ impl PathText {
         self.held.truncate(kept);
     }
 
-    // The text between whose slashes the segments are, where there are any.
+    // The text between whose slashes the segments are, if there are any.
     pub(crate) fn after_slash(&self) -> Option<&str>
         ensures segments { left_segments (option_copied result) ≡ self.now }
         ensures ascii { MayBeAsciiText (option_copied result) }
@@ -152,7 +153,7 @@ impl PathText {
     }
 }
 
-/// The text of a path without its last segment, and without the `/` before that.
+/// The text of a path without its last segment and the `/` before that.
 pub fn without_last_segment<'p>(path: &'p str) -> &'p str
     requires { IsPathText path.now }
     ensures text { IsTextOf (without_last (segments_after path.now)) result.now }

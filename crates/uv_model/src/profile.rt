@@ -1,4 +1,4 @@
-//! The profiles: which texts are checked valid.
+//! The profiles: which texts count as valid.
 ghost use Rattle.std.specs.Prelude.{◌≡◌};
 ghost use Rattle.uv_model.specs.ProfileName.{named_profile, profile_name, profiles_in_order};
 
@@ -7,11 +7,11 @@ ghost use Rattle.uv_model.specs.ProfileName.{named_profile, profile_name, profil
 /// (URL Standard, sections 3.4, 3.5, 4.3 and 4.4).
 #[derive(Clone, Copy, Debug, PartialEq, Eq)]
 pub enum Profile {
-    /// The URL Standard's valid URL strings: a domain passes ToASCII and ToUnicode at the strict settings too, and a
-    /// path after an authority has an empty first segment only when it has no other.
+    /// The URL Standard's valid URL strings: a domain passes ToASCII and ToUnicode with the strict settings too, and a
+    /// path after an authority has an empty first segment only if it has no other.
     Standard,
-    /// The standard profile's texts and more: a domain is checked by the URL parser's settings alone and may hold `_`,
-    /// and a path after an authority is `/` and any segments.
+    /// The texts of the standard profile and more: a domain is checked only by the URL parser's settings and may hold
+    /// `_`, and a path after an authority is `/` and any segments.
     Wide,
     /// Exactly the texts that the URL parser takes without a validation error: a host is what the host parser makes a
     /// domain or an address of, without an error; the authority of a file URL may be empty, and its path may begin with
@@ -20,7 +20,7 @@ pub enum Profile {
 }
 
 impl Profile {
-    /// The profiles, from the narrowest on.
+    /// The profiles, beginning with the narrowest.
     pub fn in_order() -> [Profile; 3]
         ensures { result ≡ profiles_in_order }
     {

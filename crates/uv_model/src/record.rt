@@ -14,7 +14,7 @@ use std::borrow::CowStr;
 use std::marker::Model;
 
 /// A URL's record (URL Standard, section 4.1) without credentials. It is well formed under the parser's profile, and so
-/// may be one of any profile.
+/// can be that of a valid text of any profile.
 #[derive(Debug, Drop)]
 pub struct Record {
     scheme: CowStr<'static>,
@@ -85,8 +85,8 @@ impl Record {
         Record::make_with(CowStr::Owned(scheme), host, port, path, query, fragment)
     }
 
-    /// The record of these parts, without a copy, where the scheme may be a name that is in the program. They have to
-    /// be well formed under the parser's profile.
+    /// The record of these parts, without a copy. The scheme may be a name in the program's constants. The parts have
+    /// to be well formed under the parser's profile.
     #[inline(always)]
     pub fn make_with(
         scheme: CowStr<'static>,
@@ -131,14 +131,14 @@ impl Record {
         self.scheme.as_str()
     }
 
-    /// The host, which is absent where the URL has none.
+    /// The host, or `None` if the URL has none.
     pub fn host(&self) -> Option<&Host>
         ensures { option_copied result ≡ self.now.host }
     {
         self.host.as_ref()
     }
 
-    /// The port, which is absent where the URL has none or its scheme's default.
+    /// The port, or `None` if the URL has none or its scheme's default.
     pub fn port(&self) -> Option<u16>
         ensures { result ≡ self.now.port }
     {
@@ -153,21 +153,21 @@ impl Record {
         &self.path
     }
 
-    /// The query without its `?`, which is absent where the URL has none.
+    /// The query without its `?`, or `None` if the URL has none.
     pub fn query(&self) -> Option<&str>
         ensures { option_copied result ≡ self.now.query }
     {
         as_text(&self.query)
     }
 
-    /// The query as a `Text`, without its `?`; it is absent where the URL has none.
+    /// The query as a `Text`, without its `?`, or `None` if the URL has none.
     pub fn query_text(&self) -> Option<&Text>
         ensures { option_copied result ≡ self.now.query }
     {
         self.query.as_ref()
     }
 
-    /// The fragment without its `#`, which is absent where the URL has none.
+    /// The fragment without its `#`, or `None` if the URL has none.
     pub fn fragment(&self) -> Option<&str>
         ensures { option_copied result ≡ self.now.fragment }
     {
@@ -204,7 +204,7 @@ impl Record {
     }
 }
 
-// A name that is in the program is not copied.
+// A scheme that is one of the program's constants isn't copied.
 fn scheme_copy(alloc: Global, scheme: &CowStr<'static>) -> Result<CowStr<'static>, AllocError>
     ensures { IfOk result (λ copy. cow_str_bytes copy ≡ cow_str_bytes scheme.now) }
 {
@@ -214,6 +214,7 @@ fn scheme_copy(alloc: Global, scheme: &CowStr<'static>) -> Result<CowStr<'static
     }
 }
 
+// A copy of a host that may be absent.
 fn host_copy(alloc: Global, host: &Option<Host>) -> Result<Option<Host>, AllocError>
     ensures { IfOk result (λ copy. copy ≡ host.now) }
 {
@@ -223,6 +224,7 @@ fn host_copy(alloc: Global, host: &Option<Host>) -> Result<Option<Host>, AllocEr
     }
 }
 
+// A copy of a text that may be absent.
 fn text_copy(alloc: Global, text: &Option<Text>) -> Result<Option<Text>, AllocError>
     ensures { IfOk result (λ copy. copy ≡ text.now) }
 {

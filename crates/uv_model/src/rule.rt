@@ -3,12 +3,12 @@ ghost use Rattle.std.specs.Prelude.{◌≡◌, MatchOption};
 ghost use Rattle.uv_model.specs.Violations.Rule.{IsNoName, named_rule, rule_name, rule_number, rule_sentence};
 ghost use Rattle.uv_model.specs.Violations.Rule.{rules_in_order};
 
-/// A rule of valid URL strings (URL Standard, sections 3.4 and 4.3) that a text violates, by number.
+/// A rule for valid URL strings (URL Standard, sections 3.4 and 4.3) that a text can violate, by number.
 #[derive(Clone, Copy, Debug, PartialEq, Eq)]
 pub enum Rule {
     /// A text without a scheme has no base.
     NoScheme,
-    /// A text without a scheme is more than a fragment, and the base's path is opaque.
+    /// A text without a scheme is more than a fragment, but the base's path is opaque.
     OpaqueBase,
     /// A special scheme and its `:` aren't followed by `//`.
     TwoSlashes,
@@ -81,7 +81,7 @@ impl Rule {
         }
     }
 
-    /// The rule's name, as refusals are printed.
+    /// The rule's name, as it is printed with a refusal.
     pub fn name(self) -> &'static str
         ensures { result.now ≡ rule_name self }
     {
@@ -103,7 +103,7 @@ impl Rule {
         }
     }
 
-    /// What is wrong at the place of a refusal by the rule, in a sentence without its end.
+    /// What is wrong at the place of a refusal by the rule, as a sentence without its full stop.
     pub fn sentence(self) -> &'static str
         ensures { result.now ≡ rule_sentence self }
     {

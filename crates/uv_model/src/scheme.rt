@@ -3,7 +3,7 @@ ghost use Rattle.std.specs.Prelude.{◌≡◌, true};
 ghost use Rattle.std.specs.Str.{bytes_eq, chars};
 ghost use Rattle.uv_model.specs.Scheme.{default_port, is_lowercase_ascii, lowercase, scheme_class};
 
-/// How the texts and the parser treat a scheme.
+/// How the rules for texts and the parser treat a scheme.
 #[derive(Clone, Copy, Debug, PartialEq, Eq)]
 pub enum Class {
     /// `ftp`, `http`, `https`, `ws` and `wss`.
@@ -28,7 +28,7 @@ pub fn class_of(scheme: &str) -> Class
     }
 }
 
-/// The default port of a scheme in any case, which the special schemes but `file` have (URL Standard, section 4.2).
+/// The default port of a scheme in any case, which all special schemes except `file` have (URL Standard, section 4.2).
 #[tactic(auto, unfolding(crate::specs::Scheme::default_port))]
 pub fn default_port(scheme: &str) -> Option<u16>
     ensures { result ≡ default_port (chars scheme.now) }
@@ -51,7 +51,7 @@ pub fn default_port(scheme: &str) -> Option<u16>
     None
 }
 
-/// Whether a text is this name, which is in lower case, in any ASCII case.
+/// Whether a text is this name in any ASCII case. The name is in lower case.
 pub fn is_name(text: &str, name: &str) -> bool
     requires { is_lowercase_ascii name.now ≡ true }
     ensures { result ≡ bytes_eq (lowercase (chars text.now)) name.now }

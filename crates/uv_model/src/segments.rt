@@ -4,7 +4,7 @@ ghost use Rattle.uv_model.specs.Path as spec;
 
 use crate::scheme::is_name;
 
-/// Whether the segment is `..` in one of its spellings, `%2e` in any case among them (URL Standard, section 4.3).
+/// Whether the segment is `..` in one of its spellings, also with `%2e` in any case (URL Standard, section 4.3).
 #[tactic(auto, unfolding(crate::specs::Path::is_double_dot))]
 pub fn is_double_dot(segment: &str) -> bool
     ensures { result ≡ spec.is_double_dot (chars segment.now) }

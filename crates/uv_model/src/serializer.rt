@@ -38,8 +38,8 @@ impl Record {
     }
 }
 
-// The length of that text, with room for any address and any port. No clause says it: a text that outgrows it is
-// written all the same.
+// The length of that text, with room for any address and any port. No clause depends on it: a text that outgrows it is
+// still written.
 fn room_for(url: &Record) -> usize {
     url.scheme()
         .len()
@@ -50,7 +50,7 @@ fn room_for(url: &Record) -> usize {
         .saturating_add("://:65535".len())
 }
 
-// The length of a name, or the most of an address.
+// The length of a name, or the most that an address has.
 fn host_room(host: Option<&Host>) -> usize {
     match host {
         Some(Host::Domain(form)) => form.as_str().len(),
@@ -80,7 +80,7 @@ fn segments_room(segments: &[Text]) -> usize {
     room
 }
 
-// The length of a part with the mark before it, where there is one.
+// The length of a part with the mark before it, if there is one.
 fn part_room(text: Option<&str>) -> usize {
     match text {
         Some(text) => text.len().saturating_add(1),
@@ -143,7 +143,7 @@ fn dot_prefix(path: &UrlPath) -> &'static str
     }
 }
 
-// `/.` before these segments, where they would begin with `//`, which would be read as an authority.
+// `/.` before these segments, if they would begin with `//`, which would be read as an authority.
 fn dot_before(segments: ListedTexts<'_>) -> &'static str
     ensures { result.now ≡ serial_authority None None (Segments segments.entry) }
 {
@@ -164,6 +164,7 @@ fn push_host_and_port(out: &mut String, host: &Host, port: Option<u16>) -> Resul
     push_port(out, port)
 }
 
+// A host as its serializer writes it, appended without a text of its own.
 #[tactic(auto, unfolding(crate::specs::Records::Serialize::serial_host))]
 fn push_host(out: &mut String, host: &Host) -> Result<(), AllocError>
     ensures ok { OnOk result (string_bytes out.new ≡ string_bytes out.old ++ serial_host host.now) }
@@ -178,6 +179,7 @@ fn push_host(out: &mut String, host: &Host) -> Result<(), AllocError>
     }
 }
 
+// A path: an opaque one as it is, otherwise each segment after a `/`.
 fn push_path(out: &mut String, path: &UrlPath) -> Result<(), AllocError>
     ensures ok { OnOk result (string_bytes out.new ≡ string_bytes out.old ++ serial_path path.now) }
     ensures err { OnErr result (StartsWith (string_bytes out.new) (string_bytes out.old)) }
@@ -209,7 +211,7 @@ fn push_segments(out: &mut String, segments: &[Text]) -> Result<(), AllocError>
     Ok(())
 }
 
-// An ASCII mark and the text after it, where there is one.
+// An ASCII mark and the text after it, if there is one.
 fn push_after(out: &mut String, mark: char, text: Option<&str>) -> Result<(), AllocError>
     requires { mark < 128 }
     ensures ok { OnOk result (string_bytes out.new ≡ string_bytes out.old

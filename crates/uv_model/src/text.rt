@@ -6,8 +6,8 @@ use crate::held::Held;
 use std::alloc::{AllocError, Global};
 use std::marker::Model;
 
-/// An owned ASCII text, of which a short one, as most names of hosts are, takes no memory. Contracts see its code
-/// points, which are its bytes.
+/// An owned ASCII text. A short one, as most names of hosts are, takes no memory. Contracts see its code points, which
+/// are its bytes.
 #[derive(Debug, Drop)]
 pub struct Text {
     held: Held<24>,

@@ -25,6 +25,7 @@ pub fn is_url_host(class: Class, host: Option<&Host>, profile: Profile) -> bool
     }
 }
 
+// The host of a special URL other than a file URL: a domain or an address.
 fn is_special_host(host: Option<&Host>, profile: Profile) -> bool
     ensures { IsTrue result ↔ IsSpecialHost profile (option_copied host.entry) }
 {
@@ -38,6 +39,7 @@ fn is_special_host(host: Option<&Host>, profile: Profile) -> bool
     }
 }
 
+// The host of a file URL: it may be empty, and isn't `localhost`, which the parser makes empty.
 fn is_file_host(host: Option<&Host>, profile: Profile) -> bool
     ensures { IsTrue result ↔ IsFileHost profile (option_copied host.entry) }
 {
@@ -56,6 +58,7 @@ fn is_file_host(host: Option<&Host>, profile: Profile) -> bool
     }
 }
 
+// The host of a URL that isn't special: opaque, empty, an IPv6 address, or none.
 fn is_other_host(host: Option<&Host>) -> bool
     ensures { IsTrue result ↔ IsOtherHost (option_copied host.entry) }
 {
@@ -83,6 +86,7 @@ fn is_ipv6_address(pieces: [u16; 8]) -> bool
     true
 }
 
+// A form that isn't empty, doesn't end in a number and holds only what the profile permits.
 fn is_url_domain(form: &Text, profile: Profile) -> bool
     ensures { IsTrue result ↔ IsUrlDomain profile form.now }
 {
@@ -96,6 +100,7 @@ fn is_url_domain(form: &Text, profile: Profile) -> bool
     has_form_bytes(text.as_bytes(), profile)
 }
 
+// ASCII URL units without a forbidden host code point, and at least one.
 fn is_url_opaque_host(text: &Text) -> bool
     ensures { IsTrue result ↔ IsUrlOpaqueHost text.now }
 {

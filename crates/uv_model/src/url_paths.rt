@@ -29,7 +29,7 @@ pub fn is_url_path(class: Class, host: Option<&Host>, path: &UrlPath, profile: P
     }
 }
 
-// Without segments a URL has to be of class Other and to have a host.
+// A URL without segments has to be of class Other and to have a host.
 fn may_be_empty(class: Class, host: Option<&Host>) -> bool
     ensures { result ≡ may_be_empty class (option_copied host.entry) }
 {
@@ -40,7 +40,7 @@ fn may_be_empty(class: Class, host: Option<&Host>) -> bool
     }
 }
 
-// With an opaque path a URL has to be of class Other and to have no host.
+// A URL with an opaque path has to be of class Other and to have no host.
 fn may_be_opaque(class: Class, host: Option<&Host>) -> bool
     ensures { IsTrue result ↔ ((class ≡ Class.Other) × (option_copied host.entry ≡ None)) }
 {
@@ -51,6 +51,7 @@ fn may_be_opaque(class: Class, host: Option<&Host>) -> bool
     }
 }
 
+// Whether a text may be an opaque path. Only the parser's profile permits spaces in it.
 fn is_url_opaque_path(text: &Text, profile: Profile) -> bool
     ensures { IsTrue result ↔ IsUrlOpaquePath profile text.now }
 {
@@ -83,6 +84,7 @@ fn ends_with_space(text: &[u8]) -> bool
     }
 }
 
+// ASCII URL units without `?`, which don't begin with `/`, as a path of segments does.
 fn is_unspaced_path(bytes: &[u8]) -> bool
     ensures { IsTrue result ↔ IsUnspacedPath bytes.now }
 {
@@ -104,7 +106,7 @@ fn starts_with_slash(text: &[u8]) -> bool
     }
 }
 
-// Whether these may be the segments of a path: where there are none, only after a host of class Other.
+// Whether these may be the segments of a path. There may be none only after a host of class Other.
 fn are_segments_of(class: Class, host: Option<&Host>, segments: ListedTexts<'_>) -> bool
     ensures { IsTrue result ↔ AreSegmentsOf class (option_copied host.entry) segments.entry }
 {
@@ -115,6 +117,7 @@ fn are_segments_of(class: Class, host: Option<&Host>, segments: ListedTexts<'_>)
     }
 }
 
+// Whether each text may be a segment.
 fn are_url_segments(segments: ListedTexts<'_>) -> bool
     ensures { IsTrue result ↔ AreUrlSegments segments.entry }
 {
@@ -127,6 +130,7 @@ fn are_url_segments(segments: ListedTexts<'_>) -> bool
     true
 }
 
+// Whether a text may be a segment: dot segments are resolved, so no record has one.
 fn is_url_segment(segment: &str) -> bool
     requires { chars segment.now ≡ segment.now }
     ensures { IsTrue result ↔ IsUrlSegment segment.now }
@@ -140,6 +144,7 @@ fn is_url_segment(segment: &str) -> bool
     !is_double_dot(segment)
 }
 
+// ASCII URL units without `/` and `?`, which end a segment.
 fn is_ascii_segment(text: &[u8]) -> bool
     ensures { IsTrue result ↔ (IsSegment text.now × (is_ascii_text text.now ≡ true)) }
 {

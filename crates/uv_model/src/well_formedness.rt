@@ -15,8 +15,8 @@ use crate::scheme::{Class, class_of, default_port};
 use crate::url_hosts::is_url_host;
 use crate::url_paths::is_url_path;
 
-/// Whether these parts make a record that is well formed under the profile. Those that are by the wide one may be given
-/// to `Record::make`. A text that isn't ASCII makes none. It takes no memory.
+/// Whether these parts make a record that is well formed under the profile. Parts that are well formed under the wide
+/// one may be given to `Record::make`. A text that isn't ASCII isn't well formed. It takes no memory.
 pub fn well_formed(
     scheme: &str,
     host: Option<&Host>,
@@ -54,6 +54,7 @@ pub fn well_formed(
     is_url_fragment(fragment)
 }
 
+// A URL-scheme string in lower case, as the parser keeps it.
 fn is_url_scheme(scheme: &str) -> bool
     ensures { IsTrue result ↔ IsUrlScheme scheme.now }
 {
@@ -89,6 +90,7 @@ fn has_no_uppercase(text: &[u8]) -> bool
     text.iter().all(|byte| !byte.is_ascii_uppercase())
 }
 
+// The class of a scheme that is known to be in lower case.
 fn class_of_url_scheme(scheme: &str) -> Class
     requires { IsUrlScheme scheme.now }
     ensures { result ≡ scheme_class scheme.now }
@@ -96,6 +98,7 @@ fn class_of_url_scheme(scheme: &str) -> Class
     class_of(scheme)
 }
 
+// The default port of a scheme that is known to be in lower case.
 fn default_port_of_url_scheme(scheme: &str) -> Option<u16>
     requires { IsUrlScheme scheme.now }
     ensures { result ≡ default_port scheme.now }
@@ -103,6 +106,7 @@ fn default_port_of_url_scheme(scheme: &str) -> Option<u16>
     default_port(scheme)
 }
 
+// Whether a URL may have the port: it isn't the scheme's default, which the parser drops.
 fn is_url_port(scheme: &str, host: Option<&Host>, port: Option<u16>) -> bool
     requires { IsUrlScheme scheme.now }
     ensures { IsTrue result ↔ IsUrlPort scheme.now (option_copied host.entry) port }
@@ -118,7 +122,7 @@ fn is_url_port(scheme: &str, host: Option<&Host>, port: Option<u16>) -> bool
     }
 }
 
-// A port may be after a host that isn't empty, in a URL whose scheme isn't `file`.
+// A port may come only after a host that isn't empty, in a URL whose scheme isn't `file`.
 fn takes_port(class: Class, host: Option<&Host>) -> bool
     ensures { result ≡ takes_port class (option_copied host.entry) }
 {
@@ -131,6 +135,7 @@ fn takes_port(class: Class, host: Option<&Host>) -> bool
     }
 }
 
+// Whether a port is the scheme's default.
 fn is_default_port(scheme: &str, port: u16) -> bool
     requires { IsUrlScheme scheme.now }
     ensures { result ≡ is_default_port scheme.now port }
@@ -141,6 +146,7 @@ fn is_default_port(scheme: &str, port: u16) -> bool
     }
 }
 
+// ASCII URL units. A special URL has no `'` in its query, since the parser encodes it there.
 fn is_url_query(class: Class, query: Option<&str>) -> bool
     ensures { IsTrue result ↔ IsUrlQuery class (option_copied query.entry) }
 {
@@ -159,6 +165,7 @@ fn is_url_query(class: Class, query: Option<&str>) -> bool
     }
 }
 
+// ASCII URL units.
 fn is_url_fragment(fragment: Option<&str>) -> bool
     ensures { IsTrue result ↔ IsUrlFragment (option_copied fragment.entry) }
 {

@@ -1,4 +1,5 @@
-//! Laws over the URL parser, each as the clause of a function that does nothing.
+//! Laws over the URL parser. Each is the contract of a function with an empty body, so that it is proved and listed
+//! like any other contract.
 ghost use Rattle.uv_parser.specs.HostParser.{DomainsAreParsed, EmptyHostIsParsed, Ipv4HostsAreParsed};
 ghost use Rattle.uv_parser.specs.HostParser.{Ipv6HostsAreParsed, OpaqueHostsAreParsed, OtherHostsAreTaken};
 ghost use Rattle.uv_parser.specs.HostParser.{SpecialHostsAreTaken};
@@ -22,10 +23,10 @@ ghost use Rattle.uv_parser.specs.Rows.Special.{SpecialRows};
 ghost use Rattle.uv_parser.specs.Laws.DecidedTexts.{TextsAreDecided};
 
 /// The run of the parser machine on a text, alone or against a base that is well formed under the parser's profile, is
-/// done, with the URL that the parts denote, exactly when the text is valid under the parser's profile with parts, and
-/// otherwise it stops; within the bound on its steps. ToASCII is the definition of the crate `idna`, which gives
-/// nothing above limits of its own: 1,000 code points of a label beyond ASCII, and 2,000 bytes of a label's Punycode.
-/// There the machine stops, where the standard's parser may be silent.
+/// done, with the URL that the parts denote, exactly when the text is valid under the parser's profile with these
+/// parts, and otherwise it stops. Both happen within the bound on its steps. ToASCII is the definition of the crate
+/// `idna`, which gives nothing above its own limits: 1,000 code points for a label beyond ASCII, and 2,000 bytes for a
+/// label's Punycode. Above them the machine stops, while the Standard's parser may be silent.
 pub fn texts_are_decided()
     ensures { TextsAreDecided }
 {}
@@ -35,7 +36,7 @@ pub fn ipv4_texts_are_parsed()
     ensures { Ipv4TextsAreParsed }
 {}
 
-/// The IPv4 parser takes one to four shortest decimal numbers of at most 255 alone, and gives exactly their value, of
+/// The IPv4 parser takes only one to four shortest decimal numbers of at most 255, and gives exactly their value, in
 /// which the last number is the lowest byte and those before it are the highest ones (URL Standard, section 3.5).
 pub fn ipv4_parser_takes_numbers()
     ensures { Ipv4ParserTakesNumbers }
@@ -46,19 +47,19 @@ pub fn ipv6_texts_are_parsed()
     ensures { Ipv6TextsAreParsed }
 {}
 
-/// The IPv6 parser takes the IPv6 texts alone: where it gives pieces, the text is an IPv6 text of these pieces (URL
+/// The IPv6 parser takes only the IPv6 texts: if it gives pieces, the text is an IPv6 text of these pieces (URL
 /// Standard, section 3.5).
 pub fn ipv6_parser_takes_ipv6_texts()
     ensures { Ipv6ParserTakesIpv6Texts }
 {}
 
-/// What both parsers make of texts that are written out, such as the failure on `1::2::3` (URL Standard, section 3.5).
+/// What both parsers make of given texts, such as the failure on `1::2::3` (URL Standard, section 3.5).
 pub fn address_parser_rows()
     ensures { AddressParserRows }
 {}
 
-/// For a special URL the host parser makes of every valid domain of any profile the domain of exactly its form (URL
-/// Standard, section 3.5).
+/// For a special URL the host parser makes of every domain that is valid under some profile exactly the domain of its
+/// form (URL Standard, section 3.5).
 pub fn domains_are_parsed()
     ensures { DomainsAreParsed }
 {}
@@ -86,9 +87,9 @@ pub fn empty_host_is_parsed()
     ensures { EmptyHostIsParsed }
 {}
 
-/// For a special URL the host parser takes the hosts of the parser's profile alone, each with its value: an IPv6 text
-/// in brackets, or a text that percent-decoded has a form at the parser's settings of ToASCII, which is a domain or one
-/// to four numbers (URL Standard, section 3.5).
+/// For a special URL the host parser takes only the hosts of the parser's profile, each with its value: an IPv6 text in
+/// brackets, or a text that, percent-decoded, has a form with the parser's settings of ToASCII, which is a domain or
+/// one to four numbers (URL Standard, section 3.5).
 pub fn special_hosts_are_taken()
     ensures { SpecialHostsAreTaken }
 {}
@@ -159,19 +160,19 @@ pub fn denotation_rows()
     ensures { DenotationRows }
 {}
 
-/// Valid parts, well-formed URLs and violations of hosts that are written out, and parts and URLs that are none (URL
-/// Standard, sections 3.4, 4.1 and 4.3).
+/// Valid parts, well-formed URLs and violations of given hosts, and parts and URLs that aren't valid or well formed
+/// (URL Standard, sections 3.4, 4.1 and 4.3).
 pub fn definition_rows()
     ensures { DefinitionRows }
 {}
 
-/// Texts by which the profiles differ, and some on which they agree: valid parts, the URL that they denote, and
+/// Texts on which the profiles differ, and some on which they agree: valid parts, the URL that they denote, and
 /// violations.
 pub fn profile_rows()
     ensures { ProfileRows }
 {}
 
-/// What the host parser makes of texts that are written out, such as `example%2Ecom` (URL Standard, section 3.5).
+/// What the host parser makes of given texts, such as `example%2Ecom` (URL Standard, section 3.5).
 pub fn host_parser_rows()
     ensures { HostParserRows }
 {}

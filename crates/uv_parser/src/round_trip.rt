@@ -1,10 +1,10 @@
-//! The laws of the round trip: what the URL serializer writes of a URL is parsed as that URL. Each function does
-//! nothing: the law is its clause.
+//! The laws of the round trip: what the URL serializer writes for a URL is parsed as that URL. Each is the contract of
+//! a function with an empty body.
 ghost use Rattle.uv_parser.specs.Laws.RoundTrip.{DenotedUrlsAreReadBack, ParsedUrlsAreReadBack, StableUrlsAreReadBack};
 
 /// The parser, without a base, makes of the serialized text of every stable URL that is well formed under the parser's
 /// profile exactly that URL, within the bound on its steps and without a validation error (URL Standard, sections 4.1,
-/// 4.4 and 4.5). A URL is stable where the host parser makes of its domain itself: `xn--a` is no such domain.
+/// 4.4 and 4.5). A URL is stable if the host parser gives its domain unchanged, which it doesn't for `xn--a`.
 pub fn stable_urls_are_read_back()
     ensures { StableUrlsAreReadBack }
 {}

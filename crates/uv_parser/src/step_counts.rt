@@ -1,4 +1,4 @@
-//! Laws on how many steps the URL parser takes, each as the clause of a function that does nothing.
+//! Laws on how many steps the URL parser takes. Each is the contract of a function with an empty body.
 ghost use Rattle.uv_parser.specs.Rows.StepCounts.{StepCountRows};
 ghost use Rattle.uv_parser.specs.Laws.StepCounts.{BoundIsTaken, RunsEnd, RunsKeepTheirEnd, TextsAreDecidedSoon};
 
@@ -20,7 +20,7 @@ pub fn texts_are_decided_soon()
     ensures { TextsAreDecidedSoon }
 {}
 
-/// No smaller bound holds: of each length from four on there is a text whose run, against `http://h/`, hasn't ended
+/// No smaller bound holds: for each length from four on there is a text whose run, against `http://h/`, hasn't ended
 /// after `2n + 4` steps.
 pub fn bound_is_taken()
     ensures { BoundIsTaken }

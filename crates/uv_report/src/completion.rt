@@ -5,7 +5,7 @@
 pub enum Completion {
     /// Every file was read to its end.
     Whole,
-    /// A file couldn't be opened, or not be read to its end. The report on the others is whole.
+    /// A file couldn't be opened, or couldn't be read to its end. The report on the others is whole.
     Unread,
     /// Something stopped the run before the last file's end.
     Stopped,

@@ -1,4 +1,4 @@
-//! A diagnostic as data: each of its texts is made by who has it, and a format only writes them.
+//! A diagnostic as data: its texts are made by whoever has them, and a format only writes them.
 ghost use Rattle.std.specs.Cow.{cow_str_bytes};
 ghost use Rattle.std.specs.Prelude.{◌≡◌, ◌++◌, IfOk, codes, option_map, string_bytes};
 ghost use Rattle.uv_report.specs.Diagnostic as spec;
@@ -9,7 +9,7 @@ use std::borrow::CowStr;
 use uv_model::MendKind;
 use uv_sentences::{SeenText, carried};
 
-/// Where something is in a file. Lines and columns are from 1. C hands it over as it is.
+/// Where something is in a file. Lines and columns count from 1. C hands it over in this layout.
 #[repr(C)]
 #[derive(Clone, Copy)]
 pub struct Region {
@@ -26,13 +26,13 @@ pub struct Region {
 /// What to write in place of a text.
 #[derive(Clone, Copy)]
 pub struct Fix<'a> {
-    /// Where that text is, all of it, if a program may write there.
+    /// Where all of that text is, if a program may replace it there.
     pub region: Option<Region>,
     /// A valid text.
     pub text: &'a str,
-    /// How it is to the text that it replaces.
+    /// How it relates to the text that it replaces.
     pub kind: MendKind,
-    /// Whether it is offered: nothing shows that something else was meant.
+    /// Whether it is offered: nothing suggests that something else was meant.
     pub is_offered: bool,
 }
 
@@ -43,27 +43,26 @@ pub struct Diagnostic<'a> {
     pub file: &'a str,
     /// Where in the file it is: from the place at which the text is wrong up to where what is wrong ends.
     pub region: Region,
-    /// The name of the violated rule, which may be one that this library doesn't have.
+    /// The name of the violated rule, which may be one that isn't in this library.
     pub rule: &'a str,
-    /// The address of where that rule is told of, or nothing.
+    /// The address of a page on that rule, or nothing.
     pub uri: &'a str,
-    /// What is wrong, in a sentence without its end.
+    /// What is wrong, as a sentence without its full stop.
     pub message: &'a str,
-    /// Where in the file it is besides, or nothing.
+    /// What else says where in the file it is, or nothing.
     pub within: &'a str,
-    /// The text, without the line's end. If it isn't UTF-8, U+FFFD stands for what can't be read.
+    /// The text, without its line end. If it isn't UTF-8, U+FFFD stands for what can't be read.
     pub text: &'a SeenText<'a>,
     /// The place at which it is wrong, in code points from 0.
     pub place: usize,
     /// How many diagnostics of the file before it have the same rule, place and text, as far as that is counted.
     pub repeat: u64,
-    /// What to write in its place, where that is to be said. A format for which `Format::shows_mended` is false leaves
-    /// it out.
+    /// What to write in its place, if that is to be said. A format whose `Format::shows_mended` is false leaves it out.
     pub fix: Option<Fix<'a>>,
 }
 
 impl<'a> Diagnostic<'a> {
-    /// Whether a report carries a window of the text alone.
+    /// Whether a report carries only a window of the text.
     pub(crate) fn is_cut(&self) -> bool
         ensures { result ≡ shown.is_cut (spec.diagnostic_view self.now).text }
     {
@@ -77,7 +76,7 @@ impl<'a> Diagnostic<'a> {
         carried(alloc, self.text, self.place)
     }
 
-    /// The message, and after it where in the file that is besides.
+    /// The message, and after it what else says where in the file that is.
     pub(crate) fn told(&self, alloc: Global) -> Result<CowStr<'a>, AllocError>
         ensures { IfOk result (λ text. cow_str_bytes text ≡ spec.told self.now.message.now self.now.within.now) }
     {
@@ -110,7 +109,7 @@ impl<'a> Fix<'a> {
     }
 }
 
-// A message, and after it where in the file that is.
+// A message, and after it what says where in the file that is.
 fn told_within(alloc: Global, message: &str, within: &str) -> Result<String, AllocError>
     ensures { IfOk result (λ text. string_bytes text ≡ message.now ++ (codes ", in " ++ within.now)) }
 {

@@ -22,7 +22,7 @@ pub enum Format {
     Checkstyle,
     /// A document of JUnit, in XML.
     Junit,
-    /// A report of GitLab on the quality of code, in JSON.
+    /// A report of GitLab on code quality, in JSON.
     Gitlab,
     /// A document of reviewdog's diagnostics, in JSON.
     Rdjson,
@@ -76,8 +76,8 @@ impl Format {
         }
     }
 
-    /// Whether the format takes columns that count this: SARIF has words for code points and for code units of UTF-16
-    /// alone, those of reviewdog are bytes, and the others leave it open.
+    /// Whether the format takes columns that count this: SARIF has words only for code points and for code units of
+    /// UTF-16, reviewdog counts bytes, and the others leave it open.
     pub fn takes_columns(self, columns: Columns) -> bool
         ensures { result ≡ takes_columns self columns }
     {
@@ -88,7 +88,7 @@ impl Format {
         }
     }
 
-    /// What columns count in the format if nothing else is said: code points, and in reviewdog's bytes.
+    /// What columns count in the format if nothing else is said: code points, or bytes for reviewdog.
     pub fn own_columns(self) -> Columns
         ensures { result ≡ own_columns self }
     {

@@ -1,5 +1,5 @@
-//! The formats: each writes a diagnostic in its own way, and some a document round the diagnostics. In `fingerprint` is
-//! what tells one diagnostic from another, and in `uri` the names of files as paths.
+//! The formats: each writes a diagnostic in its own way, and some also a document around the diagnostics. `fingerprint`
+//! has what tells one diagnostic from another, and `uri` the names of files as paths.
 pub(crate) mod caret;
 pub(crate) mod checkstyle;
 pub(crate) mod fingerprint;

@@ -8,7 +8,7 @@ use std::alloc::{AllocError, Global};
 use std::marker::Model;
 use std::str::from_utf8_unchecked;
 
-/// A text of JSON by its tokens. What is between two of them follows from those.
+/// A text of JSON, written by its tokens. What comes between two tokens follows from them.
 #[derive(Drop)]
 pub(crate) struct JsonText {
     writer: Writer,
@@ -120,7 +120,7 @@ impl JsonText {
         Ok(())
     }
 
-    /// Writes a member whose value is an object with a text alone.
+    /// Writes a member whose value is an object with one text.
     pub(crate) fn object_of(
         &mut self,
         name: &str,

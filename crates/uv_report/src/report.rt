@@ -1,5 +1,5 @@
-//! Reports in any format. A report is a beginning, then for each file its own beginning, its diagnostics and its end,
-//! and then an end.
+//! Reports in any format. A report has a beginning, then for each file a beginning, diagnostics and an end, and then an
+//! end.
 ghost use Rattle.std.specs.Prelude.{◌≡◌, ◌++◌, IfOk, OnErr, OnOk, string_bytes};
 ghost use Rattle.uv_report.specs.Diagnostic.{diagnostic_view};
 ghost use Rattle.uv_report.specs.Report.{begin_text, diagnostic_text, end_text, file_begin_text, file_end_text};
@@ -20,7 +20,7 @@ use crate::formats::sarif::{push_sarif, push_sarif_begin, sarif_end};
 use crate::places::column::Columns;
 use std::alloc::{AllocError, Global};
 
-/// Pushes what a report begins with. In SARIF that says what columns count, where SARIF has a word for it. If an
+/// Pushes what a report begins with. In SARIF that says what columns count, if SARIF has a word for it. If an
 /// allocation fails, the text stays as it was.
 pub fn push_begin(
     alloc: Global,
@@ -55,8 +55,8 @@ fn begin_of(alloc: Global, format: Format, columns: Columns) -> Result<String, A
     Ok(begin)
 }
 
-/// Pushes what is before the diagnostics of a file: a start tag in the formats of Checkstyle and JUnit, with a test
-/// that passes in the latter, and nothing in another. If an allocation fails, the text stays as it was.
+/// Pushes what comes before the diagnostics of a file: a start tag in the formats of Checkstyle and JUnit, in the
+/// latter with a test that passes, and nothing in the others. If an allocation fails, the text stays as it was.
 pub fn push_file_begin(
     alloc: Global,
     text: &mut String,
@@ -70,7 +70,7 @@ pub fn push_file_begin(
     text.push_str(begin.as_str())
 }
 
-// What is before the diagnostics of a file.
+// What comes before the diagnostics of a file.
 fn file_begin_of(alloc: Global, format: Format, file: &str) -> Result<String, AllocError>
     ensures { IfOk result (λ begin. string_bytes begin ≡ file_begin_text format file.now) }
 {
@@ -89,9 +89,9 @@ fn file_begin_of(alloc: Global, format: Format, file: &str) -> Result<String, Al
     Ok(begin)
 }
 
-/// Pushes a diagnostic. In SARIF and in the formats of GitLab and reviewdog a comma is before each but the first one of
-/// the report. If an allocation fails, the text stays as it was. Several diagnostics on one text take no more time than
-/// the text and what is written of it, where they come in the order of their places, and the text is led to each place
+/// Pushes a diagnostic. In SARIF and in the formats of GitLab and reviewdog a comma comes before each except the first
+/// one of the report. If an allocation fails, the text stays as it was. Several diagnostics on one text take no more
+/// time than the text and what is written, if they come in the order of their places, and the text is led to each place
 /// before.
 pub fn push(
     alloc: Global,
@@ -123,7 +123,7 @@ fn reported(
         message: message.as_str(),
         ..*diagnostic
     };
-    // Room for most diagnostics: what grows piece by piece is moved at many of them.
+    // Room for most diagnostics: a text that grows piece by piece would often be moved.
     let mut text = String::with_capacity(alloc, 1_000)?;
     push_told(alloc, &mut text, format, &told, is_first)?;
     Ok(text)
@@ -153,8 +153,8 @@ fn push_told(
     }
 }
 
-/// Pushes what is after the diagnostics of a file: an end tag in the formats of Checkstyle and JUnit, and nothing in
-/// another. If an allocation fails, the text stays as it was.
+/// Pushes what comes after the diagnostics of a file: an end tag in the formats of Checkstyle and JUnit, and nothing in
+/// the others. If an allocation fails, the text stays as it was.
 pub fn push_file_end(text: &mut String, format: Format) -> Result<(), AllocError>
     ensures ok { OnOk result (string_bytes text.new ≡ string_bytes text.old ++ file_end_text format) }
     ensures err { OnErr result (string_bytes text.new ≡ string_bytes text.old) }
@@ -172,8 +172,8 @@ pub fn push_file_end(text: &mut String, format: Format) -> Result<(), AllocError
     })
 }
 
-/// What a report ends with, by how the run over its files has ended. It takes no memory, so that a report which has
-/// begun can always be ended.
+/// What a report ends with, depending on how the run over its files has ended. It takes no memory, so that a report
+/// that has begun can always be ended.
 pub fn end_of(format: Format, completion: Completion) -> &'static str
     ensures { result.now ≡ end_text format completion }
 {

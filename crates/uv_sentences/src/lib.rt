@@ -1,4 +1,4 @@
-//! What is said of a text that is refused: the sentence on it, as a terminal may show it, with what its author may have
+//! What is said about a refused text: the sentence on it, as a terminal may show it, with what its author may have
 //! meant; and what each rule requires, with an example.
 #![tactic(auto)]
 

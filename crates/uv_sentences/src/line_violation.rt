@@ -9,21 +9,21 @@ use crate::located_fault::LocatedFault;
 use crate::rules::explanation::explain;
 use uv_model::{Refusal, Rule};
 
-/// What is wrong with a line of a file: as a text it is refused, or it isn't a text that is checked.
+/// What is wrong with a line of a file: either it is refused as a text, or it isn't a text that is checked.
 #[derive(Clone, Copy, PartialEq, Eq)]
 pub enum LineViolation {
     /// The line violates a rule of valid URL strings at a place.
     Refused(Refusal),
-    /// The line isn't UTF-8. So many code points are before the first byte that isn't.
+    /// The line isn't UTF-8. This many code points come before the first byte that isn't.
     NotUtf8(usize),
     /// The line has more than 65,536 bytes.
     TooLong,
-    /// The line doesn't say where its link is, as `FILE:LINE:COLUMN:LINK` does, for this reason.
+    /// The line doesn't say where its link is, like `FILE:LINE:COLUMN:LINK` does, for this reason.
     NotLocated(LocatedFault),
 }
 
 impl LineViolation {
-    /// Whether another profile may accept a text that is refused so: for its host, for an empty first segment, or for a
+    /// Whether another profile may accept a text with this violation: of its host, by an empty first segment, or by a
     /// drive letter after a host.
     pub fn is_by_choice(self) -> bool {
         match self {
@@ -37,7 +37,7 @@ impl LineViolation {
         }
     }
 
-    /// The name of the violated rule, otherwise `not-utf8`, `line-too-long` or `not-located`.
+    /// The name of the violated rule, or `not-utf8`, `line-too-long` or `not-located`.
     pub fn name(self) -> &'static str
         ensures { result.now ≡ violation_name self }
     {
@@ -49,8 +49,8 @@ impl LineViolation {
         }
     }
 
-    /// The first violation with this name that is about no refusal, by its place or the reason, or `None` if none has
-    /// it.
+    /// The first violation with this name that isn't a refusal, by its place or the reason, or `None` if none has the
+    /// name.
     pub fn of_name(name: &str) -> Option<LineViolation>
         ensures { result ≡ named_violation name.now }
     {
@@ -62,7 +62,7 @@ impl LineViolation {
         }
     }
 
-    /// What is wrong, in a sentence without its end.
+    /// What is wrong, as a sentence without its full stop.
     pub fn sentence(self) -> &'static str
         ensures { result.now ≡ violation_sentence self }
     {
@@ -74,7 +74,7 @@ impl LineViolation {
         }
     }
 
-    /// What a line is asked, in a sentence or two.
+    /// What a line has to be, in a sentence or two.
     pub fn help(self) -> &'static str
         ensures { result.now ≡ violation_help self }
     {
@@ -91,7 +91,7 @@ impl LineViolation {
         }
     }
 
-    /// The address of where that is in the URL Standard: of the section of the rule, and nothing for a rule of lines.
+    /// The address of what the URL Standard says about it: that of the rule's section, and nothing for a rule of lines.
     pub fn address(self) -> &'static str
         ensures { result.now ≡ violation_address self }
     {
@@ -101,7 +101,7 @@ impl LineViolation {
         }
     }
 
-    /// Where its rule is among all that can be wrong, from 0: the three that refuse nothing come first.
+    /// Where its rule is in the list of all that can be wrong, from 0: the three that aren't refusals come first.
     pub(crate) fn index(self) -> u64
         ensures { result ≡ violation_index self }
     {
@@ -125,8 +125,8 @@ impl LineViolation {
         }
     }
 
-    /// The place at which what is wrong ends: that after the code point that violates a rule. If the line isn't checked
-    /// no code point is wrong, and it is `place`.
+    /// The place at which what is wrong ends: after the code point that violates a rule. If the line isn't checked, no
+    /// code point is wrong, and it is `place`.
     pub fn end(self) -> usize
         ensures { result ≡ violation_end self }
     {
@@ -139,7 +139,7 @@ impl LineViolation {
     }
 }
 
-/// Where the rule with this name is among all that can be wrong, from 0, if it is among them.
+/// Where the rule with this name is in the list of all that can be wrong, from 0, if it is in it.
 pub fn rule_index(name: &str) -> Option<u64>
     ensures { result ≡ spec.rule_index name.now }
 {
@@ -149,7 +149,7 @@ pub fn rule_index(name: &str) -> Option<u64>
     }
 }
 
-// Where the rule of valid URL strings with this name is among all that can be wrong, from 0, if there is one.
+// Where the rule of valid URL strings with this name is in that list, from 0, if there is one.
 fn index_of_rule(name: &str) -> Option<u64>
     ensures { result ≡ option_map (λ rule. rule_number rule + 2) (named_rule name.now) }
 {

@@ -1,8 +1,8 @@
 //! Why a line doesn't say where its link is.
 ghost use Rattle.uv_sentences.specs.Escaping.Printable.{IsLine};
 
-/// Why a line doesn't say where its link is, as `FILE:LINE:COLUMN:LINK` does. If no two numbers are between three
-/// colons, LINE is the first number that is between two, or between one and the line's end.
+/// Why a line doesn't say where its link is, like `FILE:LINE:COLUMN:LINK` does. If there aren't two numbers between
+/// three colons, LINE is the first number between two colons, or between a colon and the line's end.
 #[derive(Clone, Copy, PartialEq, Eq)]
 pub enum LocatedFault {
     /// FILE is empty, and LINE and COLUMN are there.
@@ -20,7 +20,7 @@ pub enum LocatedFault {
 }
 
 impl LocatedFault {
-    /// What is wrong with such a line, in a sentence without its end.
+    /// What is wrong with such a line, as a sentence without its full stop.
     pub fn sentence(self) -> &'static str
         ensures { IsLine result.now }
     {

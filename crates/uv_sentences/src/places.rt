@@ -1,3 +1,3 @@
-//! The places of a text, and what is shown round one of them.
+//! The places of a text, and what is shown around one of them.
 pub(crate) mod seen_text;
 pub(crate) mod window;

@@ -1,2 +1,2 @@
-//! What is said of each rule: what it asks, with an example.
+//! What is said about each rule: what it requires, with an example.
 pub(crate) mod explanation;

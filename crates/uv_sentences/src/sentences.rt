@@ -1,5 +1,5 @@
-//! What is said of a line: the sentence in `message`, of which the other files make a part. In `named` is
-//! what a sentence names, and in `intention` whether a text is offered in place of a line.
+//! What is said about a line: the sentence is in `message`, and the other files make parts of it. `named` finds what a
+//! sentence names, and `intention` says whether a text is offered in place of a line.
 pub(crate) mod authority;
 pub(crate) mod code_point;
 pub(crate) mod domain;

@@ -6,14 +6,14 @@ ghost use Rattle.uv_model.specs.Encoding.{encoded};
 use percent_encoding::{AsciiSet, ascii_set, utf8_percent_encode};
 use std::alloc::{AllocError, Global};
 
-// The code points beyond ASCII alone, which every percent-encode set holds.
+// Only the code points beyond ASCII, which every percent-encode set holds.
 const BEYOND_ASCII: AsciiSet = ascii_set!(AsciiSet::EMPTY);
 
 // The code points beyond ASCII and `'`, which the special-query percent-encode set changes in a text of units.
 const SPECIAL_QUERY: AsciiSet = ascii_set!(AsciiSet::EMPTY.add(b'\''));
 
 /// The text with each code point beyond ASCII as the escapes of its UTF-8 bytes, and with `quote` also `'` as `%27`
-/// (URL Standard, section 1.3). All else stays, escapes too. An error is out of memory.
+/// (URL Standard, section 1.3). All else stays, escapes too. An error means that memory ran out.
 pub fn encode(alloc: Global, text: &str, quote: bool) -> Result<String, AllocError>
     ensures text { IfOk result (λ out. string_bytes out ≡ encoded quote (chars text.now)) }
     ensures ascii { IfOk result (λ out. IsAscii (string_bytes out)) }
@@ -23,8 +23,8 @@ pub fn encode(alloc: Global, text: &str, quote: bool) -> Result<String, AllocErr
     Ok(out)
 }
 
-/// Writes the text after what is in a string, with each code point beyond ASCII as the escapes of its UTF-8 bytes, and
-/// with `quote` also `'` as `%27`. An error is out of memory, and leaves the string as it was.
+/// Appends the text to a string, with each code point beyond ASCII as the escapes of its UTF-8 bytes, and with `quote`
+/// also `'` as `%27`. An error means that memory ran out, and leaves the string as it was.
 pub fn push_encoded(out: &mut String, text: &str, quote: bool) -> Result<(), AllocError>
     ensures text { OnOk result (string_bytes out.new ≡ string_bytes out.old ++ encoded quote (chars text.now)) }
     ensures kept { OnErr result (string_bytes out.new ≡ string_bytes out.old) }

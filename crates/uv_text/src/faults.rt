@@ -28,7 +28,7 @@ pub fn first_fault(text: &str) -> Option<Refusal>
     }
 }
 
-// The rule that a code point violates if no unit begins.
+// The rule that a code point violates if it doesn't begin a unit.
 fn unit_rule(c: char) -> Rule
     ensures { result ≡ spec.unit_rule c }
 {

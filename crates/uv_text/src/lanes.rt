@@ -1,5 +1,5 @@
-//! Prefixes of bytes by lanes, 32 or 64 bytes a turn: the longest whose bytes are all in a class, and the longest of a
-//! class and of percent-encoded bytes.
+//! Prefixes of bytes by lanes, 32 or 64 bytes at a time: the longest whose bytes are all in a class, and the longest of
+//! bytes of a class and percent-encoded bytes.
 ghost use Rattle.std.specs.Prelude.{◌≡◌, ◌+◌, ◌≤◌, ◌==◌, drop, length, map, not, take};
 ghost use Rattle.std.specs.Simd.Lanes.{mask_l};
 ghost use Rattle.std.specs.List.{prefix_len};
@@ -10,7 +10,7 @@ use crate::byte_rows;
 use std::marker::Model;
 use std::simd::prelude::*;
 
-// At the high half of a byte, its bit in a row.
+// The bit of each high half of a byte in a row.
 const HIGH_BITS: [u8; 16] = [1, 2, 4, 8, 16, 32, 64, 128, 0, 0, 0, 0, 0, 0, 0, 0];
 
 // `%`, by the low half of a byte: a bit for each high half.
@@ -22,7 +22,7 @@ const HEX_ROWS: [u8; 16] = byte_rows!(b'0'..=b'9' | b'A'..=b'F' | b'a'..=b'f');
 // A byte that no class of ASCII bytes has.
 const BEYOND_ASCII: u8 = 128;
 
-// A table of sixteen in each half of a load.
+// A table of sixteen bytes in each half of a load.
 #[inline(always)]
 fn twice(table: &[u8; 16]) -> u8x32
     ensures { StandsTwice table.now result }
@@ -57,7 +57,7 @@ fn row_bit_of(rows: &[u8; 16], v: u8x32) -> u8x32
     rows_of(rows, v) & bits_of(v)
 }
 
-// At each lane a bit, the first the lowest, which is set where the byte is in the rows.
+// A bit for each lane, the first the lowest, which is set if the byte is in the rows.
 #[inline(always)]
 fn lane_bits(v: u8x32, rows: &[u8; 16]) -> u64
     ensures { result ≡ mask_l (map (is_in_rows rows.now) v) }
@@ -65,7 +65,7 @@ fn lane_bits(v: u8x32, rows: &[u8; 16]) -> u64
     row_bit_of(rows, v).simd_ne(u8x32::splat(0)).to_bitmask()
 }
 
-// At each lane a bit, the first the lowest, which is set where the byte isn't in the rows.
+// A bit for each lane, the first the lowest, which is set if the byte isn't in the rows.
 #[inline(always)]
 fn stop_bits(v: u8x32, rows: &[u8; 16]) -> u64
     ensures { result ≡ mask_l (map (λ b. not (is_in_rows rows.now b)) v) }
@@ -73,7 +73,7 @@ fn stop_bits(v: u8x32, rows: &[u8; 16]) -> u64
     row_bit_of(rows, v).simd_eq(u8x32::splat(0)).to_bitmask()
 }
 
-/// Up to 32 bytes of a text from a place on, loaded at once. Contracts see them, with what fills a load up after the
+/// Up to 32 bytes of a text from a place on, loaded at once. Contracts see them, and what fills the load up after the
 /// last of them, which is in no rows.
 #[derive(Drop)]
 pub struct Load {
@@ -92,8 +92,8 @@ impl Model for Load {
 }
 
 impl Load {
-    /// The bytes from a place on. If fewer than 32 are left, the load begins before the place, since what is copied
-    /// into a block and loaded at once has to be waited for.
+    /// The bytes from a place on. If fewer than 32 are left, the load begins before the place: copying the bytes into a
+    /// block and loading that would make the processor wait for the copy.
     #[inline(always)]
     pub(crate) fn of(bytes: &[u8], place: usize) -> Load
         requires { place ≤ length bytes.now }
@@ -123,8 +123,8 @@ impl Load {
         }
     }
 
-    /// At each of the bytes a bit, the first the lowest, which is set where the byte is in the rows. After the last
-    /// byte of the text there is none.
+    /// A bit for each byte, the first the lowest, which is set if the byte is in the rows. After the last byte of the
+    /// text there is none.
     #[inline(always)]
     pub fn row_bits(&self, rows: &[u8; 16]) -> u64
         ensures { result ≡ mask_l (map (is_in_rows rows.now) self.now) }
@@ -132,7 +132,8 @@ impl Load {
         lane_bits(self.lanes, rows) >> self.before
     }
 
-    // How many of the bytes are in the rows before one that isn't. If all are, a bit after the lanes is the end.
+    // How many bytes of the load are in the rows before the first that isn't. If all are, a bit after the lanes marks
+    // the end.
     #[inline(always)]
     fn row_prefix(&self, rows: &[u8; 16]) -> usize
         ensures { result ≡ prefix_len (is_in_rows rows.now) self.now }
@@ -142,7 +143,7 @@ impl Load {
     }
 }
 
-// How many of the 32 bytes from a place on are in the rows before one that isn't.
+// How many of the 32 bytes from a place on are in the rows before the first that isn't.
 #[inline(always)]
 fn row_prefix(bytes: &[u8], place: usize, rows: &[u8; 16]) -> usize
     requires { place ≤ length bytes.now }
@@ -164,7 +165,7 @@ pub fn row_end(bytes: &[u8], place: usize, rows: &[u8; 16]) -> usize
     far_end(bytes, near, rows)
 }
 
-// The place after the run, where it ends within 64 bytes, and otherwise the place after these.
+// The place after the run, if it ends within 64 bytes, and otherwise the place after these.
 #[inline(always)]
 fn near_end(bytes: &[u8], place: usize, rows: &[u8; 16]) -> usize
     requires { place ≤ length bytes.now }
@@ -177,7 +178,7 @@ fn near_end(bytes: &[u8], place: usize, rows: &[u8; 16]) -> usize
     place + ahead + row_prefix(bytes, place + ahead, rows)
 }
 
-// The place after the longest run of bytes in the rows that begins at a place, found 64 bytes a turn. It is never
+// The place after the longest run of bytes in the rows that begins at a place, found 64 bytes at a time. It is never
 // inlined, since most runs are shorter.
 #[inline(never)]
 fn far_end(bytes: &[u8], place: usize, rows: &[u8; 16]) -> usize
@@ -205,8 +206,8 @@ fn is_whole(bytes: &[u8], place: usize, rows: &[u8; 16]) -> bool
     first | second == 0
 }
 
-// How many of the 32 bytes from a place on are in the rows, or `%` with two hex digits after it among the 32, before
-// one that is neither.
+// How many of the 32 bytes from a place on are in the rows, or part of a percent-encoded byte that lies within them,
+// before the first that is neither.
 #[inline(always)]
 fn unit_prefix(bytes: &[u8], place: usize, rows: &[u8; 16]) -> usize
     requires { place ≤ length bytes.now }
@@ -220,8 +221,8 @@ fn unit_prefix(bytes: &[u8], place: usize, rows: &[u8; 16]) -> usize
     units.trailing_ones() as usize
 }
 
-/// The place after the longest run of bytes in the rows and of percent-encoded bytes that begins at a place. What a
-/// `%` begins as the last but one or the last of 32 bytes isn't seen before the next turn.
+/// The place after the longest run of bytes in the rows and of percent-encoded bytes that begins at a place. A `%` that
+/// is one of the last two of 32 bytes is looked at in the next turn, when its digits are there too.
 pub(crate) fn unit_end(bytes: &[u8], place: usize, rows: &[u8; 16]) -> usize
     requires { place ≤ length bytes.now }
     ensures { result ≡ place + ascii_unit_length (is_in_rows rows.now) (drop place bytes.now) }

@@ -1,5 +1,5 @@
-//! Constants that are made of bytes and of ranges of bytes, as a pattern of a `match` has them: the rows of a set, and
-//! a table with a value for each byte.
+//! Constants made of bytes and ranges of bytes, written like a pattern of a `match`: the rows of a set, and a table
+//! with a value for each byte.
 
 /// The rows of a set of ASCII bytes: at each low half of a byte a bit for each high half.
 ///

@@ -1,4 +1,4 @@
-//! A text cut after its longest prefix of URL units, by lanes where it is ASCII.
+//! A text cut after its longest prefix of URL units, by lanes if it is ASCII.
 ghost use Rattle.std.specs.Prelude.{◌≡◌, ◌<◌, ◌==◌, ◌++◌, IfSome, MatchOption, drop, false, length, true};
 ghost use Rattle.std.specs.Str.{IsUtf8, chars};
 ghost use Rattle.uv_model.specs.Ascii.{percent_sign};
@@ -19,7 +19,7 @@ pub fn split_units<'t>(text: &'t str, class: UnitClass) -> (&'t str, &'t str)
     (prefix, rest.as_str())
 }
 
-/// The longest prefix of a tail that consists of what `split_units` takes for the class, and the tail that follows it.
+/// The longest prefix of a tail that `split_units` gives for the class, and the tail that follows it.
 /// Most texts have no escape and no code point beyond ASCII, and their prefix is one run.
 #[inline(always)]
 pub fn split_tail<'t>(text: &Tail<'t>, class: UnitClass) -> (&'t str, Tail<'t>)
@@ -45,7 +45,7 @@ fn may_begin_mark(bytes: &[u8]) -> bool
     }
 }
 
-// What follows the prefix of a text that begins with no byte of the class.
+// What follows the prefix of a text that doesn't begin with a byte of the class.
 fn after_rest<'t>(text: Tail<'t>, class: UnitClass) -> Tail<'t>
     requires { starts_in (class_has class) (chars text) ≡ false }
     ensures { chars result ≡ drop (unit_length (class_has class) (chars text.entry)) (chars text.entry) }
@@ -57,7 +57,7 @@ fn after_rest<'t>(text: Tail<'t>, class: UnitClass) -> Tail<'t>
     rest
 }
 
-// What is after more of the prefix, where the text begins with an escape or a URL code point beyond ASCII.
+// What comes after more of the prefix, if the text begins with an escape or a URL code point beyond ASCII.
 fn after_more<'t>(text: &Tail<'t>, class: UnitClass) -> Option<Tail<'t>>
     requires { starts_in (class_has class) (chars text.now) ≡ false }
     ensures passes { MatchOption result (starts_with_mark (chars text.now) ≡ false)
@@ -84,8 +84,8 @@ fn starts_with_percent(bytes: &[u8]) -> bool
     }
 }
 
-// What is after a run of percent-encoded bytes and bytes of the class, where a text that begins with `%` begins
-// with one.
+// What comes after a run of percent-encoded bytes and bytes of the class, if a text that begins with `%` begins with
+// one.
 fn after_escapes<'t>(text: &Tail<'t>, class: UnitClass) -> Option<Tail<'t>>
     requires { starts_in (λ b. b == percent_sign) text.now ≡ true }
     ensures passes { MatchOption result (starts_with_mark (chars text.now) ≡ false)
@@ -101,7 +101,7 @@ fn after_escapes<'t>(text: &Tail<'t>, class: UnitClass) -> Option<Tail<'t>>
     Some(rest)
 }
 
-// What is after a run of bytes of the class.
+// What comes after a run of bytes of the class.
 #[inline(always)]
 fn after_run<'t>(text: &Tail<'t>, class: UnitClass) -> Tail<'t>
     ensures passes { PassesUnits (class_has class) (chars text.now) (chars result) }
@@ -111,7 +111,7 @@ fn after_run<'t>(text: &Tail<'t>, class: UnitClass) -> Tail<'t>
     rest
 }
 
-// A run of bytes of the class, and what is after it.
+// A run of bytes of the class, and what comes after it.
 #[inline(always)]
 fn split_run<'t>(text: &Tail<'t>, class: UnitClass) -> (&'t str, Tail<'t>)
     ensures joined { result.0.now ++ result.1 ≡ text.now }
@@ -122,8 +122,8 @@ fn split_run<'t>(text: &Tail<'t>, class: UnitClass) -> (&'t str, Tail<'t>)
     text.split_at(text.class_run(class))
 }
 
-// What is after a run of URL code points beyond ASCII, where the text begins with one: they come in runs, so each
-// is passed without a look at the 32 bytes after it.
+// What comes after a run of URL code points beyond ASCII, if the text begins with one. They come in runs, so each is
+// passed without a look at the 32 bytes after it.
 fn after_beyond_ascii(text: &str) -> Option<&str>
     ensures passes { MatchOption result (starts_beyond_ascii (chars text.now) ≡ false)
         (λ rest. PassesMarks (chars text.now) (chars rest.now)) }
@@ -136,7 +136,7 @@ fn after_beyond_ascii(text: &str) -> Option<&str>
     Some(rest)
 }
 
-// What is after one of them.
+// What comes after one of them.
 fn after_one_beyond_ascii(text: &str) -> Option<&str>
     ensures passes { MatchOption result (starts_beyond_ascii (chars text.now) ≡ false)
         (λ rest. PassesMarks (chars text.now) (chars rest.now)) }

@@ -1,4 +1,4 @@
-//! What is after a place of a text.
+//! The rest of a text from a place on.
 ghost use Rattle.std.specs.Prelude.{◌≡◌, ◌+◌, ◌^◌, ◌<◌, ◌≤◌, drop, length, take};
 ghost use Rattle.std.specs.List.{prefix_len};
 ghost use Rattle.std.specs.Str.{IsCharBoundary, IsUtf8};
@@ -10,8 +10,8 @@ use crate::lanes::Load;
 use crate::units::UnitClass;
 use std::marker::Model;
 
-/// What is after a place of a text, with that text, so that a load of its last bytes may begin before the place.
-/// Contracts see its bytes.
+/// The rest of a text from a place on, together with that text, so that a load of its last bytes may begin before the
+/// place. Contracts see its bytes.
 #[derive(Drop)]
 pub struct Tail<'t> {
     whole: &'t str,
@@ -49,7 +49,7 @@ impl<'t> Tail<'t> {
         &self.whole[self.place..]
     }
 
-    /// The two sides of one of its places, in bytes from its start.
+    /// The two parts before and after one of its places, in bytes from its start.
     #[inline(always)]
     pub fn split_at(&self, end: usize) -> (&'t str, Tail<'t>)
         requires { IsUtf8 self.now → IsCharBoundary self.now end }
@@ -64,7 +64,7 @@ impl<'t> Tail<'t> {
         (&self.whole[self.place..place], rest)
     }
 
-    // What it ends with, as a tail of the same text.
+    // A suffix of it, as a tail of the same text.
     #[inline(always)]
     pub(crate) fn ending(&self, rest: &str) -> Tail<'t>
         requires { EndsWith self.now rest.now }
@@ -86,7 +86,7 @@ impl<'t> Tail<'t> {
         Load::of(self.whole.as_bytes(), self.place + place)
     }
 
-    // How many bytes it begins with that are in the class.
+    // How many bytes at its start are in the class.
     #[inline(always)]
     pub(crate) fn class_run(&self, class: UnitClass) -> usize
         ensures run { result ≡ prefix_len (class_has class) self.now }
@@ -95,7 +95,7 @@ impl<'t> Tail<'t> {
         class.run_end(self.whole.as_bytes(), self.place) - self.place
     }
 
-    // How many bytes it begins with that are in the class or of percent-encoded bytes.
+    // How many bytes at its start are in the class or part of percent-encoded bytes.
     pub(crate) fn unit_run(&self, class: UnitClass) -> usize
         ensures run { result ≡ ascii_unit_length (class_has class) self.now }
         ensures text { IsUtf8 self.now }

@@ -12,12 +12,12 @@ const URL_ROWS: [u8; 16] = byte_rows!(
     b'0'..=b'9' | b'A'..=b'Z' | b'a'..=b'z' | b'!' | b'$' | b'&'..=b'/' | b':' | b';' | b'=' | b'?' | b'@' | b'_' | b'~'
 );
 
-// The ASCII URL code points but `?`.
+// The ASCII URL code points except `?`.
 const PATH_ROWS: [u8; 16] = byte_rows!(
     b'0'..=b'9' | b'A'..=b'Z' | b'a'..=b'z' | b'!' | b'$' | b'&'..=b'/' | b':' | b';' | b'=' | b'@' | b'_' | b'~'
 );
 
-// The ASCII URL code points but `/`, `:`, `?` and `@`.
+// The ASCII URL code points except `/`, `:`, `?` and `@`.
 const OPAQUE_HOST_ROWS: [u8; 16] = byte_rows!(
     b'0'..=b'9' | b'A'..=b'Z' | b'a'..=b'z' | b'!' | b'$' | b'&'..=b'.' | b';' | b'=' | b'_' | b'~'
 );
@@ -25,11 +25,11 @@ const OPAQUE_HOST_ROWS: [u8; 16] = byte_rows!(
 /// The units that a part of a text may consist of, by their ASCII code points (URL Standard, section 4.3).
 #[derive(Clone, Copy, PartialEq, Eq)]
 pub enum UnitClass {
-    /// The ASCII URL code points, of which queries and fragments consist.
+    /// The ASCII URL code points: for queries and fragments.
     Url,
-    /// The ASCII URL code points but `?`, of which a path consists that a query may follow.
+    /// The ASCII URL code points except `?`: for a path, which a query may follow.
     Path,
-    /// The ASCII URL code points but the forbidden host code points, of which opaque hosts consist.
+    /// The ASCII URL code points except the forbidden host code points: for opaque hosts.
     OpaqueHost,
 }
 

@@ -51,7 +51,7 @@ impl<'v> Model for VectorCase<'v> {
 }
 
 impl<'v> VectorCase<'v> {
-    /// The case that a value is, or nothing if it isn't one.
+    /// The case that a value is, or `None` if it isn't one.
     pub(crate) fn of(value: &'v Value) -> Option<VectorCase<'v>>
         ensures { result ≡ vector_of (view value.now) }
     {
@@ -71,7 +71,7 @@ impl<'v> VectorCase<'v> {
         })
     }
 
-    /// Whether the case passes, by its profile. The error is out of memory.
+    /// Whether the case passes under its profile. An error means that memory ran out.
     pub(crate) fn passes(&self, alloc: Global) -> Result<bool, AllocError>
         ensures { IfOk result (λ passed. Decides passed (Passes self.now)) }
     {
@@ -82,7 +82,7 @@ impl<'v> VectorCase<'v> {
         }
     }
 
-    // Whether the input against a record as base is as expected.
+    // Whether the input, against a record as base, gives what is expected.
     fn is_as_expected(&self, alloc: Global, base: Option<&Record>) -> Result<bool, AllocError>
         ensures { IfOk result (λ is.
             Decides is (IsAsExpected self.now.profile (option_copied base.entry) self.now.input self.now.expected)) }
@@ -96,7 +96,7 @@ impl<'v> VectorCase<'v> {
     }
 }
 
-/// Whether a value is a case that passes. The error is out of memory.
+/// Whether a value is a case that passes. An error means that memory ran out.
 pub(crate) fn passes(alloc: Global, value: &Value) -> Result<bool, AllocError>
     ensures { IfOk result (Checks (view value.now)) }
 {
@@ -142,12 +142,14 @@ fn is_refused(
     }
 }
 
+// Whether two refusals have the same place and the same rule.
 fn is_same(found: Refusal, refusal: Refusal) -> bool
     ensures { Decides result (found ≡ refusal) }
 {
     found == refusal
 }
 
+// Whether a case may have this key.
 fn is_known_key(key: &str) -> bool
     ensures { result ≡ is_known key.now }
 {
@@ -157,7 +159,7 @@ fn is_known_key(key: &str) -> bool
     )
 }
 
-/// The first key that no case has, where there is one.
+/// The first key that isn't one of a case, if there is one.
 pub(crate) fn unknown_key(members: &Map<String, Value>) -> Option<&str>
     ensures { option_copied result ≡ unknown_key (members_view members.now.entries) }
 {
@@ -187,7 +189,7 @@ fn all_keys_known(members: &Map<String, Value>) -> bool
     members.keys().all(|key| is_known_key(key.as_str()))
 }
 
-/// The base: none if the key is absent or null. Nothing where the value is neither null nor a string.
+/// The base: `Some(None)` if the key is absent or null, and `None` if the value is neither null nor a string.
 pub(crate) fn base_in<'v>(found: Option<&'v Value>) -> Option<Option<&'v str>>
     ensures { option_map option_copied result ≡ base_of (value_view found.entry) }
 {
@@ -201,7 +203,7 @@ pub(crate) fn base_in<'v>(found: Option<&'v Value>) -> Option<Option<&'v str>>
     }
 }
 
-/// The profile: the standard one where the key is absent. Nothing where the value isn't a profile's name.
+/// The profile: the standard one if the key is absent. `None` if the value isn't a profile's name.
 pub(crate) fn profile_in<'v>(found: Option<&'v Value>) -> Option<Profile>
     ensures { result ≡ profile_of (value_view found.entry) }
 {
@@ -211,7 +213,7 @@ pub(crate) fn profile_in<'v>(found: Option<&'v Value>) -> Option<Profile>
     }
 }
 
-// What is expected: a text alone, or a place and a rule. Nothing for any other choice of keys.
+// What is expected: only a text, or a place and a rule. `None` for any other choice of keys.
 fn expected_in<'v>(
     text: Option<&'v Value>,
     place: Option<&'v Value>,
@@ -227,7 +229,7 @@ fn expected_in<'v>(
     }
 }
 
-// The refusal of a place, in digits alone, and a rule's name.
+// The refusal with a place, written only in digits, and a rule's name.
 fn refusal_in(place: &Value, rule: &Value) -> Option<Refusal>
     ensures { result ≡ refusal_of (view place.now) (view rule.now) }
 {

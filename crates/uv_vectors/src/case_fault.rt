@@ -10,31 +10,31 @@ use crate::case::{base_in, profile_in, unknown_key};
 use serde_json::Value;
 use std::alloc::{AllocError, Global};
 
-/// Why a value of a vector file isn't a case: the first of these that fits.
+/// Why a value of a vector file isn't a case: the first of these that applies.
 #[derive(Debug, Drop, PartialEq, Eq)]
 pub enum CaseFault {
     /// It isn't an object.
     NoObject,
-    /// It has this key, which no case has: the first of these in the order of their bytes.
+    /// It has this key, which no case has. It is the first such key, in the order of their bytes.
     UnknownKey(String),
-    /// `input` is absent, or no string.
+    /// `input` is absent, or isn't a string.
     Input,
     /// `base` is neither a string nor null.
     Base,
-    /// `profile` is the name of no profile.
+    /// `profile` isn't the name of a profile.
     Profile,
-    /// It has neither `text` alone nor `place` and `rule`.
+    /// It has neither only `text` nor `place` and `rule`.
     Expectation,
     /// `text` isn't a string.
     Text,
-    /// `place` isn't a number below 2^64 in digits alone.
+    /// `place` isn't a number below 2^64, written only in digits.
     Place,
-    /// `rule` is the name of no rule.
+    /// `rule` isn't the name of a rule.
     Rule,
 }
 
 impl CaseFault {
-    /// Why a value that isn't a case isn't one. The error is out of memory.
+    /// Why a value that isn't a case isn't one. An error means that memory ran out.
     pub(crate) fn of(alloc: Global, value: &Value) -> Result<CaseFault, AllocError>
         ensures { IfOk result (λ fault. fault_view fault ≡ case_fault (view value.now)) }
     {
@@ -48,7 +48,7 @@ impl CaseFault {
     }
 }
 
-/// Why the value at a place isn't one, if it isn't a case. The error is out of memory.
+/// Why the value at a place isn't a case, if it isn't one. An error means that memory ran out.
 pub(crate) fn fault_at(alloc: Global, values: &[Value], at: usize) -> Result<CaseFault, AllocError>
     requires { at < length values.now }
     ensures { IfOk result (λ fault.
@@ -73,7 +73,7 @@ fn value_fault(value: &Value) -> CaseFault
     }
 }
 
-// Why these values say nothing that is expected.
+// Why these values don't say what is expected.
 fn expected_fault(text: Option<&Value>, place: Option<&Value>, rule: Option<&Value>) -> CaseFault
     ensures { fault_view result
         ≡ expected_fault (value_view text.entry) (value_view place.entry) (value_view rule.entry) }

@@ -5,8 +5,8 @@ ghost use Rattle.uv_vectors.specs.Ends.{vector_end};
 use crate::case_fault::CaseFault;
 use crate::json_fault::JsonFault;
 
-/// How a run over a vector file ends. If more than one end fits, it is the first of `TooLarge`, `NotJson`, `NotArray`
-/// and `Malformed`, and of those nothing is written.
+/// How a run over a vector file ends. If more than one end applies, it is the first of `TooLarge`, `NotJson`,
+/// `NotArray` and `Malformed`, and with these nothing is written.
 #[derive(Clone, Copy, PartialEq, Eq)]
 pub enum VectorEnd {
     /// Every case passes, and the report was written.
@@ -23,7 +23,7 @@ pub enum VectorEnd {
     Malformed(usize),
 }
 
-/// How a run over a vector file ends, with why the bytes aren't JSON text, or why a value isn't a case.
+/// How a run over a vector file ends, also with why the bytes aren't JSON text, or why a value isn't a case.
 #[derive(Debug, Drop, PartialEq, Eq)]
 pub enum CasesEnd {
     /// Every case passes, and the report was written.
@@ -41,7 +41,7 @@ pub enum CasesEnd {
 }
 
 impl CasesEnd {
-    /// The end alone.
+    /// The end without its reason.
     pub fn without_reason(&self) -> VectorEnd
         ensures { result ≡ vector_end self.now }
     {

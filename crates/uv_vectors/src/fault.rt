@@ -1,17 +1,17 @@
-//! Why the report on a vector file is not whole.
+//! Why the report on a vector file isn't whole.
 ghost use Rattle.std.specs.Prelude.{◌≡◌};
 ghost use Rattle.uv_vectors.specs.declared.fault.VectorFault.TheVariants as vector;
 
 use std::alloc::AllocError;
 use thiserror::Error;
 
-/// Why the report on a vector file is not whole.
+/// Why the report on a vector file isn't whole.
 #[derive(Clone, Copy, Debug, PartialEq, Eq, Error)]
 pub enum VectorFault {
     /// An allocation failed. Nothing of the report was written.
     #[error("memory")]
     Memory,
-    /// A write failed. A beginning of the report was written.
+    /// A write failed. The beginning of the report was written.
     #[error("write")]
     Write,
 }

@@ -27,14 +27,14 @@ struct BytePlace {
 pub enum JsonFault {
     /// What is here isn't UTF-8.
     NotUtf8(FilePlace),
-    /// They end here, and their JSON doesn't.
+    /// They end here, within their JSON.
     CutShort(FilePlace),
     /// What is here can't be read as JSON.
     Unreadable(FilePlace),
 }
 
 impl JsonFault {
-    /// Why bytes aren't JSON text, by the error that their reader gave.
+    /// Why bytes aren't JSON text, according to their reader's error.
     pub(crate) fn of(bytes: &[u8], error: &Error) -> JsonFault
         requires { length bytes.now ≤ most_bytes }
         ensures { IsFaultOf bytes.now result }
@@ -46,7 +46,7 @@ impl JsonFault {
     }
 }
 
-// Why bytes that are UTF-8 aren't JSON text, by the error that their reader gave.
+// Why bytes that are UTF-8 aren't JSON text, according to their reader's error.
 fn text_fault(bytes: &[u8], error: &Error) -> JsonFault
     requires utf8 { IsUtf8 bytes.now }
     requires few { length bytes.now ≤ most_bytes }
@@ -64,8 +64,8 @@ fn text_fault(bytes: &[u8], error: &Error) -> JsonFault
     }
 }
 
-// How many bytes are before the one at a place; all of them, if none of them is there. What a reader names by its line
-// and its column is pinned by no contract.
+// How many bytes come before the one at a place; all of them if none of them is there. No contract of the reader says
+// what it means by a line and a column.
 fn offset_of(bytes: &[u8], place: BytePlace) -> usize
     requires { length bytes.now ≤ most_bytes }
     ensures { IsOffsetOf bytes.now place result }
@@ -80,6 +80,7 @@ fn offset_of(bytes: &[u8], place: BytePlace) -> usize
     bytes.len()
 }
 
+// Whether two places are the same.
 fn is_same(here: BytePlace, place: BytePlace) -> bool
     ensures { Decides result (here ≡ place) }
 {
@@ -108,7 +109,7 @@ fn next_byte_place(place: BytePlace, byte: u8) -> BytePlace
     }
 }
 
-// The place after these bytes.
+// The place after all of these bytes.
 fn place_after(bytes: &[u8]) -> FilePlace
     requires { length bytes.now ≤ most_bytes }
     ensures { result ≡ place_after bytes.now }

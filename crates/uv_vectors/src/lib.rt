@@ -1,4 +1,4 @@
-//! Files of vectors: cases in JSON, each with what is to come of it, and the run over them.
+//! Files of vectors: cases in JSON, each with what it should give, and the run over them.
 #![tactic(auto)]
 
 mod case;

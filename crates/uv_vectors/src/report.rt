@@ -9,7 +9,7 @@ use crate::ends::CasesEnd;
 use serde_json::Value;
 use std::alloc::{AllocError, Global};
 
-/// The report on values, and how a run ends that writes it. The error is out of memory.
+/// The report on values, and how the run that writes it ends. An error means that memory ran out.
 pub(crate) fn report_on(alloc: Global, values: &[Value]) -> Result<(CasesEnd, String), AllocError>
     ensures { IfOk result (λ r. IsReportOn (list_of (items_view values.now)) r.0 (string_bytes r.1)) }
 {
@@ -19,7 +19,7 @@ pub(crate) fn report_on(alloc: Global, values: &[Value]) -> Result<(CasesEnd, St
     Ok((end_after(failed), text))
 }
 
-// How a run ends after so many cases failed.
+// How a run ends after this many cases failed.
 fn end_after(failed: usize) -> CasesEnd
     ensures { result ≡ end_by failed }
 {
@@ -44,7 +44,7 @@ fn failures(alloc: Global, values: &[Value]) -> Result<(usize, String), AllocErr
     Ok((failed, text))
 }
 
-// Appends the line of a case, where it has one.
+// Appends the line of a case, if it has one.
 fn push_case(
     alloc: Global,
     text: &mut String,
@@ -59,7 +59,7 @@ fn push_case(
     text.push_str(fail_text(alloc, number)?.as_str())
 }
 
-// What a case adds to the count of those that fail.
+// What a case adds to the count of failed ones.
 fn fails(passed: bool) -> usize
     ensures count { result ≡ fails passed }
     ensures most { result ≤ 1 }
@@ -67,6 +67,7 @@ fn fails(passed: bool) -> usize
     if passed { 0 } else { 1 }
 }
 
+// The line of a case that fails.
 #[tactic(auto, unfolding(crate::specs::Report::fail_line))]
 fn fail_text(alloc: Global, number: usize) -> Result<String, AllocError>
     ensures { IfOk result (λ text. string_bytes text ≡ fail_line number) }
@@ -74,6 +75,7 @@ fn fail_text(alloc: Global, number: usize) -> Result<String, AllocError>
     format!(in alloc; "fail {number}\n")
 }
 
+// The last line of the report: how many cases there are, pass and fail.
 #[tactic(auto, unfolding(crate::specs::Report::vector_counts))]
 fn counts_line(alloc: Global, cases: usize, pass: usize, fail: usize) -> Result<String, AllocError>
     ensures { IfOk result (λ text. string_bytes text ≡ vector_counts cases pass fail) }

@@ -18,7 +18,7 @@ use uv_io::{DeviceFault, Sink, write_whole};
 /// The most bytes that a vector file may have.
 pub const MOST_BYTES: usize = 16_777_216;
 
-// How a run over a vector file ends, and the report, where cases are checked.
+// How a run over a vector file ends, and the report, if cases are checked.
 #[derive(Drop)]
 enum Ending {
     Unchecked(CasesEnd),
@@ -27,9 +27,9 @@ enum Ending {
 
 /// Runs the cases of a vector file, each under the profile that it names or the standard one, and writes the report:
 /// `fail N` for each case that fails, in order and numbered from 1, and `vectors L pass P fail F`. The answer also says
-/// why the bytes aren't JSON text, or a value isn't a case.
+/// why the bytes aren't JSON text, or why a value isn't a case.
 ///
-/// A case passes where its base, if it has one, is valid alone, and where its input against it has the record's text,
+/// A case passes if its base, if it has one, is valid by itself, and if its input against that has the record's text,
 /// or the refusal, that the case expects. No case is checked before all of them have been read. A fault of memory
 /// leaves the output as it was; a fault of a write leaves a beginning of the report.
 pub fn run_cases<S: Sink>(alloc: Global, bytes: &[u8], out: &mut S) -> Result<CasesEnd, VectorFault>
@@ -92,6 +92,7 @@ fn first_malformed(values: &[Value]) -> Option<usize>
     malformed_at(values)
 }
 
+// The place of the first value that isn't a case, in the words of the values themselves.
 fn malformed_at(values: &[Value]) -> Option<usize>
     ensures place { result ≡ position (λ value. is_malformed (view value)) values.now }
     ensures within { IfSome result (λ at. at < length values.now) }

@@ -1,4 +1,4 @@
--- What the extension answers in DuckDB's shell.
+-- What the extension answers in DuckDB's shell: tests/runs/registers/duckdb.sh compares it with shell.out.
 .mode list
 .headers off
 .nullvalue NULL

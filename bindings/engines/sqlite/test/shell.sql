@@ -1,4 +1,4 @@
--- What the extension answers in SQLite's shell.
+-- What the extension answers in SQLite's shell: tests/runs/registers/sqlite.sh compares it with shell.out.
 .mode list
 .nullvalue NULL
 SELECT url_is_valid('http://h/'), url_is_valid('http://h/a b'), url_is_valid(NULL), url_is_valid('../x', 'http://h/'), url_is_valid('http://a_b.de/', NULL, 'wide');

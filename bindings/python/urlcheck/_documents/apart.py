@@ -14,7 +14,7 @@ from .started import hand_on, started
 
 
 class Fault(NamedTuple):
-    """Why a document wasn't read to its end, or what is said of a comment in it."""
+    """Why a document wasn't read to its end, or what is wrong with a comment in it."""
 
     reason: str
     line: Optional[int] = None
@@ -46,23 +46,24 @@ class Taken(NamedTuple):
     refused: int
     ignored: int
     lines: bytes
-    """What is said of its links, but for the first of those of which something is."""
+    """What the report says about its links, but for the first link that it says something about."""
     fault: Optional[Fault] = None
     """Why it wasn't read to its end, if it wasn't."""
     notes: Tuple[str, ...] = ()
     """What its reader passed over."""
     counted: Tuple[Counted, ...] = ()
-    """Its faults, where they are counted."""
+    """Its faults, if they are counted."""
     known: Tuple[str, ...] = ()
     """The fingerprints of its faults that are known, and not reported."""
     fixed: Optional[Fixed] = None
-    """The document with other texts in place of links, which the others are of then; in the first part alone."""
+    """The document with other texts in place of links, to which the other fields then refer; only in the first part."""
     warnings: Tuple[Fault, ...] = ()
-    """What is said of its comments."""
+    """What is said about its comments."""
     unsafe: int = 0
-    """How many links more would be fixed if unsafe fixes were written too; in the first part alone."""
+    """How many more links would be fixed if unsafe fixes were written too; only in the first part."""
     first: Tuple[bytes, bytes] = (b"", b"")
-    """What is said of the first, after others and where there are none; both empty when nothing is said of links."""
+    """What the report says about the first such link, if others come before it and if none does; both empty if it says
+    nothing about links."""
 
 
 class Part:
@@ -90,8 +91,8 @@ class Part:
         return not self._first[0]
 
     def add_refused(self, after: str, first: str) -> None:
-        """Adds a link that is refused, of which this is said after others, and where there are none. The latter counts
-        for the first one."""
+        """Adds a refused link, with what the report says about it if others come before it, and if none does. The
+        latter counts for the first one."""
         self._links += 1
         self._refused += 1
         if not self.says_nothing():
@@ -146,10 +147,10 @@ def nothing(reason: str) -> Taken:
 
 
 class Apart:
-    """Documents that are taken one after another in a process of their own, which begins at once. Where memory is short
-    Python may do anything, also go on without an end: so the process is ended from without, and only the parts that it
-    gave whole are taken. Another process goes on where one ends; with the same document, unless that was its first or
-    took too long: so what is said of a document is never owed to those before it."""
+    """Documents that are taken one after another in a process of their own, which begins at once. When memory runs
+    short, Python may do anything, even go on without an end: so the process is ended from outside, and only the parts
+    that it gave whole are taken. When a process ends, another one goes on: with the same document, unless that was its
+    first or took too long. So what is said about a document never depends on those before it."""
 
     def __init__(self, documents: Sequence[Parts], is_input: bool = False) -> None:
         self._documents = documents
@@ -202,7 +203,7 @@ class Apart:
 
 
 def _ended(status: int, is_begun: bool) -> Taken:
-    """What is said of a document whose process ended before its end."""
+    """What is said about a document whose process ended before its end."""
     reason = limits.ended_by(status)
     if is_begun:
         return nothing(reason + ", and isn't reported to its end")
@@ -224,12 +225,12 @@ class _Child:
         """What it gives."""
 
     def end(self) -> int:
-        """How it ended, of which nothing more is taken."""
+        """How it ended. Nothing more is taken from it."""
         self.pipe.close()
         return self.status()
 
     def status(self) -> int:
-        """How it ended, once it has: by a number below 0 where a signal ended it."""
+        """How it ended, once it has: as a number below 0 if a signal ended it."""
         raise NotImplementedError
 
 
@@ -253,13 +254,14 @@ if sys.platform != "win32":
             super().__init__(os.fdopen(reader, "rb"))
 
         def status(self) -> int:
+            """How it ended: below 0 by a signal, as ``subprocess`` says it."""
             status = os.waitpid(self._number, 0)[1]
             return -os.WTERMSIG(status) if os.WIFSIGNALED(status) else os.WEXITSTATUS(status)
 
 
 class _Started(_Child):
-    """One that begins again, where the system copies none. It is told what it takes, and handed standard input if that
-    is the document."""
+    """A process that begins again, on a system that can't copy one. It is told what to take, and gets standard input if
+    that is the document."""
 
     def __init__(self, documents: Sequence[Parts], is_input: bool) -> None:
         self._process: "subprocess.Popen[bytes]" = started(__name__)
@@ -278,6 +280,7 @@ class _Started(_Child):
             pass
 
     def status(self) -> int:
+        """How it ended."""
         return self._process.wait()
 
 
@@ -293,7 +296,7 @@ def serve() -> None:
 
 
 def _whole(pipe: BinaryIO) -> Iterator[Optional[Taken]]:
-    """The parts that were written whole, and ``None`` where a document ends."""
+    """The parts that were written whole, and ``None`` at the end of each document."""
     while True:
         try:
             part: Optional[Taken] = pickle.load(pipe)
@@ -303,8 +306,8 @@ def _whole(pipe: BinaryIO) -> Iterator[Optional[Taken]]:
 
 
 def _give(documents: Sequence[Parts], writer: int) -> None:
-    """Writes the parts of documents to this file, and ends the process: with 0 where all of each were written whole.
-    Where they have taken much memory the others are left to another process."""
+    """Writes the parts of documents to this file, and ends the process: with 0 if all of them were written whole. Once
+    they have taken much memory, the others are left to another process."""
     ended = 1
     try:
         write_nowhere(2)
@@ -326,14 +329,14 @@ def _give(documents: Sequence[Parts], writer: int) -> None:
 
 
 def _put(part: Optional[Taken], pipe: BinaryIO) -> None:
-    """Writes a part, or that a document ends. (What isn't written out is lost where the next document ends the
+    """Writes a part, or that a document ends. (What isn't written out is lost if the next document ends the
     process.)"""
     pickle.dump(part, pipe)
     pipe.flush()
 
 
 def _sure(parts: Parts) -> Iterator[Taken]:
-    """The parts of a document, and what is said where its reader failed."""
+    """The parts of a document, and if its reader fails that it did, so that the others are still checked."""
     try:
         yield from parts()
     except (MemoryError, SystemError):

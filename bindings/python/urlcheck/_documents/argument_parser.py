@@ -1,4 +1,4 @@
-"""What is said of words that are wrong: of a name that there isn't, of an option, and of its value."""
+"""What is said about words that are wrong: a name that doesn't exist, an option, or its value."""
 
 import argparse
 import difflib
@@ -21,13 +21,13 @@ class Parser(argparse.ArgumentParser):
         raise SystemExit(2)
 
     def _said_of(self, option: str) -> str:
-        """What is wrong with the value of an option: it is missing, or there is one where none is taken."""
+        """What is wrong with the value of an option: it is missing, or there is one that the option doesn't take."""
         action = next((it for it in self._actions if option in it.option_strings), None)
         takes_none = action is not None and action.nargs == 0
         return option + (" doesn't accept a value" if takes_none else " needs a value")
 
     def no_option(self, word: str) -> NoReturn:
-        """Says that there is no such option, and which one is near to it."""
+        """Says that there is no such option, and which one is close to it."""
         name = named(word.partition("=")[0])
         options = [it for action in self._actions for it in action.option_strings if it.startswith("--")]
         self.error("there is no option {}{}".format(name, _OF_OTHERS.get(name) or _nearest(name, options)))
@@ -40,11 +40,11 @@ _OF_OTHERS = {
     "-j": "; write --jobs N",
     "--all": "; pipe the links, which --list prints, into urlcheck lint --located --all -",
 }
-"""What is said of options of ``urlcheck lint`` and of other checkers for which there is something else."""
+"""What is said about options of ``urlcheck lint`` and of other checkers that are called something else here."""
 
 
 def chosen(name: str, names: List[str], noun: str) -> str:
-    """The name, where it is one of these. Raises ``SystemExit`` where it isn't one, and says which there are."""
+    """The name, if it is one of these. Otherwise raises ``SystemExit``, and says which there are."""
     if name not in names:
         tell("no {} is named '{}'{}".format(noun, named(name), _nearest(name, names)))
         raise SystemExit(stop("the {}s: {}".format(noun, " ".join(names))))
@@ -52,7 +52,8 @@ def chosen(name: str, names: List[str], noun: str) -> str:
 
 
 def _nearest(name: str, names: Iterable[str]) -> str:
-    """What is said of the name that is nearest to another one, or the only one that begins so, where there is one."""
+    """What is said about the name that is nearest to another one, or the only one that begins like it, if there is
+    one."""
     # (the hyphens that each option begins with make none of them near)
     by_letters = {it.lstrip("-"): it for it in names}
     letters = name.lstrip("-").lower()

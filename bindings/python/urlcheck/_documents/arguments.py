@@ -117,8 +117,7 @@ Examples:
 
 
 def asked(words: List[str]) -> Asked:
-    """What these words ask for. Raises ``SystemExit`` where they are wrong, and where help or the version was asked
-    for."""
+    """What these words ask for. Raises ``SystemExit`` if they are wrong, and if they asked for help or the version."""
     parser = _parser()
     given = _given(parser, words)
     format = "gnu" if given.format is None else chosen(given.format, list(FORMATS), "format")
@@ -171,8 +170,8 @@ _OF_CHECKS = (
 
 
 def _is_checked(parser: Parser, given: argparse.Namespace) -> bool:
-    """Whether links are checked, as they are where they aren't listed. (``--check`` says the same, as earlier versions
-    wanted it.)"""
+    """Whether links are checked, as they are unless they are listed. (``--check`` says so too, since earlier versions
+    needed it.)"""
     for name in _OF_CHECKS if given.list else ():
         if getattr(given, name):
             parser.error("--list checks nothing, so that --{} has no use".format(name.replace("_", "-")))
@@ -205,8 +204,7 @@ def _known(name: str) -> FrozenSet[str]:
 
 
 def with_format(settings: Settings, name: Optional[str], is_checked: bool) -> Settings:
-    """The settings with the format that a project's configuration names, where none is given. Raises
-    ``Misconfigured``."""
+    """The settings with the format that a project's configuration names, if none is given. Raises ``Misconfigured``."""
     if name is None or not settings.is_format_left or not is_checked:
         return settings
     if name not in FORMATS:
@@ -245,7 +243,7 @@ def _given(parser: Parser, words: List[str]) -> argparse.Namespace:
 
 
 def _unit(name: Optional[str], format: str) -> str:
-    """What columns count, by its name and that of the format. Raises ``SystemExit`` where the format has no word for
+    """What columns count, by its name and that of the format. Raises ``SystemExit`` if the format has no word for
     it."""
     unit = own_unit(format) if name is None else chosen(name, list(UNITS), "column unit")
     if not takes_unit(format, unit):
@@ -256,6 +254,7 @@ def _unit(name: Optional[str], format: str) -> str:
 
 
 def _parser() -> Parser:
+    """The parser of the command line. Its help lists the options by groups, in this order."""
     parser = Parser(
         prog="urlcheck-documents",
         usage="urlcheck-documents [OPTIONS] FILE..",
@@ -343,8 +342,8 @@ def _add_others(add: Add) -> None:
 
 
 class _Printed(argparse.Action):
-    """An option that prints a text, or the help, and ends the program. (Argparse's own hold their peace where that
-    can't be written.)"""
+    """An option that prints a text, or the help, and ends the program. (Argparse's own says nothing if that can't be
+    written.)"""
 
     def __init__(self, option_strings: List[str], dest: str, const: Optional[str] = None, help: str = "") -> None:
         super().__init__(option_strings, argparse.SUPPRESS, 0, const, argparse.SUPPRESS, help=help)
@@ -369,7 +368,7 @@ def _patterns(name: str) -> Tuple["re.Pattern[str]", ...]:
 
 
 def _lines(name: str, shown: str) -> List[str]:
-    """The lines of a file, which is shown as that. Raises ``SystemExit`` where it can't be read."""
+    """The lines of a file, which messages call by this name. Raises ``SystemExit`` if it can't be read."""
     try:
         with open(name, "rb") as file:
             return re.split("\r\n|\r|\n", decoded(file.read()).text)

@@ -22,7 +22,7 @@ _TABLE = re.compile(
 """What a project's file has that has a configuration."""
 
 READER = "the package tomli: pip install tomli, or Debian's python3-tomli"
-"""What reads it, where Python is older than 3.11."""
+"""The module that reads it, for a Python older than 3.11."""
 
 
 class Misconfigured(Exception):
@@ -42,7 +42,7 @@ class Configuration(NamedTuple):
     is_empty_taken: bool = False
     selected: Selected = Selected()
     kinds: Dict[str, str] = {}
-    """The kinds of documents by their names' ends, where these say another one or none."""
+    """The kinds of documents by the endings of their names, for endings that say another kind or none."""
 
     def kind_of(self, name: str) -> Optional[str]:
         """The kind that it says of a document of that name."""
@@ -99,10 +99,12 @@ def _inner(file: str, read: Dict[str, Any]) -> Optional[Dict[str, Any]]:
     return found
 
 
+# The keys of the table. A key that isn't here is refused, since a misspelt one would silently do nothing.
 _KEYS = ("profile", "base", "ignore", "exclude", "format", "gfm", "no-empty", "select", "ignore-rules", "kinds")
 
 
 def _read(file: str, table: Dict[str, Any]) -> Configuration:
+    """The configuration that a table has. Raises ``Misconfigured`` for a key or a value that is none."""
     for key in table:
         if key not in _KEYS:
             near = difflib.get_close_matches(key, _KEYS, 1)
@@ -128,6 +130,7 @@ def _read(file: str, table: Dict[str, Any]) -> Configuration:
 
 
 def _base(file: str, table: Dict[str, Any], profile: Optional[Profile]) -> Optional[str]:
+    """The base, which is checked here, so that a wrong one is named with its file."""
     base = _text(file, table, "base")
     try:
         if base is not None:
@@ -138,6 +141,7 @@ def _base(file: str, table: Dict[str, Any], profile: Optional[Profile]) -> Optio
 
 
 def _selected(file: str, table: Dict[str, Any]) -> Selected:
+    """The rules that are reported."""
     try:
         only = _texts(file, table, "select") if "select" in table else None
         return selected(only, _texts(file, table, "ignore-rules"))
@@ -146,6 +150,7 @@ def _selected(file: str, table: Dict[str, Any]) -> Selected:
 
 
 def _kinds(file: str, table: Dict[str, Any]) -> Dict[str, str]:
+    """The kinds of documents by the ends of their names."""
     kinds = table.get("kinds", {})
     if not isinstance(kinds, dict):
         raise Misconfigured("{}: kinds is a table of names' ends, each with its kind".format(file))
@@ -156,6 +161,7 @@ def _kinds(file: str, table: Dict[str, Any]) -> Dict[str, str]:
 
 
 def _pattern(file: str, text: str) -> "re.Pattern[str]":
+    """A regular expression."""
     try:
         return re.compile(text)
     except re.error as error:
@@ -163,6 +169,7 @@ def _pattern(file: str, text: str) -> "re.Pattern[str]":
 
 
 def _text(file: str, table: Dict[str, Any], key: str) -> Optional[str]:
+    """A value that is a text, or ``None`` without the key."""
     value = table.get(key)
     if value is not None and not isinstance(value, str):
         raise Misconfigured("{}: {} is a text".format(file, key))
@@ -170,6 +177,7 @@ def _text(file: str, table: Dict[str, Any], key: str) -> Optional[str]:
 
 
 def _texts(file: str, table: Dict[str, Any], key: str) -> List[str]:
+    """A value that is a list of texts, which is empty without the key."""
     value = table.get(key, [])
     if not isinstance(value, list) or not all(isinstance(it, str) for it in value):
         raise Misconfigured("{}: {} is a list of texts".format(file, key))
@@ -177,6 +185,7 @@ def _texts(file: str, table: Dict[str, Any], key: str) -> List[str]:
 
 
 def _flag(file: str, table: Dict[str, Any], key: str) -> bool:
+    """A value that is true or false, and false without the key."""
     value = table.get(key, False)
     if not isinstance(value, bool):
         raise Misconfigured("{}: {} is true or false".format(file, key))

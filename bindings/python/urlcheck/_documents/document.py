@@ -38,7 +38,7 @@ _PLACE = re.compile(":[0-9]+:[0-9]+:")
 """What ends the name of the file in a located line."""
 
 ENOUGH = 2 * 1024 * 1024
-"""How much work a process is given: about so much as so many bytes of HTML take."""
+"""How much work a process is given, measured in bytes of HTML."""
 
 _LEAST = 32 * 1024
 """How much work the smallest document is."""
@@ -49,7 +49,7 @@ _SLOWER = 8
 
 def located(name: str, places: Places, link: Link) -> str:
     """The line that says where a link is. A line feed or a carriage return within it is written as a tab, which is
-    refused alike."""
+    refused just the same."""
     line, column = places.position(link.offset)
     return "{}:{}:{}:{}".format(name, line, column, re.sub("[\r\n]", "\t", link.text))
 
@@ -69,7 +69,7 @@ def read_document(name: str) -> bytes:
 
 
 def _meant(name: str, error: OSError) -> str:
-    """What is said of a name that can't be read, where it was perhaps meant otherwise: a URL, or a command as those of
+    """What is said about a name that can't be read, if it was perhaps meant otherwise: as a URL, or as a command of
     ``urlcheck``."""
     if _URL.match(name):
         return ", and no URL is fetched"
@@ -117,6 +117,8 @@ class Document:
         return Document(self._settings._replace(fixing=None), self._is_checked, self.path, self.folder)
 
     def _checker_of(self, config: Configuration) -> Checker:
+        """The checker by the settings of the run, and where they say nothing by those of the document's
+        configuration."""
         settings = self._settings
         base = settings.base or config.base
         profile = config.profile if settings.is_profile_left and config.profile is not None else settings.profile
@@ -125,8 +127,7 @@ class Document:
         return Checker(*settings_of, selected=self._selected, wording="options")
 
     def work(self) -> int:
-        """About how much work it is: enough for a process of its own where it isn't a file, and so can't be read
-        twice."""
+        """About how much work it is: enough for a process of its own if it isn't a file, and so can't be read twice."""
         try:
             found = os.stat(self.path)
         except OSError:
@@ -150,6 +151,7 @@ class Document:
             yield nothing("is nested too deeply")
 
     def _parts_of(self, found: Found, part: Part) -> Iterator[Taken]:
+        """What is found in a source, in parts that are small enough to be handed to another process."""
         places = Places(found.source, self._settings.unit)
         name = self.name + ("/" + found.inner if found.inner else "")
         ignoring = Ignoring(found.comments)
@@ -164,7 +166,7 @@ class Document:
         yield part.taken(_stopped(places, found), found.notes, self._warnings(found, places, ignoring))
 
     def _warnings(self, found: Found, places: Places, ignoring: Ignoring) -> Tuple[Fault, ...]:
-        """What is said of comments, where links are checked."""
+        """What is said about comments, if links are checked."""
         is_all = self._selected.are_all() and found.broken is None
         remarks = ignoring.remarks(is_all) if self._checker is not None else ()
         return tuple(_placed(places, it.offset, "warning: " + it.message, found.inner) for it in remarks)
@@ -200,8 +202,8 @@ class Document:
             part.add_counted(Counted(reported.rule, reported.text, known))
 
     def _found(self) -> Iterator[Tuple[Found, Part]]:
-        """What is found in the document, or in each one that it holds, and the part which that begins; after its links
-        are fixed, where that is asked for, but as they are where it is only shown."""
+        """What is found in the document, or in each one that it holds, and the part that each begins. If fixes are
+        asked for, that is after its links are fixed; if they are only shown, as the links are."""
         data = self._read()
         assert self.kind is not None
         kind, fixing = self.kind, self._settings.fixing

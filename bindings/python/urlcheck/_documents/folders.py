@@ -13,7 +13,7 @@ from .._readers.kinds import ENDS, PACKAGES, end_of, kind_of
 from .._streams import reason_of
 
 _COUNTED = frozenset(("css",))
-"""The kinds of which a folder's documents are counted, and not reported, where their package isn't installed."""
+"""Kinds whose documents in a folder are only counted, not reported, if their package isn't installed."""
 
 _MOST_NAMED = 8
 """How many ends of names the last line tells apart."""
@@ -24,7 +24,7 @@ class Excluded(NamedTuple):
 
     pattern: "re.Pattern[str]"
     is_of_folders: bool
-    """Whether the pattern ended with ``/``, so that it is one of folders alone."""
+    """Whether the pattern ended with ``/``, so that it matches only folders."""
 
     @classmethod
     def by(cls, pattern: str) -> "Excluded":
@@ -113,7 +113,7 @@ def documents_of(
 
 
 def _walked(name: str, excluded: Tuple[Excluded, ...], passed: Passed, closed: List[str]) -> Iterator[str]:
-    """The files in a folder and those within it, but for hidden folders and those of packages for JavaScript."""
+    """The files in a folder and in those within it, except for hidden folders and those of packages for JavaScript."""
     for folder, folders, files in os.walk(name, onerror=lambda error: closed.append(error.filename)):
         below = with_slashes(folder[len(name) :]).lstrip("/")
         kept = [it for it in sorted(folders) if not _is_excluded(excluded, below, it, True)]
@@ -157,6 +157,7 @@ def _git() -> str:
 
 
 def _is_excluded(excluded: Tuple[Excluded, ...], below: str, name: str, is_folder: bool) -> bool:
+    """Whether one of the patterns has the name of a file or a folder, or its path below the folder that was named."""
     return any(it.has(below, name, is_folder) for it in excluded)
 
 
@@ -171,8 +172,8 @@ def no_document(folder: str, is_all: bool) -> str:
 
 
 def configured_folder(name: Optional[str]) -> str:
-    """The folder from which on a document's configuration is sought: that of a file, a folder itself, or the current
-    one."""
+    """The folder from which the search for a document's configuration starts: that of a file, a folder itself, or the
+    current one."""
     if name is None or name == "-":
         return os.getcwd()
     path = os.path.abspath(name)

@@ -15,19 +15,19 @@ MOST_MEMORY = 480 * 1024 * 1024
 """How many bytes of memory the program may have."""
 
 LATE = 124
-"""The status of a process for which a document's bytes didn't come, where the system has no signal for that."""
+"""The status of a process whose document's bytes didn't come, on a system that has no signal for that."""
 
 _OUT_OF_QUOTA = 1816
 """The status by which Windows ends a process that takes more than its job permits: ``ERROR_NOT_ENOUGH_QUOTA``."""
 
 _JOB_LIMITS = struct.Struct("<qqI4xQQI4xQII48xQQQQ")
-"""Windows's ``JOBOBJECT_EXTENDED_LIMIT_INFORMATION``, of which three words are set."""
+"""Windows's ``JOBOBJECT_EXTENDED_LIMIT_INFORMATION``, of which only three words are set."""
 
 _OF_TIME, _OF_MEMORY = 0x2, 0x100
 """Which of them count."""
 
 _waiting: List[threading.Timer] = []
-"""What ends the process when it has waited too long, where the system has no signal for that."""
+"""What ends the process when it has waited too long, on a system that has no signal for that."""
 
 
 def limit_memory() -> None:
@@ -63,8 +63,8 @@ def limit_waiting() -> None:
 
 
 def has_come() -> None:
-    """Says that the document's bytes have come: from here on processor time counts alone, so that neither other
-    programs nor a slow reader of the report end it."""
+    """Says that the document's bytes have come: from here on only processor time counts, so that neither other programs
+    nor a slow reader of the report end the process."""
     if sys.platform != "win32" and hasattr(signal, "setitimer"):
         signal.setitimer(signal.ITIMER_REAL, 0)
     while _waiting:
@@ -72,7 +72,7 @@ def has_come() -> None:
 
 
 def memory_taken() -> int:
-    """How many bytes of memory the process has had at most, or 0 where the system doesn't say that."""
+    """How many bytes of memory the process has had at most, or 0 if the system doesn't say."""
     if sys.platform == "win32":
         return 0
     import resource
@@ -114,8 +114,8 @@ def ended_by(status: int) -> str:
 
 
 def job_limits(seconds: float) -> bytes:
-    """What Windows is told of a job: how much memory each of its processes may have, and how much processor time,
-    unless that is 0. It counts in 100 nanoseconds."""
+    """What Windows is told about a job: how much memory each of its processes may have, and how much processor time,
+    unless that is 0. It counts in units of 100 nanoseconds."""
     flags = _OF_MEMORY | (_OF_TIME if seconds else 0)
     return _JOB_LIMITS.pack(int(seconds * 10_000_000), 0, flags, 0, 0, 0, 0, 0, 0, MOST_MEMORY, 0, 0, 0)
 

@@ -22,8 +22,8 @@ _ERASE = "\r\x1b[2K"
 
 
 class Progress:
-    """A line on standard error, where that is a terminal: how many documents were read of all, and how many of their
-    links are refused. Where the system has no signal for time it is written as documents end."""
+    """A line on standard error, if that is a terminal: how many documents were read of all, and how many of their links
+    are refused. If the system has no signal for time, it is written whenever a document ends."""
 
     def __init__(self, total: int, is_quiet: bool) -> None:
         is_terminal = sys.stderr is not None and sys.stderr.isatty() and os.environ.get("TERM") != "dumb"
@@ -51,23 +51,25 @@ class Progress:
             _show(_ERASE)
 
     def end(self) -> None:
-        """Ends it."""
+        """Takes the line away for good, and the signal that writes it."""
         if self._is_shown:
             self._on_time_from(0)
         self._is_shown = False
         self.hide()
 
     def _on_time_from(self, first: float) -> None:
-        """Has the line written after so many seconds, and from then on again and again; never, if 0."""
+        """Has the line written after this many seconds, and from then on again and again; never, if 0."""
         if sys.platform != "win32" and hasattr(signal, "setitimer"):
             signal.signal(signal.SIGALRM, self._on_time)
             signal.siginterrupt(signal.SIGALRM, False)
             signal.setitimer(signal.ITIMER_REAL, first, _EACH)
 
     def _on_time(self, _number: int, _frame: Any) -> None:
+        """What the signal calls."""
         self._write()
 
     def _write(self) -> None:
+        """Writes the line, unless it was written just before, as a signal may come right after a document's end."""
         now = time.monotonic()
         if not self._is_shown or now < self._next:
             return

@@ -43,7 +43,8 @@ class Counts:
         self.unread += taken.fault is not None
 
     def status(self) -> int:
-        """2 where a document wasn't read, else 1 where a link is refused or would be written otherwise, else 0."""
+        """2 if a document wasn't read, otherwise 1 if a link is refused or would be written differently, otherwise
+        0."""
         return 2 if self.unread else 1 if self.refused or self.shown else 0
 
 
@@ -65,13 +66,13 @@ class Run:
         self.counts = Counts()
         self.statistics = Statistics()
         self.faults: List[Known] = []
-        """The faults, where they are counted."""
+        """The faults, if they are counted."""
         self.met: Set[str] = set()
         """The fingerprints of the known faults that are there."""
 
     def take(self, name: str, folder: Optional[str] = None) -> None:
-        """Takes a document, which was found in that folder if it wasn't named itself. It is read with others in a
-        process, and those before it are reported for which there is no room. Raises ``Misconfigured``."""
+        """Takes a document, which was found in that folder unless it was named itself. It is read with others in one
+        process, and those before it are reported once too many wait. Raises ``Misconfigured``."""
         document = Document(self._settings, self._is_checked, name, folder)
         work = document.work()
         if self._work + work >= ENOUGH:
@@ -126,12 +127,14 @@ class Run:
             self._report.passed(document.name)
 
     def _tell_fault(self, document: Document, fault: Fault) -> None:
+        """Says in the report and on standard error why a document, or a part of it, wasn't read."""
         name = document.name + ("/" + fault.inner if fault.inner else "")
         self._report.tell(not_read(self._settings.format, name, fault))
         is_input = name == "-" and fault.line is None
         self._screen.tell(("standard input" if is_input else named(name) or "''") + fault.after())
 
     def _count(self, taken: Taken) -> None:
+        """Counts the faults of a part, for the statistics and the baseline."""
         for fault in taken.counted:
             self.statistics.add(fault.rule, fault.text)
             self.faults.append(fault.known)
@@ -155,7 +158,7 @@ class Run:
         return apart(document.unfixed().parts)
 
     def _is_written(self, document: Document, fix: Fixed, fixing: Fixing) -> bool:
-        """Writes a document as it is fixed, or shows what would be written. Says where that can't be."""
+        """Writes a document as it is fixed, or shows what would be written. If that isn't possible, it says so."""
         if fixing.is_shown:
             self._screen.write(fix.difference)
             self.counts.shown += fix.texts

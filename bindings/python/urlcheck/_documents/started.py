@@ -1,4 +1,4 @@
-"""Processes by Python's own program, which find the package where their parent has it."""
+"""Processes run by Python's own program, which find the package in the same place as their parent."""
 
 import os
 import subprocess
@@ -7,12 +7,12 @@ import threading
 from typing import IO, Any
 
 _BEGINS = "import sys; sys.path[:] = sys.argv[2:]; __import__('importlib').import_module(sys.argv[1]).serve()"
-"""What such a process does: it calls ``serve`` of a module."""
+"""What such a process runs: ``serve`` of a module."""
 
 
 def started(module: str) -> "subprocess.Popen[bytes]":
-    """A process that serves by a module of the package. It looks for modules where this one does, and so not in the
-    current folder, which may be a stranger's."""
+    """A process that runs ``serve`` of a module of the package. It looks for modules in the same places as this one,
+    and so not in the current folder, which may be a stranger's."""
     words = [sys.executable, "-I", *["-B"] * sys.dont_write_bytecode, "-c", _BEGINS, module]
     words += [os.path.abspath(it) for it in sys.path]
     return subprocess.Popen(words, stdin=subprocess.PIPE, stdout=subprocess.PIPE, stderr=subprocess.DEVNULL)
@@ -25,6 +25,7 @@ def hand_on(to: IO[bytes]) -> None:
 
 
 def _hand_on(given: Any, to: IO[bytes]) -> None:
+    """Hands on, in a thread of its own, so that what the process answers is read meanwhile."""
     try:
         while True:
             data = given.read(65536)

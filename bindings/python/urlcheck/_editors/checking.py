@@ -1,4 +1,4 @@
-"""A process that checks the texts which an editor holds, by the limits that files have, and what starts it anew where
+"""A process that checks the texts which an editor holds, with the limits that files have, and what starts it again if
 it was ended."""
 
 import gc
@@ -80,11 +80,11 @@ class Mistake(NamedTuple):
     """What may be written in place of the whole link, and is offered."""
     kind: Optional[MendKind] = None
     named: Optional[str] = None
-    """What isn't offered, since something else was likely meant."""
+    """What isn't offered, because something else was likely meant."""
 
 
 class Remark(NamedTuple):
-    """What is said of the text itself."""
+    """Something about the text itself."""
 
     range: Range
     message: str
@@ -132,7 +132,7 @@ def _seen_in(asked: Asked, kept: Kept) -> Seen:
 
 
 def _remarks_on(asked: Asked, found: Found, places: LinePlaces, ignoring: Ignoring) -> Iterator[Remark]:
-    """What is said of a text, once its links were looked at."""
+    """What is said about a text, once its links were looked at."""
     start = ((0, 0), (0, 0))
     yield from (Remark(start, it, NOTE) for it in found.notes)
     for it in ignoring.remarks(asked.selected.are_all() and found.broken is None):
@@ -146,7 +146,7 @@ def _remarks_on(asked: Asked, found: Found, places: LinePlaces, ignoring: Ignori
 def _mistakes_in(
     asked: Asked, found: Found, checker: Checker, places: LinePlaces, ignoring: Ignoring
 ) -> Iterator[Mistake]:
-    """The links that are wrong, but for those that are meant as they are."""
+    """The links that are wrong, except those that are meant as they are."""
     for link in found.links:
         wrong, is_left_out = ignoring.wrong(checker, link)
         if wrong is not None and not is_left_out and not any(it.search(link.text) for it in asked.ignored):
@@ -167,7 +167,7 @@ def _mistake(link: Link, wrong: Wrong, checker: Checker, places: LinePlaces) -> 
 
 
 def _end_of(link: Link) -> int:
-    """Where a link ends in its source; its beginning where that isn't known."""
+    """Where a link ends in its source, or where it begins if the end isn't known."""
     if link.is_verbatim:
         return link.offset + len(link.text)
     return link.place(len(link.text) - 1) + 1 if link.pieces and link.text else link.offset
@@ -180,7 +180,7 @@ class Checking:
         self._process: Optional["subprocess.Popen[bytes]"] = None
 
     def check(self, asked: Asked, is_superseded: Callable[[], bool]) -> Optional[Seen]:
-        """What is wrong with a text, or nothing where it was superseded before that was known."""
+        """What is wrong with a text, or nothing if it was superseded before that was known."""
         process = self._started()
         stdin, stdout = process.stdin, process.stdout
         assert stdin is not None and stdout is not None
@@ -202,6 +202,7 @@ class Checking:
             return self._ended(None) if seen is None else seen
 
     def _started(self) -> "subprocess.Popen[bytes]":
+        """The process, which is started again if it has ended."""
         if self._process is None or self._process.poll() is not None:
             self.end()
             self._process = started(__name__)
@@ -212,7 +213,7 @@ class Checking:
         self._started()
 
     def _ended(self, why: Optional[str]) -> Seen:
-        """What is said of a text whose process was ended."""
+        """What is said about a text whose process was ended."""
         process = self._process
         status = process.wait() if process is not None else 0
         self.end()
@@ -231,13 +232,14 @@ class Checking:
 
 
 def _send(pipe: IO[bytes], value: Any) -> None:
+    """Sends a value: its length in eight bytes, and then itself, so that the reader knows where it ends."""
     data = pickle.dumps(value, pickle.HIGHEST_PROTOCOL)
     pipe.write(len(data).to_bytes(8, "big") + data)
     pipe.flush()
 
 
 def _received(pipe: IO[bytes]) -> Any:
-    """What was sent. Raises ``EOFError`` where nothing more is."""
+    """What was sent. Raises ``EOFError`` if nothing more comes."""
     head = pipe.read(8)
     data = pipe.read(int.from_bytes(head, "big")) if len(head) == 8 else b""
     if len(head) < 8 or len(data) < int.from_bytes(head, "big"):
@@ -246,7 +248,7 @@ def _received(pipe: IO[bytes]) -> Any:
 
 
 def _answer(pipe: IO[bytes], answers: "queue.Queue[Optional[Seen]]") -> None:
-    """Puts what the process answers, or nothing where it has ended."""
+    """Puts what the process answers, or nothing if it has ended."""
     try:
         answers.put(_received(pipe))
     except (EOFError, OSError, ValueError, pickle.UnpicklingError):

@@ -35,7 +35,7 @@ class Text:
 
     def change(self, changes: List[Dict[str, Any]]) -> None:
         """Takes these changes, each of the whole or of a range of what the one before it gave. Raises ``LookupError``,
-        ``TypeError`` or ``ValueError`` where one isn't one."""
+        ``TypeError`` or ``ValueError`` for a change that isn't well formed."""
         for change in changes:
             written = change["text"]
             if not isinstance(written, str):
@@ -72,7 +72,8 @@ class Text:
         self._lines[first : last + 1] = replaced
 
     def _at(self, place: Place) -> Tuple[int, int]:
-        """A place as a line and code points; one after a line's end is its end, one after the text that of the text."""
+        """A place as a line and code points. A place after a line's end is its end, and one after the text is the
+        text's end."""
         line, units = int(place["line"]), int(place["character"])
         if line < 0 or units < 0:
             raise ValueError("a place isn't negative")
@@ -116,8 +117,8 @@ def is_text(value: Any) -> bool:
 
 
 def encoding_for(offered: Any, columns: Optional[str]) -> str:
-    """What units a client counts: the first of those that it offers, UTF-16 where it offers none, or those that its
-    user says that it counts."""
+    """Which units a client counts: the first of those that it offers, UTF-16 if it offers none, or those that its user
+    says it counts."""
     if columns in ("bytes", "utf-8"):
         return "utf-8"
     if columns in ENCODINGS:

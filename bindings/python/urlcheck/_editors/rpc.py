@@ -1,5 +1,5 @@
 """The edges of JSON-RPC over standard input and output, where ``python-lsp-jsonrpc`` trusts its client: what isn't a
-message is answered by the protocol's error, and what can't be told from others ends the reading."""
+message is answered by the protocol's error, and input in which messages can't be told apart ends the reading."""
 
 import json
 from typing import Any, BinaryIO, Callable, Dict, Optional
@@ -77,6 +77,7 @@ class Endpoint(_Endpoint):  # type: ignore[misc]
             self._refuse(_INVALID_REQUEST, "this is no message of JSON-RPC 2.0")
 
     def _refuse(self, code: int, reason: str, number: Any = None) -> None:
+        """Sends an error. A message whose identifier isn't known is answered with none, as the protocol wants."""
         is_number = isinstance(number, (int, str)) and not isinstance(number, bool)
         said: Dict[str, Any] = {"jsonrpc": "2.0", "id": number if is_number else None}
         said["error"] = {"code": code, "message": reason}
@@ -87,6 +88,7 @@ class Endpoint(_Endpoint):  # type: ignore[misc]
         answered = super()._request_callback(request_id)
 
         def called(future: Any) -> None:
+            """Answers when the request has ended."""
             if future.cancelled():
                 self._client_request_futures.pop(request_id, None)
                 error = JsonRpcRequestCancelled().to_dict()

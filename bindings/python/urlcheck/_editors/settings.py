@@ -28,7 +28,7 @@ class Options(NamedTuple):
 
 
 def options_of(given: Any) -> Options:
-    """What these settings say. One that is wrong is as if it weren't there, and is told."""
+    """What these settings say. A wrong one is reported, and otherwise ignored."""
     given = given if isinstance(given, dict) else {}
     wrong = []
     known = {"base", "profile", "ignore", "gfm", "noEmpty", "severity", "columns"}
@@ -68,6 +68,7 @@ def _chosen(given: Dict[str, Any], name: str, values: Dict[str, Any], wrong: "li
 
 
 def _is_base(text: str, profile: Profile) -> bool:
+    """Whether texts can be checked against it."""
     try:
         check("", text, profile)
     except (BaseRefused, UnicodeEncodeError):

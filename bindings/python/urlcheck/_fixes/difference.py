@@ -28,7 +28,7 @@ class _Change(NamedTuple):
 
 
 def difference(name: str, source: Source, edits: Sequence[Edit]) -> str:
-    """What these edits, which are in order, write otherwise in the document of that name; empty when there is none."""
+    """What these edits, which are in order, change in the document of that name; empty if they change nothing."""
     lines = _LINE.findall(source.text)
     groups = _groups(list(_changes(source, lines, edits)))
     added, hunks = 0, ""
@@ -54,6 +54,7 @@ def _changes(source: Source, lines: List[str], edits: Sequence[Edit]) -> Iterato
 
 
 def _change(source: Source, lines: List[str], edits: Sequence[Edit], end: int) -> _Change:
+    """The lines that some edits change, and what they become. The edits count from the first of these lines."""
     first = source.position(edits[0].start)[0] - 1
     start = source.offset(first + 1, 0)
     moved = [Edit(edit.start - start, edit.end - start, edit.text) for edit in edits]
@@ -72,7 +73,7 @@ def _groups(changes: List[_Change]) -> List[List[_Change]]:
 
 
 def _hunk(lines: List[str], changes: List[_Change], added: int) -> str:
-    """A hunk, before which so many lines were added."""
+    """A hunk, before which this many lines were added."""
     first, last = max(changes[0].first - _CONTEXT, 0), min(changes[-1].end + _CONTEXT, len(lines))
     shown, at = "", first
     for change in changes:

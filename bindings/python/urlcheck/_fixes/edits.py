@@ -27,6 +27,7 @@ def edited(text: str, edits: Sequence[Edit]) -> str:
 
 
 def _pieces(text: str, edits: Sequence[Edit]) -> Iterator[str]:
+    """The text between the edits, and their own, in order."""
     at = 0
     for edit in edits:
         yield text[at : edit.start]
@@ -36,6 +37,6 @@ def _pieces(text: str, edits: Sequence[Edit]) -> Iterator[str]:
 
 
 def encoded(text: str, data: bytes) -> bytes:
-    """The bytes of a text, with a byte order mark where these bytes have one."""
+    """The bytes of a text, with a byte order mark if these bytes have one."""
     mark = codecs.BOM_UTF8 if data.startswith(codecs.BOM_UTF8) else b""
     return mark + text.encode("utf-8")

@@ -49,8 +49,8 @@ class Fixed(NamedTuple):
 
 def is_fixable(text: str, mended: Mended, is_unsafe: bool) -> bool:
     """Whether a mended text may be written in a document without asking its author: it is offered, and it is the same
-    URL or the same text percent-encoded, unless ``is_unsafe``. Of a host that is read as numbers it never is, since
-    these may be read otherwise than they look."""
+    URL or the same text percent-encoded, unless ``is_unsafe``. For a host that is read as numbers it never may, since
+    these may be read differently than they look."""
     if mended.kind is MendKind.CHANGED and not is_unsafe:
         return False
     host = _HOST.match(text.translate(_PASSED_OVER))
@@ -58,7 +58,7 @@ def is_fixable(text: str, mended: Mended, is_unsafe: bool) -> bool:
 
 
 def more_texts(edits: Sequence[Edit], others: Sequence[Edit]) -> int:
-    """How many texts more are written with both of these than with the first alone."""
+    """How many more texts are written with both of these than with only the first."""
     return len(in_order([*edits, *others])) - len(in_order(edits))
 
 
@@ -80,7 +80,7 @@ def are_read_alike(before: Sequence[Link], after: Sequence[Link], edits: Sequenc
 
 
 def _shifts(edits: Sequence[Edit]) -> Tuple[List[int], List[int]]:
-    """Where each edit ends, and by how much what is after so many of them has moved."""
+    """Where each edit ends, and by how much everything after it has moved."""
     shifts = [0]
     for edit in edits:
         shifts.append(shifts[-1] + len(edit.text) - (edit.end - edit.start))
@@ -89,8 +89,8 @@ def _shifts(edits: Sequence[Edit]) -> Tuple[List[int], List[int]]:
 
 def fixed(name: str, data: bytes, found: Found, texts: Iterable[Edit], read: Read) -> Optional[Tuple[Fixed, Found]]:
     """The document of that name and of these bytes, in which these links were found, after edits, and what is found in
-    it then. There is none without edits, where a reader stopped, and where other links are found than those of before
-    with the texts of the edits."""
+    it then. There is none without edits, if a reader stopped, or if the links found then aren't those of before with
+    the texts of the edits."""
     edits = in_order(texts)
     if not edits or found.broken is not None:
         return None

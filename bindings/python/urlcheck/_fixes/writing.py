@@ -9,14 +9,14 @@ from .fixing import digest_of
 
 
 class Unwritten(Exception):
-    """Why a document isn't written, in the words that are said of it."""
+    """Why a document isn't written, in the words that are printed."""
 
 
 def replace(name: str, digest: bytes, data: bytes, folder: Optional[str] = None) -> None:
-    """Writes these bytes into the file of that name, as a new file that takes its place in one step, so that any other
-    program finds either of both whole. Its mode and, as far as the system allows it, its owner stay, and what symbolic
-    links lead to is written. Raises ``OSError``; and ``Unwritten`` where its bytes aren't those of the digest any more,
-    or where it isn't in the folder, if one is given, since a link leads out of it."""
+    """Writes these bytes into the file of that name, as a new file that replaces it in one step, so that any other
+    program finds one of the two whole. Its mode stays and, as far as the system allows it, its owner. A symbolic link
+    is followed, and the file that it leads to is written. Raises ``OSError``; and ``Unwritten`` if the file's bytes no
+    longer have the digest, or if a link leads out of the folder, if one is given."""
     path = os.path.realpath(name)
     if folder is not None and not _is_within(os.path.realpath(folder), path):
         raise Unwritten("is a symbolic link out of the folder, and isn't written")
@@ -45,6 +45,7 @@ def replace(name: str, digest: bytes, data: bytes, folder: Optional[str] = None)
 
 
 def _is_within(folder: str, path: str) -> bool:
+    """Whether a path is below a folder."""
     try:
         return os.path.commonpath([folder, path]) == folder
     except ValueError:

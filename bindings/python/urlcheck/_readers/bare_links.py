@@ -17,8 +17,8 @@ _TEMPLATE = re.compile(r"\{\{|\{%|\$\{|<%|%s")
 
 
 def links_of(content: str, covered: List[Tuple[int, int]]) -> Iterator[Link]:
-    """The bare addresses of a block's content, and the destinations with a space; what is covered isn't a text, and an
-    address within a destination is none of its own."""
+    """The bare addresses of a block's content, and the destinations with a space. What is covered isn't plain text, and
+    an address within a destination isn't reported as well."""
     places = _merged(covered)
     spaced = [it for it in _SPACED.finditer(content) if not _TITLED.match(it["to"]) and not _meets(places, *it.span())]
     for found in spaced:
@@ -37,7 +37,7 @@ def links_of(content: str, covered: List[Tuple[int, int]]) -> Iterator[Link]:
 
 
 def _end(content: str, found: "re.Match[str]") -> int:
-    """Where the address that begins there ends, or its beginning where it isn't one."""
+    """Where the address that begins there ends, or its beginning if it isn't one."""
     at = found.start() if found[0][:4].lower() == "www." else found.end()
     domain = _DOMAIN.match(content, at)
     labels = domain[0].split(".") if domain else []
@@ -48,8 +48,8 @@ def _end(content: str, found: "re.Match[str]") -> int:
 
 
 def _trimmed(text: str) -> str:
-    """An address without the punctuation at its end, the parentheses that close none of its own, and a character
-    reference."""
+    """An address without the punctuation at its end, without parentheses that close none of its own, and without a
+    character reference."""
     closing = text.count(")") - text.count("(")
     while text:
         reference = _REFERENCE.search(text)

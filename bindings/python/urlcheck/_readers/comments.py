@@ -1,4 +1,4 @@
-"""Comments of documents that say of links that they are meant as they are."""
+"""Comments of documents that say which links are meant as they are."""
 
 import re
 from typing import Dict, List, Sequence, Set, Tuple
@@ -20,7 +20,7 @@ def comments_of(text: str, offset: int) -> Tuple[Comment, ...]:
 
 def covered(source: Source, links: List[Link], comments: Sequence[Comment]) -> List[Link]:
     """These links of a source, each with the comments that are about it: those on the line where it begins, or on the
-    line before, where no link is on the comment's own line. Empty lines don't count."""
+    line before, if no link is on the comment's own line. Empty lines don't count."""
     if not comments:
         return links
     lines = [source.position(link.offset)[0] for link in links]

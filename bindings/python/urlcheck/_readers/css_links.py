@@ -13,11 +13,11 @@ NEEDED = re.compile(r"url\(|@import", re.IGNORECASE)
 """What a style sheet has that has a link."""
 
 MISSING = "styles aren't read, which needs the package tinycss2: pip install tinycss2, or Debian's python3-tinycss2"
-"""What is said of HTML with styles that have links, where nothing reads them."""
+"""What is said about HTML whose styles have links, if nothing here can read them."""
 
 
 def links_of(source: Source) -> Tuple[List[Link], List[Comment]]:
-    """The links of a style sheet, and the comments about them. Raises ``ImportError`` where ``tinycss2`` isn't
+    """The links of a style sheet, and the comments about them. Raises ``ImportError`` if ``tinycss2`` isn't
     installed."""
     import tinycss2
 

@@ -198,7 +198,7 @@ def _end_of_script(text: str, start: int) -> int:
 
 
 def links_of_style(value: str, written: Written) -> Tuple[List[Link], Optional[str]]:
-    """The links of an attribute ``style``, and what is said where nothing reads them."""
+    """The links of an attribute ``style``, and what is said if nothing here can read them."""
     if not css_links.NEEDED.search(value):
         return [], None
     try:
@@ -250,7 +250,7 @@ def unescaped(raw: str, offset: int) -> Tuple[str, Written]:
 
 
 def _referred(found: Match[str]) -> str:
-    """What a character reference stands for, or the reference where it isn't one."""
+    """What a character reference stands for, or the reference itself if it isn't one."""
     if found["name"] is None:
         digits, base = (found["digits"], 10) if found["digits"] else (found["hex"], 16)
         digits = digits.lstrip("0")
@@ -262,7 +262,8 @@ def _referred(found: Match[str]) -> str:
 
 
 def _numbered(number: int) -> str:
-    """The code point of a number: those of C1 are read as windows-1252, and what isn't a code point as U+FFFD."""
+    """The code point of a number: those of C1 are read as windows-1252, and anything that isn't a code point as
+    U+FFFD."""
     if 0x80 <= number < 0xA0:
         return bytes([number]).decode("cp1252", "ignore") or chr(number)
     if number == 0 or number > 0x10FFFF or 0xD800 <= number < 0xE000:
@@ -292,7 +293,8 @@ def candidates(value: str) -> Iterator[Tuple[str, int]]:
 
 
 def _ends(value: str, at: int) -> Tuple[int, int]:
-    """Where the descriptors end that follow a URL, which ends there, and where the link ends with words of them."""
+    """Where the descriptors end that follow a URL, which ends there, and where the link ends if words of them belong to
+    it."""
     end = start = at
     is_link = True
     while True:

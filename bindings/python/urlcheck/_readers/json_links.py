@@ -1,4 +1,4 @@
-"""The links of documents of JSON, where they are in them: notebooks of Jupyter, and JSON Feed."""
+"""The links of JSON documents, where they are in them: Jupyter notebooks, and JSON Feed."""
 
 import bisect
 import json
@@ -26,8 +26,8 @@ _URLS = {
     "banner_image": Asks.SOME,
     "avatar": Asks.SOME,
 }
-"""The members of JSON Feed 1.1 whose value is a URL, with what it asks of them. The URL of an item may be missing, and
-is absolute; that of a hub and an attachment too."""
+"""The members of JSON Feed 1.1 whose value is a URL, with what it has to be. The URL of an item may be missing, and is
+absolute; that of a hub and an attachment is absolute too."""
 
 
 _decoding: Any = json.decoder
@@ -35,7 +35,7 @@ _scanning: Any = json.scanner
 
 
 class NoJson(ValueError):
-    """Why a document is none of JSON, or not of the kind."""
+    """Why a document isn't JSON, or not of the kind."""
 
 
 class Text(str):
@@ -45,9 +45,10 @@ class Text(str):
 
 
 def _parsed(source: Source) -> Any:
-    """The document's value, with each string as a ``Text``. Raises ``Broken``, and ``RecursionError`` where it is
-    nested too deeply."""
+    """The document's value, with each string as a ``Text``. Raises ``Broken``, and ``RecursionError`` if it is nested
+    too deeply."""
 
+    # (the decoder of C knows no places, so that of Python reads, with a function for strings that notes them)
     def string(text: str, begin: int, strict: bool = True) -> Tuple[Text, int]:
         value, end = _decoding.py_scanstring(text, begin, strict)
         found = Text(value)
@@ -77,13 +78,14 @@ def _escaped(found: Match[str]) -> str:
 
 
 def _place_in(source: Source, texts: List[Text]) -> Callable[[int], int]:
-    """Where the places of these strings, one after the other, are in the document."""
+    """What gives the place in the document of a place in these strings, which are read as one text."""
     begins, length = [], 0
     for text in texts:
         begins.append(length)
         length += len(text)
     known: Dict[int, Written] = {}
 
+    # (a string is read again for its places only when a link is in it)
     def place_of(at: int) -> int:
         number = max(0, bisect.bisect_right(begins, at) - 1)
         if number not in known:
@@ -141,6 +143,7 @@ def links_of_feed(source: Source) -> Tuple[List[Link], List[Comment], Optional[B
 
 
 def _of_feed(source: Source, feed: Dict[str, Any]) -> Iterator[Link]:
+    """The links of a feed. It is walked without recursion, since its author chooses how deeply it is nested."""
     waiting: List[Any] = [feed]
     while waiting:
         value = waiting.pop()

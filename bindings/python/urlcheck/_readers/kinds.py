@@ -20,7 +20,7 @@ KINDS: Dict[str, Tuple[str, ...]] = {
 """The kinds, each with how the names of its documents end."""
 
 NAMES = {"feed.json": "json-feed"}
-"""The kinds by whole names, where their ends don't say it."""
+"""The kinds by whole names, for names whose endings don't say the kind."""
 
 ARCHIVES = ("epub",)
 """The kinds whose documents hold others."""
@@ -35,7 +35,7 @@ LISTS: FrozenSet[str] = frozenset(("txt", "csv", "tsv", "json", "links"))
 
 
 class Package(NamedTuple):
-    """What reads a kind of document, where that isn't part of Python."""
+    """What reads a kind of document, if that isn't part of Python."""
 
     kind: str
     """What the kind is called."""
@@ -68,12 +68,12 @@ def kind_of(name: str) -> Optional[str]:
 
 
 def is_list(name: str) -> bool:
-    """Whether a name's end says that it may be that of a list of links."""
+    """Whether a name's ending says that it may be a list of links."""
     return end_of(name) in LISTS
 
 
 def end_of(name: str) -> str:
-    """What is written after the last full stop of a file's name, in lower case, or all of it where there is none."""
+    """What comes after the last full stop of a file's name, in lower case, or all of it if there is none."""
     return os.path.basename(name).rpartition(".")[2].lower()
 
 

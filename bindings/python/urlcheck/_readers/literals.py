@@ -6,10 +6,10 @@ from typing import Callable, Dict, Iterator, List, Optional, Set, Tuple
 from .source import Link, Source, moved
 
 MOST_WRITTEN = 2_000
-"""How many code points a link may have that is sought where it isn't written as it is."""
+"""How many code points a link may have that is searched for in another spelling than its own."""
 
 _OF_URL = frozenset("/?#%&=~+-_")
-"""What isn't a letter or a digit, and goes on with a link before or after it."""
+"""What isn't a letter or a digit, and can still be part of a link."""
 
 
 class Literals:
@@ -35,8 +35,9 @@ class Literals:
 
     def find(self, path: str, line: int, text: str, markup: str = "") -> Optional[Tuple[Link, bool]]:
         """A link of this text where it is in a source: at the first place from that line on that wasn't given yet,
-        else at one before it, else at one that was given; and whether it wasn't. Where its reader says by what markup
-        it is written, it is within that alone, and then with the spaces that its author wrote within a line."""
+        otherwise at one before it, otherwise at one that was given; and whether it is a new one. If its reader says in
+        which markup it is written, it is searched for only within that, and then with the spaces that its author wrote
+        within a line."""
         source = self.source(path)
         if source is None or not text:
             return None
@@ -51,8 +52,8 @@ class Literals:
         return None if given is None else (given, False)
 
     def block(self, path: str, line: int, text: str) -> Optional[Callable[[int], int]]:
-        """What says where a place of these lines is in a source, which may be indented there: they are found as a
-        link is, and each occurrence once."""
+        """What gives the place in a source of a place in these lines, which may be indented there. They are found as a
+        link is, each occurrence once."""
         source = self.source(path)
         if source is None or not text.strip():
             return None
@@ -65,7 +66,7 @@ class Literals:
         return None
 
     def moved(self, path: str, link: Link, place_of: Callable[[int], int]) -> Link:
-        """A link of such lines with its places in their source, where it isn't found again."""
+        """A link of such lines with its places in their source, for a link that isn't searched for again."""
         source = self.source(path)
         assert source is not None
         found = moved(link, source, place_of)
@@ -78,7 +79,7 @@ Span = Tuple[int, int]
 
 
 def _start(source: Source, line: int) -> int:
-    """Where a line begins, or the first or the last one where there is no such line."""
+    """Where a line begins, or the first or the last one if there is no such line."""
     return source.offset(min(max(line, 1), source.position(len(source.text))[0]), 0)
 
 
@@ -89,7 +90,7 @@ def _around(text: str, start: int, ways: Callable[[int, int], Iterator[Span]]) -
 
 
 def _spans(text: str, start: int, link: str, markup: str) -> Iterator[Tuple[Span, bool]]:
-    """Where a link is written: within its markup, where that is there, else anywhere; and whether it is within it."""
+    """Where a link is written: within its markup, if that is there, otherwise anywhere; and whether it is within it."""
     is_there = False
     if markup not in ("", link):
         for begin, end in _around(text, start, lambda *it: _markups(text, markup, *it)):
@@ -145,7 +146,7 @@ def _within(text: str, link: str, begin: int, end: int) -> Optional[Span]:
 
 
 def _places(source: Source, text: str, begin: int) -> Callable[[int], int]:
-    """What says where a place of lines is that begin there in a source."""
+    """What gives the place in a source of a place in lines that begin there."""
     lines = Source(text)
     first = lines.position(len(text) - len(text.lstrip()))[0]
     line = source.position(begin)[0] - first
@@ -193,6 +194,7 @@ def _plain(text: str, link: str, begin: int, end: int) -> Iterator[Span]:
 
 
 def _goes_on(point: str) -> bool:
+    """Whether a URL could go on with this code point, or have it before its start."""
     return point.isalnum() or point in _OF_URL if point else False
 
 

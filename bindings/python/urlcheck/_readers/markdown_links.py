@@ -13,7 +13,7 @@ from .source import Broken, Comment, Link, Source
 
 
 class _Destination(str):
-    """A link's destination: the text that it was read in, where it began there, and whether it is verbatim."""
+    """A link's destination, with the text that it was read from, where it began there, and whether it is verbatim."""
 
     content: Optional[str] = None
     at = 0
@@ -29,7 +29,7 @@ class Inlines:
         self._used: Dict[str, List[Any]] = {}
         self._references: Set[str] = set()
         self.covered: Dict[str, List[Tuple[int, int]]] = {}
-        """What of a block's content isn't a text, by where it begins and ends."""
+        """The parts of a block's content that aren't plain text, by where they begin and end."""
 
     def begin(self, references: Set[str]) -> None:
         """Begins a reading; what the last one didn't have is forgotten."""
@@ -71,7 +71,7 @@ def links_of(
 
 
 def _without(text: str, end: int) -> str:
-    """A text whose beginning is empty lines, so that all after it is where it was."""
+    """A text whose beginning is replaced by empty lines, so that the rest keeps its places."""
     return re.sub("[^\r\n]", " ", text[:end]) + text[end:]
 
 
@@ -117,6 +117,7 @@ class _Reader:
         self._lines: Tuple[Tuple[int, int], str, Optional[int]] = ((0, 0), "", None)
 
     def _destination(self, text: str, at: int, end: int) -> Any:
+        """The package's reader of destinations, which notes where each is, since the token of a link doesn't say it."""
         result = self._parse(text, at, end)
         if not result.ok and text.startswith(")", at, end):
             # `[a]()` has an empty destination.
@@ -125,6 +126,8 @@ class _Reader:
         return result
 
     def _placed(self, url: str) -> str:
+        """A destination with its place, in place of the package's escaped one: it is called right after
+        ``_destination``."""
         placed = _Destination(url)
         text, at, result = self._last
         if result is not None and result.str == url:
@@ -150,6 +153,7 @@ class _Reader:
             self._take_inline(token, self.inlines.read(token.content, read))
 
     def _take_inline(self, block: Any, children: List[Any]) -> None:
+        """Takes the links of a block's text."""
         if self._is_gfm:
             self._take_bare(block.map[0], block.content)
         for token in children:
@@ -185,6 +189,7 @@ class _Reader:
             self._take_destination(definition["map"][0], definition["href"])
 
     def _take_destination(self, line: int, url: _Destination) -> None:
+        """Takes a link whose destination is in a block, at its place there, or else at its block's line."""
         if url.content is None:
             return
         start = self._offset(line, url.content, url.at)
@@ -217,8 +222,8 @@ class _Reader:
         return link._replace(offset=offset, is_verbatim=is_verbatim, base=None, pieces=pieces)
 
     def _offset(self, line: int, content: str, at: int) -> Optional[int]:
-        """The source's place of a place of a block's content, which lacks what nests the block; none where it isn't
-        found."""
+        """The source's place for a place in a block's content, which lacks the markup around the block; none if it
+        isn't found."""
         if self._block[0] is not content:
             self._block = content, Source(content)
         number, column = self._block[1].position(at)
@@ -237,12 +242,12 @@ class _Reader:
 
 
 _AHEAD = 4
-"""How many lines a definition is looked for in at first."""
+"""How many lines a definition is looked for in at first: nearly all definitions fit in them."""
 
 
 def _near(rule: Callable[..., bool]) -> Callable[..., bool]:
-    """The rule of definitions, by the lines next to one where that is enough: it looks at all lines of a block for each
-    definition, and so takes time by the square of their number."""
+    """The rule of definitions, applied to only the next few lines if they are enough: the rule itself looks at all
+    lines of a block for each definition, and so takes time by the square of their number."""
 
     def near(state: Any, start: int, end: int, silent: bool) -> bool:
         last = state.lineMax
@@ -258,17 +263,18 @@ def _near(rule: Callable[..., bool]) -> Callable[..., bool]:
 
 
 def _may_have_title(state: Any, start: int) -> bool:
-    """Whether after this line one begins as the title of a definition does, which may have any number of lines."""
+    """Whether one of the next lines begins with a quote or a parenthesis, as a definition's title does. A title may go
+    on for any number of lines, so then all lines of the block are wanted."""
     begins = (state.bMarks[line] + state.tShift[line] for line in range(start + 1, start + _AHEAD + 1))
     return any(state.src[at : at + 1] in ("'", '"', "(") for at in begins)
 
 
 _AT = "at"
-"""By what name a token has its place."""
+"""The key of a token's ``meta`` under which ``_placing`` keeps its place: the package itself keeps none."""
 
 
 def _placing(rule: Callable[[Any, bool], bool]) -> Callable[[Any, bool], bool]:
-    """A rule whose tokens have the place where they begin in their block's content."""
+    """A rule whose tokens get the place where they begin in their block's content."""
 
     def placing(state: Any, silent: bool) -> bool:
         at, count = state.pos, len(state.tokens)

@@ -15,7 +15,7 @@ MOST_BYTES = 32 * 1024 * 1024
 """How many bytes a document may have."""
 
 LIST = "list"
-"""The kind of a list of links, a line each, which editors show alone: for files there is ``urlcheck lint``."""
+"""The kind of a list with one link per line. Only editors show it; for files there is ``urlcheck lint``."""
 
 _GZIP = b"\x1f\x8b"
 """How a file begins that gzip wrote."""
@@ -28,12 +28,12 @@ class Unread(Exception):
 
 
 class Reading(NamedTuple):
-    """How documents are read, where there is a choice."""
+    """How documents are read, if there is a choice."""
 
     gfm: bool = False
-    """Whether Markdown is that of GitHub, in which a bare address is a link."""
+    """Whether Markdown is read as GitHub reads it, where a bare address is a link."""
     inlines: Optional[markdown_links.Inlines] = None
-    """What blocks of Markdown were read as before, where a text is read again and again."""
+    """What blocks of Markdown were read as before, for a text that is read again and again."""
 
 
 class Found(NamedTuple):
@@ -98,7 +98,7 @@ def prepare(kind: Optional[str]) -> None:
 
 
 def _found(data: bytes, kind: str, reading: Reading) -> Found:
-    """What is found in a document of that kind. Raises ``ImportError`` where its reader isn't installed."""
+    """What is found in a document of that kind. Raises ``ImportError`` if its reader isn't installed."""
     try:
         source = decoded(data)
     except Foreign as foreign:
@@ -110,7 +110,7 @@ def _found(data: bytes, kind: str, reading: Reading) -> Found:
 
 
 def _read(source: Source, data: bytes, kind: str, reading: Reading) -> Found:
-    """What is found in a document that is one text. Raises ``ImportError`` where its reader isn't installed."""
+    """What is found in a document that is one text. Raises ``ImportError`` if its reader isn't installed."""
     if kind == "xml":
         return Found(source, *xml_links.links_of(source, without_mark(data)))
     if kind in ("html", "rst"):

@@ -15,7 +15,7 @@ PASSED_OVER = (
     "roles and directives that docutils doesn't know are read for their text alone; the extension urlcheck.sphinx "
     "reads those of Sphinx"
 )
-"""What is said where there was one."""
+"""What is said if there was an unknown role or directive."""
 
 _SETTINGS = {
     "report_level": 5,
@@ -40,7 +40,7 @@ _CODE = frozenset(
 
 
 def links_of(source: Source) -> Tuple[List[Link], List[Comment], Tuple[str, ...]]:
-    """The links of a document, the comments about them, and what was passed over. Raises ``ImportError`` where
+    """The links of a document, the comments about them, and what was passed over. Raises ``ImportError`` if
     ``docutils`` isn't installed."""
     core: Any = importlib.import_module("docutils.core")
     nodes: Any = importlib.import_module("docutils.nodes")
@@ -80,7 +80,7 @@ class _Said(NamedTuple):
     line: int
     """The line from which on it is."""
     markup: Optional[str]
-    """How it is written, where that is known; none for HTML."""
+    """How it is written, if that is known; none for HTML."""
 
 
 def _said(tree: Any) -> Iterator[_Said]:
@@ -95,7 +95,7 @@ def _said(tree: Any) -> Iterator[_Said]:
 
 
 def is_link(node: Any) -> bool:
-    """Whether a node has a link that is written where it is: one by a name is where that is defined."""
+    """Whether a node has a link that is written where the node is. One by a name is written where that is defined."""
     nodes: Any = importlib.import_module("docutils.nodes")
     if isinstance(node, nodes.target):
         # (that of an embedded URL is its reference's)
@@ -116,7 +116,8 @@ _OPTION = re.compile(r"\n\s*:(?!:)")
 
 
 def markup_of(node: Any) -> str:
-    """How the link of such a node is written, where docutils says that."""
+    """The markup of such a node, in which its link is looked for, or nothing if docutils doesn't keep it. That of an
+    image ends before its options; an image that is a link has no markup of its own but the option ``:target:``."""
     nodes: Any = importlib.import_module("docutils.nodes")
     markup: str = node.rawsource
     if isinstance(node, nodes.image):
@@ -138,7 +139,7 @@ def links_of_raw(literals: Literals, path: str, line: int, text: str) -> Iterato
 
 
 def found_once(literals: Literals, path: str, line: int, text: str, markup: str = "") -> Iterator[Tuple[Link, bool]]:
-    """A link where it is written, and whether that is known; nothing where it was found there before."""
+    """A link where it is written, and whether that is known; nothing if it was found there before."""
     found = literals.find(path, line, text, markup)
     if found is None:
         yield Link(text, 0, False), False
@@ -165,6 +166,7 @@ def _read_through(notes: Set[str]) -> Iterator[None]:
     defined: Dict[str, Any] = dict(roles._roles)
     through = _through()
 
+    # (docutils has one table of each for all readers, so both lookups are replaced, and put back at the end)
     def directive(name: str, language: Any, document: Any) -> Any:
         found, said = known_directive(name, language, document)
         if found:
@@ -189,7 +191,7 @@ def _read_through(notes: Set[str]) -> Iterator[None]:
 
 
 def _role(name: str, raw: str, text: str, *_: Any, **__: Any) -> Any:
-    """A role that isn't known: its text, or a link where that says where it leads."""
+    """A role that isn't known: its text, or a link if the text says where it leads."""
     nodes: Any = importlib.import_module("docutils.nodes")
     found = _TARGET.search(text)
     return [nodes.reference(raw, text, refuri=found[1]) if found else nodes.inline(raw, text)], []

@@ -14,7 +14,7 @@ _WORD = re.compile("[^" + SPACES + "]+")
 
 
 class NamedBase:
-    """A base that a document names. Each one is equal to itself alone."""
+    """A base that a document names. Each one is equal only to itself."""
 
     __slots__ = ("text", "around")
 
@@ -34,7 +34,7 @@ class Asks(enum.Enum):
     ABSOLUTE = "absolute"
     """A URL string with a scheme."""
     ANOTHER = "another"
-    """Another destination: as it is written it is text and no link, though an author meant one."""
+    """Something that isn't a link as it is written, though its author meant one."""
 
 
 class Comment(NamedTuple):
@@ -69,15 +69,15 @@ class Link(NamedTuple):
     """The comments that are about it."""
 
     def place(self, at: int) -> int:
-        """Where a place of the link is in the source, or its beginning where that isn't known."""
+        """Where a place of the link is in the source, or its beginning if that isn't known."""
         if self.is_verbatim:
             return self.offset + at
         return _place(self.pieces, at) if self.pieces else self.offset
 
 
 Pieces = Tuple[Tuple[int, int], ...]
-"""Where a text is in the source that is written otherwise than it is read: each piece of it by the places where it
-begins in the text and in the source, the first at 0."""
+"""Where a text is in its source if it isn't written there as it is read: for each piece of it, where it begins in the
+text and in the source. The first begins at 0."""
 
 
 def _place(pieces: Pieces, at: int) -> int:
@@ -111,12 +111,12 @@ class Written(NamedTuple):
 
 
 MOST_MOVED = 4_000
-"""How many code points a link may have whose pieces are kept where it is moved."""
+"""How many code points a link may have for its pieces to be kept when it is moved."""
 
 
 def moved(link: Link, source: "Source", place_of: Callable[[int], int]) -> Link:
-    """A link of a text that was read out of a source, with its places there: ``place_of`` says where a place of the
-    text is."""
+    """A link of a text that was read out of a source, with its places there: ``place_of`` gives the source's place for
+    a place of the text."""
     offset = place_of(link.offset)
     if link.is_verbatim and source.text.startswith(link.text, offset):
         return link._replace(offset=offset, base=link.base, pieces=())
@@ -140,7 +140,7 @@ MOST_REFERENCES = 10_000
 def read(
     raw: str, offset: int, reference: "Pattern[str]", text_of: "Callable[[Match[str]], str]"
 ) -> Tuple[str, Written]:
-    """A value that is there in the source, with its references read, and where its code points are."""
+    """A value as it is in the source, with its references read, and where its code points are."""
     texts: List[str] = []
     pieces, most = [(0, offset)], 2 * MOST_REFERENCES + 1
     length = last = 0

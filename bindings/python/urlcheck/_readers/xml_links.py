@@ -1,5 +1,5 @@
 """The links of an XML document, by Python's own ``xml.parsers.expat``: sitemaps, feeds, outlines, XHTML, SVG, XLink,
-and the formats of ``_xml_names``."""
+and the formats of ``xml_names``, which has the tables of elements and attributes that hold links."""
 
 import re
 from itertools import accumulate
@@ -54,12 +54,13 @@ UNKNOWN = (
     "its names aren't known: only each href, url and src, and each element url and link, is read, where its value has "
     "a scheme"
 )
-"""What is said of a document of which no name is known."""
+"""What is said about a document in which no name is known."""
 
 _SCHEME = re.compile("[A-Za-z][A-Za-z0-9+.-]*:")
+"""The beginning of a value that counts as a link in a document in which no name is known."""
 
 _NAMING = re.compile("[A-Za-z][A-Za-z0-9+.-]*://|urn:", re.IGNORECASE)
-"""How a value begins that names something by a URL, where it may do so by another word."""
+"""The beginning of a value that names something by a URL, in elements that may also use another word."""
 
 _PLACEHOLDER = "${"
 """What a value of a project's file has that is filled in later."""
@@ -69,13 +70,17 @@ class _Taking(NamedTuple):
     """What the text of an element is taken for."""
 
     is_html: bool = False
+    """Whether it is HTML, with links in it."""
     is_likely: bool = False
-    """Whether it is taken where no name of the document is known alone."""
+    """Whether it is taken only if no name of the document is known, and it has a scheme: otherwise it may be any
+    text."""
     is_naming: bool = False
-    """Whether it is taken only when it begins as a URL."""
+    """Whether it counts only if it begins like a URL, in an element that may also name something by another word."""
     asks: Asks = Asks.REFERENCE
+    """What it has to be: a reference, say, or a URL with a scheme."""
 
 
+# What the parser makes one code point of, so that places after it move.
 _REFERENCE = re.compile("&[^;]*;|\r\n")
 
 # The start of a start tag, and an attribute of it; both are well-formed.
@@ -160,9 +165,12 @@ class _Reader:
         return self._seen_points
 
     def _entity(self, *_: object) -> None:
+        """Stops at a declared entity: its text has no place in the document, and a few of them may grow to any
+        length."""
         raise self.broken("an entity is declared, but only the five of XML are expanded")
 
     def _comment(self, data: str) -> None:
+        """Takes a comment, which may say that links are left out."""
         self.comments += comments_of(data, self._offset() + len("<!--"))
 
     def _instruction(self, target: str, data: str) -> None:
@@ -179,6 +187,7 @@ class _Reader:
                 self.links.append(written.stripped(value))
 
     def _start(self, name: str, attributes: List[str]) -> None:
+        """Begins an element. The outermost one says which names are known, if its own has no namespace."""
         if len(self._bases) > MOST_DEPTH:
             raise self.broken("more than {} elements are within one another".format(MOST_DEPTH))
         element = _split(name)
@@ -268,10 +277,12 @@ class _Reader:
         return places
 
     def _characters(self, data: str) -> None:
+        """Keeps a piece of an element's text, of which the parser gives several, with its place."""
         if self._pieces is not None:
             self._pieces.append((data, self._offset()))
 
     def _end(self, _: str) -> None:
+        """Ends an element, and takes its text if it is a link, or has some."""
         base = self._bases.pop()
         pieces, self._pieces = self._pieces, None
         if pieces is None:
@@ -309,7 +320,7 @@ class _Reader:
 
 
 _ICONS = {(APPSTREAM, "icon"), (CATALOG, "icon")}
-"""The elements whose text is a URL where their ``type`` is ``remote``."""
+"""The elements whose text is a URL if their ``type`` is ``remote``."""
 
 _STYLES = {("", "style")}
 """The attributes that have declarations of CSS."""

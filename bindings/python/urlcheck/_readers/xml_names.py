@@ -106,7 +106,7 @@ TYPED_TEXTS: Set[Name] = {
     *((ATOM, name) for name in ("content", "summary", "title", "subtitle", "rights")),
     *((MEDIA, name) for name in ("description", "text", "title")),
 }
-"""The elements whose text is HTML where their ``type`` is ``html``."""
+"""The elements whose text is HTML if their ``type`` is ``html``."""
 
 ATTRIBUTES: Dict[Name, Set[str]] = {
     (RSS, "enclosure"): {"url"},
@@ -169,7 +169,7 @@ KNOWN: Set[str] = {
 """The namespaces whose names are known."""
 
 LIKE_LINKS = frozenset(("href", "url", "src"))
-"""The attributes that are likely links, in a document of which no name is known."""
+"""The attributes that are likely links, in a document in which no name is known."""
 
 LIKE_TEXTS = frozenset(("url", "link"))
 """The elements that are likely links there."""

@@ -1,4 +1,4 @@
-"""A baseline: the faults of a project that are known, so that only new ones are reported.
+"""A baseline: the known faults of a project, so that only new ones are reported.
 
 Each fault has a fingerprint of its document's name, its rule, its place in the link, the link, and which of those that
 are equal in these it is in its document. It holds no line, so that it stays what it is where lines are added or taken

@@ -10,7 +10,7 @@ from .rules import EMPTY, OF_ASKS, OF_FORMATS, address_of
 from .selected import Selected
 
 SOMEWHERE = "https://example.com/"
-"""What a reference is checked against where neither the document nor the caller names a base."""
+"""What a reference is checked against if neither the document nor the caller names a base."""
 
 MOST_MENDED = 65_536
 """How many bytes a link may have for which a text is sought to write in its place."""
@@ -19,7 +19,7 @@ MOST_KEPT = 50_000
 """How many verdicts are kept, for links that are met again."""
 
 _HEAD = re.compile("[^:]*:(?://[^/?#]*)?")
-"""What a URL's text begins with: its scheme and, where it has one, its host."""
+"""The beginning of a URL's text: its scheme and, if it has one, its host."""
 
 
 class Positions(Protocol):
@@ -85,8 +85,8 @@ class Checker:
         return base
 
     def _held(self, text: str, around: Optional[Base]) -> Optional[Base]:
-        """A base by the text of its URL. Where the path isn't opaque, a path of / is held in its place: a verdict asks
-        for no more. So bases within bases get no longer, and a path that no profile takes, as that of http://h//a by
+        """A base by the text of its URL. If the path isn't opaque, it is replaced by /: a verdict needs no more. So
+        bases within bases don't grow, and a path that no profile takes, such as that of http://h//a by
         http://h/x/..//a, isn't one."""
         head = _HEAD.match(text)
         if head and ("/" in head[0] or text.startswith("/", head.end())):
@@ -118,6 +118,8 @@ class Checker:
         return found
 
     def _checked(self, text: str, asks: Asks, base: Optional[Base], selected: Selected) -> Optional[Wrong]:
+        """What is wrong with a text by what it has to be. Formats ask more than the URL Standard, and have rules of
+        their own."""
         if asks is Asks.ANOTHER or (asks is Asks.SOME and not text and not self._is_empty_taken):
             rule = OF_FORMATS[OF_ASKS[asks]]
             if not selected.has(rule.name):
@@ -147,7 +149,7 @@ class Checker:
         return next((it for it in found if selected.has(it.rule)), None)
 
     def _mended(self, text: str, base: Optional[Base]) -> Optional[Mended]:
-        """What to write in place of a refused link, where that is wanted and there is such a text."""
+        """What to write in place of a refused link, if that is wanted and there is such a text."""
         if not self._has_mended or len(text.encode("utf-8")) > MOST_MENDED:
             return None
         answer = mend(text, base, self._profile)
@@ -156,14 +158,14 @@ class Checker:
 
     @staticmethod
     def may_be_written(link: Link) -> bool:
-        """Whether another text may be written as it is where a link is."""
+        """Whether another text may be written unescaped where a link is."""
         # (without the tab or the line's end, what follows the & might be read as a character reference)
         return link.is_verbatim and not ("&" in link.text and re.search("[\t\n\r]", link.text))
 
 
 def end_of(places: Positions, link: Link, place: int) -> int:
-    """The column after the code point at a place of a link, which is in the line of that place; the column of the
-    place where there is none, as at the end of the link."""
+    """The column after the code point at a place of a link, which is in the line of that place; the column of the place
+    if there is no code point, as at the end of the link."""
     line, column = places.position(link.place(place))
     if place >= len(link.text):
         return column

@@ -19,8 +19,8 @@ _NOTE = re.compile(r"(help|note): ")
 
 
 def are_wanted(when: str, stream: Any) -> bool:
-    """Whether what is written to this stream has colours. ``NO_COLOR`` and ``FORCE_COLOR`` of the environment count
-    where they aren't empty, as no-color.org and force-color.org say. Compilations of Emacs find places in plain text."""
+    """Whether what is written to this stream has colours. ``NO_COLOR`` and ``FORCE_COLOR`` of the environment count if
+    they aren't empty, as no-color.org and force-color.org say. Emacs finds places only in plain text."""
     if when != "auto":
         return when == "always"
     if os.environ.get("NO_COLOR"):
@@ -38,6 +38,7 @@ def coloured(format: str, lines: str) -> str:
 
 
 def _painted(format: str, lines: List[str]) -> Iterator[str]:
+    """The lines with colours, each by what it is: a head, the line of marks, or a note."""
     # (the line of a link's text, which may be like any other, follows its head, and then comes the line of marks)
     since = 2
     for line in lines:

@@ -11,8 +11,8 @@ Writer = Callable[[bytes], None]
 
 
 def lines_on(format: str, found: Reported, is_first: bool) -> str:
-    """What is said of a link that is refused, where no other is before it in the report or after others. The name of
-    its document has a surrogate for each byte that isn't UTF-8."""
+    """What is said about a refused link, which is the first one in the report or comes after others. The name of its
+    document has a surrogate for each byte that isn't UTF-8."""
     # (in a line no control may be as it is)
     name = named(found.file) if format == "gnu" else name_in(format, found.file)
     shown = readable(name)
@@ -22,11 +22,11 @@ def lines_on(format: str, found: Reported, is_first: bool) -> str:
 
 
 _HERE = re.compile(r"\A(?:\./+)+(?=.)")
-"""What is before the name of a file of the current folder, where that is written."""
+"""What comes before the name of a file of the current folder, if that is written."""
 
 
 def name_in(format: str, name: str) -> str:
-    """A document's name in a format: programs compare it with those of files, which have no ``./`` before them."""
+    """A document's name in a format: programs compare it with the names of files, which have no ``./`` before them."""
     return name if format in ("gnu", "caret") else _HERE.sub("", name)
 
 
@@ -40,8 +40,8 @@ _IN_PROPERTY = {**_IN_MESSAGE, ":": "%3A", ",": "%2C"}
 
 
 def not_read(format: str, name: str, fault: Fault) -> str:
-    """What is said of a document of that name that isn't read to its end: a workflow command of GitHub, which shows it
-    at the first line of its file or where the reader stopped. No other format says that."""
+    """What is said about a document of that name that isn't read to its end: a workflow command of GitHub, which shows
+    it at the first line of its file or where the reader stopped. No other format says that."""
     if format != "github":
         return ""
     place = "" if fault.line is None else ",line={},col={}".format(fault.line, fault.column)
@@ -68,19 +68,19 @@ class Report:
         self._write(begin(self._format, self._unit).encode("utf-8"))
 
     def add(self, lines: bytes, first: bytes, rest: bytes) -> None:
-        """Writes what is said of links: of the first of them as these lines, after another one, or as ``first``, where
-        no other is before it in the report; and then the rest."""
+        """Writes what is said about links: about the first of them as these lines if another one came before, or as
+        ``first`` if it is the first in the report; and then the rest."""
         if lines:
             self._write(first if self._is_first else lines)
             self._is_first = False
         self._write(rest)
 
     def tell(self, lines: str) -> None:
-        """Writes what is said of a document."""
+        """Writes what is said about a document."""
         self._write(lines.encode("utf-8"))
 
     def passed(self, name: str) -> None:
-        """Writes what is said of a document in which nothing is wrong."""
+        """Writes what is said about a document in which nothing is wrong."""
         self._write(passed(self._format, readable(name_in(self._format, name))).encode("utf-8"))
 
     def end(self, is_whole: bool) -> None:

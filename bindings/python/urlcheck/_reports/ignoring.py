@@ -1,4 +1,4 @@
-"""What comments leave out of what is wrong with the links of a document, and what is said of the comments
+"""What comments leave out of what is wrong with the links of a document, and what is said about the comments
 themselves."""
 
 import re
@@ -10,7 +10,8 @@ from .rules import NAMES
 from .selected import NoRule, rules_of
 
 _FORM = re.compile(r"urlcheck:\s*ignore(?P<file>-file)?\s*(?:\[(?P<rules>[^\]]*)\])?")
-"""What a comment says: that links are meant as they are, or what violates these rules; of its line, or of the file."""
+"""What a comment says: that links are meant as they are, or that violations of these rules are; on its line, or in the
+file."""
 
 _FORMS = "there are 'urlcheck: ignore', 'urlcheck: ignore[RULES]' and 'urlcheck: ignore-file'"
 
@@ -19,7 +20,7 @@ _MOST_SHOWN = 60
 
 
 class Remark(NamedTuple):
-    """What is said of a comment."""
+    """Something about a comment."""
 
     offset: int
     """Where it begins in the source."""
@@ -31,7 +32,7 @@ class _Meant(NamedTuple):
 
     is_of_file: bool
     rules: FrozenSet[str]
-    """The rules whose violations are meant; all where it names none."""
+    """The rules whose violations are meant; all rules if it names none."""
     is_of_links: bool
     """Whether it names no rules, so that a link isn't looked at."""
 
@@ -89,8 +90,8 @@ class Ignoring:
         return left, self.leaves_out(link) or (found is not None and left is None)
 
     def remarks(self, is_all: bool) -> Iterator[Remark]:
-        """What is said of the comments, after all links were looked at: which aren't understood, and where all is
-        reported also which aren't needed."""
+        """What is said about the comments, after all links were looked at: which ones aren't understood, and if
+        everything is reported also which ones aren't needed."""
         yield from self._remarks
         for comment, meant in self._meant.items() if is_all else ():
             if comment not in self._needed:

@@ -9,7 +9,7 @@ from .._library import native
 
 
 def _named(name: str, names: Tuple[str, ...], noun: str) -> int:
-    """The number of a name. Raises ``ValueError`` where no number has it."""
+    """The number of a name. Raises ``ValueError`` if no number has it."""
     if name not in names:
         raise ValueError("no {} is named '{}': there are {}".format(noun, name, ", ".join(names)))
     return names.index(name)
@@ -20,7 +20,7 @@ _ADDRESS, _REQUIRES, _SECTION, _BASE, _EXAMPLE, _MENDED, _FORMAT, _UNIT = range(
 
 
 def _all_names(what: int, number: int = 0) -> Iterator[str]:
-    """The names of a format or a unit of each number, until there is none."""
+    """The names of all formats or units, from the first number on, until there is none."""
     while native.text(what, number):
         yield native.text(what, number)
         number += 1
@@ -87,7 +87,7 @@ class Explanation(NamedTuple):
     url: str
     """Where that is."""
     base: Optional[str]
-    """The base that the example is read against, or ``None`` where it is read alone."""
+    """The base that the example is read against, or ``None`` if it is read alone."""
     example: str
     """A text that is refused by the rule."""
     place: int
@@ -101,18 +101,18 @@ _MOST = 2**32 - 1
 
 
 def _numbered(*numbers: int) -> None:
-    """Raises ``ValueError`` where one of these isn't a line or column."""
+    """Raises ``ValueError`` if one of these isn't a line or column."""
     if not all(1 <= number <= _MOST for number in numbers):
         raise ValueError("a line or a column isn't from 1 to {}".format(_MOST))
 
 
 def _placed(text: str, place: int) -> int:
-    """The place, where the text has it or ends there; otherwise a number that isn't one."""
+    """The place, if the text has it or ends there; otherwise a number that isn't a place."""
     return place if 0 <= place <= len(text) else -1
 
 
 def _ordered(region: Region) -> None:
-    """Raises ``ValueError`` where a region isn't one."""
+    """Raises ``ValueError`` if a region isn't one."""
     _numbered(*region)
     if (region.last_line, region.end_column) < (region.line, region.column):
         raise ValueError("a region ends before it begins")
@@ -138,7 +138,7 @@ def message(
 
 
 def explain(rule: str) -> Explanation:
-    """What a rule requires, and an example. Raises ``KeyError`` where no rule has the name."""
+    """What a rule requires, and an example. Raises ``KeyError`` if no rule has the name."""
     number = _NUMBERS[rule]
     asks, section = native.text(_REQUIRES, number), native.text(_SECTION, number)
     base, example, mended = (native.text(what, number) for what in (_BASE, _EXAMPLE, _MENDED))
@@ -147,7 +147,7 @@ def explain(rule: str) -> Explanation:
 
 
 def address_of(rule: str) -> str:
-    """Where a rule is in the URL Standard. Raises ``KeyError`` where no rule has the name."""
+    """Where a rule is in the URL Standard. Raises ``KeyError`` if no rule has the name."""
     return native.text(_ADDRESS, _NUMBERS[rule])
 
 
@@ -184,6 +184,7 @@ def report(
 def _report_on(
     diagnostics: Iterable[Diagnostic], format: str, unit: str, is_whole: bool, wording: str
 ) -> Iterator[str]:
+    """The pieces of a report. Equal faults of a file are counted, since formats tell them apart by a number."""
     yield begin(format, unit)
     seen: Counts[Tuple[str, str, int, str]] = Counter()
     is_first = True
@@ -201,7 +202,7 @@ def takes_unit(format: str, unit: str) -> bool:
 
 
 def own_unit(format: str) -> str:
-    """The unit of a format's columns where nothing else is said."""
+    """The unit of a format's columns if nothing else is said."""
     return next(unit for unit in UNITS if takes_unit(format, unit))
 
 
@@ -221,8 +222,8 @@ def end(format: str, is_whole: bool) -> str:
 
 
 def passed(format: str, file: str) -> str:
-    """What is said of a file in which nothing is wrong: in JUnit a suite whose test passes, and nothing in another
-    format."""
+    """What is said about a file in which nothing is wrong: in JUnit a suite whose test passes, and nothing in other
+    formats."""
     number = _named(format, FORMATS, "format")
     return native.file_begin(number, file) + native.file_end(number) if format == "junit" else ""
 
@@ -234,7 +235,7 @@ class Reported(NamedTuple):
     rule: str
     """The name of a rule: one of ``RULES``, or of the caller's own."""
     address: str
-    """Where the rule is told of."""
+    """Where one can read about the rule."""
     message: str
     within: str
     """Where in the file it is besides, or empty."""
@@ -250,7 +251,7 @@ class Reported(NamedTuple):
 
 
 def _reported(it: Diagnostic, unit: str, wording: str, repeat: int) -> Reported:
-    """A diagnostic, with what the library says of it. Raises ``ValueError`` where one of its numbers is wrong."""
+    """A diagnostic, with what the library says about it. Raises ``ValueError`` if one of its numbers is wrong."""
     _numbered(it.line, it.column, *(() if it.end is None else (it.end,)))
     wrong = it.text[it.place : it.place + 1]
     end = native.column(wrong, UNITS.index(unit), it.column, len(wrong)) if it.end is None else it.end
@@ -263,7 +264,8 @@ def _reported(it: Diagnostic, unit: str, wording: str, repeat: int) -> Reported:
 
 
 def written(format: str, it: Reported, is_first: bool) -> str:
-    """What is said of a diagnostic: whole lines. After another one it begins with what is between both."""
+    """What is said about a diagnostic: whole lines. If it comes after another one, it begins with what goes between the
+    two."""
     number = _named(format, FORMATS, "format")
     text, kind, offered = "", 0, 0
     if it.mended is not None:

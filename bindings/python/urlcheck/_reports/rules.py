@@ -1,5 +1,5 @@
-"""What each rule asks, and where that is: those of the URL Standard, and those of the formats of documents, by which no
-text is checked that is alone."""
+"""What each rule requires, and where to read about it: the rules of the URL Standard, and those of the formats of
+documents, which apply only to links in documents."""
 
 from typing import Dict, NamedTuple
 
@@ -41,11 +41,11 @@ OF_FORMATS: Dict[str, Rule] = {
 """The rules of formats, by their names."""
 
 OF_ASKS = {Asks.SOME: EMPTY, Asks.ANOTHER: NO_LINK}
-"""The rule of what a format asks, where it is one of these."""
+"""The rule of what a format requires, if it is one of these."""
 
 
 def rule_of(name: str) -> Rule:
-    """The rule of that name. Raises ``KeyError`` where there is none."""
+    """The rule of that name. Raises ``KeyError`` if there is none."""
     if name in OF_FORMATS:
         return OF_FORMATS[name]
     explained = explain(name)
@@ -53,7 +53,7 @@ def rule_of(name: str) -> Rule:
 
 
 def address_of(name: str) -> str:
-    """Where a rule is told of. Raises ``KeyError`` where there is none of that name."""
+    """Where one can read about a rule. Raises ``KeyError`` if none has that name."""
     return OF_FORMATS[name].url if name in OF_FORMATS else report.address_of(name)
 
 

@@ -7,7 +7,7 @@ from .rules import NAMES
 
 
 class NoRule(ValueError):
-    """That a name is none of a rule."""
+    """A name that isn't a rule's."""
 
     def __init__(self, name: str) -> None:
         near = difflib.get_close_matches(name, NAMES, 1)
@@ -42,7 +42,7 @@ def rules_of(words: Iterable[str]) -> FrozenSet[str]:
 
 
 def selected(select: Optional[Iterable[str]], ignored: Iterable[str]) -> Selected:
-    """The rules of the first words, or all, but for those of the second. Raises ``NoRule``."""
+    """The rules of the first words, or all, except those of the second. Raises ``NoRule``."""
     return Selected((frozenset(NAMES) if select is None else rules_of(select)) - rules_of(ignored))
 
 

@@ -8,7 +8,7 @@ from .._streams import named
 from .rules import rule_of
 
 _MOST_LINKS = 100_000
-"""How many links are told apart; of further ones only their rules count."""
+"""How many different links are counted; of any more only the rules count."""
 
 _MOST_SHOWN = 50
 """How many of the links that are there more than once are shown."""
@@ -32,6 +32,7 @@ class Statistics:
         return "".join(line + "\n" for line in self._lines())
 
     def _lines(self) -> Iterator[str]:
+        """The lines of the counts. A tab in a link would be read as the end of a column."""
         for rule, count in sorted(self._rules.items(), key=lambda it: (-it[1], it[0])):
             yield "{:>7}  {:<19}  {}".format(count, rule, rule_of(rule).sentence)
         often = [it for it in self._links.items() if it[1] > 1]

@@ -1,4 +1,4 @@
-//! What is said of a list, and of one line, is written in parts.
+//! What is said about a list, and about one line, is written in parts.
 ghost use Rattle.std.specs.Prelude.{◌≡◌, ℕ, ◌+◌, ◌-◌, ◌^◌, ◌<◌, ◌⊎◌, ◌++◌, List, None, [], IfErr, OnOk};
 ghost use Rattle.uv_lines.specs.Fault.{failed_within};
 ghost use Rattle.uv_lines.specs.Waiting.{LeavesParts, Passes};
@@ -11,8 +11,8 @@ use uv_lines::{
     Frame, Line, LineFault, LineLimits, ReportFault, Reporter, StopFault, end_part, run_lines,
 };
 
-// Says so many parts of a line, and then can't say more, or has said all. The first of them is one digit further than
-// the one of the line before.
+// Says this many parts about a line, and then either can't go on or has said everything. The first part is one digit
+// further than the first part of the line before.
 #[derive(Drop)]
 struct Thousands {
     lines: u64,
@@ -57,7 +57,7 @@ impl Reporter for Thousands {
     }
 }
 
-// Says so many parts, from this one on.
+// Says this many parts, from this one on.
 fn say_parts<W: Sink>(
     first: u64,
     count: u64,
@@ -103,12 +103,12 @@ fn say_part<W: Sink>(
     }
 }
 
-// A part: one of ten digits, a thousand times.
+// A part: one digit, a thousand times.
 fn part_bytes(part: u64) -> [u8; 1_000] {
     [b"0123456789"[(part % 10) as usize]; 1_000]
 }
 
-// Takes so many pieces whole and then fails. It keeps what it took, and how many bytes came at once at most.
+// Takes this many pieces whole and then fails. It keeps what it took, and the most bytes that came at once.
 #[derive(Drop)]
 struct Pieces {
     room: u32,
@@ -137,7 +137,7 @@ impl Sink for Pieces {
     }
 }
 
-// What a run over a list answers, on how many lines it reported, and what came of it.
+// What a run over a list answers, how many lines it reported on, and what was written.
 fn ran(
     alloc: Global,
     list: &[u8],
@@ -165,7 +165,7 @@ fn ran(
     (answer, reporter.lines, writer)
 }
 
-// So many parts in the frame.
+// This many parts in the frame.
 fn framed(alloc: Global, parts: u64) -> Result<Vec<u8>, AllocError> {
     let mut text = Vec::new(alloc);
     text.push(b'<')?;
@@ -176,8 +176,8 @@ fn framed(alloc: Global, parts: u64) -> Result<Vec<u8>, AllocError> {
     Ok(text)
 }
 
-// A run over a list with so many parts of each line answers so after so many writes, reports on so many lines, and
-// writes this. Returned is how many bytes came at once at most, and how many writes failed.
+// Checks that a run over a list with this many parts for each line gives this answer after this many writes, reports on
+// this many lines, and writes this. Gives the most bytes that came at once, and how many writes failed.
 fn leaves(
     rt: &(impl Abort + AllocGlobal),
     (list, parts, is_whole, room): (&[u8], u64, bool, u32),
@@ -196,8 +196,8 @@ fn leaves(
     (writer.most, writer.failures)
 }
 
-// What is said of 2,000 lines of one piece is 2,000,000 bytes, and so is what is said of one line, even if no LF ends
-// it. It is written in order where 262,144 bytes or more wait, which are the 263,000 of 263 parts.
+// What is said about 2,000 lines of one piece is 2,000,000 bytes, and so is what is said about one line, even if no LF
+// ends it. It is written in order whenever 262,144 bytes or more wait, which are the 263,000 of 263 parts.
 #[test]
 fn writes_what_is_much_in_the_midst_of_a_piece_and_of_a_line(rt: HostRuntime) -> Result<(), Fail> {
     let whole = framed(rt.alloc(), 2_000)?;
@@ -212,7 +212,7 @@ fn writes_what_is_much_in_the_midst_of_a_piece_and_of_a_line(rt: HostRuntime) ->
     Ok(())
 }
 
-// After so many writes one fails. What was taken before it is a prefix, and nothing is written after it.
+// After this many writes one fails. What was taken before it is a prefix, and nothing is written after it.
 fn stops(
     rt: &(impl Abort + AllocGlobal),
     list: &[u8],
@@ -249,7 +249,7 @@ fn stops_at_each_write_that_fails(rt: HostRuntime) -> Result<(), Fail> {
     Ok(())
 }
 
-// If no memory is left after so many parts of a line these are written, and the frame's end. The line isn't counted.
+// If no memory is left after this many parts of a line, these are written, and the frame's end. The line isn't counted.
 fn writes_parts(
     rt: &(impl Abort + AllocGlobal),
     list: &[u8],
@@ -272,7 +272,7 @@ fn writes_the_parts_before_a_fault_in_the_midst_of_a_line(rt: HostRuntime) -> Re
     Ok(())
 }
 
-// Where a part ends of so many bytes, so many of them are written, or the write fails.
+// Checks that when a part of this many bytes ends, this many of them are written, or the write fails.
 fn ends(
     rt: &(impl Abort + AllocGlobal),
     size: usize,
@@ -293,7 +293,7 @@ fn ends(
     Ok(())
 }
 
-// Of 262,143 bytes nothing is written where a part ends. With one more, all are written, and none waits, or the write
+// Of 262,143 bytes nothing is written when a part ends. With one more, all are written and none waits, or the write
 // fails.
 #[test]
 fn ends_a_part_of_much(rt: HostRuntime) -> Result<(), Fail> {

@@ -1,5 +1,5 @@
-//! Runs over readers and writers that play a list of answers: I/O errors written out, and each read and each write made
-//! to fail in turn, after short ones, in each profile.
+//! Runs over readers and writers that play a list of answers: I/O errors, and each read and each write made to fail in
+//! turn, after short ones, in each profile.
 ghost use Rattle.std.specs.Prelude.{◌<◌};
 
 use crate::line_ends::line_feeds;
@@ -24,7 +24,7 @@ struct Row<'r> {
     report: &'r str,
 }
 
-// Nothing that is against a list of lines alone.
+// A list of lines that are checked without a base.
 const ALONE: Row<'static> = Row {
     list: b"",
     base: None,
@@ -101,7 +101,7 @@ const ROWS: [Row<'static>; 8] = [
     },
 ];
 
-// More writes than a run makes, of which each takes all that it is given.
+// More writes than a run makes, each of which takes everything.
 const TAKEN: [Result<usize, DeviceFault>; 100] = [Ok(1_000); 100];
 
 // What a run over these reads and writes answers, with the base, limits and profile of the row, and what it has
@@ -142,7 +142,7 @@ fn reports_a_list_written_out(rt: HostRuntime) -> Result<(), Fail> {
     Ok(())
 }
 
-// After these reads one fails: of the report the lines of those that have ended, which are so many, are written, and
+// After these reads one fails: the report's lines on the lines that have ended, which are this many, are written, and
 // no more.
 fn fails_after(
     rt: &(impl Abort + AllocGlobal),
@@ -158,7 +158,7 @@ fn fails_after(
     Ok(())
 }
 
-// Each read after so many pieces fails in turn. Where none fails the report is whole.
+// With this many pieces read before it, each read fails in turn. If none fails, the report is whole.
 fn fails_each_read(
     rt: &(impl Abort + AllocGlobal),
     row: &Row<'_>,
@@ -218,7 +218,7 @@ fn writes_all(
     Ok(false)
 }
 
-// Each write after so many short ones fails in turn, until none does.
+// With this many short writes before it, each write fails in turn, until none does.
 fn fails_each_write(
     rt: &(impl Abort + AllocGlobal),
     row: &Row<'_>,
@@ -235,7 +235,7 @@ fn fails_each_write(
     Err("no run was whole".into())
 }
 
-// Each write fails in turn, where pieces are read and written in this length in bytes.
+// Each write fails in turn, with pieces of this many bytes read and written.
 fn fails_pieces(rt: &(impl Abort + AllocGlobal), row: &Row<'_>, length: usize) -> Result<(), Fail>
     requires { 0 < length }
 {
@@ -262,8 +262,8 @@ fn reports_each_failed_write(rt: HostRuntime) -> Result<(), Fail> {
     Ok(())
 }
 
-// A run over these reads and writes answers so, and writes the report of the row, under the standard profile and the
-// wide one.
+// Checks that a run over these reads and writes gives this answer and writes the report of the row, under the standard
+// profile and the wide one.
 fn ends(
     rt: &(impl Abort + AllocGlobal),
     row: Row<'_>,
@@ -313,7 +313,7 @@ fn reads_what_a_source_gives(rt: HostRuntime) -> Result<(), Fail> {
     ends(&rt, long, &[Ok(b"\xff\xff\xff\xff\n")], &TAKEN, None)
 }
 
-// After as many lines as may come a further one is a fault.
+// A line after the last one that may come is a fault.
 #[test]
 fn stops_after_the_last_line_that_may_come(rt: HostRuntime) -> Result<(), Fail> {
     let one = Row {

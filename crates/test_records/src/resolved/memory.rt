@@ -1,10 +1,10 @@
-//! Records that take much memory, or memory in each place where one may: while there is some, none is wanted.
+//! Records that take much memory, or memory in each place where one may; and that texts which need no memory take none.
 
 use super::*;
 
 const LONG: usize = 100_000;
 
-// A text so many times.
+// A text this many times.
 fn push_often(text: &mut String, piece: &str, count: usize) -> Result<(), AllocError> {
     for _ in 0..count {
         text.push_str(piece)?;
@@ -12,14 +12,15 @@ fn push_often(text: &mut String, piece: &str, count: usize) -> Result<(), AllocE
     Ok(())
 }
 
-// A prefix, and then a piece so many times.
+// A prefix, and then a piece this many times.
 fn repeated(alloc: Global, prefix: &str, piece: &str, count: usize) -> Result<String, AllocError> {
     let mut text = String::from_str(alloc, prefix)?;
     push_often(&mut text, piece, count)?;
     Ok(text)
 }
 
-// Whether long opaque paths, segments, queries and fragments after a prefix are encoded, each code point as six.
+// Whether long opaque paths, segments, queries and fragments after a prefix are encoded, each of their code points as
+// six.
 fn encodes_after(alloc: Global, prefix: &str) -> Result<bool, ResolveFault> {
     let text = repeated(alloc, prefix, "\u{E9}", LONG)?;
     let url = repeated(alloc, prefix, "%C3%A9", LONG)?;
@@ -50,7 +51,7 @@ fn removes_many_segments(rt: HostRuntime) -> Result<(), ResolveFault> {
     Ok(())
 }
 
-// Whether a text is refused at this place by this rule, even if its URL's text alone is asked for.
+// Whether a text is refused at this place by this rule, even if only its URL's text is asked for.
 fn is_refused(alloc: Global, text: &str, place: usize, rule: Rule) -> bool {
     let wanted = Refusal { place, rule };
     is_refusal(resolve(alloc, text, None, Profile::Standard).err(), wanted)
@@ -92,7 +93,7 @@ fn take_block(alloc: Global, size: usize, held: &mut Vec<Vec<u8>>) -> usize {
 }
 
 /// Takes all the memory that there is, down to blocks of eight bytes. An allocator keeps what was freed by its size, so
-/// every small size is asked for, and not the powers of two alone.
+/// every small size is asked for, not only the powers of two.
 fn take_all(alloc: Global, held: &mut Vec<Vec<u8>>) {
     let mut size = 1usize << 46;
     for _ in 0..400_000u32 {
@@ -103,7 +104,7 @@ fn take_all(alloc: Global, held: &mut Vec<Vec<u8>>) {
     }
 }
 
-// Whether memory is wanted for a text.
+// Whether resolving a text needs memory.
 fn runs_out_of_memory(alloc: Global, text: &str) -> bool {
     matches!(
         resolve(alloc, text, None, Profile::Standard),

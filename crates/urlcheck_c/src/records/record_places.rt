@@ -9,7 +9,7 @@ ghost use Rattle.urlcheck_c.specs.RecordPlaces.{host_number, placed_span, reach,
 use crate::spans::{Span, Spans};
 use uv_resolve::{HostKind, UrlLayout};
 
-/// The places of the parts of a record in its text, which is laid out so and has so many bytes.
+/// The places of the parts of a record in its text, which has this layout and this many bytes.
 pub(crate) fn record_spans(layout: &UrlLayout, whole: usize) -> Spans
     requires { (url : Url) × (layout.now ≡ layout_of url) × (whole ≡ length (serial url)) }
     ensures { (url : Url) → layout.now ≡ layout_of url → whole ≡ length (serial url) → result ≡ record_spans url }
@@ -42,7 +42,7 @@ fn span_between(start: usize, end: usize) -> Span
     }
 }
 
-// The span of a text whose delimiter of so many bytes begins here, or that of none, which ends here.
+// The span of a part whose delimiter of this many bytes begins here; or of an absent part, which ends here.
 fn marked_span(at: usize, mark: usize, end: usize) -> Span
     requires mark { 0 < mark }
     requires end { (count : Option ℕ) × (end ≡ at + reach mark count) }

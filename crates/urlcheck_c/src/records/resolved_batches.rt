@@ -15,11 +15,11 @@ use std::alloc::{AllocError, Global};
 use uv_model::Profile;
 use uv_resolve::{ResolveFault, resolve_serialized};
 
-/// Resolves texts that are one after the other in a buffer, alone, under the profile with this number, and writes the
-/// texts of their records one after the other to the start of `out`, where they fit; otherwise `out` stays as it is.
-/// Three columns get each text's verdict, its rule, both as numbers, and its place in code points. A fourth has where
-/// the texts in `out` begin, and where the last ends. Each is left out where it has no room for all. Where nothing is
-/// resolved, nothing is written.
+/// Resolves texts that are one after another in a buffer, without a base, under the profile with this number, and
+/// writes the texts of their records one after another to the start of `out`, if they fit; otherwise `out` stays as it
+/// is. Three columns get each text's verdict, its rule, both as numbers, and its place in code points. A fourth gets
+/// where the texts in `out` begin, and where the last one ends. A column that hasn't room for all of them is left out.
+/// If nothing is resolved, nothing is written.
 #[unsafe(no_mangle)]
 pub extern "C" fn urlcheck_resolve_many(
     alloc: Global,
@@ -53,7 +53,7 @@ pub extern "C" fn urlcheck_resolve_many(
     }
 }
 
-// The texts of the records of rows, one after the other, and how many rows are valid.
+// The texts of the records of rows, one after another, and how many rows are valid.
 #[derive(Drop)]
 struct ResolvedRows {
     text: String,
@@ -94,8 +94,7 @@ fn resolve_rows(
     ResolvedRows { text, valid }
 }
 
-// Puts where a text ends into the column of that, which has an element more than there are rows, where it has room for
-// all.
+// Puts where a text ends into its column, which has one more element than there are rows, if it has room for all.
 #[inline(always)]
 fn put_end(ends: &mut [u64], rows: usize, at: usize, end: usize)
     requires { at ≤ rows }
@@ -106,8 +105,8 @@ fn put_end(ends: &mut [u64], rows: usize, at: usize, end: usize)
     }
 }
 
-// Appends the text of the record that a text denotes, where it denotes one, and gives what was found of it: its verdict
-// and its rule are small numbers.
+// Appends the text of the record that a text denotes, if it denotes one, and gives what was found of it. The verdict
+// and the rule are small numbers.
 fn append_resolved(alloc: Global, bytes: &[u8], profile: u32, out: &mut String) -> Finding
     ensures found { (text : List ℕ) × IsResolvedRow profile bytes.now result text
         × (string_bytes out.new ≡ string_bytes out.old ++ text) }
@@ -129,7 +128,7 @@ fn appended(text: &str, out: &mut String) -> Finding
     }
 }
 
-// The text of the record that bytes denote alone, or what was found of them.
+// The text of the record that bytes denote without a base, or what was found of them.
 fn text_resolved(alloc: Global, bytes: &[u8], profile: u32) -> Result<String, Finding>
     ensures { IsTextResolved profile bytes.now result }
 {
@@ -142,7 +141,7 @@ fn text_resolved(alloc: Global, bytes: &[u8], profile: u32) -> Result<String, Fi
     }
 }
 
-// The text of the record that a text denotes alone, or why it denotes none.
+// The text of the record that a text denotes without a base, or why it denotes none.
 fn text_denoted(alloc: Global, text: &str, profile: Profile) -> Result<String, Finding>
     ensures { IsRequestResolved profile text.now result }
 {

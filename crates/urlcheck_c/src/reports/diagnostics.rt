@@ -1,4 +1,4 @@
-//! A diagnostic on a text that is in a file: what is said of it is given.
+//! A diagnostic on a text in a file. The caller gives each text that it has.
 ghost use Rattle.std.specs.Prelude.{◌≡◌, ◌==◌, ◌↔◌, IfOk, IsTrue, string_bytes};
 ghost use Rattle.uv_report.specs.Diagnostic.{diagnostic_view};
 ghost use Rattle.uv_report.specs.Report.{diagnostic_text};
@@ -22,7 +22,7 @@ use uv_text::count_code_points;
 pub struct ReportedNumbers {
     /// Where what is wrong is.
     pub region: Region,
-    /// Where the text is in whose place the mended one is to be written; all zeros where it may not be written there.
+    /// Where the text is that a mended one is to replace; all zeros if it may not be written there.
     pub fix_region: Region,
     /// The place at which the text is wrong, in code points from 0.
     pub place: usize,
@@ -46,8 +46,8 @@ pub(crate) struct ReportedTexts<'t> {
     fix: &'t [u8],
 }
 
-/// Writes what is reported of a text in the file of that name, in the format with this number: the name of a rule, the
-/// address of its page, which may be empty, what is wrong, and within what in the file it is, which may be empty too.
+/// Writes a diagnostic on a text in the file with this name, in the format with this number: the name of a rule, the
+/// address of its page, which may be empty, what is wrong, and where in the file that is, which may be empty too.
 #[unsafe(no_mangle)]
 pub extern "C" fn urlcheck_diagnostic(
     alloc: Global,
@@ -88,7 +88,7 @@ pub extern "C" fn urlcheck_diagnostic(
     written(alloc, format, is_first != 0, numbers, texts, out)
 }
 
-// Writes the diagnostic that the numbers and the texts say, or gives why they say none.
+// Writes the diagnostic that the numbers and the texts describe, or says why they describe none.
 fn written(
     alloc: Global,
     format: Format,
@@ -136,7 +136,7 @@ fn text_found<'t>(bytes: &'t [u8], place: usize) -> Result<&'t str, Finding>
     Ok(text)
 }
 
-// The diagnostic on this text, or why the others say none.
+// The diagnostic on this text, or why the other arguments describe none.
 fn diagnostic_read<'t>(
     numbers: &ReportedNumbers,
     texts: ReportedTexts<'t>,
@@ -167,7 +167,7 @@ fn diagnostic_read<'t>(
     })
 }
 
-// What to write in place of the text, if the numbers say it, or why they don't.
+// What to write in place of the text, if the numbers say so; or why they are wrong.
 fn fix_read<'t>(numbers: &ReportedNumbers, fix: &'t [u8]) -> Result<Option<Fix<'t>>, Finding>
     ensures { IsFixRead numbers.now fix.now result }
 {
@@ -187,7 +187,7 @@ fn fix_read<'t>(numbers: &ReportedNumbers, fix: &'t [u8]) -> Result<Option<Fix<'
     }))
 }
 
-// Where a fix may be written, if it may be, or why the region isn't one.
+// Where a fix may be written, if anywhere; or why the region isn't one.
 fn fix_region_read(region: Region) -> Result<Option<Region>, Finding>
     ensures { IsFixRegionRead region result }
 {
@@ -208,7 +208,7 @@ fn is_nowhere(region: Region) -> bool
     region.line == 0 && region.column == 0 && region.end_line == 0 && region.end_column == 0
 }
 
-// Whether the lines and the columns of a region are in range, and it doesn't end before it begins.
+// Whether the lines and the columns of a region are in range, and it ends no earlier than it begins.
 fn is_region(region: Region) -> bool
     ensures { IsTrue result ↔ IsRegion region }
 {
@@ -219,7 +219,7 @@ fn is_region(region: Region) -> bool
         && is_in_order(region)
 }
 
-// Whether a region doesn't end before it begins.
+// Whether a region ends no earlier than it begins.
 fn is_in_order(region: Region) -> bool
     ensures { IsTrue result ↔ IsInOrder region }
 {

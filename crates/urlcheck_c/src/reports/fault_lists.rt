@@ -31,14 +31,15 @@ pub struct Fault {
 #[repr(C)]
 #[derive(Clone, Copy)]
 pub struct FaultCount {
-    /// The verdict, as the check gives it: of a refused text with its first fault.
+    /// The verdict that the check gives: for a refused text, by its first fault.
     pub found: Finding,
     /// How many faults the text has, which may be more than were written.
     pub count: usize,
 }
 
-/// Writes the faults of the bytes, alone or against a base as `urlcheck_check` has it, to the start of `out`, by place
-/// and at one place by the rule's number, as many as it holds, and gives their count. After them `out` stays as it is.
+/// Writes the faults of the bytes, alone or against a base as `urlcheck_check` has it, to the start of `out`, ordered
+/// by place and at one place by the rule's number, as many as it holds, and gives their count. The rest of `out` stays
+/// as it is.
 #[unsafe(no_mangle)]
 pub extern "C" fn urlcheck_faults(
     alloc: Global,
@@ -56,7 +57,7 @@ pub extern "C" fn urlcheck_faults(
     }
 }
 
-// The faults of a text that is checked, in the caller's buffer.
+// The faults of a text that is checked, written into the caller's buffer.
 fn listed_of(alloc: Global, request: &CheckRequest<'_>, out: &mut [Fault]) -> FaultCount
     ensures { (url : Option Url) → IsOfKindGiven url request.now.kind
         → IsFaultsChecked request.now.profile url request.now.text.now out.old out.new result }
@@ -76,7 +77,7 @@ fn faults_on(alloc: Global, request: &CheckRequest<'_>) -> Result<Vec<Refusal>, 
     }
 }
 
-// The answer by the faults of a text, as many of which are written as the buffer holds.
+// The answer by the faults of a text, of which as many are written as the buffer holds.
 fn listed(text: &str, all: &Result<Vec<Refusal>, AllocError>, out: &mut [Fault]) -> FaultCount
     ensures { (profile : Profile) (base : Option Url)
         → IfOk all.now (λ found. AreFaults profile base (chars text.now) found.items)

@@ -24,8 +24,8 @@ pub(crate) struct FoundViolation<'t> {
     pub(crate) violation: LineViolation,
 }
 
-/// Writes the sentence, without its end, on a violation of a text by a profile, at a place in code points: what is
-/// after `error: ` in the lines of compilers. The wording is one of four, by its number.
+/// Writes the sentence on a violation of a text by a profile, at a place in code points, without its full stop: what
+/// compilers print after `error: `. The wording is one of four, by its number.
 #[unsafe(no_mangle)]
 pub extern "C" fn urlcheck_message(
     alloc: Global,
@@ -47,7 +47,7 @@ pub extern "C" fn urlcheck_message(
     }
 }
 
-// The wording with this number, and for any other the silent one.
+// The wording with this number; the silent one for any other number.
 fn wording_of(number: u32) -> Wording {
     match number {
         0 => Wording::Options,
@@ -58,7 +58,7 @@ fn wording_of(number: u32) -> Wording {
 }
 
 /// What is wrong with the bytes of a text, by the numbers of a profile and of a rule of texts or of lines, at a place;
-/// or why these don't say it.
+/// or why these numbers don't say it.
 pub(crate) fn violation_read<'t>(
     text: &'t [u8],
     profile: u32,

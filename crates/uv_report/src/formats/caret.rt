@@ -17,12 +17,12 @@ use uv_sentences::{
     LineViolation, SeenText, cut_out, is_printable_text, named_place, push_shown as push_shown_text,
 };
 
-// Spaces, in one piece.
+// Spaces, as one text.
 const SPACES: &str =
     "                                                                                                ";
 
-/// Pushes the line of `gnu`, what is shown of the line that it is about and the line of the caret where a text is
-/// carried, and where there is a mended text `help: write TEXT`, or a note that names one that isn't offered.
+/// Pushes the line of `gnu`; if a text is carried, what is shown of the line and the line with the caret; and if there
+/// is a mended text, `help: write TEXT`, or a note that names one that isn't offered.
 #[tactic(auto, unfolding(crate::specs::Formats::Caret::caret_text))]
 pub(crate) fn push_caret(
     alloc: Global,
@@ -37,7 +37,7 @@ pub(crate) fn push_caret(
     Ok(())
 }
 
-// Pushes what is shown of a line, and a caret below what the message names, where the text that is wrong is carried.
+// Pushes what is shown of a line, and a caret below what the message names, if the wrong text is carried.
 fn push_shown(alloc: Global, text: &mut String, found: &Diagnostic<'_>) -> Result<(), AllocError>
     ensures { OnOk result (string_bytes text.new
         ≡ string_bytes text.old ++ shown_lines (diagnostic_view found.now)) }
@@ -49,15 +49,14 @@ fn push_shown(alloc: Global, text: &mut String, found: &Diagnostic<'_>) -> Resul
     push_window(alloc, text, found.text, named)
 }
 
-// Whether the text that is wrong is carried: one that isn't empty, or also an empty one, but by the rules of lines that
-// aren't checked.
+// Whether the wrong text is carried: always if it isn't empty, and if it is empty unless the line wasn't checked.
 fn shows_line(rule: &str, line: &str) -> bool
     ensures { result ≡ shows_line rule.now line.now }
 {
     !line.is_empty() || LineViolation::of_name(rule).is_none()
 }
 
-// Pushes what is shown of a line, and a caret below one of the line's places. A line that is shown whole isn't copied.
+// Pushes what is shown of a line, and a caret below one of its places. A line that is shown whole isn't copied.
 #[tactic(auto, unfolding(crate::specs::Formats::Caret::window_lines, uv_sentences::specs::Places::Window::window))]
 fn push_window(
     alloc: Global,
@@ -75,7 +74,7 @@ fn push_window(
     }
 }
 
-// Pushes what to write in place of a line of which this place is reported, where that is to be said.
+// Pushes what to write in place of a line, whose report is about this place, if that is to be said.
 fn push_help(
     alloc: Global,
     text: &mut String,
@@ -94,7 +93,7 @@ fn push_help(
     }
 }
 
-// What is before a mended text, which is offered or isn't.
+// The words before a mended text, which depend on whether it is offered.
 fn help_words(offered: bool, kind: MendKind) -> &'static str
     ensures { result.now ≡ help_words offered kind }
 {
@@ -105,7 +104,7 @@ fn help_words(offered: bool, kind: MendKind) -> &'static str
     }
 }
 
-// How a mended text is named that isn't offered.
+// What a mended text that isn't offered is called.
 fn named_as(kind: MendKind) -> &'static str
     ensures { result.now ≡ named_as kind }
 {
@@ -163,7 +162,7 @@ fn push_lines(text: &mut String, line: &str, place: usize) -> Result<(), AllocEr
     Ok(())
 }
 
-// Pushes what is below the code points of a line before a place: below printable ASCII as many spaces.
+// Pushes what comes below the code points of a line before a place: as many spaces, if they are printable ASCII.
 fn push_padding(text: &mut String, line: &str, place: usize) -> Result<(), AllocError>
     ensures { OnOk result (string_bytes text.new ≡ string_bytes text.old ++ padding (take place (chars line.now))) }
 {
@@ -173,7 +172,7 @@ fn push_padding(text: &mut String, line: &str, place: usize) -> Result<(), Alloc
     }
 }
 
-// The same code point by code point.
+// Pushes what comes below the code points of a line before a place, code point by code point.
 fn push_each_below(text: &mut String, line: &str, place: usize) -> Result<(), AllocError>
     ensures { OnOk result (string_bytes text.new ≡ string_bytes text.old ++ padding (take place (chars line.now))) }
 {
@@ -183,7 +182,7 @@ fn push_each_below(text: &mut String, line: &str, place: usize) -> Result<(), Al
     Ok(())
 }
 
-// Pushes what is below a code point.
+// Pushes what comes below a code point.
 fn push_below(text: &mut String, c: char) -> Result<(), AllocError>
     ensures { OnOk result (string_bytes text.new ≡ string_bytes text.old ++ below c) }
 {
@@ -194,7 +193,7 @@ fn push_below(text: &mut String, c: char) -> Result<(), AllocError>
     }
 }
 
-// Pushes so many spaces, mostly in one piece.
+// Pushes this many spaces, in most cases as one text.
 fn push_spaces(text: &mut String, count: usize) -> Result<(), AllocError>
     ensures { OnOk result (string_bytes text.new ≡ string_bytes text.old ++ replicate count 32) }
 {
@@ -204,7 +203,7 @@ fn push_spaces(text: &mut String, count: usize) -> Result<(), AllocError>
     }
 }
 
-// The same space by space.
+// Pushes this many spaces, one by one.
 fn push_each_space(text: &mut String, count: usize) -> Result<(), AllocError>
     ensures { OnOk result (string_bytes text.new ≡ string_bytes text.old ++ replicate count 32) }
 {

@@ -1,4 +1,4 @@
-//! What tells one diagnostic from another, in any run: by what is wrong with which text, or also by the file.
+//! What tells one diagnostic from another, in any run: what is wrong with which text, and if wanted in which file.
 ghost use Rattle.std.specs.Prelude.{◌≡◌, IfOk, string_bytes};
 ghost use Rattle.json.specs.Json.{string};
 ghost use Rattle.uv_report.specs.Diagnostic.{diagnostic_view};
@@ -10,8 +10,8 @@ use crate::json_text::JsonText;
 use sha2::{Digest, Sha256};
 use std::alloc::{AllocError, Global};
 
-/// The fingerprint of what is wrong with a text: of the rule, the place, and what a report carries of the text. It is
-/// the same wherever the text is.
+/// The fingerprint of what is wrong with a text, made of the rule, the place, and what a report carries of the text. It
+/// is the same wherever the text is.
 #[tactic(auto, unfolding(crate::specs::Formats::Fingerprint::text_fingerprint))]
 pub(crate) fn text_fingerprint(alloc: Global, found: &Diagnostic<'_>) -> Result<String, AllocError>
     ensures { IfOk result (λ digits. string_bytes digits ≡ spec.text_fingerprint (diagnostic_view found.now)) }
@@ -20,8 +20,8 @@ pub(crate) fn text_fingerprint(alloc: Global, found: &Diagnostic<'_>) -> Result<
     digest(alloc, key.as_bytes())
 }
 
-/// The fingerprint of what is wrong with a text of a file, wherever in the file that is: of the same, the file, and how
-/// many the same are before it.
+/// The fingerprint of what is wrong with a text in a file, wherever in the file that is: made of the same, the file,
+/// and how many equal ones come before it.
 pub(crate) fn file_fingerprint(alloc: Global, found: &Diagnostic<'_>) -> Result<String, AllocError>
     ensures { IfOk result (λ digits. string_bytes digits ≡ spec.file_fingerprint (diagnostic_view found.now)) }
 {
@@ -36,7 +36,7 @@ fn digest(alloc: Global, bytes: &[u8]) -> Result<String, AllocError>
     hex::encode(alloc, Sha256::digest(bytes))
 }
 
-// What a fingerprint says of a violation and its text.
+// What goes into a fingerprint from a violation and its text.
 #[tactic(auto, unfolding(crate::specs::Formats::Fingerprint::text_key))]
 fn text_key(alloc: Global, found: &Diagnostic<'_>) -> Result<String, AllocError>
     ensures { IfOk result (λ key. string_bytes key ≡ spec.text_key (diagnostic_view found.now)) }
@@ -48,7 +48,7 @@ fn text_key(alloc: Global, found: &Diagnostic<'_>) -> Result<String, AllocError>
     format!(in alloc; "{rule}\n{place}\n{carried}")
 }
 
-// What a fingerprint says of a diagnostic in its file.
+// What goes into the fingerprint of a diagnostic in its file.
 #[tactic(auto, unfolding(crate::specs::Formats::Fingerprint::file_key))]
 fn file_key(alloc: Global, found: &Diagnostic<'_>) -> Result<String, AllocError>
     ensures { IfOk result (λ key. string_bytes key ≡ spec.file_key (diagnostic_view found.now)) }

@@ -1,4 +1,4 @@
-//! Diagnostics as a report of GitLab on the quality of code, which is written issue by issue.
+//! Diagnostics as a report of GitLab on code quality, which is written issue by issue.
 ghost use Rattle.json.specs.Tree.{json_tokens};
 ghost use Rattle.std.specs.Prelude.{◌≡◌, ◌++◌, OnOk, string_bytes};
 ghost use Rattle.uv_report.specs.Diagnostic.{diagnostic_view};

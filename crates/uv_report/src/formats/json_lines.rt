@@ -40,7 +40,7 @@ fn write_object(
     }
 }
 
-// Writes the object of one with no mended text.
+// Writes the object of a diagnostic without a mended text.
 fn write_plain(json: &mut JsonText, found: &Diagnostic<'_>, carried: &str) -> Result<(), AllocError>
     requires { carried.now ≡ carried_text (diagnostic_view found.now) }
     ensures { OnOk result (json.new ≡ json.old ++ json_tokens (spec.plain_value (diagnostic_view found.now))) }
@@ -57,7 +57,7 @@ fn write_plain(json: &mut JsonText, found: &Diagnostic<'_>, carried: &str) -> Re
     Ok(())
 }
 
-// Writes the object of one with a mended text.
+// Writes the object of a diagnostic with a mended text.
 fn write_mended(
     json: &mut JsonText,
     found: &Diagnostic<'_>,
@@ -79,8 +79,8 @@ fn write_mended(
     Ok(())
 }
 
-// Writes the members of the message, of whether a mended text is offered, of the rule and of what is carried of the
-// text, and ends the object.
+// Writes the members of the message, of whether a mended text is offered, of the rule and of the carried text, and ends
+// the object.
 #[tactic(auto, unfolding(crate::specs::Formats::Json::offered_members))]
 fn write_offered(
     json: &mut JsonText,

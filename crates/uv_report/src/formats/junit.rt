@@ -12,7 +12,7 @@ use uv_sentences::{Escapes, escaped, push_escaped};
 pub(crate) const JUNIT_BEGIN: &str =
     "<?xml version=\"1.0\" encoding=\"UTF-8\"?>\n<testsuites name=\"urlcheck\">\n";
 
-/// What the document ends with: a test that fails when not every file was read to its end.
+/// What the document ends with: a test that fails if not every file was read to its end.
 pub(crate) fn junit_end(completion: Completion) -> &'static str
     ensures { result.now ≡ spec.junit_end completion }
 {

@@ -55,7 +55,7 @@ fn write_members(json: &mut JsonText, found: &Diagnostic<'_>) -> Result<(), Allo
     Ok(())
 }
 
-// Writes the member of the rule, and of its address where it has one.
+// Writes the member of the rule, and of its address if it has one.
 #[tactic(auto, unfolding(crate::specs::Formats::Rdjson::code_value))]
 fn write_code(json: &mut JsonText, uri: &str, rule: &str) -> Result<(), AllocError>
     ensures { OnOk result (json.new
@@ -92,7 +92,7 @@ fn write_location(json: &mut JsonText, found: &Diagnostic<'_>) -> Result<(), All
     Ok(())
 }
 
-// Writes the member of the mended text, where that is offered, and ends the object.
+// Writes the member of the mended text, if that is offered, and ends the object.
 fn write_suggestions(json: &mut JsonText, found: &Diagnostic<'_>) -> Result<(), AllocError>
     ensures { OnOk result (json.new ≡ json.old ++ members_tokens (spec.suggestions_member
         (edit_of (diagnostic_view found.now).fix))) }
@@ -103,7 +103,7 @@ fn write_suggestions(json: &mut JsonText, found: &Diagnostic<'_>) -> Result<(), 
     }
 }
 
-// Writes the member of a mended text in place of all of the text, which is in this region, and ends the object.
+// Writes the member of a mended text that replaces all of the text, which is in this region, and ends the object.
 fn write_suggestion(json: &mut JsonText, region: Region, fix: Fix<'_>) -> Result<(), AllocError>
     ensures { OnOk result (json.new
         ≡ json.old ++ members_tokens (spec.suggestions_member (Some (edit_view (region, fix.entry))))) }

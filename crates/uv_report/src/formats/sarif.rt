@@ -39,7 +39,7 @@ pub(crate) fn push_sarif_begin(
     Ok(())
 }
 
-// What columns count, where SARIF has a word for it.
+// What columns count, if SARIF has a word for it.
 fn column_kind(columns: Columns) -> &'static str
     ensures { result.now ≡ spec.column_kind columns }
 {
@@ -68,7 +68,7 @@ pub(crate) fn sarif_end(completion: Completion) -> &'static str
     }
 }
 
-// Pushes the rules, after the three violations that aren't refusal.
+// Pushes the rules, after the three violations that aren't refusals.
 #[tactic(auto, unfolding(crate::specs::Formats::Sarif::all_rules))]
 fn push_rules(alloc: Global, text: &mut String) -> Result<(), AllocError>
     ensures { OnOk result (string_bytes text.new ≡ string_bytes text.old ++ spec.all_rules) }
@@ -117,7 +117,7 @@ fn push_rule(alloc: Global, text: &mut String, violation: LineViolation) -> Resu
     Ok(())
 }
 
-// Writes a rule: what it asks, the address of its section where it has one, its name, and what is wrong where it is
+// Writes a rule: what it requires, the address of its section if it has one, its name, and what is wrong where it is
 // violated.
 #[tactic(auto, unfolding(crate::specs::Formats::Sarif::rule_value))]
 fn write_rule(json: &mut JsonText, violation: LineViolation) -> Result<(), AllocError>
@@ -248,7 +248,7 @@ fn write_fixed(
     Ok(())
 }
 
-// Writes the members of each result, and ends it.
+// Writes the members that every result has, and ends it.
 fn write_members(
     alloc: Global,
     json: &mut JsonText,
@@ -273,7 +273,7 @@ fn write_members(
     Ok(())
 }
 
-// Writes the members of what is carried of the text, and of the violated rule, and ends the result.
+// Writes the members of the carried text, and of the violated rule, and ends the result.
 #[tactic(auto, unfolding(crate::specs::Formats::Sarif::violation_members))]
 fn write_violation(
     json: &mut JsonText,
@@ -364,7 +364,7 @@ fn write_lines_region(json: &mut JsonText, name: &str, region: Region) -> Result
     Ok(())
 }
 
-// Writes the member of the fix that writes a mended text, alone in an array.
+// Writes the member of the fix that writes a mended text, as the only item of an array.
 fn write_fix(json: &mut JsonText, uri: &str, region: Region, fix: Fix<'_>) -> Result<(), AllocError>
     ensures { OnOk result (json.new ≡ json.old ++ key (codes "fixes")
         ∷ json_tokens (single (spec.fix_value uri.now (edit_view (region, fix.entry))))) }
@@ -378,7 +378,7 @@ fn write_fix(json: &mut JsonText, uri: &str, region: Region, fix: Fix<'_>) -> Re
     Ok(())
 }
 
-// Writes the member of the change, alone in an array: a text in place of what is in this region.
+// Writes the member of the change, as the only item of an array: a text in place of what is in this region.
 fn write_change(
     json: &mut JsonText,
     uri: &str,
@@ -420,7 +420,7 @@ fn write_inserted(json: &mut JsonText, text: &str) -> Result<(), AllocError>
     Ok(())
 }
 
-// What a fix does, by how the mended text is to the refused one.
+// What a fix does, depending on how the mended text relates to the refused one.
 fn fix_sentence(kind: MendKind) -> &'static str
     ensures { result.now ≡ spec.fix_sentence kind }
 {

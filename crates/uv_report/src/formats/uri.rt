@@ -5,7 +5,7 @@ ghost use Rattle.uv_report.specs.Formats.Uri as spec;
 use percent_encoding::{AsciiSet, NON_ALPHANUMERIC, ascii_set, utf8_percent_encode};
 use std::alloc::AllocError;
 
-// What a path can't hold as it is: all but `/` and the unreserved characters (RFC 3986, section 2.3).
+// What a path can't hold unescaped: everything except `/` and the unreserved characters (RFC 3986, section 2.3).
 const ESCAPED: AsciiSet = ascii_set!(
     NON_ALPHANUMERIC
         .remove(b'/')
@@ -55,13 +55,14 @@ fn push_uri_part(text: &mut String, name: &str) -> Result<(), AllocError>
     }
 }
 
-// Whether each byte of a name is as it is, as in most names.
+// Whether each byte of a name stays as it is, as in most names.
 fn all_stay(bytes: &[u8]) -> bool
     ensures { IsTrue result → spec.uri_part bytes.now ≡ bytes.now }
 {
     bytes.iter().all(|&byte| stays(byte))
 }
 
+// Whether a byte stays as it is in the path of a URI reference.
 fn stays(byte: u8) -> bool
     ensures { result ≡ spec.stays byte }
 {

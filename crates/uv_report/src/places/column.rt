@@ -15,7 +15,7 @@ pub enum Columns {
     /// The code units of UTF-16: two for a code point from U+10000 on.
     Utf16,
     /// The columns of a screen: two for a wide code point, none for a combining mark, and for a tab as many as there
-    /// are up to the next stop. Stops are each eight columns.
+    /// are up to the next stop, which comes every eight columns.
     Screen,
 }
 
@@ -46,14 +46,14 @@ impl Columns {
     }
 }
 
-/// The column after a code point that is in this one; the greatest number of 64 bits for each column beyond it.
+/// The column after a code point at this column. The greatest number of 64 bits stands for every column beyond it.
 pub(crate) fn column_after(columns: Columns, column: u64, c: char) -> u64
     ensures { result ≡ spec.column_after columns column c }
 {
     column.saturating_add(point_width(columns, column, c))
 }
 
-// How many columns a code point takes that is in this one.
+// How many columns a code point at this column takes.
 fn point_width(columns: Columns, column: u64, c: char) -> u64
     ensures { result ≡ spec.point_width columns column c }
 {

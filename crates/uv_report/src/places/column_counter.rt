@@ -9,7 +9,7 @@ use crate::places::column::{Columns, column_after};
 use std::marker::Model;
 use uv_model::first_code_point;
 
-// A place of a text, its column, and what is from there on.
+// A place of a text, its column, and what comes from there on.
 #[derive(Clone, Copy)]
 struct Mark<'t> {
     place: usize,
@@ -17,8 +17,8 @@ struct Mark<'t> {
     rest: &'t str,
 }
 
-/// Tells the columns of the places of a text. It goes on from the place that it was asked for last, where the next one
-/// isn't before that: places in their order are told in one pass over the text.
+/// Gives the columns of the places of a text. It goes on from the place that it was last asked for, unless the next one
+/// comes before that: so places in ascending order take one pass over the text.
 #[derive(Drop)]
 pub struct ColumnCounter<'t> {
     columns: Columns,
@@ -38,7 +38,7 @@ impl<'t> Model for ColumnCounter<'t> {
 }
 
 impl<'t> ColumnCounter<'t> {
-    /// What tells the columns of a text that begins in a column.
+    /// The counter for a text that begins in a column.
     pub fn new(columns: Columns, start: u64, text: &'t str) -> ColumnCounter<'t>
         ensures { result ≡ record { columns = columns; start = start; text = text.entry.now } }
     {
@@ -50,7 +50,7 @@ impl<'t> ColumnCounter<'t> {
         }
     }
 
-    /// The column of a place: so many columns after the text's start as what is before the place takes.
+    /// The column of a place: as many columns after the text's start as what is before the place takes.
     pub fn column(&mut self, place: usize) -> u64
         ensures column { result ≡ column_at self.old.columns self.old.start self.old.text place }
         ensures same { self.new ≡ self.old }
@@ -62,7 +62,7 @@ impl<'t> ColumnCounter<'t> {
         self.last.column
     }
 
-    /// The column of a place, as `column` tells it. The next one is still told from where the last one was.
+    /// The column of a place, as `column` gives it. The next one is still counted from where the last one was.
     pub fn column_ahead(&self, place: usize) -> u64
         ensures { result ≡ column_at self.now.columns self.now.start self.now.text place }
     {
@@ -86,7 +86,7 @@ fn first_mark<'t>(start: u64, text: &'t str) -> Mark<'t>
     }
 }
 
-// The mark of a place after another, or of the text's end where it has no such place.
+// The mark of a place after another, or of the text's end if it has no such place.
 fn mark_at<'t>(columns: Columns, from: Mark<'t>, place: usize) -> Mark<'t>
     requires { from.place ≤ place }
     ensures { (start : ℕ) (text : List ℕ) → IsMark columns start text from.entry
@@ -98,7 +98,7 @@ fn mark_at<'t>(columns: Columns, from: Mark<'t>, place: usize) -> Mark<'t>
     }
 }
 
-// The mark of a place after another, where code points are counted and those between the two are ASCII: it is found
+// The mark of a place after another, if code points are counted and those between the two are ASCII: it is found
 // without a walk over them.
 fn mark_after_ascii<'t>(columns: Columns, from: Mark<'t>, place: usize) -> Option<Mark<'t>>
     requires { from.place ≤ place }
@@ -111,7 +111,7 @@ fn mark_after_ascii<'t>(columns: Columns, from: Mark<'t>, place: usize) -> Optio
     }
 }
 
-// The mark of a place after another in columns of code points, where those between the two are ASCII.
+// The mark of a place after another in columns of code points, if those between the two are ASCII.
 fn point_after_ascii<'t>(from: Mark<'t>, place: usize) -> Option<Mark<'t>>
     requires { from.place ≤ place }
     ensures { (start : ℕ) (text : List ℕ) → IsMark CodePoints start text from.entry

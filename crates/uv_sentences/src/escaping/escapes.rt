@@ -7,10 +7,10 @@ ghost use Rattle.uv_sentences.specs.Escaping.Escapes.{escape, escaped, shown_tex
 use crate::escaping::printable::is_printable_text;
 use std::alloc::{AllocError, Global};
 
-/// Which code points may not be as they are, and what is in their place.
+/// Which code points may not appear as they are, and what replaces them.
 #[derive(Clone, Copy)]
 pub enum Escapes {
-    /// On a terminal: controls but the tab, and what turns the direction of a text or ends a line.
+    /// On a terminal: controls except the tab, and code points that turn the direction of a text or end a line.
     Shown,
     /// In the message of a workflow command.
     Message,
@@ -20,8 +20,8 @@ pub enum Escapes {
     Attribute,
 }
 
-/// Pushes a text as a terminal may show it: U+FFFD stands for each control but the tab, and for what ends a line or
-/// turns the direction of a text. If an allocation fails, a prefix of it was pushed.
+/// Pushes a text as a terminal may show it: U+FFFD stands for each control except the tab, and for code points that end
+/// a line or turn the direction of a text. If an allocation fails, a prefix of it was pushed.
 pub fn push_shown(text: &mut String, source: &str) -> Result<(), AllocError>
     ensures { OnOk result (string_bytes text.new ≡ string_bytes text.old ++ shown_text source.now) }
 {
@@ -52,7 +52,7 @@ pub fn escaped(alloc: Global, source: &str, escapes: Escapes) -> Result<String, 
     Ok(text)
 }
 
-// Pushes a code point, or what is in its place.
+// Pushes a code point, or what replaces it.
 fn push_escape(text: &mut String, c: char, escapes: Escapes) -> Result<(), AllocError>
     ensures { OnOk result (string_bytes text.new ≡ string_bytes text.old ++ escape escapes c) }
 {
@@ -62,7 +62,7 @@ fn push_escape(text: &mut String, c: char, escapes: Escapes) -> Result<(), Alloc
     }
 }
 
-// What is in place of a code point that may not be as it is.
+// What replaces a code point that may not appear as it is.
 fn stand_in(escapes: Escapes, c: char) -> Option<&'static str>
     ensures { unwrap_or (option_copied result) (encode_utf8 c) ≡ escape escapes c }
 {
@@ -74,20 +74,22 @@ fn stand_in(escapes: Escapes, c: char) -> Option<&'static str>
     }
 }
 
+// What replaces a code point on a terminal.
 fn shown(c: char) -> Option<&'static str>
     ensures { unwrap_or (option_copied result) (encode_utf8 c) ≡ spec.shown c }
 {
     if is_hidden(c) { Some("\u{FFFD}") } else { None }
 }
 
-/// Whether a code point isn't shown as it is: a control but the tab, a line end, or one that turns a text's direction.
+/// Whether a code point isn't shown as it is: a control except the tab, a line end, or one that turns a text's
+/// direction.
 pub fn is_hidden(c: char) -> bool
     ensures { result ≡ spec.is_hidden c }
 {
     is_control(c) || turns_text(c)
 }
 
-// Whether a code point is a control, but the tab.
+// Whether a code point is a control other than the tab.
 #[tactic(auto, using(std::proofs::lemmas::Bool::Decides::nat_tests))]
 fn is_control(c: char) -> bool
     ensures { result ≡ spec.is_control c }
@@ -110,6 +112,7 @@ fn turns_text(c: char) -> bool
     }
 }
 
+// What replaces a code point in the message of a workflow command, which ends with the line.
 #[tactic(auto, using(std::proofs::lemmas::Bool::Decides::nat_tests), unfolding(percent_encoding::specs::Percent::percent_encode_byte))]
 fn in_message(c: char) -> Option<&'static str>
     ensures { unwrap_or (option_copied result) (encode_utf8 c) ≡ spec.in_message c }
@@ -122,6 +125,7 @@ fn in_message(c: char) -> Option<&'static str>
     }
 }
 
+// What replaces a code point in a property of a workflow command, which `:` and `,` end too.
 #[tactic(auto, using(std::proofs::lemmas::Bool::Decides::nat_tests), unfolding(percent_encoding::specs::Percent::percent_encode_byte))]
 fn in_property(c: char) -> Option<&'static str>
     ensures { unwrap_or (option_copied result) (encode_utf8 c) ≡ spec.in_property c }
@@ -133,6 +137,7 @@ fn in_property(c: char) -> Option<&'static str>
     }
 }
 
+// What replaces a code point in an attribute of XML, where some controls can't be at all.
 #[tactic(auto, using(std::proofs::lemmas::Bool::Decides::nat_tests))]
 fn in_attribute(c: char) -> Option<&'static str>
     ensures { unwrap_or (option_copied result) (encode_utf8 c) ≡ spec.in_attribute c }

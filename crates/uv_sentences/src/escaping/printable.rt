@@ -7,7 +7,7 @@ ghost use Rattle.uv_sentences.specs.Escaping.Printable.{is_printable};
 pub fn is_printable_text(bytes: &[u8]) -> bool
     ensures { result ≡ list_all is_printable bytes.now }
 {
-    // Each byte is looked at, also after one that isn't printable: so many are looked at at once.
+    // Each byte is looked at, even after one that isn't printable, so that the compiler can look at many at once.
     let mut seen = 0;
     for &byte in bytes {
         seen = after_byte(seen, byte);
@@ -15,7 +15,7 @@ pub fn is_printable_text(bytes: &[u8]) -> bool
     seen == 0
 }
 
-// What was seen up to a byte and with it: 0 where each is printable ASCII.
+// What was seen up to and including a byte: 0 if all are printable ASCII.
 fn after_byte(seen: u8, byte: u8) -> u8
     ensures { (result == 0) ≡ ((seen == 0) && is_printable byte) }
 {

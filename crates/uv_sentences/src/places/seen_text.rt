@@ -1,4 +1,5 @@
-//! A text of which places are reported, with what was seen of it: places in their order are found in one pass over it.
+//! A text in which places are reported, with what is already known about it: places in ascending order are found in one
+//! pass over it.
 ghost use Rattle.std.specs.Prelude.{◌≡◌, ◌≤◌, ℕ, List, drop, slice_get};
 ghost use Rattle.std.specs.Str.{chars};
 ghost use Rattle.uv_sentences.specs.Sentences.Intention as intentions;
@@ -12,14 +13,14 @@ use crate::sentences::message::{has_credentials_in, part_length};
 use std::marker::Model;
 use uv_model::first_code_point;
 
-// A place of a text, and what is from there on.
+// A place of a text, and what comes from there on.
 #[derive(Clone, Copy)]
 struct Spot<'t> {
     place: usize,
     rest: &'t str,
 }
 
-// The places of a text from one up to another, from each of which credentials follow or from none.
+// The places of a text from one up to another, each of which has credentials after it, or none of which has.
 #[derive(Clone, Copy)]
 struct Part {
     from: usize,
@@ -35,8 +36,8 @@ struct Known {
     is_cut: bool,
 }
 
-/// A text of which places are reported. It goes on from the place that it was led to last, so that places in their
-/// order are found in one pass over the text, and what is the same at each of them is looked at once.
+/// A text in which places are reported. It goes on from the place that it was last led to, so that places in ascending
+/// order are found in one pass over the text, and what is the same at each of them is found once.
 #[derive(Drop)]
 pub struct SeenText<'t> {
     text: &'t str,
@@ -44,7 +45,7 @@ pub struct SeenText<'t> {
     // Where what is shown of a long text begins, for the last place.
     window: Spot<'t>,
     part: Option<Part>,
-    // What it shows of its author's intention, where that was looked at.
+    // What the text shows of its author's intention, if that was looked for.
     intention: Option<Option<Intention>>,
     known: Option<Known>,
 }
@@ -61,7 +62,7 @@ impl<'t> Model for SeenText<'t> {
 }
 
 impl<'t> SeenText<'t> {
-    /// A text of which one place is reported: nothing of it is looked at yet, and nothing is kept.
+    /// A text in which one place is reported: nothing is looked for yet, and nothing is kept.
     pub fn new(text: &'t str) -> SeenText<'t>
         ensures { result ≡ text.entry.now }
     {
@@ -75,7 +76,7 @@ impl<'t> SeenText<'t> {
         }
     }
 
-    /// A refused text of which one place is reported. What it shows of its author's intention is looked at here.
+    /// A refused text in which one place is reported. What it shows of its author's intention is looked for here.
     pub fn of_refused(text: &'t str) -> SeenText<'t>
         ensures { result ≡ text.entry.now }
     {
@@ -89,7 +90,7 @@ impl<'t> SeenText<'t> {
         }
     }
 
-    /// A text of which several places are reported. What is the same at each of them is looked at here.
+    /// A text in which several places are reported. What doesn't depend on the place is found here, once for all.
     pub fn of_several(text: &'t str) -> SeenText<'t>
         ensures { result ≡ text.entry.now }
     {
@@ -103,7 +104,7 @@ impl<'t> SeenText<'t> {
         }
     }
 
-    /// Goes on to a place, where several are reported. The next one is found from there.
+    /// Goes on to a place, if several are reported. The next one is found from there.
     pub fn go_to(&mut self, place: usize)
         ensures { self.new ≡ self.old }
     {
@@ -115,7 +116,7 @@ impl<'t> SeenText<'t> {
         }
     }
 
-    // The part of the text with a place: the last one, where it is within that.
+    // The part of the text that has a place: the last one if it has it.
     fn part_at(&self, place: usize) -> Part {
         match self.part {
             Some(part) if part.from <= place && place <= part.to => part,
@@ -130,7 +131,7 @@ impl<'t> SeenText<'t> {
         self.text
     }
 
-    /// What is from a place of the text on: nothing, where it has no such place.
+    /// What comes from a place of the text on: nothing if it has no such place.
     pub(crate) fn rest_at(&self, place: usize) -> &'t str
         ensures { chars result.now ≡ drop place (chars self.now) }
     {
@@ -153,7 +154,7 @@ impl<'t> SeenText<'t> {
         }
     }
 
-    /// What the text shows alone of its author's intention.
+    /// What the text by itself shows of its author's intention.
     pub(crate) fn shown_intention(&self) -> Option<Intention>
         ensures { result ≡ intentions.shown_intention self.now }
     {
@@ -163,7 +164,7 @@ impl<'t> SeenText<'t> {
         }
     }
 
-    /// Whether an `@` follows from a place of a host or a port on, before the authority's end.
+    /// Whether an `@` comes after a place of a host or a port, before the authority's end.
     pub(crate) fn has_credentials(&self, place: usize) -> bool {
         match self.part {
             Some(part) if part.from <= place && place <= part.to => part.has_credentials,
@@ -189,7 +190,7 @@ impl<'t> SeenText<'t> {
         }
     }
 
-    /// Whether a report carries a window of the text alone.
+    /// Whether a report carries only a window of the text.
     pub fn is_cut(&self) -> bool
         ensures { result ≡ shown.is_cut self.now }
     {
@@ -234,7 +235,7 @@ fn part_from(place: usize, rest: &str) -> Part {
     }
 }
 
-// What is from a place on, which isn't before another.
+// What comes from a place on that isn't before another.
 fn rest_after<'t>(spot: Spot<'t>, place: usize) -> &'t str
     requires { spot.place ≤ place }
     ensures { (text : List ℕ) → IsSpot text spot.entry → chars result.now ≡ drop place (chars text) }

@@ -1,4 +1,4 @@
-//! What is shown of a line: all of it, or of a long one a window around a place.
+//! What is shown of a line: all of it, or a window around a place of a long one.
 ghost use Rattle.std.specs.Prelude.{◌≡◌, ◌++◌, IfOk, OnOk, drop, encode_utf8, flat_map, slice_get, string_bytes, take};
 ghost use Rattle.std.specs.Cow.{cow_str_bytes};
 ghost use Rattle.std.specs.Str.{chars};
@@ -9,7 +9,7 @@ use std::alloc::{AllocError, Global};
 use std::borrow::CowStr;
 use uv_model::{after_code_points, first_code_point};
 
-/// What is shown of a line of which a place is reported: the line, where it has at most 200 code points, otherwise a
+/// What is shown of a line in which a place is reported: the line, if it has at most 200 code points, otherwise a
 /// window of it, with `…` on each side that is cut.
 #[tactic(auto, unfolding(crate::specs::Places::Window::window))]
 pub(crate) fn window(alloc: Global, line: &SeenText<'_>, place: usize) -> Result<String, AllocError>
@@ -22,7 +22,7 @@ pub(crate) fn window(alloc: Global, line: &SeenText<'_>, place: usize) -> Result
     }
 }
 
-/// What a report carries of a line of which a place is reported: the line, or of one with more than 2,000 code points
+/// What a report carries of a line in which a place is reported: the line, or if it has more than 2,000 code points
 /// what is shown of it.
 #[tactic(auto, unfolding(crate::specs::Places::Window::carried))]
 pub fn carried<'l>(
@@ -39,7 +39,7 @@ pub fn carried<'l>(
     }
 }
 
-/// Whether a line has more code points than so many.
+/// Whether a line has more than this many code points.
 pub(crate) fn is_longer(line: &str, most: usize) -> bool
     ensures { result ≡ spec.is_longer most line.now }
 {
@@ -57,7 +57,7 @@ fn point_in(line: &str, place: usize) -> Option<char>
     }
 }
 
-/// What is from a place of a line on: nothing, where it has no such place.
+/// What comes from a place of a line on: nothing if it has no such place.
 pub(crate) fn rest_in(line: &str, place: usize) -> &str
     ensures { chars result.now ≡ drop place (chars line.now) }
 {
@@ -68,7 +68,7 @@ pub(crate) fn rest_in(line: &str, place: usize) -> &str
     }
 }
 
-/// The window from a start on, with `…` on each side where more of the line is.
+/// The window from a start on, with `…` on each side where there is more of the line.
 #[tactic(auto, unfolding(crate::specs::Places::Window::cut_out, crate::specs::Places::Window::window_points))]
 pub fn cut_out(alloc: Global, line: &SeenText<'_>, start: usize) -> Result<String, AllocError>
     ensures { IfOk result (λ shown. string_bytes shown ≡ spec.cut_out line.now start) }
@@ -81,7 +81,7 @@ pub fn cut_out(alloc: Global, line: &SeenText<'_>, start: usize) -> Result<Strin
     Ok(shown)
 }
 
-// `…`, where a line is cut.
+// `…`, if a line is cut there.
 fn cut_mark(is_cut: bool) -> &'static str
     ensures { result.now ≡ spec.cut_mark is_cut }
 {

@@ -11,11 +11,11 @@ use uv_model::Rule;
 pub struct Explanation {
     /// What the rule requires, in a sentence or two.
     pub asks: &'static str,
-    /// The section of the URL Standard in which it is, and what that section calls it.
+    /// The section of the URL Standard that has it, and what that section calls it.
     pub section: &'static str,
     /// The address of that section.
     pub address: &'static str,
-    /// The base that the example is read against, or `None` where it is read alone.
+    /// The base that the example is read against, or `None` if it is read alone.
     pub base: Option<&'static str>,
     /// A text that is refused by the rule.
     pub wrong: &'static str,
@@ -25,7 +25,7 @@ pub struct Explanation {
     pub mended: &'static str,
 }
 
-/// What a rule asks, and an example with its place, each text in one line of printable ASCII.
+/// What a rule requires, and an example with its place, each text as one line of printable ASCII.
 pub fn explain(rule: Rule) -> Explanation
     ensures asks { result.asks.now ≡ rule_asks rule }
     ensures section { IsLine result.section.now }
@@ -54,6 +54,7 @@ pub fn explain(rule: Rule) -> Explanation
     }
 }
 
+// The explanation of each rule, in the order of their numbers. The example's place and rule are what the checker finds.
 const NO_SCHEME: Explanation = Explanation {
     asks: "A text that is read without a base begins with a scheme and a colon.",
     section: "4.3, relative-URL string",

@@ -1,4 +1,4 @@
-//! The parts of a text by its slashes and marks, whatever else it is.
+//! The parts of a text by its slashes and marks, whatever else is in it.
 ghost use Rattle.std.specs.Prelude.{◌≡◌};
 ghost use Rattle.uv_sentences.specs.Sentences.Authority as spec;
 

@@ -1,4 +1,4 @@
-//! How a code point is named: by `U+` and its number, and by its name, where it is an ASCII code point.
+//! What a code point is called: `U+` and its number, and if it is ASCII its name.
 
 use crate::escaping::escapes::is_hidden;
 use std::alloc::{AllocError, Global};
@@ -135,7 +135,7 @@ const ASCII_POINTS: [&str; 128] = [
     "U+007F DELETE",
 ];
 
-/// A code point by `U+`, its number, and its name, or beyond ASCII the code point as it is, where it is seen.
+/// A code point by `U+`, its number, and its name; or if it isn't ASCII and can be seen, the code point itself.
 pub(crate) fn point_name(alloc: Global, c: char) -> Result<String, AllocError> {
     let number = u32::from(c);
     match ASCII_POINTS.get(c as usize) {
@@ -154,8 +154,7 @@ fn is_noncharacter(c: char) -> bool {
     }
 }
 
-/// Whether nothing is seen of a code point that is alone: it isn't shown as it is, or is a tab, a space or
-/// invisible.
+/// Whether nothing is seen of a code point by itself: it isn't shown as it is, or is a tab, a space or invisible.
 pub(crate) fn is_unseen(c: char) -> bool {
     is_hidden(c) || c == '\t' || is_space(c) || is_invisible(c)
 }

@@ -1,4 +1,4 @@
-//! Why a host isn't a valid domain by a profile, as far as its text shows it.
+//! Why a host isn't a valid domain of a profile, as far as its text shows that.
 
 use crate::places::seen_text::SeenText;
 use crate::sentences::authority::before_end;
@@ -8,8 +8,8 @@ use crate::sentences::pieces::{before, has_piece};
 use std::alloc::{AllocError, Global};
 use uv_model::{Profile, Rule, is_domain_mark, is_drive_letter};
 
-/// What is said of the host that begins at a place of a line: that it is a drive letter, which code point may not be in
-/// it, or what is wrong with a label of it, otherwise the rule's sentence.
+/// What is said about the host that begins at a place of a line: that it is a drive letter, which code point may not be
+/// in it, or what is wrong with one of its labels, or else the rule's sentence.
 pub(crate) fn domain_sentence(
     alloc: Global,
     profile: Profile,
@@ -29,7 +29,7 @@ pub(crate) fn domain_sentence(
     }
 }
 
-// What is said of a code point that is not allowed in a domain.
+// What is said about a code point that isn't allowed in a domain.
 fn foreign_sentence(alloc: Global, c: char) -> Result<String, AllocError> {
     let name = point_name(alloc, c)?;
     let name = name.as_str();
@@ -40,7 +40,7 @@ fn foreign_sentence(alloc: Global, c: char) -> Result<String, AllocError> {
     }
 }
 
-// What is said of a host whose code points show nothing.
+// What is said about a host whose code points are all allowed.
 fn labels_sentence(alloc: Global, profile: Profile, host: &str) -> Result<String, AllocError> {
     let name = host.strip_suffix('.').unwrap_or(host);
     if let Some(fault) = label_fault(profile, name) {
@@ -64,17 +64,17 @@ fn labels_sentence(alloc: Global, profile: Profile, host: &str) -> Result<String
     }
 }
 
-// Whether one label alone begins with `xn--`.
+// Whether exactly one label begins with `xn--`.
 fn has_one_prefix(name: &str) -> bool {
     name.split('.').filter(|label| has_prefix(label)).count() == 1
 }
 
-// The first code point for which a host is refused by a profile, whatever else it has.
+// The first code point for which a profile refuses a host, whatever else is in it.
 fn foreign_in(profile: Profile, host: &str) -> Option<char> {
     host.chars().find(|c| is_foreign(profile, *c))
 }
 
-// Whether a host with this code point is refused, whatever else it has. Under the parser's profile a host may be
+// Whether a host with this code point is refused, whatever else is in it. Under the parser's profile a host may be
 // percent-encoded.
 fn is_foreign(profile: Profile, c: char) -> bool {
     let is_percent = profile == Profile::Parser && c == '%';
@@ -112,7 +112,7 @@ impl LabelFault {
         }
     }
 
-    // Whether it is wrong with a label. Of a label that ToASCII writes in another way only that it is empty is seen.
+    // Whether this is wrong with a label. For a label that ToASCII writes in another way, only emptiness is recognized.
     fn is_of(self, label: &str) -> bool {
         let is_plain = label.is_ascii() && !has_prefix(label);
         match self {
@@ -126,8 +126,8 @@ impl LabelFault {
     }
 }
 
-// The first fault that a profile refuses and a label has. The parser's takes labels of any length, and the standard one
-// alone asks for hyphens.
+// The first fault that a profile refuses and a label has. The parser's profile takes labels of any length, and only the
+// standard one restricts hyphens.
 fn label_fault(profile: Profile, name: &str) -> Option<LabelFault> {
     let faults: &[LabelFault] = match profile {
         Profile::Standard => &[

@@ -1,4 +1,4 @@
-//! Drive letters of `file` links that are in place of a host, or are written with `|`.
+//! Drive letters of `file` links that stand in place of a host, or are written with `|`.
 ghost use Rattle.std.specs.List.{after_first};
 ghost use Rattle.std.specs.Prelude.{◌≡◌, ◌==◌};
 ghost use Rattle.uv_model.specs.Ascii.{colon};
@@ -15,7 +15,7 @@ pub(crate) fn has_barred_drive(text: &str) -> bool
     is_file_link(text) && is_barred_drive(before_end(first_segment(text)).as_bytes())
 }
 
-// What is after the first `:` and at most three slashes.
+// What comes after the first `:` and at most three slashes.
 fn first_segment(text: &str) -> &str
     ensures { result.now ≡ spec.without_slash (spec.without_slash (spec.without_slash
         (after_first (λ b. b == colon) text.now))) }
@@ -33,7 +33,7 @@ fn is_barred_drive(segment: &[u8]) -> bool
     }
 }
 
-/// A text without a `/` at its start.
+/// A text without the `/` at its start, if it has one.
 pub(crate) fn without_slash(text: &str) -> &str
     ensures { result.now ≡ spec.without_slash text.now }
 {
@@ -43,7 +43,7 @@ pub(crate) fn without_slash(text: &str) -> &str
     }
 }
 
-/// Whether what is before the first `:` is `file` in any case.
+/// Whether the text before the first `:` is `file`, in any case.
 pub(crate) fn is_file_link(line: &str) -> bool
     ensures { result ≡ spec.is_file_link line.now }
 {

@@ -1,4 +1,4 @@
-//! What the author of a refused text likely meant, where that is something else than what the text is mended to.
+//! What the author of a refused text likely meant, if that isn't what the text is mended to.
 ghost use Rattle.std.specs.Char.{is_ascii_digit};
 ghost use Rattle.std.specs.List.{list_all, list_any, slice_split};
 ghost use Rattle.std.specs.Prelude.{◌≡◌, ◌==◌};
@@ -25,23 +25,22 @@ pub enum Intention {
     WindowsPath,
     /// A drive letter: a letter and `|` are the first segment of a `file` link, as in `file:///C|/x`.
     DriveLetter,
-    /// One URL alone: a scheme is after another one, as in `http://http://h/`.
+    /// Only one URL: one scheme comes after another, as in `http://http://h/`.
     TwoSchemes,
     /// A link after something else and a space, as in `https://a/ https://b/`.
     LaterLink,
-    /// A code point as JavaScript's `escape` writes it: `%u` and a hex digit are in the text.
+    /// A code point as JavaScript's `escape` writes it: the text has `%u` and a hex digit.
     OldEscape,
-    /// One slash: the mended text keeps two of them as `/.//`.
+    /// A single slash: the mended text keeps two of them as `/.//`.
     JoinedSlashes,
     /// Another address: the IPv4 address of the mended text isn't in the text, as in `http://192.168.010.1/`.
     OtherAddress,
-    /// What the rules of a scheme accept, as the rules of `tel` do, where the mended text escapes a code point of the
-    /// path.
+    /// What the rules of a scheme accept, such as those of `tel`, if the mended text escapes a code point of the path.
     RuledPath,
 }
 
 impl Intention {
-    /// What is said of it, after what is wrong.
+    /// What is said about it, after what is wrong.
     pub(crate) fn note(self) -> &'static str {
         match self {
             Intention::Markup => "; this looks like HTML: check the links in it",
@@ -58,15 +57,15 @@ impl Intention {
     }
 }
 
-/// What a refused text shows that its author meant, where that is something else than the text that it is mended to. A
-/// mended text is to be offered where this is `None`.
+/// What a refused text shows that its author meant, if that isn't what the text is mended to. If this is `None`, the
+/// mended text is offered.
 pub fn intention_of(text: &str, mended: &str) -> Option<Intention>
     ensures { result ≡ spec.intention text.now mended.now }
 {
     seen_intention(&SeenText::new(text), mended)
 }
 
-// What a refused text that was seen shows that its author meant, where that is something else than the text that it is
+// What a refused text, of which more is already known, shows that its author meant, if that isn't what the text is
 // mended to.
 #[tactic(auto, unfolding(crate::specs::Sentences::Intention::intention))]
 fn seen_intention(text: &SeenText<'_>, mended: &str) -> Option<Intention>
@@ -78,14 +77,14 @@ fn seen_intention(text: &SeenText<'_>, mended: &str) -> Option<Intention>
     }
 }
 
-/// Whether a mended text is to be offered: nothing shows that something else was meant.
+/// Whether a mended text is offered: nothing suggests that something else was meant.
 pub fn is_offered(text: &SeenText<'_>, mended: &str) -> bool
     ensures { result ≡ spec.is_offered text.now mended.now }
 {
     seen_intention(text, mended).is_none()
 }
 
-/// What a text shows alone.
+/// What a text by itself shows.
 #[tactic(auto, unfolding(crate::specs::Sentences::Intention::shown_intention))]
 pub(crate) fn shown_intention(text: &str) -> Option<Intention>
     ensures { result ≡ spec.shown_intention text.now }
@@ -96,7 +95,7 @@ pub(crate) fn shown_intention(text: &str) -> Option<Intention>
     }
 }
 
-// What a text shows alone that is another text than a link.
+// What a text by itself shows, if it isn't a link at all.
 fn shown_text_kind(text: &str) -> Option<Intention>
     ensures { result ≡ spec.shown_text_kind text.now }
 {
@@ -112,7 +111,7 @@ fn shown_text_kind(text: &str) -> Option<Intention>
     None
 }
 
-// What a link shows alone.
+// What a link by itself shows.
 fn shown_in_link(text: &str) -> Option<Intention>
     ensures { result ≡ spec.shown_in_link text.now }
 {
@@ -131,7 +130,7 @@ fn shown_in_link(text: &str) -> Option<Intention>
     None
 }
 
-// What both texts show.
+// What both texts together show.
 fn shown_by_both(text: &str, mended: &str) -> Option<Intention>
     ensures { result ≡ spec.shown_by_both text.now mended.now }
 {
@@ -147,7 +146,7 @@ fn shown_by_both(text: &str, mended: &str) -> Option<Intention>
     None
 }
 
-// Whether a text begins with `<`, and after a name with a space, or has `</`.
+// Whether a text begins with `<`, and has a space after the name there, or `</` anywhere.
 fn is_markup(text: &str) -> bool
     ensures { result ≡ spec.is_markup text.now }
 {
@@ -172,14 +171,15 @@ fn is_windows_path(text: &[u8]) -> bool
     }
 }
 
-// Whether after a scheme that `//` follows, its `:` and up to two slashes another one begins a link.
+// Whether a text begins with a scheme that `//` follows, its `:` and up to two slashes, and then another one begins a
+// link.
 fn has_two_schemes(text: &str) -> bool
     ensures { result ≡ spec.has_two_schemes text.now }
 {
     is_link_scheme(before(text, ':')) && begins_link(without_slash(without_slash(after(text, ':'))))
 }
 
-// Whether a text begins with a scheme that `//` follows and `://`, or with the `//` alone after it.
+// Whether a text begins with such a scheme and then `://`, or only `//`.
 fn begins_link(text: &str) -> bool
     ensures { result ≡ spec.begins_link text.now }
 {
@@ -202,7 +202,7 @@ fn begins_with_space(text: &[u8]) -> bool
     matches!(text, [b' ', ..])
 }
 
-// Whether an escape of JavaScript is among what `%` separates.
+// Whether an escape of JavaScript is among the pieces between `%`.
 fn has_old_escape(text: &[u8]) -> bool
     ensures { result ≡ list_any spec.is_old_escape (slice_split (λ b. b == percent_sign) text.now) }
 {
@@ -234,6 +234,7 @@ fn is_dotted(host: &[u8]) -> bool
     begins_with_digit(host) && are_of_address(host)
 }
 
+// Whether all bytes may be in an IPv4 address.
 fn are_of_address(host: &[u8]) -> bool
     ensures { result ≡ list_all spec.is_of_address host.now }
 {
@@ -255,14 +256,14 @@ fn begins_with_digit(text: &[u8]) -> bool
     }
 }
 
-// Whether the mended text's path is one that its scheme has rules for, and isn't in the text.
+// Whether the mended text's path belongs to a scheme with rules for it, and isn't in the text.
 fn has_other_path(text: &str, mended: &str) -> bool
     ensures { result ≡ spec.has_other_path text.now mended.now }
 {
     is_ruled(before(mended, ':')) && !has_piece(text, before_query(mended))
 }
 
-// Whether a scheme's paths have rules of their own.
+// Whether a scheme has rules of its own for paths.
 fn is_ruled(scheme: &str) -> bool
     ensures { result ≡ spec.is_ruled scheme.now }
 {
@@ -277,7 +278,7 @@ fn is_ruled(scheme: &str) -> bool
         || is_name(scheme, "view-source")
 }
 
-/// Whether a text is a scheme that `//` follows.
+/// Whether a text is a scheme that `//` follows in links.
 pub(crate) fn is_link_scheme(text: &str) -> bool
     ensures { result ≡ spec.is_link_scheme text.now }
 {

@@ -5,7 +5,7 @@ use crate::sentences::pieces::before;
 use std::alloc::{AllocError, Global};
 use uv_model::{Profile, Rule};
 
-/// What is said of a host that ends in a number, and that begins this text.
+/// What is said about a host that ends in a number, with which this text begins.
 pub(crate) fn ipv4_sentence(
     alloc: Global,
     profile: Profile,
@@ -35,7 +35,7 @@ pub(crate) fn ipv4_sentence(
     counted_sentence(alloc, profile, host)
 }
 
-// What is said of decimal numbers: that one is too large, or how many they are.
+// What is said about decimal numbers: that one is too large, or how many there are.
 fn counted_sentence(alloc: Global, profile: Profile, host: &str) -> Result<String, AllocError> {
     let name = host.strip_suffix('.').unwrap_or(host);
     let count = name.split('.').count();
@@ -56,7 +56,7 @@ fn counted_sentence(alloc: Global, profile: Profile, host: &str) -> Result<Strin
     }
 }
 
-// What is said of a number; a long one isn't repeated.
+// What is said about a number; a long one isn't repeated.
 fn number_sentence(alloc: Global, number: &str, said: &str) -> Result<String, AllocError> {
     if number.len() > 16 {
         format!(in alloc; "a number of this host {said}")

@@ -5,7 +5,7 @@ use crate::sentences::pieces::{after, before, has_piece};
 use std::net::Ipv6Addr;
 use uv_model::Rule;
 
-/// What is said of a host that begins with `[`, and begins this text.
+/// What is said about a host that begins with `[`, with which this text begins.
 pub(crate) fn ipv6_sentence(text: &str) -> &'static str {
     let authority = before_end(text);
     if !has_piece(authority, "]") {
@@ -30,6 +30,7 @@ pub(crate) fn has_bare_ipv6(line: &str) -> bool {
     is_ipv6(authority_of(line))
 }
 
+// Whether a text is that of an IPv6 address, without brackets.
 fn is_ipv6(text: &str) -> bool {
     Ipv6Addr::parse_ascii(text.as_bytes()).is_ok()
 }

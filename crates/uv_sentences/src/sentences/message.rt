@@ -1,5 +1,5 @@
 //! The sentence on what is wrong with a line, with what the line shows of its author's intention. Its words are for
-//! people, and no clause says them: the runs of `tests/runs` compare them.
+//! people, so no clause fixes them: the runs of `tests/runs` compare them.
 ghost use Rattle.std.specs.Prelude.{IfOk, string_bytes};
 ghost use Rattle.uv_sentences.specs.Sentences.Message.{IsMessage};
 
@@ -17,13 +17,15 @@ use crate::sentences::wording::{Checked, rule_note};
 use std::alloc::{AllocError, Global};
 use uv_model::{Refusal, Rule};
 
+// What is said about a link that has credentials.
 const CREDENTIALS: &str =
     "a URL string has no credentials: no user name, password or @ before its host";
 
+// What is said about a link whose host is an IPv6 address without brackets.
 const BARE_IPV6: &str = "a host that is an IPv6 address is written in brackets";
 
-/// What is reported of a line that was checked so, in a sentence without its end: one line, in which nothing is that a
-/// terminal obeys.
+/// What is reported about a line that was checked like this, as a sentence without its full stop: one line, without
+/// anything that controls a terminal.
 pub fn message(
     alloc: Global,
     checked: Checked,
@@ -39,7 +41,7 @@ pub fn message(
     Ok(text)
 }
 
-// What is reported of a line.
+// What is reported about a line.
 fn violation_sentence(
     alloc: Global,
     checked: Checked,
@@ -84,7 +86,7 @@ fn refusal_sentence(
     }
 }
 
-// What is said of credentials. Links of other schemes than the special ones may need them.
+// What is said about credentials. Links of other schemes than the special ones may need them.
 fn credentials_sentence(alloc: Global, line: &str) -> Result<String, AllocError> {
     let advice = if is_link_scheme(before(line, ':')) {
         "; leave them out"
@@ -94,7 +96,7 @@ fn credentials_sentence(alloc: Global, line: &str) -> Result<String, AllocError>
     format!(in alloc; "{CREDENTIALS}{advice}")
 }
 
-// What is said of a code point that violates a rule, where the rule is about one, otherwise the rule's sentence.
+// What is said about a code point that violates a rule, if the rule is about one, otherwise the rule's sentence.
 fn point_sentence(alloc: Global, rule: Rule, point: Option<char>) -> Result<String, AllocError> {
     let said = match rule {
         Rule::HostCodePoint => "is not allowed in a host",
@@ -111,7 +113,7 @@ fn point_sentence(alloc: Global, rule: Rule, point: Option<char>) -> Result<Stri
     format!(in alloc; "{name} {said}")
 }
 
-// Whether a rule is one of hosts and ports.
+// Whether a rule is about hosts and ports.
 fn is_of_authority(rule: Rule) -> bool {
     match rule {
         Rule::HostMissing
@@ -125,12 +127,12 @@ fn is_of_authority(rule: Rule) -> bool {
     }
 }
 
-/// Whether an `@` follows in a text, before the authority's end.
+/// Whether an `@` comes in a text before the authority's end.
 pub(crate) fn has_credentials_in(text: &str) -> bool {
     text.chars().find(|c| ends_part(*c)) == Some('@')
 }
 
-/// For how many code points further on the same one is the first.
+/// For how many code points from here on `has_credentials_in` gives the same answer.
 pub(crate) fn part_length(text: &str) -> usize {
     text.chars()
         .position(|c| ends_part(c))

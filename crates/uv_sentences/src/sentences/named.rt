@@ -7,9 +7,9 @@ ghost use Rattle.uv_sentences.specs.Sentences.Named as spec;
 use crate::places::seen_text::SeenText;
 use crate::sentences::pieces::before;
 
-/// The place of what a message names that is about a place of a line: of the first code point from there on that has the
-/// number which the message begins with, as in `U+005F`. It is the place itself for another message, and for a code
-/// point beyond ASCII, which sentences name at their place alone.
+/// The place of what a message names that is about a place of a line. If the message begins with a number such as
+/// `U+005F`, it is the first code point from there on that has the number. Otherwise it is the place itself; so it is
+/// for a code point beyond ASCII, which sentences name only at their place.
 #[tactic(auto, unfolding(crate::specs::Sentences::Named::named_place))]
 pub fn named_place(message: &str, line: &SeenText<'_>, place: usize) -> usize
     ensures { result ≡ spec.named_place message.now line.now place }
@@ -20,7 +20,7 @@ pub fn named_place(message: &str, line: &SeenText<'_>, place: usize) -> usize
     }
 }
 
-// The ASCII code point whose name a message begins with.
+// The ASCII code point with whose name a message begins.
 fn named_point(message: &[u8]) -> Option<char>
     ensures is { result ≡ spec.named_point message.now }
     ensures ascii { IfSome result (λ c. c < 128) }
@@ -31,7 +31,7 @@ fn named_point(message: &[u8]) -> Option<char>
     }
 }
 
-// That with these two hex digits.
+// The one with these two hex digits.
 fn ascii_of(high: u8, low: u8) -> Option<char>
     ensures is { result ≡ spec.ascii_of high low }
     ensures ascii { IfSome result (λ c. c < 128) }
@@ -41,7 +41,7 @@ fn ascii_of(high: u8, low: u8) -> Option<char>
     ascii_point(high * 16 + low)
 }
 
-// That with this number.
+// The one with this number.
 fn ascii_point(number: u8) -> Option<char>
     ensures is { result ≡ spec.ascii_point number }
     ensures ascii { IfSome result (λ c. c < 128) }
@@ -65,7 +65,7 @@ fn hex_value(b: u8) -> Option<u8>
     }
 }
 
-// The place of the first such mark in what is from a place on, or this place where there is none.
+// The place of the first such mark in the rest of a text, which begins at a place; or that place if there is none.
 fn place_of(mark: char, place: usize, rest: &str) -> usize
     requires { mark < 128 }
     ensures { result ≡ spec.place_of mark place rest.now }

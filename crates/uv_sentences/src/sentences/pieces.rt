@@ -3,7 +3,7 @@ ghost use Rattle.std.specs.List.{after_first, before_first};
 ghost use Rattle.std.specs.Prelude.{◌≡◌, ◌==◌, ◌<◌};
 ghost use Rattle.uv_sentences.specs.Sentences.Template as spec;
 
-/// What is before the first such ASCII mark: all, where there is none.
+/// What comes before the first such ASCII mark; everything if there is none.
 pub(crate) fn before(text: &str, mark: char) -> &str
     requires { mark < 128 }
     ensures { result.now ≡ before_first (λ b. b == mark) text.now }
@@ -14,7 +14,7 @@ pub(crate) fn before(text: &str, mark: char) -> &str
     }
 }
 
-/// What is after the first such ASCII mark: nothing, where there is none.
+/// What comes after the first such ASCII mark; nothing if there is none.
 pub(crate) fn after(text: &str, mark: char) -> &str
     requires { mark < 128 }
     ensures { result.now ≡ after_first (λ b. b == mark) text.now }

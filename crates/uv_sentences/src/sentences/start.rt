@@ -1,4 +1,5 @@
-//! What is said of a text that has no scheme and no base: what is before the scheme, or what is likely missing.
+//! What is said about a text without a scheme and without a base: what comes before the scheme, or what is likely
+//! missing.
 
 use crate::places::seen_text::SeenText;
 use crate::sentences::authority::{before_end, before_query};
@@ -9,13 +10,13 @@ use crate::sentences::wording::Wording;
 use std::alloc::{AllocError, Global};
 use uv_model::Rule;
 
-// What the names of files end with, but domains hardly.
+// Endings of file names that domains hardly ever have.
 const FILE_ENDINGS: [&str; 24] = [
     "md", "html", "htm", "xhtml", "css", "js", "mjs", "ts", "json", "xml", "yml", "yaml", "toml",
     "csv", "txt", "rst", "pdf", "svg", "png", "jpg", "jpeg", "gif", "webp", "php",
 ];
 
-/// What is said of a text without a scheme: that a code point is before it, or that there is none.
+/// What is said about a text without a scheme: that a code point comes before it, or that there is none.
 pub(crate) fn start_sentence(alloc: Global, line: &SeenText<'_>) -> Result<String, AllocError> {
     match stray_in(line) {
         Some(c) => {
@@ -52,7 +53,7 @@ pub(crate) fn start_note(
     }
 }
 
-// The first code point, where it is before the scheme: nothing is seen of it, or it opens a quotation of a link.
+// The first code point, if it comes before the scheme: it can't be seen, or it opens a quotation of a link.
 fn stray_in(line: &SeenText<'_>) -> Option<char> {
     let c = line.point_at(0)?;
     if is_unseen(c) || (opens_quotation(c) && has_scheme(line.rest_at(1))) {
@@ -62,7 +63,7 @@ fn stray_in(line: &SeenText<'_>) -> Option<char> {
     }
 }
 
-// Whether links are put after a code point: a quotation mark, an apostrophe, a backtick or a bracket.
+// Whether people put links after a code point: a quotation mark, an apostrophe, a backtick or a bracket.
 fn opens_quotation(c: char) -> bool {
     match c {
         '"' | '\'' | '(' | '<' | '[' | '`' | '\u{AB}' | '\u{2018}' | '\u{201C}' => true,
@@ -118,7 +119,7 @@ fn missing_in(text: &str) -> Option<Missing> {
     None
 }
 
-// Whether a code point begins texts that are read against a base.
+// Whether texts that are read against a base begin with a code point.
 fn begins_reference(c: char) -> bool {
     c == '.' || c == '/' || c == '#' || c == '?'
 }
@@ -137,7 +138,8 @@ fn is_like_host(host: &str) -> bool {
             .all(|b| b.is_ascii_alphanumeric() || b == b'-' || b == b'.')
 }
 
-// Whether a text that looks like a domain is rather the name of a file, or of a version: by what is after its last `.`.
+// Whether a text that looks like a domain is more likely the name of a file, or of a version: by what comes after its
+// last `.`.
 fn is_like_file(name: &str) -> bool {
     let ending = name.rsplit('.').next().unwrap_or("");
     if name.starts_with("www.") || has_piece(name, "/") {

@@ -24,7 +24,7 @@ fn is_code(scheme: &str) -> bool
     is_name(scheme, "data") || is_name(scheme, "javascript")
 }
 
-// Whether a text has a mark of a template.
+// Whether a text has the mark of a template.
 fn has_mark(text: &str) -> bool
     ensures { result ≡ spec.has_mark text.now }
 {
@@ -38,7 +38,7 @@ fn has_sign(text: &str) -> bool
     has_percent_mark(after(text, '%').as_bytes()) || has_dollar_mark(after(text, '$').as_bytes())
 }
 
-// Whether what is after the first `%` is of a template.
+// Whether what follows the first `%` belongs to a template.
 #[tactic(auto, unfolding(crate::specs::Sentences::Template::has_percent_mark))]
 fn has_percent_mark(after: &[u8]) -> bool
     ensures { result ≡ spec.has_percent_mark after.now }
@@ -62,21 +62,21 @@ fn has_brace(text: &str) -> bool
     text.as_bytes().contains(&b'{') && !has_piece(text, "{\"")
 }
 
-// Whether a directive of printf or Python is among what `%` separates.
+// Whether a directive of printf or Python is among the pieces between `%`.
 fn has_directive(text: &[u8]) -> bool
     ensures { result ≡ list_any spec.is_directive (slice_split (λ b. b == 0x25) text.now) }
 {
     text.split(|b| *b == b'%').any(|after| is_directive(after))
 }
 
-// Whether a variable of Windows is among what `%` separates.
+// Whether a variable of Windows is among the pieces between `%`.
 fn has_variable(text: &[u8]) -> bool
     ensures { result ≡ list_any spec.is_variable (slice_split (λ b. b == 0x25) text.now) }
 {
     text.split(|b| *b == b'%').any(|after| is_variable(after))
 }
 
-// Whether a capital letter begins one of what `$` separates.
+// Whether one of the pieces between `$` begins with a capital letter.
 fn has_dollar_mark(text: &[u8]) -> bool
     ensures { result ≡ list_any (spec.begins_with is_ascii_uppercase) (slice_split (λ b. b == 0x24) text.now) }
 {
@@ -84,14 +84,14 @@ fn has_dollar_mark(text: &[u8]) -> bool
         .any(|after| begins_with_capital(after))
 }
 
-// Whether a tag is among what `<` separates.
+// Whether a tag is among the pieces between `<`.
 fn has_tag(text: &[u8]) -> bool
     ensures { result ≡ list_any spec.is_tag (slice_split (λ b. b == 0x3C) text.now) }
 {
     text.split(|b| *b == b'<').any(|after| is_tag(after))
 }
 
-// Whether a name in capitals and `]` are among what `[` separates.
+// Whether a name in capitals and `]` are among the pieces between `[`.
 fn has_bracketed(text: &[u8]) -> bool
     ensures { result ≡ list_any spec.is_bracketed (slice_split (λ b. b == 0x5B) text.now) }
 {
@@ -105,7 +105,7 @@ fn has_named_port(text: &str) -> bool
     is_name(after(authority_of(text), ':'), "port")
 }
 
-// What printf or Python puts a text in place of, after its `%`.
+// Whether printf or Python replaces what comes after this `%` with a text.
 fn is_directive(after: &[u8]) -> bool
     ensures { result ≡ spec.is_directive after.now }
 {
@@ -116,7 +116,7 @@ fn is_directive(after: &[u8]) -> bool
     }
 }
 
-// A name in capitals, which isn't an escape.
+// Whether a text is a name in capitals that isn't an escape.
 fn is_variable(name: &[u8]) -> bool
     ensures { result ≡ spec.is_variable name.now }
 {
@@ -139,7 +139,7 @@ fn is_escape(after: &[u8]) -> bool
     }
 }
 
-// `%`, or a name and `>`, which no letter and no digit follows.
+// Whether a text is `%`, or a name and `>`, that no letter or digit follows.
 fn is_tag(after: &[u8]) -> bool
     ensures { result ≡ spec.is_tag after.now }
 {
@@ -150,7 +150,7 @@ fn is_tag(after: &[u8]) -> bool
     }
 }
 
-// Whether `>` begins a text, and no letter and no digit follows it.
+// Whether `>` begins a text, and no letter or digit follows it.
 fn closes(text: &[u8]) -> bool
     ensures { result ≡ spec.closes text.now }
 {
@@ -175,14 +175,14 @@ pub(crate) fn after_name(text: &[u8]) -> &[u8]
     rest
 }
 
-// How many bytes of a name a text begins with.
+// How many bytes of a name are at the start of a text.
 fn name_length(text: &[u8]) -> usize
     ensures { result ≡ prefix_len spec.is_name_byte text.now }
 {
     text.iter().take_while(|b| is_name_byte(**b)).count()
 }
 
-// The first byte that isn't one of a name in capitals.
+// The first byte that can't be in a name in capitals.
 fn capitals_end(text: &[u8]) -> Option<u8>
     ensures { result ≡ find (λ b. not (spec.is_capital_byte b)) text.now }
 {
@@ -201,7 +201,7 @@ fn is_capital_byte(b: u8) -> bool
     b.is_ascii_uppercase() || b.is_ascii_digit() || b == b'_'
 }
 
-// Whether a byte is there, and is this one.
+// Whether there is a byte, and it is this one.
 fn is_byte(found: Option<u8>, mark: u8) -> bool
     ensures { result ≡ spec.is_byte mark found }
 {

@@ -1,4 +1,4 @@
-//! How a sentence calls what its reader can set, and what follows it.
+//! What a sentence calls the things that its reader can set, and what follows the sentence.
 
 use crate::places::seen_text::SeenText;
 use crate::sentences::authority::before_query;
@@ -7,7 +7,7 @@ use crate::sentences::start::start_note;
 use std::alloc::{AllocError, Global};
 use uv_model::{Profile, Refusal, Rule, is_name};
 
-/// How a profile and a base are called where a sentence is read.
+/// What a profile and a base are called in a sentence, depending on where it is read.
 #[derive(Clone, Copy, PartialEq, Eq)]
 pub enum Wording {
     /// As options of a command line: `--profile wide`, `(--base)`.
@@ -21,7 +21,7 @@ pub enum Wording {
 }
 
 impl Wording {
-    // A profile, where it is named.
+    // A profile, if it is named.
     fn profile(self, alloc: Global, profile: Profile) -> Result<String, AllocError> {
         let name = profile.name();
         match self {
@@ -43,19 +43,19 @@ impl Wording {
     }
 }
 
-/// How a text was checked, for the sentence on what is wrong with it.
+/// How a text was checked, as far as the sentence on what is wrong with it depends on that.
 #[derive(Clone, Copy)]
 pub struct Checked {
     /// By which profile.
     pub profile: Profile,
     /// The next wider profile that accepts the whole text, where one was looked for and does.
     pub accepted_by: Option<Profile>,
-    /// How what the reader can set is called.
+    /// What the things that the reader can set are called.
     pub wording: Wording,
 }
 
 /// What follows the sentence on a refused text that shows nothing else of its author's intention: the profile that
-/// accepts it, where that is a choice which people make, or what its scheme requires.
+/// accepts it, if people may want that, or what its scheme requires.
 pub(crate) fn rule_note(
     alloc: Global,
     checked: Checked,
@@ -78,9 +78,9 @@ pub(crate) fn rule_note(
     }
 }
 
-// The profile that accepts the text, where what violates the rule is a choice: under the wide profile `_` and hyphens
-// of hosts and two slashes, by the parser's a drive letter after a host. Of other hosts it isn't named: they lead
-// nowhere.
+// The profile that accepts the text, if what violates the rule is a matter of choice: under the wide profile `_` and
+// hyphens of hosts and two slashes, under the parser's a drive letter after a host. For other hosts no profile is
+// named: they lead nowhere.
 fn named_profile(alloc: Global, checked: Checked, rule: Rule) -> Result<String, AllocError> {
     match (rule, checked.accepted_by) {
         (Rule::HostDomain | Rule::FirstSegmentEmpty, Some(Profile::Wide)) => {
@@ -100,7 +100,7 @@ fn is_in_path(line: &SeenText<'_>, place: usize) -> bool {
     ahead < before_query(text).len()
 }
 
-// What a scheme requires of what follows it, where that is a rule of its own.
+// What a scheme requires of what follows it, if it has a rule of its own.
 fn scheme_note(scheme: &str) -> &'static str {
     if is_name(scheme, "mailto") {
         return "; write addresses as in mailto:a@example.com";

@@ -7,6 +7,7 @@ import java.nio.ByteOrder;
  * with a finding. The places of members, in bytes, are those that {@code urlcheck.h} asserts.
  */
 final class Answer {
+    /** The outcomes of {@code urlcheck_outcome} that a call of this package can end with. */
     static final int VALID = 0;
     static final int REFUSED = 1;
     static final int BASE_REFUSED = 3;
@@ -22,10 +23,12 @@ final class Answer {
 
     private final long[] memory;
 
+    /** Memory for any of the structs. */
     Answer() {
         this(new long[LONGEST / 8]);
     }
 
+    /** A struct, or an array of structs, that the library has written before. */
     Answer(long[] memory) {
         this.memory = memory;
     }
@@ -34,6 +37,7 @@ final class Answer {
         return memory;
     }
 
+    /** How the call ended, which each struct begins with. */
     int verdict() {
         return word(0);
     }
@@ -70,7 +74,7 @@ final class Answer {
         require(verdict == VALID, verdict);
     }
 
-    /** Ends the call where the verdict isn't a wanted one. */
+    /** Ends the call if the verdict isn't a wanted one. */
     static void require(boolean isWanted, int verdict) {
         if (verdict == MEMORY) {
             throw new OutOfMemoryError("urlcheck: no memory is left");

@@ -8,6 +8,7 @@ final class Bridge extends Library {
     private Bridge() {
     }
 
+    /** Binds the functions below to those of a library. */
     static Library load(String file) {
         try {
             Native.register(Functions.class, NativeLibrary.getInstance(file));
@@ -48,6 +49,7 @@ final class Bridge extends Library {
                 int rule, long place, byte[] out, long room);
     }
 
+    /** The length of bytes that may be null, as those of a base that isn't given. */
     private static long lengthOf(byte[] bytes) {
         return bytes == null ? 0 : bytes.length;
     }

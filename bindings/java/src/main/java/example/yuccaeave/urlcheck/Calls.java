@@ -6,7 +6,10 @@ import java.util.List;
 import java.util.Optional;
 import java.util.concurrent.atomic.AtomicReferenceArray;
 
-/** The calls for one text, and the fixed texts. */
+/**
+ * The calls for one text, and the fixed texts. A member of an answer is read by its place in bytes in the struct of
+ * {@code urlcheck.h}; after the finding, which has 24 bytes, come the members of each struct's own.
+ */
 final class Calls {
     /** The texts of {@code urlcheck_text}. */
     static final int RULE_NAME = 0;
@@ -30,6 +33,7 @@ final class Calls {
     private Calls() {
     }
 
+    /** Checks a base once, for all texts that are checked against it. It is held as the struct of C. */
     static long[] prepare(String base, byte[] bytes, Profile profile) throws Refusal {
         Answer answer = new Answer();
         Library.get().prepare(answer.memory(), bytes, profile.number());
@@ -37,6 +41,7 @@ final class Calls {
         return answer.memory();
     }
 
+    /** A valid text with its parts. */
     static Url check(String text, Profile profile, long[] prepared) throws Refusal {
         byte[] bytes = Utf8.encode(text);
         Answer answer = new Answer();
@@ -65,12 +70,13 @@ final class Calls {
         return longer;
     }
 
-    /** So many bytes hold the URL of nearly every text of which nothing is percent-encoded. */
+    /** This many bytes hold the URL of nearly every text in which nothing is percent-encoded. */
     private static int usualRoom(byte[] text, byte[] base) {
         long room = (long) text.length + (base == null ? 0 : base.length) + 4;
         return (int) Math.min(room, LONGEST_ARRAY);
     }
 
+    /** The URL of a text. In {@code urlcheck_record} the length, the parts, the host and the opaque path come last. */
     static ResolvedUrl resolve(String text, Profile profile, byte[] base) throws Refusal {
         byte[] bytes = Utf8.encode(text);
         Answer answer = new Answer();
@@ -84,6 +90,7 @@ final class Calls {
         return new ResolvedUrl(parts, HostKind.of(answer.word(176)), answer.word(180) != 0);
     }
 
+    /** The text to write in place of a refused one: in {@code urlcheck_mended} its kind, the offer and the length. */
     static Optional<Mended> mend(String text, Profile profile, byte[] base) throws Refusal {
         byte[] bytes = Utf8.encode(text);
         Answer answer = new Answer();
@@ -99,6 +106,7 @@ final class Calls {
         return Optional.empty();
     }
 
+    /** The violations of a text. Few have more than four; for those that have, the library is called again. */
     static List<Violation> violations(String text, Profile profile, long[] prepared) {
         byte[] bytes = Utf8.encode(text);
         Answer answer = new Answer();
@@ -114,7 +122,7 @@ final class Calls {
         return violationsOf(text, new Answer(out), count);
     }
 
-    /** So many violations of a text, which are in the order of their places. */
+    /** This many violations of a text, which are in the order of their places. */
     private static List<Violation> violationsOf(String text, Answer faults, int count) {
         List<Violation> violations = new ArrayList<>(count);
         int index = 0;
@@ -136,6 +144,7 @@ final class Calls {
         return (int) count;
     }
 
+    /** The sentence on a violation, or that of its rule if its place is after the end of the text. */
     static String message(String text, Profile profile, Violation violation) {
         byte[] bytes = Utf8.encode(text);
         Answer answer = new Answer();
@@ -150,6 +159,7 @@ final class Calls {
         return isWritten ? Utf8.decode(out, (int) answer.number(24)) : violation.rule().sentence();
     }
 
+    /** A text of a rule. Two threads may ask for one at a time, and both get the same. */
     static String fixedText(int what, Rule rule) {
         int at = what * RULES + rule.ordinal();
         String known = FIXED.get(at);

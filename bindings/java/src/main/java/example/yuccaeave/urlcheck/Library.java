@@ -2,7 +2,8 @@ package example.yuccaeave.urlcheck;
 
 /**
  * The functions of {@code urlcheck.h} that write their answer to a pointer. An array is handed over for the call, with
- * its length; one that is null is a null pointer.
+ * its length; one that is null is a null pointer. How C is called depends on the version of Java: see {@link Bridge},
+ * of which there are two.
  */
 abstract class Library {
     /** The system property that names the file of the library. */
@@ -15,6 +16,7 @@ abstract class Library {
         return library != null ? library : load();
     }
 
+    /** Loads the library, unless another thread has, and sees that it is one that this package is written for. */
     private static synchronized Library load() {
         if (loaded == null) {
             String file = System.getProperty(FILE);
@@ -33,6 +35,7 @@ abstract class Library {
         return isLinux ? "liburlcheck.so.0" : System.mapLibraryName("urlcheck");
     }
 
+    /** The error for a library that can't be loaded, which says how to name its file. */
     static UnsatisfiedLinkError notFound(String file, Throwable reason) {
         UnsatisfiedLinkError error = new UnsatisfiedLinkError(
                 "no " + file + " is found; -D" + FILE + "=FILE says where it is: " + reason.getMessage());
@@ -40,6 +43,7 @@ abstract class Library {
         return error;
     }
 
+    // The functions of urlcheck.h, by their names without `urlcheck_`; an answer is the memory of its struct.
     abstract int version();
 
     abstract void prepare(long[] answer, byte[] base, int profile);

@@ -6,7 +6,7 @@ import java.util.Collections;
 import java.util.List;
 import java.util.Optional;
 
-/** Many texts in one call of the library. */
+/** Many texts in one call of the library, joined as it takes them: their bytes, and the offsets between them. */
 final class ManyTexts {
     private final List<String> texts;
     private final byte[] bytes;
@@ -30,6 +30,7 @@ final class ManyTexts {
         }
     }
 
+    /** The violation of each text, or nothing for a valid one. (A call needs arrays that have an element.) */
     static List<Optional<Violation>> check(Collection<String> given, Profile profile, long[] prepared) {
         if (given.isEmpty()) {
             return Collections.emptyList();
@@ -54,6 +55,7 @@ final class ManyTexts {
         return Collections.unmodifiableList(found);
     }
 
+    /** The violation of a row. The library gives its place in code points, from which the others are counted. */
     private Violation violation(int row, int rule, long place) {
         String text = texts.get(row);
         return new Violation(Rule.of(rule), place, Utf8.bytes(text, place), text.offsetByCodePoints(0, (int) place));

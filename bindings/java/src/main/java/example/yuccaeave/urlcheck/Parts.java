@@ -4,6 +4,7 @@ import java.util.Optional;
 
 /** Where the parts of a text are, in its UTF-16 units. */
 final class Parts {
+    /** The parts, in the order of {@code urlcheck_spans}. */
     static final int SCHEME = 0;
     static final int HOST = 1;
     static final int PORT = 2;
@@ -21,7 +22,7 @@ final class Parts {
         this.ends = ends;
     }
 
-    /** The parts of a text of so many bytes, whose spans the library has written. */
+    /** The parts of a text of this many bytes, whose spans the library has written. */
     static Parts of(String text, int byteLength, Answer answer, int at) {
         int[] ends = new int[2 * COUNT];
         boolean isAscii = byteLength == text.length();
@@ -40,10 +41,12 @@ final class Parts {
         return text;
     }
 
+    /** A part, if the text has it. */
     Optional<String> part(int part) {
         return Optional.ofNullable(slice(part));
     }
 
+    /** The path, which each text has. */
     String path() {
         return slice(PATH);
     }

@@ -4,7 +4,7 @@ import java.nio.charset.StandardCharsets;
 
 /** Texts as bytes of UTF-8, and places in them. */
 final class Utf8 {
-    /** A text of so many units has at most as many bytes as an array of Java holds. */
+    /** A text of this many units has at most as many bytes as an array of Java holds. */
     static final int MOST_UNITS = Integer.MAX_VALUE / 3;
 
     private Utf8() {
@@ -20,6 +20,7 @@ final class Utf8 {
         return text.getBytes(StandardCharsets.UTF_8);
     }
 
+    /** Refuses a text whose bytes may be too many for an array, before any memory is taken for them. */
     static void requireLength(int units) {
         if (units > MOST_UNITS) {
             throw new IllegalArgumentException("the text has more than " + MOST_UNITS + " UTF-16 units");
@@ -69,6 +70,7 @@ final class Utf8 {
         return bytes;
     }
 
+    /** How many bytes a code point has. */
     private static int width(int codePoint) {
         return codePoint < 0x80 ? 1 : codePoint < 0x800 ? 2 : codePoint < 0x10000 ? 3 : 4;
     }

@@ -19,6 +19,7 @@ import java.nio.file.Path;
  * are, so no garbage is collected while a call runs. That is short, except for a text of many megabytes.
  */
 final class Bridge extends Library {
+    /** The functions of the library, each with the shape that the header gives it. */
     private final MethodHandle version;
     private final MethodHandle prepare;
     private final MethodHandle check;
@@ -49,6 +50,7 @@ final class Bridge extends Library {
                 ADDRESS, JAVA_LONG);
     }
 
+    /** Finds the library, by its path or by the name that the system knows. */
     @SuppressWarnings("restricted") // (to call C is what this class is for)
     static Library load(String file) {
         try {
@@ -66,6 +68,7 @@ final class Bridge extends Library {
         return function(library, name, FunctionDescriptor.ofVoid(arguments).insertArgumentLayouts(0, ADDRESS));
     }
 
+    /** A function of the library. {@code critical(true)} lets it read arrays where they are. */
     @SuppressWarnings("restricted")
     private static MethodHandle function(SymbolLookup library, String name, FunctionDescriptor shape) {
         MemorySegment at = library.find(name)
@@ -73,6 +76,7 @@ final class Bridge extends Library {
         return Linker.nativeLinker().downcallHandle(at, shape, Linker.Option.critical(true));
     }
 
+    /** An array as a pointer, which is null if the array is. */
     private static MemorySegment of(byte[] bytes) {
         return bytes == null ? MemorySegment.NULL : MemorySegment.ofArray(bytes);
     }
@@ -81,6 +85,7 @@ final class Bridge extends Library {
         return words == null ? MemorySegment.NULL : MemorySegment.ofArray(words);
     }
 
+    /** The length of bytes that may be null, as those of a base that isn't given. */
     private static long lengthOf(byte[] bytes) {
         return bytes == null ? 0 : bytes.length;
     }
