@@ -1,3 +1,4 @@
+/* The declarations of urlcheck.h, for readers without a preprocessor: made by tools/make-ffi-header. */
 typedef bool urlcheck_bool;
 enum urlcheck_profile {
     URLCHECK_STANDARD = 0,

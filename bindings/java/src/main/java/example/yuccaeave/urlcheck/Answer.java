@@ -15,6 +15,22 @@ final class Answer {
     static final int MENDED = 8;
     static final int DONE = 9;
 
+    /** Where the rule and the place in bytes of a finding are, which each struct begins with. */
+    private static final int RULE = 4;
+    private static final int PLACE = 8;
+    private static final int BYTE_PLACE = 16;
+    /** Where the other members of each struct are. */
+    static final int ANSWER_PARTS = 24;
+    static final int RECORD_LENGTH = 24;
+    static final int RECORD_PARTS = 32;
+    static final int RECORD_HOST_KIND = 176;
+    static final int RECORD_HAS_OPAQUE_PATH = 180;
+    static final int MENDED_KIND = 24;
+    static final int MENDED_IS_OFFERED = 28;
+    static final int MENDED_LENGTH = 32;
+    static final int FAULT_COUNT = 24;
+    static final int WRITTEN_LENGTH = 24;
+
     /** The length of a span. */
     static final int SPAN = 24;
     /** The length of the longest struct, a record. */
@@ -69,7 +85,7 @@ final class Answer {
     void requireValid(String text, Profile profile) throws Refusal {
         int verdict = verdict();
         if (verdict == REFUSED || verdict == BASE_REFUSED) {
-            throw new Refusal(violation(4, 8, Utf8.index(text, 0, number(16))), profile);
+            throw new Refusal(violation(RULE, PLACE, Utf8.index(text, 0, number(BYTE_PLACE))), profile);
         }
         require(verdict == VALID, verdict);
     }

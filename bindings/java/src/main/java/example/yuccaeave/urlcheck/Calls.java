@@ -47,7 +47,7 @@ final class Calls {
         Answer answer = new Answer();
         Library.get().check(answer.memory(), bytes, profile.number(), prepared);
         answer.requireValid(text, profile);
-        return new Url(Parts.of(text, bytes.length, answer, 24));
+        return new Url(Parts.of(text, bytes.length, answer, Answer.ANSWER_PARTS));
     }
 
     /** A call that writes a text: it is handed a buffer, and gives the length of its text. */
@@ -82,12 +82,13 @@ final class Calls {
         Answer answer = new Answer();
         byte[] out = written(usualRoom(bytes, base), room -> {
             Library.get().resolve(answer.memory(), bytes, profile.number(), base, room);
-            return answer.number(24);
+            return answer.number(Answer.RECORD_LENGTH);
         });
         answer.requireValid(text, profile);
-        int length = (int) answer.number(24);
-        Parts parts = Parts.of(Utf8.decode(out, length), length, answer, 32);
-        return new ResolvedUrl(parts, HostKind.of(answer.word(176)), answer.word(180) != 0);
+        int length = (int) answer.number(Answer.RECORD_LENGTH);
+        Parts parts = Parts.of(Utf8.decode(out, length), length, answer, Answer.RECORD_PARTS);
+        HostKind host = HostKind.of(answer.word(Answer.RECORD_HOST_KIND));
+        return new ResolvedUrl(parts, host, answer.word(Answer.RECORD_HAS_OPAQUE_PATH) != 0);
     }
 
     /** The text to write in place of a refused one: in {@code urlcheck_mended} its kind, the offer and the length. */
@@ -96,11 +97,12 @@ final class Calls {
         Answer answer = new Answer();
         byte[] out = written(usualRoom(bytes, base), room -> {
             Library.get().mend(answer.memory(), bytes, profile.number(), base, room);
-            return answer.number(32);
+            return answer.number(Answer.MENDED_LENGTH);
         });
         if (answer.verdict() == Answer.MENDED) {
-            String mended = Utf8.decode(out, (int) answer.number(32));
-            return Optional.of(new Mended(mended, MendKind.of(answer.word(24)), answer.word(28) != 0));
+            String mended = Utf8.decode(out, (int) answer.number(Answer.MENDED_LENGTH));
+            MendKind kind = MendKind.of(answer.word(Answer.MENDED_KIND));
+            return Optional.of(new Mended(mended, kind, answer.word(Answer.MENDED_IS_OFFERED) != 0));
         }
         answer.requireValid(text, profile);
         return Optional.empty();
@@ -112,7 +114,7 @@ final class Calls {
         Answer answer = new Answer();
         long[] out = new long[4 * FAULT];
         Library.get().faults(answer.memory(), bytes, profile.number(), prepared, out, out.length / FAULT);
-        int count = requireCount(answer.number(24));
+        int count = requireCount(answer.number(Answer.FAULT_COUNT));
         if (count > out.length / FAULT) {
             out = new long[count * FAULT];
             Library.get().faults(answer.memory(), bytes, profile.number(), prepared, out, count);
@@ -152,11 +154,11 @@ final class Calls {
         int by = profile.number();
         byte[] out = written(128, room -> {
             Library.get().message(answer.memory(), bytes, by, WORDING_NONE, rule, violation.place(), room);
-            return answer.number(24);
+            return answer.number(Answer.WRITTEN_LENGTH);
         });
         Answer.require(true, answer.verdict());
         boolean isWritten = answer.verdict() == Answer.DONE;
-        return isWritten ? Utf8.decode(out, (int) answer.number(24)) : violation.rule().sentence();
+        return isWritten ? Utf8.decode(out, (int) answer.number(Answer.WRITTEN_LENGTH)) : violation.rule().sentence();
     }
 
     /** A text of a rule. Two threads may ask for one at a time, and both get the same. */
