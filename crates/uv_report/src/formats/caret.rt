@@ -18,6 +18,15 @@ use uv_sentences::{
     LineViolation, SeenText, cut_out, is_printable_text, named_place, push_shown as push_shown_text,
 };
 
+// What is before a mended text that is offered, and before one that isn't, by how it is to the refused one.
+const HELP: &str = "help: write ";
+
+const SAME_NOTE: &str = "note: the same URL, written validly, is ";
+
+const ESCAPED_NOTE: &str = "note: the same text, percent-encoded, is ";
+
+const CHANGED_NOTE: &str = "note: a valid URL string that is near it is ";
+
 // Spaces, in one piece.
 const SPACES: &str =
     "                                                                                                ";
@@ -99,11 +108,7 @@ fn push_help(
 fn help_words(offered: bool, kind: MendKind) -> &'static str
     ensures { result.now ≡ help_words offered kind }
 {
-    if offered {
-        "help: write "
-    } else {
-        named_as(kind)
-    }
+    if offered { HELP } else { named_as(kind) }
 }
 
 // How a mended text is named that isn't offered.
@@ -111,9 +116,9 @@ fn named_as(kind: MendKind) -> &'static str
     ensures { result.now ≡ named_as kind }
 {
     match kind {
-        MendKind::Same => "note: the same URL, written validly, is ",
-        MendKind::Escaped => "note: the same text, percent-encoded, is ",
-        MendKind::Changed => "note: a valid URL string that is near it is ",
+        MendKind::Same => SAME_NOTE,
+        MendKind::Escaped => ESCAPED_NOTE,
+        MendKind::Changed => CHANGED_NOTE,
     }
 }
 
