@@ -227,7 +227,7 @@ done
 # Texts whose authors likely meant something else than what they are mended to: that is named and not offered, and the
 # sentence says what was likely meant.
 printf '%s\n' https://wixtoolset.org//documentation/ http://http://x 'C:\Users\x' 'https://example.com/{{ id }}' \
-    >"$room/meant.txt"
+    'tel:+1 2 ' >"$room/meant.txt"
 empty="the path begins with //"
 template='; this looks like a template: check what it makes [code-point]'
 expect 1 "meant.txt:1:24: error: $empty; write one slash, or use --profile wide [first-segment-empty]
@@ -247,18 +247,22 @@ meant.txt:4:21: error: U+007B LEFT CURLY BRACKET is not allowed in a URL$templat
 https://example.com/{{ id }}
                     ^
 note: the same URL, written validly, is https://example.com/%7B%7B%20id%20%7D%7D
-" 'urlcheck: 4 lines, 4 refused\n' lint --format caret meant.txt
+meant.txt:5:7: error: U+0020 SPACE is not allowed in a URL; write a number without spaces, as in tel:+1-555-0100 [code-point]
+tel:+1 2\x20
+      ^
+note: a valid URL string that is near it is tel:+1%202
+" 'urlcheck: 5 lines, 5 refused\n' lint --format caret meant.txt
 printf 'http://h/a b\n' >>"$room/meant.txt"
-# offers FORMAT READER ANSWER : of the five texts, this program reads these of the report in this format
+# offers FORMAT READER ANSWER : of the six texts, this program reads these of the report in this format
 offers() {
     (cd "$room" && "$program" lint --quiet --format "$1" meant.txt) >"$room/out" 2>"$room/err"
     ends_with 1 $? '' "offered texts as $1"
     [ "$(python3 -c "$2" <"$room/out")" = "$3" ] || fail "offered texts as $1: $(cat "$room/out")"
 }
 offers json 'import json, sys
-print(*(json.loads(line)["offered"] for line in sys.stdin))' 'False False False False True'
+print(*(json.loads(line)["offered"] for line in sys.stdin))' 'False False False False False True'
 offers sarif 'import json, sys
-print(*("fixes" in result for result in json.load(sys.stdin)["runs"][0]["results"]))' 'False False False False True'
+print(*("fixes" in result for result in json.load(sys.stdin)["runs"][0]["results"]))' 'False False False False False True'
 rm -f "$room/meant.txt"
 
 # The fixes of SARIF, made by a program that isn't ours, give lines that are valid, in a list and where a link is.

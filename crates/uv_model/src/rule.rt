@@ -3,6 +3,37 @@ ghost use Rattle.std.specs.Prelude.{◌≡◌, MatchOption};
 ghost use Rattle.uv_model.specs.Violations.Rule.{IsNoName, named_rule, rule_name, rule_number, rule_sentence};
 ghost use Rattle.uv_model.specs.Violations.Rule.{rules_in_order};
 
+// What is wrong at the place of a refusal by each rule.
+const NO_SCHEME_SENTENCE: &str = "there is no scheme and no base";
+
+const OPAQUE_BASE_SENTENCE: &str =
+    "there is no scheme, the base has an opaque path, and the text isn't # and a fragment";
+
+const TWO_SLASHES_SENTENCE: &str = "// has to follow this scheme";
+
+const HOST_MISSING_SENTENCE: &str = "a host is missing here";
+
+const HOST_DOMAIN_SENTENCE: &str = "the host that begins here is not a valid domain";
+
+const HOST_NUMBER_SENTENCE: &str =
+    "the host that begins here ends in a number, and is not an IPv4 address";
+
+const HOST_IPV6_SENTENCE: &str = "the host that begins here is not an IPv6 address in brackets";
+
+const HOST_CODE_POINT_SENTENCE: &str = "this code point is not allowed in a host";
+
+const PORT_DIGIT_SENTENCE: &str = "this code point is not allowed in a port";
+
+const PORT_RANGE_SENTENCE: &str = "the port that begins here is above 65535";
+
+const FIRST_SEGMENT_EMPTY_SENTENCE: &str = "the path begins with //";
+
+const DRIVE_AFTER_HOST_SENTENCE: &str = "the path after this host begins with a drive letter";
+
+const CODE_POINT_SENTENCE: &str = "this code point is not allowed in a URL";
+
+const PERCENT_SENTENCE: &str = "two hex digits have to follow this %";
+
 /// A rule for valid URL strings (URL Standard, sections 3.4 and 4.3) that a text can violate, by number.
 #[derive(Clone, Copy, Debug, PartialEq, Eq)]
 pub enum Rule {
@@ -108,24 +139,20 @@ impl Rule {
         ensures { result.now ≡ rule_sentence self }
     {
         match self {
-            Rule::NoScheme => "there is no scheme and no base",
-            Rule::OpaqueBase => {
-                "there is no scheme, the base has an opaque path, and the text isn't # and a fragment"
-            }
-            Rule::TwoSlashes => "// has to follow this scheme",
-            Rule::HostMissing => "a host is missing here",
-            Rule::HostDomain => "the host that begins here is not a valid domain",
-            Rule::HostNumber => {
-                "the host that begins here ends in a number, and is not an IPv4 address"
-            }
-            Rule::HostIpv6 => "the host that begins here is not an IPv6 address in brackets",
-            Rule::HostCodePoint => "this code point is not allowed in a host",
-            Rule::PortDigit => "this code point is not allowed in a port",
-            Rule::PortRange => "the port that begins here is above 65535",
-            Rule::FirstSegmentEmpty => "the path begins with //",
-            Rule::DriveAfterHost => { "the path after this host begins with a drive letter" }
-            Rule::CodePoint => "this code point is not allowed in a URL",
-            Rule::Percent => "two hex digits have to follow this %",
+            Rule::NoScheme => NO_SCHEME_SENTENCE,
+            Rule::OpaqueBase => OPAQUE_BASE_SENTENCE,
+            Rule::TwoSlashes => TWO_SLASHES_SENTENCE,
+            Rule::HostMissing => HOST_MISSING_SENTENCE,
+            Rule::HostDomain => HOST_DOMAIN_SENTENCE,
+            Rule::HostNumber => HOST_NUMBER_SENTENCE,
+            Rule::HostIpv6 => HOST_IPV6_SENTENCE,
+            Rule::HostCodePoint => HOST_CODE_POINT_SENTENCE,
+            Rule::PortDigit => PORT_DIGIT_SENTENCE,
+            Rule::PortRange => PORT_RANGE_SENTENCE,
+            Rule::FirstSegmentEmpty => FIRST_SEGMENT_EMPTY_SENTENCE,
+            Rule::DriveAfterHost => DRIVE_AFTER_HOST_SENTENCE,
+            Rule::CodePoint => CODE_POINT_SENTENCE,
+            Rule::Percent => PERCENT_SENTENCE,
         }
     }
 

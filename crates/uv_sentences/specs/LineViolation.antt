@@ -6,6 +6,9 @@ use Rattle.uv_model.specs.Violations.Rule.{named_rule, rule_name, rule_number, r
 use Rattle.uv_sentences.specs.declared.line_violation.LineViolation.{LineViolation}
 use Rattle.uv_sentences.specs.Rules.Explanation.{rule_asks, rule_uri}
 use Rattle.uv_sentences.specs.declared.line_violation.LineViolation.TheVariants.{Refused, NotUtf8, TooLong, NotLocated}
+use Rattle.uv_sentences.specs.declared.line_violation.TheConstants.{NOT_UTF8_SENTENCE, TOO_LONG_SENTENCE}
+use Rattle.uv_sentences.specs.declared.line_violation.TheConstants.{NOT_LOCATED_SENTENCE, NOT_UTF8_HELP, TOO_LONG_HELP}
+use Rattle.uv_sentences.specs.declared.line_violation.TheConstants.{NOT_LOCATED_HELP}
 use Rattle.uv_sentences.specs.declared.located_fault.LocatedFault.TheVariants.{NoFile}
 
 -- the name of the violated rule, or one of its own
@@ -20,21 +23,19 @@ abbrev pub named_violation : List ℕ → Option LineViolation
 named_violation name =
     find (λ violation. bytes_eq name (violation_name violation)) (NotUtf8 0 ∷ TooLong ∷ NotLocated NoFile ∷ [])
 
--- what is wrong at the place
+-- what is wrong at the place, in the words of the code, which the runs compare
 abbrev pub violation_sentence : LineViolation → List ℕ
 violation_sentence (Refused refusal) = rule_sentence refusal.rule
-violation_sentence (NotUtf8 place) = codes "this line isn't UTF-8"
-violation_sentence TooLong = codes "this line has more than 65536 bytes"
-violation_sentence (NotLocated fault) = codes "this line isn't FILE:LINE:COLUMN:LINK"
+violation_sentence (NotUtf8 place) = NOT_UTF8_SENTENCE.now
+violation_sentence TooLong = TOO_LONG_SENTENCE.now
+violation_sentence (NotLocated fault) = NOT_LOCATED_SENTENCE.now
 
--- what a line is asked
+-- what a line is asked, in such words
 abbrev pub violation_help : LineViolation → List ℕ
 violation_help (Refused refusal) = rule_asks refusal.rule
-violation_help (NotUtf8 place) = codes "A line is a text in UTF-8."
-violation_help TooLong =
-    codes "A line has at most 65536 bytes. A longer link may be valid: check and the libraries have no such limit."
-violation_help (NotLocated fault) =
-    codes "A located line is FILE:LINE:COLUMN:LINK. FILE isn't empty; LINE and COLUMN are from 1 to 4294967295."
+violation_help (NotUtf8 place) = NOT_UTF8_HELP.now
+violation_help TooLong = TOO_LONG_HELP.now
+violation_help (NotLocated fault) = NOT_LOCATED_HELP.now
 
 -- where that is: the section of the rule; none of a rule of lines
 abbrev pub violation_address : LineViolation → List ℕ

@@ -9,6 +9,22 @@ use crate::located_fault::LocatedFault;
 use crate::rules::explanation::explain;
 use uv_model::{Refusal, Rule};
 
+// What is wrong with a line that isn't checked.
+const NOT_UTF8_SENTENCE: &str = "this line isn't UTF-8";
+
+const TOO_LONG_SENTENCE: &str = "this line has more than 65536 bytes";
+
+const NOT_LOCATED_SENTENCE: &str = "this line isn't FILE:LINE:COLUMN:LINK";
+
+// What such a line is asked.
+const NOT_UTF8_HELP: &str = "A line is a text in UTF-8.";
+
+const TOO_LONG_HELP: &str = "A line has at most 65536 bytes. A longer link may be valid: \
+    check and the libraries have no such limit.";
+
+const NOT_LOCATED_HELP: &str =
+    "A located line is FILE:LINE:COLUMN:LINK. FILE isn't empty; LINE and COLUMN are from 1 to 4294967295.";
+
 /// What is wrong with a line of a file: either it is refused as a text, or it isn't a text that is checked.
 #[derive(Clone, Copy, PartialEq, Eq)]
 pub enum LineViolation {
@@ -68,9 +84,9 @@ impl LineViolation {
     {
         match self {
             LineViolation::Refused(refusal) => refusal.rule.sentence(),
-            LineViolation::NotUtf8(_) => "this line isn't UTF-8",
-            LineViolation::TooLong => "this line has more than 65536 bytes",
-            LineViolation::NotLocated(_) => "this line isn't FILE:LINE:COLUMN:LINK",
+            LineViolation::NotUtf8(_) => NOT_UTF8_SENTENCE,
+            LineViolation::TooLong => TOO_LONG_SENTENCE,
+            LineViolation::NotLocated(_) => NOT_LOCATED_SENTENCE,
         }
     }
 
@@ -80,14 +96,9 @@ impl LineViolation {
     {
         match self {
             LineViolation::Refused(refusal) => explain(refusal.rule).asks,
-            LineViolation::NotUtf8(_) => "A line is a text in UTF-8.",
-            LineViolation::TooLong => {
-                "A line has at most 65536 bytes. A longer link may be valid: \
-                check and the libraries have no such limit."
-            }
-            LineViolation::NotLocated(_) => {
-                "A located line is FILE:LINE:COLUMN:LINK. FILE isn't empty; LINE and COLUMN are from 1 to 4294967295."
-            }
+            LineViolation::NotUtf8(_) => NOT_UTF8_HELP,
+            LineViolation::TooLong => TOO_LONG_HELP,
+            LineViolation::NotLocated(_) => NOT_LOCATED_HELP,
         }
     }
 

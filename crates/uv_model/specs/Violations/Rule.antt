@@ -5,6 +5,11 @@ use Rattle.uv_model.specs.declared.rule.Rule.{Rule}
 use Rattle.uv_model.specs.declared.rule.Rule.TheVariants.{NoScheme, OpaqueBase, TwoSlashes, HostMissing, HostDomain}
 use Rattle.uv_model.specs.declared.rule.Rule.TheVariants.{HostNumber, HostIpv6, HostCodePoint, PortDigit, PortRange}
 use Rattle.uv_model.specs.declared.rule.Rule.TheVariants.{FirstSegmentEmpty, DriveAfterHost, CodePoint, Percent}
+use Rattle.uv_model.specs.declared.rule.TheConstants.{NO_SCHEME_SENTENCE, OPAQUE_BASE_SENTENCE, TWO_SLASHES_SENTENCE}
+use Rattle.uv_model.specs.declared.rule.TheConstants.{HOST_MISSING_SENTENCE, HOST_DOMAIN_SENTENCE, HOST_NUMBER_SENTENCE}
+use Rattle.uv_model.specs.declared.rule.TheConstants.{HOST_IPV6_SENTENCE, HOST_CODE_POINT_SENTENCE, PORT_DIGIT_SENTENCE}
+use Rattle.uv_model.specs.declared.rule.TheConstants.{PORT_RANGE_SENTENCE, FIRST_SEGMENT_EMPTY_SENTENCE}
+use Rattle.uv_model.specs.declared.rule.TheConstants.{DRIVE_AFTER_HOST_SENTENCE, CODE_POINT_SENTENCE, PERCENT_SENTENCE}
 
 -- the number of a rule
 abbrev pub rule_number : Rule → ℕ
@@ -40,23 +45,22 @@ rule_name DriveAfterHost = codes "drive-after-host"
 rule_name CodePoint = codes "code-point"
 rule_name Percent = codes "percent"
 
--- what is wrong at the place of a refusal by a rule
+-- what is wrong at the place of a refusal by a rule, in the words of the code, which the runs compare
 abbrev pub rule_sentence : Rule → List ℕ
-rule_sentence NoScheme = codes "there is no scheme and no base"
-rule_sentence OpaqueBase =
-    codes "there is no scheme, the base has an opaque path, and the text isn't # and a fragment"
-rule_sentence TwoSlashes = codes "// has to follow this scheme"
-rule_sentence HostMissing = codes "a host is missing here"
-rule_sentence HostDomain = codes "the host that begins here is not a valid domain"
-rule_sentence HostNumber = codes "the host that begins here ends in a number, and is not an IPv4 address"
-rule_sentence HostIpv6 = codes "the host that begins here is not an IPv6 address in brackets"
-rule_sentence HostCodePoint = codes "this code point is not allowed in a host"
-rule_sentence PortDigit = codes "this code point is not allowed in a port"
-rule_sentence PortRange = codes "the port that begins here is above 65535"
-rule_sentence FirstSegmentEmpty = codes "the path begins with //"
-rule_sentence DriveAfterHost = codes "the path after this host begins with a drive letter"
-rule_sentence CodePoint = codes "this code point is not allowed in a URL"
-rule_sentence Percent = codes "two hex digits have to follow this %"
+rule_sentence NoScheme = NO_SCHEME_SENTENCE.now
+rule_sentence OpaqueBase = OPAQUE_BASE_SENTENCE.now
+rule_sentence TwoSlashes = TWO_SLASHES_SENTENCE.now
+rule_sentence HostMissing = HOST_MISSING_SENTENCE.now
+rule_sentence HostDomain = HOST_DOMAIN_SENTENCE.now
+rule_sentence HostNumber = HOST_NUMBER_SENTENCE.now
+rule_sentence HostIpv6 = HOST_IPV6_SENTENCE.now
+rule_sentence HostCodePoint = HOST_CODE_POINT_SENTENCE.now
+rule_sentence PortDigit = PORT_DIGIT_SENTENCE.now
+rule_sentence PortRange = PORT_RANGE_SENTENCE.now
+rule_sentence FirstSegmentEmpty = FIRST_SEGMENT_EMPTY_SENTENCE.now
+rule_sentence DriveAfterHost = DRIVE_AFTER_HOST_SENTENCE.now
+rule_sentence CodePoint = CODE_POINT_SENTENCE.now
+rule_sentence Percent = PERCENT_SENTENCE.now
 
 -- the rules in the order of their numbers
 abbrev pub rules_in_order : List Rule

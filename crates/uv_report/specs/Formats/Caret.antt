@@ -7,6 +7,7 @@ use Rattle.std.specs.List.{flat_map}
 use Rattle.std.specs.Str.{chars}
 use Rattle.uv_model.specs.declared.mend_kind.MendKind.{MendKind}
 use Rattle.uv_model.specs.declared.mend_kind.MendKind.TheVariants.{Same, Escaped, Changed}
+use Rattle.uv_report.specs.declared.formats.caret.TheConstants.{HELP, SAME_NOTE, ESCAPED_NOTE, CHANGED_NOTE}
 use Rattle.uv_report.specs.Diagnostic.{DiagnosticView, FixView}
 use Rattle.uv_sentences.specs.declared.escaping.escapes.Escapes.TheVariants.{Shown}
 use Rattle.uv_report.specs.Places.Column.{shown_width}
@@ -43,15 +44,16 @@ shown_lines found =
     if shows_line found.rule found.text then window_lines found.text (named_place found.message found.text found.place)
     else []
 
--- how a mended text is named that isn't offered, by how it is to the refused one
+-- how a mended text is named that isn't offered, by how it is to the refused one, in the words of the code, which the
+-- runs compare
 abbrev pub named_as : MendKind → List ℕ
-named_as Same = codes "note: the same URL, written validly, is "
-named_as Escaped = codes "note: the same text, percent-encoded, is "
-named_as Changed = codes "note: a valid URL string that is near it is "
+named_as Same = SAME_NOTE.now
+named_as Escaped = ESCAPED_NOTE.now
+named_as Changed = CHANGED_NOTE.now
 
--- what is before a mended text, which is offered or isn't
+-- what is before a mended text, which is offered or isn't, in such words
 abbrev pub help_words : Bool → MendKind → List ℕ
-help_words true kind = codes "help: write "
+help_words true kind = HELP.now
 help_words false kind = named_as kind
 
 -- these words, and what is shown of a mended text around a place

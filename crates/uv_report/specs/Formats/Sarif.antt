@@ -11,6 +11,7 @@ use Rattle.uv_report.specs.declared.places.column.Columns.{Columns}
 use Rattle.uv_report.specs.declared.places.column.Columns.TheVariants.{CodePoints, Utf16}
 use Rattle.uv_report.specs.declared.completion.Completion.{Completion}
 use Rattle.uv_report.specs.declared.diagnostic.Region.{Region}
+use Rattle.uv_report.specs.declared.formats.sarif.TheConstants.{SAME_FIX, ESCAPED_FIX, CHANGED_FIX}
 use Rattle.uv_report.specs.declared.completion.Completion.TheVariants.{Whole, Unread, Stopped}
 use Rattle.uv_sentences.specs.declared.line_violation.LineViolation.{LineViolation}
 use Rattle.uv_sentences.specs.declared.line_violation.LineViolation.TheVariants.{Refused, NotUtf8, TooLong, NotLocated}
@@ -159,11 +160,11 @@ result_members found =
 
 -- ---- the fix of a result (sections 3.55 to 3.57)
 
--- what it does, by how the mended text is to the refused one
+-- what it does, by how the mended text is to the refused one, in the words of the code, which the runs compare
 abbrev pub fix_sentence : MendKind → List ℕ
-fix_sentence Same = codes "write the same URL as a valid URL string"
-fix_sentence Escaped = codes "percent-encode what is not allowed in a URL string"
-fix_sentence Changed = codes "write a valid URL string, which may be another URL"
+fix_sentence Same = SAME_FIX.now
+fix_sentence Escaped = ESCAPED_FIX.now
+fix_sentence Changed = CHANGED_FIX.now
 
 -- the text that is written, as the last member
 unfoldable pub inserted_members : List ℕ → Members

@@ -17,6 +17,15 @@ use uv_sentences::{
     LineViolation, SeenText, cut_out, is_printable_text, named_place, push_shown as push_shown_text,
 };
 
+// What is before a mended text that is offered, and before one that isn't, by how it is to the refused one.
+const HELP: &str = "help: write ";
+
+const SAME_NOTE: &str = "note: the same URL, written validly, is ";
+
+const ESCAPED_NOTE: &str = "note: the same text, percent-encoded, is ";
+
+const CHANGED_NOTE: &str = "note: a valid URL string that is near it is ";
+
 // Spaces, as one text.
 const SPACES: &str =
     "                                                                                                ";
@@ -97,11 +106,7 @@ fn push_help(
 fn help_words(offered: bool, kind: MendKind) -> &'static str
     ensures { result.now ≡ help_words offered kind }
 {
-    if offered {
-        "help: write "
-    } else {
-        named_as(kind)
-    }
+    if offered { HELP } else { named_as(kind) }
 }
 
 // What a mended text that isn't offered is called.
@@ -109,9 +114,9 @@ fn named_as(kind: MendKind) -> &'static str
     ensures { result.now ≡ named_as kind }
 {
     match kind {
-        MendKind::Same => "note: the same URL, written validly, is ",
-        MendKind::Escaped => "note: the same text, percent-encoded, is ",
-        MendKind::Changed => "note: a valid URL string that is near it is ",
+        MendKind::Same => SAME_NOTE,
+        MendKind::Escaped => ESCAPED_NOTE,
+        MendKind::Changed => CHANGED_NOTE,
     }
 }
 

@@ -19,6 +19,13 @@ use std::alloc::{AllocError, Global};
 use uv_model::{MendKind, Refusal, Rule};
 use uv_sentences::{LineViolation, LocatedFault, rule_index};
 
+// What a fix does, by how the mended text is to the refused one.
+const SAME_FIX: &str = "write the same URL as a valid URL string";
+
+const ESCAPED_FIX: &str = "percent-encode what is not allowed in a URL string";
+
+const CHANGED_FIX: &str = "write a valid URL string, which may be another URL";
+
 /// Pushes the document up to its results: the version, what columns count, the tool and its rules.
 #[tactic(auto, unfolding(crate::specs::Formats::Sarif::sarif_begin))]
 pub(crate) fn push_sarif_begin(
@@ -425,8 +432,8 @@ fn fix_sentence(kind: MendKind) -> &'static str
     ensures { result.now ≡ spec.fix_sentence kind }
 {
     match kind {
-        MendKind::Same => "write the same URL as a valid URL string",
-        MendKind::Escaped => "percent-encode what is not allowed in a URL string",
-        MendKind::Changed => "write a valid URL string, which may be another URL",
+        MendKind::Same => SAME_FIX,
+        MendKind::Escaped => ESCAPED_FIX,
+        MendKind::Changed => CHANGED_FIX,
     }
 }

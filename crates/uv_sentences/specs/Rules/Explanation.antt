@@ -5,33 +5,30 @@ use Rattle.uv_model.specs.declared.rule.Rule.{Rule}
 use Rattle.uv_model.specs.declared.rule.Rule.TheVariants.{NoScheme, OpaqueBase, TwoSlashes, HostMissing, HostDomain}
 use Rattle.uv_model.specs.declared.rule.Rule.TheVariants.{HostNumber, HostIpv6, HostCodePoint, PortDigit, PortRange}
 use Rattle.uv_model.specs.declared.rule.Rule.TheVariants.{FirstSegmentEmpty, DriveAfterHost, CodePoint, Percent}
+use Rattle.uv_sentences.specs.declared.rules.explanation.TheConstants.{NO_SCHEME_ASKS, OPAQUE_BASE_ASKS}
+use Rattle.uv_sentences.specs.declared.rules.explanation.TheConstants.{TWO_SLASHES_ASKS, HOST_MISSING_ASKS}
+use Rattle.uv_sentences.specs.declared.rules.explanation.TheConstants.{HOST_DOMAIN_ASKS, HOST_NUMBER_ASKS}
+use Rattle.uv_sentences.specs.declared.rules.explanation.TheConstants.{HOST_IPV6_ASKS, HOST_CODE_POINT_ASKS}
+use Rattle.uv_sentences.specs.declared.rules.explanation.TheConstants.{PORT_DIGIT_ASKS, PORT_RANGE_ASKS}
+use Rattle.uv_sentences.specs.declared.rules.explanation.TheConstants.{FIRST_SEGMENT_EMPTY_ASKS, DRIVE_AFTER_HOST_ASKS}
+use Rattle.uv_sentences.specs.declared.rules.explanation.TheConstants.{CODE_POINT_ASKS, PERCENT_ASKS}
 
--- what the rule requires of a text
+-- what the rule requires of a text, in the words of the code, which the runs compare
 abbrev pub rule_asks : Rule → List ℕ
-rule_asks NoScheme = codes "A text that is read without a base begins with a scheme and a colon."
-rule_asks OpaqueBase =
-    codes "Against a base whose path is opaque, a text without a scheme is # and a fragment, and nothing else."
-rule_asks TwoSlashes = codes "The schemes ftp, http, https, ws, wss and file are followed by a colon and //."
-rule_asks HostMissing =
-    codes "After //, ftp, http, https, ws and wss have a host, file a host or a path, and a port follows a host."
-rule_asks HostDomain =
-    codes "A domain consists of letters, digits and inner hyphens, in labels of 1 to 63 that ToASCII of UTS 46 accepts."
-rule_asks HostNumber =
-    codes "A host that ends in a number is an IPv4 address: four decimal numbers up to 255 without leading zeros."
-rule_asks HostIpv6 =
-    codes "A host in brackets is an IPv6 address: eight pieces of 1 to 4 hex digits, where :: stands for zeros."
-rule_asks HostCodePoint =
-    codes "Under a scheme that isn't special a host has URL units, but no forbidden host code points."
-rule_asks PortDigit =
-    codes "A port consists of ASCII digits, and a URL string has no user name or password before its host."
-rule_asks PortRange = codes "A port is at most 65535."
-rule_asks FirstSegmentEmpty =
-    codes "After an authority, a path whose first segment is empty has no other one: it doesn't begin with //."
-rule_asks DriveAfterHost =
-    codes "After the host of a file URL, the path doesn't begin with /, a drive letter and /."
-rule_asks CodePoint =
-    codes "A path, query and fragment have URL code points and percent-escapes; all else is percent-encoded."
-rule_asks Percent = codes "A % is followed by two hex digits. To stand for itself, it is written %25."
+rule_asks NoScheme = NO_SCHEME_ASKS.now
+rule_asks OpaqueBase = OPAQUE_BASE_ASKS.now
+rule_asks TwoSlashes = TWO_SLASHES_ASKS.now
+rule_asks HostMissing = HOST_MISSING_ASKS.now
+rule_asks HostDomain = HOST_DOMAIN_ASKS.now
+rule_asks HostNumber = HOST_NUMBER_ASKS.now
+rule_asks HostIpv6 = HOST_IPV6_ASKS.now
+rule_asks HostCodePoint = HOST_CODE_POINT_ASKS.now
+rule_asks PortDigit = PORT_DIGIT_ASKS.now
+rule_asks PortRange = PORT_RANGE_ASKS.now
+rule_asks FirstSegmentEmpty = FIRST_SEGMENT_EMPTY_ASKS.now
+rule_asks DriveAfterHost = DRIVE_AFTER_HOST_ASKS.now
+rule_asks CodePoint = CODE_POINT_ASKS.now
+rule_asks Percent = PERCENT_ASKS.now
 
 -- the address of the section of the URL Standard that asks it
 abbrev pub rule_uri : Rule → List ℕ

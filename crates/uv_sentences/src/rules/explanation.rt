@@ -55,8 +55,10 @@ pub fn explain(rule: Rule) -> Explanation
 }
 
 // The explanation of each rule, in the order of their numbers. The example's place and rule are what the checker finds.
+const NO_SCHEME_ASKS: &str = "A text that is read without a base begins with a scheme and a colon.";
+
 const NO_SCHEME: Explanation = Explanation {
-    asks: "A text that is read without a base begins with a scheme and a colon.",
+    asks: NO_SCHEME_ASKS,
     section: "4.3, relative-URL string",
     address: "https://url.spec.whatwg.org/#relative-url-string",
     base: None,
@@ -65,8 +67,11 @@ const NO_SCHEME: Explanation = Explanation {
     mended: "https://example.com/a",
 };
 
+const OPAQUE_BASE_ASKS: &str =
+    "Against a base whose path is opaque, a text without a scheme is # and a fragment, and nothing else.";
+
 const OPAQUE_BASE: Explanation = Explanation {
-    asks: "Against a base whose path is opaque, a text without a scheme is # and a fragment, and nothing else.",
+    asks: OPAQUE_BASE_ASKS,
     section: "4.3 and 4.4, no scheme state",
     address: "https://url.spec.whatwg.org/#no-scheme-state",
     base: Some("urn:isbn:0451450523"),
@@ -75,8 +80,11 @@ const OPAQUE_BASE: Explanation = Explanation {
     mended: "#x",
 };
 
+const TWO_SLASHES_ASKS: &str =
+    "The schemes ftp, http, https, ws, wss and file are followed by a colon and //.";
+
 const TWO_SLASHES: Explanation = Explanation {
-    asks: "The schemes ftp, http, https, ws, wss and file are followed by a colon and //.",
+    asks: TWO_SLASHES_ASKS,
     section: "4.3, absolute-URL string",
     address: "https://url.spec.whatwg.org/#absolute-url-string",
     base: None,
@@ -85,8 +93,11 @@ const TWO_SLASHES: Explanation = Explanation {
     mended: "http://example.com/",
 };
 
+const HOST_MISSING_ASKS: &str =
+    "After //, ftp, http, https, ws and wss have a host, file a host or a path, and a port follows a host.";
+
 const HOST_MISSING: Explanation = Explanation {
-    asks: "After //, ftp, http, https, ws and wss have a host, file a host or a path, and a port follows a host.",
+    asks: HOST_MISSING_ASKS,
     section: "3.4, 4.3",
     address: "https://url.spec.whatwg.org/#valid-host-string",
     base: None,
@@ -95,8 +106,11 @@ const HOST_MISSING: Explanation = Explanation {
     mended: "https://example.com/a",
 };
 
+const HOST_DOMAIN_ASKS: &str =
+    "A domain consists of letters, digits and inner hyphens, in labels of 1 to 63 that ToASCII of UTS 46 accepts.";
+
 const HOST_DOMAIN: Explanation = Explanation {
-    asks: "A domain consists of letters, digits and inner hyphens, in labels of 1 to 63 that ToASCII of UTS 46 accepts.",
+    asks: HOST_DOMAIN_ASKS,
     section: "3.4, valid domain string",
     address: "https://url.spec.whatwg.org/#valid-domain-string",
     base: None,
@@ -105,8 +119,11 @@ const HOST_DOMAIN: Explanation = Explanation {
     mended: "http://a.b/",
 };
 
+const HOST_NUMBER_ASKS: &str =
+    "A host that ends in a number is an IPv4 address: four decimal numbers up to 255 without leading zeros.";
+
 const HOST_NUMBER: Explanation = Explanation {
-    asks: "A host that ends in a number is an IPv4 address: four decimal numbers up to 255 without leading zeros.",
+    asks: HOST_NUMBER_ASKS,
     section: "3.5, ends-in-a-number",
     address: "https://url.spec.whatwg.org/#ends-in-a-number-checker",
     base: None,
@@ -115,8 +132,11 @@ const HOST_NUMBER: Explanation = Explanation {
     mended: "http://255.0.0.1/",
 };
 
+const HOST_IPV6_ASKS: &str =
+    "A host in brackets is an IPv6 address: eight pieces of 1 to 4 hex digits, where :: stands for zeros.";
+
 const HOST_IPV6: Explanation = Explanation {
-    asks: "A host in brackets is an IPv6 address: eight pieces of 1 to 4 hex digits, where :: stands for zeros.",
+    asks: HOST_IPV6_ASKS,
     section: "3.4, valid IPv6-address string",
     address: "https://url.spec.whatwg.org/#valid-ipv6-address-string",
     base: None,
@@ -125,8 +145,11 @@ const HOST_IPV6: Explanation = Explanation {
     mended: "http://[::1]/",
 };
 
+const HOST_CODE_POINT_ASKS: &str =
+    "Under a scheme that isn't special a host has URL units, but no forbidden host code points.";
+
 const HOST_CODE_POINT: Explanation = Explanation {
-    asks: "Under a scheme that isn't special a host has URL units, but no forbidden host code points.",
+    asks: HOST_CODE_POINT_ASKS,
     section: "3.4, valid opaque-host string",
     address: "https://url.spec.whatwg.org/#valid-opaque-host-string",
     base: None,
@@ -135,8 +158,11 @@ const HOST_CODE_POINT: Explanation = Explanation {
     mended: "foo://u%40h/",
 };
 
+const PORT_DIGIT_ASKS: &str =
+    "A port consists of ASCII digits, and a URL string has no user name or password before its host.";
+
 const PORT_DIGIT: Explanation = Explanation {
-    asks: "A port consists of ASCII digits, and a URL string has no user name or password before its host.",
+    asks: PORT_DIGIT_ASKS,
     section: "4.3, URL-port string",
     address: "https://url.spec.whatwg.org/#url-port-string",
     base: None,
@@ -145,8 +171,10 @@ const PORT_DIGIT: Explanation = Explanation {
     mended: "http://h:80/",
 };
 
+const PORT_RANGE_ASKS: &str = "A port is at most 65535.";
+
 const PORT_RANGE: Explanation = Explanation {
-    asks: "A port is at most 65535.",
+    asks: PORT_RANGE_ASKS,
     section: "4.3, URL-port string",
     address: "https://url.spec.whatwg.org/#url-port-string",
     base: None,
@@ -155,8 +183,11 @@ const PORT_RANGE: Explanation = Explanation {
     mended: "http://h:65535/",
 };
 
+const FIRST_SEGMENT_EMPTY_ASKS: &str =
+    "After an authority, a path whose first segment is empty has no other one: it doesn't begin with //.";
+
 const FIRST_SEGMENT_EMPTY: Explanation = Explanation {
-    asks: "After an authority, a path whose first segment is empty has no other one: it doesn't begin with //.",
+    asks: FIRST_SEGMENT_EMPTY_ASKS,
     section: "4.3, path-absolute-URL string",
     address: "https://url.spec.whatwg.org/#path-absolute-url-string",
     base: None,
@@ -165,8 +196,11 @@ const FIRST_SEGMENT_EMPTY: Explanation = Explanation {
     mended: "https://example.com/a",
 };
 
+const DRIVE_AFTER_HOST_ASKS: &str =
+    "After the host of a file URL, the path doesn't begin with /, a drive letter and /.";
+
 const DRIVE_AFTER_HOST: Explanation = Explanation {
-    asks: "After the host of a file URL, the path doesn't begin with /, a drive letter and /.",
+    asks: DRIVE_AFTER_HOST_ASKS,
     section: "4.3, path-absolute-non-Windows-file-URL string",
     address: "https://url.spec.whatwg.org/#path-absolute-non-windows-file-url-string",
     base: None,
@@ -175,8 +209,11 @@ const DRIVE_AFTER_HOST: Explanation = Explanation {
     mended: "file:///C:/x",
 };
 
+const CODE_POINT_ASKS: &str =
+    "A path, query and fragment have URL code points and percent-escapes; all else is percent-encoded.";
+
 const CODE_POINT: Explanation = Explanation {
-    asks: "A path, query and fragment have URL code points and percent-escapes; all else is percent-encoded.",
+    asks: CODE_POINT_ASKS,
     section: "4.3, URL code points",
     address: "https://url.spec.whatwg.org/#url-code-points",
     base: None,
@@ -185,8 +222,11 @@ const CODE_POINT: Explanation = Explanation {
     mended: "http://h/a%20b",
 };
 
+const PERCENT_ASKS: &str =
+    "A % is followed by two hex digits. To stand for itself, it is written %25.";
+
 const PERCENT: Explanation = Explanation {
-    asks: "A % is followed by two hex digits. To stand for itself, it is written %25.",
+    asks: PERCENT_ASKS,
     section: "4.3, URL units",
     address: "https://url.spec.whatwg.org/#url-units",
     base: None,
