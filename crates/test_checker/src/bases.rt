@@ -1,14 +1,14 @@
 //! The base of the tests.
 
 use std::alloc::{AllocError, Global};
-use uv_model::{Host, Profile, Record, Text, TextList, UrlPath, well_formed};
+use uv_model::{Host, PathText, Profile, Record, Text, UrlPath, well_formed};
 
 /// `http://h/`, or none if its parts aren't well formed.
 pub(crate) fn special_base(alloc: Global) -> Result<Option<Record>, AllocError> {
     let host = Some(Host::Domain(Text::of(String::from_str(alloc, "h")?)));
-    let mut items = Vec::new(alloc);
-    items.push(Text::of(String::new(alloc)))?;
-    let path = UrlPath::Segments(TextList::of(items));
+    let mut root = PathText::new(alloc);
+    root.push("")?;
+    let path = UrlPath::Segments(root);
     if !well_formed(
         "http",
         host.as_ref(),

@@ -1,9 +1,9 @@
 //! Paths of segments in one text: what is appended comes after what was there, and only the last segment is taken away.
-//! The same holds for the list of these segments, and for a copy of each.
+//! The same holds for a copy.
 
 use crate::ascii_texts::ascii;
 use std::alloc::{AllocError, Global};
-use uv_model::{PathText, TextList, UrlPath, without_last_segment};
+use uv_model::{PathText, UrlPath, without_last_segment};
 
 // A path of these segments, and then of these in one text.
 fn path_of(alloc: Global, first: &str, others: &str) -> Result<PathText, AllocError> {
@@ -13,9 +13,9 @@ fn path_of(alloc: Global, first: &str, others: &str) -> Result<PathText, AllocEr
     Ok(path)
 }
 
-// Whether the list has these texts, which are joined by `/`.
-fn are_texts(list: &TextList, joined: &str) -> bool {
-    let mut left = list.iter();
+// Whether the path has these segments, which are joined by `/`.
+fn has_segments(path: &PathText, joined: &str) -> bool {
+    let mut left = path.iter();
     for wanted in joined.split('/') {
         if left.next_text() != Some(wanted) {
             return false;
@@ -55,13 +55,10 @@ fn appends_and_removes_segments(rt: HostRuntime) -> Result<(), AllocError> {
 #[test]
 fn lists_segments(rt: HostRuntime) -> Result<(), AllocError> {
     let alloc = rt.alloc();
-    let list = TextList::of_path(path_of(alloc, "/a//b", "c/")?);
-    assert!(rt; are_texts(&list, "a//b/c/"));
-    assert!(rt; list.as_path() == Some("/a//b/c/"));
-    assert!(rt; are_texts(&list.copy(alloc)?, "a//b/c/"));
-    let empty = TextList::of_path(PathText::new(alloc));
-    assert!(rt; empty.iter().next_text() == None);
-    assert!(rt; empty.as_path() == Some(""));
+    let path = path_of(alloc, "/a//b", "c/")?;
+    assert!(rt; has_segments(&path, "a//b/c/"));
+    assert!(rt; has_segments(&path.copy(alloc)?, "a//b/c/"));
+    assert!(rt; PathText::new(alloc).iter().next_text() == None);
     Ok(())
 }
 
@@ -70,8 +67,8 @@ fn copies_paths(rt: HostRuntime) -> Result<(), AllocError> {
     let alloc = rt.alloc();
     let path = path_of(alloc, "/a", "b")?;
     assert!(rt; path.copy(alloc)?.as_str() == "/a/b");
-    match UrlPath::Segments(TextList::of_path(path)).copy(alloc)? {
-        UrlPath::Segments(list) => assert!(rt; list.as_path() == Some("/a/b")),
+    match UrlPath::Segments(path).copy(alloc)? {
+        UrlPath::Segments(copy) => assert!(rt; copy.as_str() == "/a/b"),
         UrlPath::Opaque(_) => assert!(rt; false),
     }
     assert!(rt; without_last_segment("/a/b/") == "/a/b");

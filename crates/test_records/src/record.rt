@@ -2,11 +2,11 @@
 //! written before. The cases of `tests/vectors/` have more texts of records.
 
 use std::alloc::{AllocError, Global};
-use uv_model::{Host, ListedTexts, Profile, Record, UrlPath, push_ipv4, push_ipv6, push_port};
+use uv_model::{Host, PathSegments, Profile, Record, UrlPath, push_ipv4, push_ipv6, push_port};
 use uv_resolve::{ResolveFault, resolve};
 
 // Whether the texts are these two, or this one.
-fn are_texts(texts: ListedTexts<'_>, first: &str, second: Option<&str>) -> bool {
+fn are_texts(texts: PathSegments<'_>, first: &str, second: Option<&str>) -> bool {
     let mut left = texts;
     left.next_text() == Some(first) && left.next_text() == second && left.next_text() == None
 }
@@ -14,7 +14,7 @@ fn are_texts(texts: ListedTexts<'_>, first: &str, second: Option<&str>) -> bool 
 // Whether the path has these segments.
 fn has_segments(path: &UrlPath, first: &str, second: Option<&str>) -> bool {
     match path {
-        UrlPath::Segments(list) => are_texts(list.iter(), first, second),
+        UrlPath::Segments(path) => are_texts(path.iter(), first, second),
         UrlPath::Opaque(_) => false,
     }
 }

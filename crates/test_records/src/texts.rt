@@ -2,13 +2,10 @@
 
 use crate::ascii_texts::ascii;
 use std::alloc::{AllocError, Global};
-use uv_model::{TextList, UrlPath};
+use uv_model::{PathText, UrlPath};
 
-/// A path of these segments.
-pub(crate) fn segments(alloc: Global, texts: &[&str]) -> Result<UrlPath, AllocError> {
-    let mut items = Vec::new(alloc);
-    for text in texts {
-        items.push(ascii(alloc, text)?)?;
-    }
-    Ok(UrlPath::Segments(TextList::of(items)))
+/// A path of segments, each after a `/`.
+pub(crate) fn segments(alloc: Global, text: &str) -> Result<UrlPath, AllocError> {
+    let text = ascii(alloc, text)?;
+    Ok(UrlPath::Segments(PathText::of(alloc, text.as_str())?))
 }

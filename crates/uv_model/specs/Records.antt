@@ -6,4 +6,3 @@ pub mod Serialize
 pub mod AddressText
 pub mod Held
 pub mod PathText
-pub mod TextList

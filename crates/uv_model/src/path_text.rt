@@ -1,6 +1,8 @@
 //! Texts of paths of segments, which grow and shrink by one segment at a time.
-ghost use Rattle.std.specs.Prelude.{◌≡◌, ◌∷◌, ◌++◌, [], IfOk, OnOk, length, option_copied, string_bytes, take, true};
-ghost use Rattle.std.specs.Str.{IsAscii};
+ghost use Rattle.std.specs.Prelude.{◌≡◌, ◌∷◌, ◌++◌, [], IfOk, IfSome, MatchOption, OnOk, length, option_copied};
+ghost use Rattle.std.specs.Prelude.{string_bytes, take, true};
+ghost use Rattle.std.specs.Iterator.{YieldsFirstBy, item_count};
+ghost use Rattle.std.specs.Str.{IsAscii, chars};
 ghost use Rattle.uv_model.specs.Ascii.{slash};
 ghost use Rattle.uv_model.specs.Path.{is_without, left_segments, pieces, segments_after, segments_of, without_last};
 ghost use Rattle.uv_model.specs.Records.PathText.{IsPathText, IsTextOf, MayBeAsciiText};
@@ -89,6 +91,15 @@ impl PathText {
         self.held.as_str()
     }
 
+    /// The segments in their order.
+    pub fn iter(&self) -> PathSegments<'_>
+        ensures { result ≡ self.now }
+    {
+        PathSegments {
+            left: self.after_slash(),
+        }
+    }
+
     /// An equal path. An error means that memory ran out.
     pub fn copy(&self, alloc: Global) -> Result<PathText, AllocError>
         ensures { IfOk result (λ path. path ≡ self.now) }
@@ -145,7 +156,7 @@ impl PathText {
     }
 
     // The text between whose slashes the segments are, if there are any.
-    pub(crate) fn after_slash(&self) -> Option<&str>
+    fn after_slash(&self) -> Option<&str>
         ensures segments { left_segments (option_copied result) ≡ self.now }
         ensures ascii { MayBeAsciiText (option_copied result) }
     {
@@ -162,5 +173,67 @@ pub fn without_last_segment<'p>(path: &'p str) -> &'p str
     match path.rfind('/') {
         Some(end) => &path[..end],
         None => path,
+    }
+}
+
+/// The segments of a path that are still to come.
+#[derive(Drop)]
+pub struct PathSegments<'p> {
+    left: Option<&'p str>,
+}
+
+impl<'p> Model for PathSegments<'p> {
+    ghost use Rattle.std.specs.Prelude.{ℕ, List, option_copied};
+    ghost use Rattle.uv_model.specs.Path.{left_segments};
+    ghost use Rattle.uv_model.specs.Records.PathText.{MayBeAsciiText};
+
+    ghost Value = { List (List ℕ) };
+
+    ghost view = { λ s. left_segments (option_copied s.left) };
+
+    ghost invariant = { λ s. MayBeAsciiText (option_copied s.left) };
+}
+
+impl<'p> PathSegments<'p> {
+    /// The next segment, if there is one.
+    pub fn next_text(&mut self) -> Option<&'p str>
+        ensures next { MatchOption result ((self.old ≡ []) × (self.new ≡ []))
+            (λ text. self.old ≡ text.now ∷ self.new) }
+        ensures ascii { IfSome result (λ text. IsAscii text.now) }
+        ensures code_points { IfSome result (λ text. chars text.now ≡ text.now) }
+    {
+        match self.left {
+            Some(text) => {
+                let (first, rest) = split_first(text);
+                self.left = rest;
+                Some(first)
+            }
+            None => None,
+        }
+    }
+}
+
+// What is before the first `/`, and what follows it where there is one.
+fn split_first<'p>(text: &'p str) -> (&'p str, Option<&'p str>)
+    requires { IsAscii text.now }
+    ensures pieces { pieces text.now ≡ result.0.now ∷ left_segments (option_copied result.1) }
+    ensures first { IsAscii result.0.now }
+    ensures rest { MayBeAsciiText (option_copied result.1) }
+{
+    match text.split_once('/') {
+        Some((first, rest)) => (first, Some(rest)),
+        None => (text, None),
+    }
+}
+
+impl<'p> Iterator for PathSegments<'p> {
+    type Item = &'p str;
+
+    ghost next_gives = { YieldsFirstBy (λ text. text.now) (λ s. s) };
+
+    ghost remaining = { item_count (λ s. s) };
+
+    fn next(&mut self) -> Option<&'p str> {
+        self.next_text()
     }
 }

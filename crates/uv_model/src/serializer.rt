@@ -3,7 +3,6 @@ ghost use Rattle.std.specs.Prelude.{◌≡◌, ◌<◌, ◌∷◌, ◌++◌, OnO
 ghost use Rattle.std.specs.Prelude.{string_bytes};
 ghost use Rattle.std.specs.Io.{StartsWith};
 ghost use Rattle.uv_model.specs.Records.Serialize.{serial, serial_authority, serial_host, serial_path, serial_port};
-ghost use Rattle.uv_model.specs.Records.Serialize.{serial_segments};
 ghost use Rattle.uv_model.specs.declared.path.UrlPath.TheVariants.{Segments};
 ghost use Rattle.uv_model.specs.Ascii.{colon, question_mark, number_sign};
 ghost use Rattle.uv_model.specs.Parts.{written_after};
@@ -11,9 +10,8 @@ ghost use Rattle.uv_model.specs.Parts.{written_after};
 use crate::address_text::{push_ipv4, push_ipv6, push_port};
 use crate::host::Host;
 use crate::path::UrlPath;
+use crate::path_text::PathSegments;
 use crate::record::Record;
-use crate::text::Text;
-use crate::text_list::{Listed, ListedTexts, TextList};
 use std::alloc::{AllocError, Global};
 
 impl Record {
@@ -44,7 +42,7 @@ fn room_for(url: &Record) -> usize {
     url.scheme()
         .len()
         .saturating_add(host_room(url.host()))
-        .saturating_add(path_room(url.path()))
+        .saturating_add(url.path().as_str().len())
         .saturating_add(part_room(url.query()))
         .saturating_add(part_room(url.fragment()))
         .saturating_add("://:65535".len())
@@ -58,26 +56,6 @@ fn host_room(host: Option<&Host>) -> usize {
         Some(Host::V4(_) | Host::V6(_)) => "[1111:2222:3333:4444:5555:6666:7777:8888]".len(),
         Some(Host::Empty) | None => 0,
     }
-}
-
-// The length of a path.
-fn path_room(path: &UrlPath) -> usize {
-    match path {
-        UrlPath::Opaque(text) => text.as_str().len(),
-        UrlPath::Segments(list) => match list.listed() {
-            Listed::Texts(segments) => segments_room(segments.as_slice()),
-            Listed::Path(path) => path.as_str().len(),
-        },
-    }
-}
-
-// The length of segments, each with its `/`.
-fn segments_room(segments: &[Text]) -> usize {
-    let mut room = 0usize;
-    for segment in segments {
-        room = room.saturating_add(part_room(Some(segment.as_str())));
-    }
-    room
 }
 
 // The length of a part with the mark before it, if there is one.
@@ -105,7 +83,7 @@ fn push_from_path(out: &mut String, url: &Record) -> Result<(), AllocError>
         ++ written_after number_sign url.now.fragment))) }
     ensures err { OnErr result (StartsWith (string_bytes out.new) (string_bytes out.old)) }
 {
-    push_path(out, url.path())?;
+    out.push_str(url.path().as_str())?;
     push_after(out, '?', url.query())?;
     push_after(out, '#', url.fragment())
 }
@@ -133,18 +111,18 @@ fn push_authority(
     }
 }
 
-// `/.` before a path that would begin with `//`, which would be read as an authority.
-fn dot_prefix(path: &UrlPath) -> &'static str
+/// `/.` before a path that would begin with `//`, which would be read as an authority.
+pub fn dot_prefix(path: &UrlPath) -> &'static str
     ensures { result.now ≡ serial_authority None None path.now }
 {
     match path {
-        UrlPath::Segments(list) => dot_before(list.iter()),
+        UrlPath::Segments(path) => dot_before(path.iter()),
         UrlPath::Opaque(_) => "",
     }
 }
 
 // `/.` before these segments, if they would begin with `//`, which would be read as an authority.
-fn dot_before(segments: ListedTexts<'_>) -> &'static str
+fn dot_before(segments: PathSegments<'_>) -> &'static str
     ensures { result.now ≡ serial_authority None None (Segments segments.entry) }
 {
     let mut left = segments;
@@ -177,38 +155,6 @@ fn push_host(out: &mut String, host: &Host) -> Result<(), AllocError>
         Host::V6(pieces) => push_ipv6(out, pieces),
         Host::Empty => Ok(()),
     }
-}
-
-// A path: an opaque one as it is, otherwise each segment after a `/`.
-fn push_path(out: &mut String, path: &UrlPath) -> Result<(), AllocError>
-    ensures ok { OnOk result (string_bytes out.new ≡ string_bytes out.old ++ serial_path path.now) }
-    ensures err { OnErr result (StartsWith (string_bytes out.new) (string_bytes out.old)) }
-{
-    match path {
-        UrlPath::Opaque(text) => out.push_str(text.as_str()),
-        UrlPath::Segments(list) => push_list(out, list),
-    }
-}
-
-// The segments of a path, each after a `/`.
-fn push_list(out: &mut String, list: &TextList) -> Result<(), AllocError>
-    ensures ok { OnOk result (string_bytes out.new ≡ string_bytes out.old ++ serial_segments list.now) }
-    ensures err { OnErr result (StartsWith (string_bytes out.new) (string_bytes out.old)) }
-{
-    match list.listed() {
-        Listed::Texts(segments) => push_segments(out, segments.as_slice()),
-        Listed::Path(path) => out.push_str(path.as_str()),
-    }
-}
-
-fn push_segments(out: &mut String, segments: &[Text]) -> Result<(), AllocError>
-    ensures ok { OnOk result (string_bytes out.new ≡ string_bytes out.old ++ serial_segments segments.now) }
-    ensures err { OnErr result (StartsWith (string_bytes out.new) (string_bytes out.old)) }
-{
-    for segment in segments {
-        push_after(out, '/', Some(segment.as_str()))?;
-    }
-    Ok(())
 }
 
 // An ASCII mark and the text after it, if there is one.

@@ -8,11 +8,11 @@ ghost use Rattle.uv_model.specs.Records.WellFormed.{may_be_empty};
 use crate::ascii_units::{is_ascii_text, is_ascii_units, is_spaced, is_without};
 use crate::host::Host;
 use crate::path::UrlPath;
+use crate::path_text::PathSegments;
 use crate::profile::Profile;
 use crate::scheme::Class;
 use crate::segments::{is_double_dot, is_single_dot};
 use crate::text::Text;
-use crate::text_list::ListedTexts;
 
 /// Whether a URL of this class with this host may have the path, under the profile.
 pub fn is_url_path(class: Class, host: Option<&Host>, path: &UrlPath, profile: Profile) -> bool
@@ -25,7 +25,7 @@ pub fn is_url_path(class: Class, host: Option<&Host>, path: &UrlPath, profile: P
             }
             is_url_opaque_path(text, profile)
         }
-        UrlPath::Segments(list) => are_segments_of(class, host, list.iter()),
+        UrlPath::Segments(path) => are_segments_of(class, host, path.iter()),
     }
 }
 
@@ -107,7 +107,7 @@ fn starts_with_slash(text: &[u8]) -> bool
 }
 
 // Whether these may be the segments of a path. There may be none only after a host of class Other.
-fn are_segments_of(class: Class, host: Option<&Host>, segments: ListedTexts<'_>) -> bool
+fn are_segments_of(class: Class, host: Option<&Host>, segments: PathSegments<'_>) -> bool
     ensures { IsTrue result ↔ AreSegmentsOf class (option_copied host.entry) segments.entry }
 {
     let mut left = segments;
@@ -118,7 +118,7 @@ fn are_segments_of(class: Class, host: Option<&Host>, segments: ListedTexts<'_>)
 }
 
 // Whether each text may be a segment.
-fn are_url_segments(segments: ListedTexts<'_>) -> bool
+fn are_url_segments(segments: PathSegments<'_>) -> bool
     ensures { IsTrue result ↔ AreUrlSegments segments.entry }
 {
     let mut left = segments;

@@ -1,25 +1,28 @@
 -- Paths of segments that a walk keeps: what is denoted is each of them percent-encoded.
 use Rattle.std.proofs.Common.{◌≡◌, ◌≢◌, ℕ, Bool, true, false, not, List, [], ◌∷◌, ◌++◌, refl}
 use Rattle.std.proofs.Common.{sym, ap, ◌∙◌, subst, inl, inr, append_assoc, append-nil, map}
-use Rattle.std.proofs.Common.{◌==◌, ◌&&◌, ◌≤◌, codes, arith}
+use Rattle.std.proofs.Common.{◌==◌, ◌&&◌, ◌≤◌, codes, arith, eqb-true, lit<}
 use Rattle.std.specs.Char.{to_ascii_lowercase}
 use Rattle.std.specs.Str.{IsUtf8, bytes_eq, chars}
 use Rattle.std.proofs.Math.Utf8.{encode, encodes}
 use Rattle.std.specs.List.{list_all}
 use Rattle.std.proofs.lemmas.Slice.Eq.{bytes_eq-Decides}
-use Rattle.std.proofs.lemmas.Str.{encode_ascii, encodes-chars}
+use Rattle.std.proofs.lemmas.Str.{IsUtf8-past_char, encode_ascii, encodes-chars}
 use Rattle.std.proofs.lemmas.Bool.Decides.{nat_tests}
 use Rattle.std.proofs.lemmas.Bool.{and_parts, and_from, cases_lt, false_from_ne_true, false≢true, not-true, or_parts}
 use Rattle.uv_model.specs.declared.scheme.Class.{Class}
 use Rattle.uv_model.specs.declared.scheme.Class.TheVariants.{File, Other, SpecialNotFile}
 use Rattle.uv_model.specs.Ascii.{slash}
 use Rattle.uv_model.specs.Encoding.{encoded}
-use Rattle.uv_model.specs.Path.{is_double_dot, is_single_dot, walk, walk_one}
+use Rattle.uv_model.specs.Path.{is_double_dot, is_single_dot, starts_with_slash, walk, walk_one}
 use Rattle.uv_model.specs.Records.Denote.{authority_path}
 use Rattle.uv_model.specs.Records.Serialize.{serial_segments}
 use Rattle.uv_model.specs.Scheme.{lowercase}
 use Rattle.uv_model.proofs.Texts.EncodingLemmas.{encoded-append}
-use Rattle.uv_resolve.specs.Kept.{has_no_dots, is_dot_mark, is_kept_segment}
+use Rattle.uv_grammar.proofs.TestLemmas.{starts_with_slash-chars}
+use Rattle.uv_text.proofs.SplitsLemmas.{chars-ascii_first}
+use Rattle.uv_resolve.specs.Kept.{begins_with_one_slash, has_no_dots, is_dot_mark, is_kept_segment}
+use Rattle.uv_resolve.specs.Written.{IsSlashed}
 
 -- each segment percent-encoded
 abbrev pub encoded_each : List (List ℕ) → List (List ℕ)
@@ -57,12 +60,6 @@ authority_path-encoded SpecialNotFile (segment ∷ rest) some no_dots =
     walk-encoded SpecialNotFile [] (segment ∷ rest) no_dots
 authority_path-encoded File (segment ∷ rest) some no_dots = walk-encoded File [] (segment ∷ rest) no_dots
 authority_path-encoded Other (segment ∷ rest) some no_dots = walk-encoded Other [] (segment ∷ rest) no_dots
-
--- which has one segment at least
-pub authority_path-none : (class : Class) → class ≢ Other → authority_path class [] ≡ [] ∷ []
-authority_path-none SpecialNotFile special = refl
-authority_path-none File special = refl
-authority_path-none Other special = absurd (special refl)
 
 -- ---- texts of paths
 
@@ -172,3 +169,22 @@ pub no_dots-chars : (begins : Bool) (bytes : List ℕ) → IsUtf8 bytes → has_
 no_dots-chars begins bytes utf8 no_dots =
     no_dots-encoded begins (chars bytes)
     (subst (λ t. has_no_dots begins t ≡ true) (sym (encodes-chars bytes utf8)) no_dots)
+
+-- ---- paths that begin with one `/`
+
+-- the bytes of a path tell whether it begins with one `/`, and whether no segment begins as a dot segment does
+pub slashed_bytes : (bytes : List ℕ) → IsUtf8 bytes → begins_with_one_slash bytes ≡ true
+    → has_no_dots false bytes ≡ true → IsSlashed (chars bytes)
+slashed_bytes [] utf8 once no_dots = absurd cc
+slashed_bytes (c ∷ rest) utf8 once no_dots =
+    let parts = and_parts (c == slash) (not (starts_with_slash rest)) once in
+    let first : c ≡ slash = eqb-true c slash parts.0 in
+    let tail : IsUtf8 rest =
+    IsUtf8-past_char (c ∷ rest) rest slash utf8
+    (ap (λ x. x ∷ rest) first ∙ ap (λ (s : List ℕ). s ++ rest) (sym (encode_ascii slash (lit< tt)))) in
+    record {
+      rest = chars rest;
+      begins = ap (λ x. chars (x ∷ rest)) first ∙ chars-ascii_first slash rest (lit< tt);
+      once = starts_with_slash-chars rest tail ∙ not-true _ parts.1;
+      no_dots = no_dots-chars false (c ∷ rest) utf8 no_dots;
+    }

@@ -1,11 +1,11 @@
 -- Texts that a URL keeps as they are.
 use Rattle.std.proofs.Common.{◌≡◌, ℕ, Bool, true, false, not, ◌==◌, List, [], ◌∷◌, ◌++◌, Option, refl, sym, ap, ◌∙◌}
-use Rattle.std.proofs.Common.{subst, arith, inl, inr, drop, length, suc, take, zero, ◌&&◌, ◌+◌, ◌<◌}
-use Rattle.std.specs.List.{list_all, prefix_len}
+use Rattle.std.proofs.Common.{subst, arith, drop, suc, take, zero, ◌&&◌, ◌<◌}
+use Rattle.std.specs.List.{list_all}
 use Rattle.std.specs.Char.{is_ascii}
 use Rattle.std.specs.Str.{IsAscii, IsUtf8, chars}
 use Rattle.std.proofs.lemmas.Str.{chars-IsAscii, encodes-chars, encodes-IsAscii}
-use Rattle.std.proofs.lemmas.Bool.{agree_below_at, and_from, and_parts, cases_Bool}
+use Rattle.std.proofs.lemmas.Bool.{and_from, and_parts}
 use Rattle.std.proofs.lemmas.List.Folds.{list_all-append}
 use Rattle.uv_model.specs.declared.profile.Profile.{Profile}
 use Rattle.uv_model.specs.Ascii.{apostrophe, slash}
@@ -15,9 +15,6 @@ use Rattle.uv_model.specs.Records.Url.{Url}
 use Rattle.uv_model.specs.Valid.{Valid}
 use Rattle.uv_model.proofs.Texts.AsciiLemmas.{IsAscii-from_test}
 use Rattle.uv_model.proofs.Texts.EncodingLemmas.{is_kept, encoded_code_point-kept}
-use Rattle.uv_text.specs.Rows.{is_in_rows}
-use Rattle.uv_text.proofs.RowsLemmas.{of_rows}
-use Rattle.uv_resolve.specs.declared.kept.TheConstants.{NEVER_ENCODED_ROWS}
 use Rattle.uv_resolve.specs.Kept.{has_no_dots, is_dot_mark, is_never_encoded}
 
 -- ---- texts that no part encodes
@@ -26,27 +23,6 @@ use Rattle.uv_resolve.specs.Kept.{has_no_dots, is_dot_mark, is_never_encoded}
 kept : (quote : Bool) (c : ℕ) → is_never_encoded c ≡ true → is_kept quote c ≡ true
 kept false c h = and_from _ _ (and_parts (is_ascii c) (not (c == apostrophe)) h).0 refl
 kept true c h = h
-
--- a test passes each of a text that passes whole by a narrower one
-all_pass : (p q : ℕ → Bool) → ((c : ℕ) → p c ≡ true → q c ≡ true) → (text : List ℕ)
-    → prefix_len p text ≡ length text → list_all q text ≡ true
-all_pass p q each [] all = refl
-all_pass p q each (c ∷ rest) all = elim (cases_Bool (p c)) [
-  | inl passes ↦
-      let more : 1 + prefix_len p rest ≡ suc (length rest) = rw passes at all in
-      and_from _ _ (each c passes) (all_pass p q each rest (omega (arith, more)))
-  | inr fails ↦
-      let none : 0 ≡ suc (length rest) = rw fails at all in
-      absurd (omega (arith, none))
-]
-
--- a text of which each byte is in the rows of them
-pub never_encoded_texts : (text : List ℕ) → prefix_len (is_in_rows NEVER_ENCODED_ROWS) text ≡ length text
-    → list_all is_never_encoded text ≡ true
-never_encoded_texts =
-    all_pass (is_in_rows NEVER_ENCODED_ROWS) is_never_encoded
-    (of_rows is_never_encoded NEVER_ENCODED_ROWS
-    (λ b small. agree_below_at (is_in_rows NEVER_ENCODED_ROWS) is_never_encoded 256 b refl small))
 
 -- a text that no part encodes is ASCII
 pub never_encoded-ascii : (text : List ℕ) → list_all is_never_encoded text ≡ true → list_all is_ascii text ≡ true
@@ -133,3 +109,30 @@ windows-joined begins (suc n) (suc k) [] over = refl
 windows-joined begins (suc n) (suc k) (c ∷ rest) over =
     grouped (not (begins && is_dot_mark c)) (has_no_dots (c == slash) (take n rest)) (has_no_dots false (drop k rest))
     (has_no_dots (c == slash) rest) (windows-joined (c == slash) n k rest (omega (arith, over)))
+
+-- ---- texts of code points that pass a test, seen by windows
+
+-- all pass in the first so many if all do
+all-taken : (p : ℕ → Bool) (n : ℕ) (text : List ℕ) → list_all p text ≡ true → list_all p (take n text) ≡ true
+all-taken p zero text all = refl
+all-taken p (suc n) [] all = refl
+all-taken p (suc n) (c ∷ rest) all =
+    let parts = and_parts (p c) (list_all p rest) all in
+    and_from _ _ parts.0 (all-taken p n rest parts.1)
+
+absorbed_twice : (here taken rest : Bool) → (rest ≡ true → taken ≡ true)
+    → ((here && taken) && (here && rest)) ≡ (here && rest)
+absorbed_twice false taken rest implied = refl
+absorbed_twice true taken rest implied = absorbed true taken rest implied
+
+-- all pass in a text if all do in its first so many and after so many, by which these overlap
+pub all-joined : (p : ℕ → Bool) (n k : ℕ) (text : List ℕ) → k < n
+    → (list_all p (take n text) && list_all p (drop k text)) ≡ list_all p text
+all-joined p zero k text over = absurd (omega (arith, over))
+all-joined p (suc n) zero [] over = refl
+all-joined p (suc n) zero (c ∷ rest) over =
+    absorbed_twice (p c) (list_all p (take n rest)) (list_all p rest) (all-taken p n rest)
+all-joined p (suc n) (suc k) [] over = refl
+all-joined p (suc n) (suc k) (c ∷ rest) over =
+    grouped (p c) (list_all p (take n rest)) (list_all p (drop k rest)) (list_all p rest)
+    (all-joined p n k rest (omega (arith, over)))

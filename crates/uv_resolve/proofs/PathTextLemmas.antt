@@ -12,7 +12,6 @@ use Rattle.uv_model.specs.Parts.{PathRelative, NoPath}
 use Rattle.uv_model.specs.Path.{is_lone_drive, is_normalized_drive_letter, is_without, pieces, segments_after}
 use Rattle.uv_model.specs.Path.{segments_of}
 use Rattle.uv_model.specs.Records.PathText.{IsPathText}
-use Rattle.uv_model.specs.Records.WellFormed.{AreUrlSegments}
 use Rattle.uv_model.proofs.Texts.MarkLemmas.{is_without-more}
 use Rattle.uv_model.proofs.Paths.PathPieces.{splits_first}
 use Rattle.uv_model.proofs.Paths.PathTexts.{pieces-one}
@@ -109,17 +108,3 @@ path_text_segments [] is = refl
 path_text_segments (c ∷ rest) is =
     let first : (c == slash) ≡ true = is.start (λ none. absurd cc) in
     rw first refl
-
--- the first of a URL's segments is without `/`
-pub unslashed_url_segment : (segments : List (List ℕ)) (segment : List ℕ) (rest : List (List ℕ))
-    → AreUrlSegments segments → segments ≡ segment ∷ rest → is_without slash segment ≡ true
-unslashed_url_segment segments segment rest are is =
-    let each : AreUrlSegments (segment ∷ rest) = subst AreUrlSegments is are in
-    each.0.units.no_slash
-
--- and so are the others
-pub later_url_segments : (segments : List (List ℕ)) (segment : List ℕ) (rest : List (List ℕ))
-    → AreUrlSegments segments → segments ≡ segment ∷ rest → AreUrlSegments rest
-later_url_segments segments segment rest are is =
-    let each : AreUrlSegments (segment ∷ rest) = subst AreUrlSegments is are in
-    each.1

@@ -2,10 +2,10 @@
 ghost use Rattle.std.specs.Prelude.{◌≡◌, ◌∷◌, [], IfOk, IfSome, MatchOption, false, true, chars};
 ghost use Rattle.std.specs.Prelude.{option_copied, string_bytes};
 ghost use Rattle.uv_model.specs.Records.Denote as spec;
-ghost use Rattle.uv_model.specs.Records.WellFormed.{AreUrlSegments};
 ghost use Rattle.uv_model.specs.Encoding.{encoded};
 ghost use Rattle.uv_model.specs.Path as path_spec;
 ghost use Rattle.uv_model.specs.Records.Serialize.{serial_segments};
+ghost use Rattle.uv_resolve.specs.Kept.{begins_with_one_slash};
 ghost use Rattle.uv_resolve.specs.Walk.{StartsSegments};
 ghost use Rattle.uv_resolve.specs.Written.{IsRooted, IsSlashed, IsWholePath};
 
@@ -15,8 +15,7 @@ use crate::walker::{shorten, walk};
 use std::alloc::{AllocError, Global};
 use uv_grammar::{Form, Parts};
 use uv_model::{
-    Class, ListedTexts, PathText, Record, Text, TextList, UrlPath, is_drive_letter,
-    is_normalized_drive_letter,
+    Class, PathText, Record, Text, UrlPath, is_drive_letter, is_normalized_drive_letter,
 };
 use uv_text::encode;
 
@@ -31,7 +30,7 @@ pub(crate) fn path_of(
         path ≡ spec.denoted_path (option_copied base.entry) class parts.now.form parts.now) }
 {
     match whole_path(class, parts) {
-        Some(text) => Ok(UrlPath::Segments(TextList::of_path(whole(alloc, text)?))),
+        Some(text) => Ok(UrlPath::Segments(whole(alloc, text)?)),
         None => made_path(alloc, class, parts, base),
     }
 }
@@ -85,13 +84,20 @@ fn root_text(class: Class) -> &'static str
 fn slashed<'t>(text: &'t str) -> Option<&'t str>
     ensures { IfSome result (λ found. (found.now ≡ text.now) × IsSlashed (chars text.now)) }
 {
-    let Some(rest) = text.strip_prefix('/') else {
-        return None;
-    };
-    if !begins_with_slash(rest.as_bytes()) && is_without_dots(text.as_bytes()) {
+    let bytes = text.as_bytes();
+    if begins_with_one_slash(bytes) && is_without_dots(bytes) {
         Some(text)
     } else {
         None
+    }
+}
+
+fn begins_with_one_slash(text: &[u8]) -> bool
+    ensures { result ≡ begins_with_one_slash text.now }
+{
+    match text {
+        [first, rest @ ..] => *first == b'/' && !begins_with_slash(rest),
+        [] => false,
     }
 }
 
@@ -155,7 +161,7 @@ fn root(alloc: Global, class: Class) -> Result<UrlPath, AllocError>
         Class::SpecialNotFile | Class::File => path.push("")?,
         Class::Other => {}
     }
-    Ok(UrlPath::Segments(TextList::of_path(path)))
+    Ok(UrlPath::Segments(path))
 }
 
 // A path without segments, with room for the text's.
@@ -177,7 +183,7 @@ fn walked(
 {
     let segments = parts.segments();
     let path = walk(alloc, class, start, segments)?;
-    Ok(UrlPath::Segments(TextList::of_path(path)))
+    Ok(UrlPath::Segments(path))
 }
 
 // Whether a query or a fragment follows the path.
@@ -243,7 +249,7 @@ fn kept_drive(
 fn first_segment<'b>(base: Option<&'b Record>) -> Option<&'b str>
     ensures { StartsSegments (option_copied result) (spec.listed_segments (spec.base_path (option_copied base.entry))) }
 {
-    let mut segments = base_list(base)?.iter();
+    let mut segments = base_segments(base)?.iter();
     segments.next_text()
 }
 
@@ -266,13 +272,12 @@ fn is_drive(segment: &str) -> bool
 }
 
 // The segments of the base's path, where it has such.
-fn base_list<'b>(base: Option<&'b Record>) -> Option<&'b TextList>
+fn base_segments<'b>(base: Option<&'b Record>) -> Option<&'b PathText>
     ensures listed { MatchOption result (spec.listed_segments (spec.base_path (option_copied base.entry)) ≡ [])
-        (λ list. spec.listed_segments (spec.base_path (option_copied base.entry)) ≡ list.now) }
-    ensures well_formed { IfSome result (λ list. AreUrlSegments list.now) }
+        (λ path. spec.listed_segments (spec.base_path (option_copied base.entry)) ≡ path.now) }
 {
     match base?.path() {
-        UrlPath::Segments(list) => Some(list),
+        UrlPath::Segments(path) => Some(path),
         UrlPath::Opaque(_) => None,
     }
 }
@@ -287,41 +292,21 @@ fn shortened(
     ensures { IfOk result (λ path. path
         ≡ path_spec.shorten class (spec.listed_segments (spec.base_path (option_copied base.entry)))) }
 {
-    let Some(list) = base_list(base) else {
+    let Some(kept) = base_segments(base) else {
         return path_for(alloc, parts);
     };
-    let mut path = path_with(alloc, list, parts.path_text().len().saturating_add(1))?;
+    let mut path = path_with(alloc, kept, parts.path_text().len().saturating_add(1))?;
     shorten(class, &mut path);
     Ok(path)
 }
 
 // A path of these segments, with room for some more.
-fn path_with(alloc: Global, list: &TextList, room: usize) -> Result<PathText, AllocError>
-    requires { AreUrlSegments list.now }
-    ensures { IfOk result (λ path. path ≡ list.now) }
+fn path_with(alloc: Global, kept: &PathText, room: usize) -> Result<PathText, AllocError>
+    ensures { IfOk result (λ path. path ≡ kept.now) }
 {
-    let Some(text) = list.as_path() else {
-        return path_of_each(alloc, list.iter(), room);
-    };
+    let text = kept.as_str();
     let mut path = PathText::with_capacity(alloc, text.len().saturating_add(room))?;
     path.push_path(text)?;
-    Ok(path)
-}
-
-// A path of these segments, with room for some more, made segment by segment.
-fn path_of_each(
-    alloc: Global,
-    segments: ListedTexts<'_>,
-    room: usize,
-) -> Result<PathText, AllocError>
-    requires { AreUrlSegments segments }
-    ensures { IfOk result (λ path. path ≡ segments.entry) }
-{
-    let mut path = PathText::with_capacity(alloc, room)?;
-    let mut left = segments;
-    while let Some(segment) = left.next_text() {
-        path.push(segment)?;
-    }
     Ok(path)
 }
 
@@ -330,6 +315,6 @@ fn base_path(alloc: Global, base: Option<&Record>) -> Result<UrlPath, AllocError
 {
     match base {
         Some(base) => base.path().copy(alloc),
-        None => Ok(UrlPath::Segments(TextList::of_path(PathText::new(alloc)))),
+        None => Ok(UrlPath::Segments(PathText::new(alloc))),
     }
 }

@@ -1,5 +1,5 @@
 //! Schemes by their names: the class of a scheme, and its name in lower case.
-ghost use Rattle.std.specs.Prelude.{◌≡◌, IfOk, IfSome, chars};
+ghost use Rattle.std.specs.Prelude.{◌≡◌, ◌++◌, IfOk, IfSome, OnOk, chars, string_bytes};
 ghost use Rattle.std.specs.Cow.{cow_str_bytes};
 ghost use Rattle.std.specs.Str.{IsAscii};
 ghost use Rattle.uv_model.specs.Scheme.{lowercase, scheme_class};
@@ -19,8 +19,9 @@ pub(crate) fn class_by(scheme: &str) -> Class
     }
 }
 
-/// The name of a special scheme in lower case.
-pub(crate) fn lower_name(scheme: &str) -> Option<&'static str>
+// The name of a special scheme in lower case.
+#[inline(always)]
+fn lower_name(scheme: &str) -> Option<&'static str>
     ensures { IfSome result (λ name. name.now ≡ lowercase (chars scheme.now)) }
 {
     match known_scheme(scheme) {
@@ -37,6 +38,18 @@ pub(crate) fn lowered(alloc: Global, scheme: &str) -> Result<CowStr<'static>, Al
     match lower_name(scheme) {
         Some(name) => Ok(CowStr::Borrowed(name)),
         None => Ok(CowStr::Owned(scheme.to_ascii_lowercase(alloc)?)),
+    }
+}
+
+/// Appends a scheme in lower case.
+#[inline(always)]
+pub(crate) fn push_lowered(alloc: Global, out: &mut String, scheme: &str) -> Result<(), AllocError>
+    requires { IsAscii (chars scheme.now) }
+    ensures { OnOk result (string_bytes out.new ≡ string_bytes out.old ++ lowercase (chars scheme.now)) }
+{
+    match lower_name(scheme) {
+        Some(name) => out.push_str(name),
+        None => out.push_str(scheme.to_ascii_lowercase(alloc)?.as_str()),
     }
 }
 

@@ -2,8 +2,6 @@
 ghost use Rattle.std.specs.Prelude.{◌≡◌, IfOk, chars, option_copied, string_bytes};
 ghost use Rattle.uv_model.specs.Records.Denote.{denote};
 ghost use Rattle.uv_model.specs.Records.Serialize.{serial};
-ghost use Rattle.uv_model.specs.declared.profile.Profile.TheVariants.{Parser};
-ghost use Rattle.uv_model.specs.Records.WellFormed.{MayBeWellFormed};
 ghost use Rattle.uv_resolve.specs.Resolve.{RefusesWithoutMemory};
 ghost use Rattle.uv_resolve.specs.Serialized.{ArePartsOf, IsLaidAnswer, IsSerialized};
 

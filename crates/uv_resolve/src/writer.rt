@@ -1,11 +1,10 @@
 //! The text of the URL that the parts of a text denote, written into one string (URL Standard, section 4.5).
-ghost use Rattle.std.specs.Prelude.{◌≡◌, ◌∷◌, ◌++◌, IfOk, OnOk, None, false, option_copied, option_map, string_bytes};
+ghost use Rattle.std.specs.Prelude.{◌≡◌, ◌++◌, IfOk, OnOk, None, false, option_copied, option_map, string_bytes};
 ghost use Rattle.uv_model.specs.Ascii.{number_sign, question_mark};
 ghost use Rattle.uv_model.specs.Encoding.{encoded};
 ghost use Rattle.uv_model.specs.Parts.{written_after};
 ghost use Rattle.uv_model.specs.Records.Denote as spec;
-ghost use Rattle.uv_model.specs.Records.Serialize.{serial_authority, serial_host, serial_segments};
-ghost use Rattle.uv_model.specs.declared.path.UrlPath.TheVariants.{Segments};
+ghost use Rattle.uv_model.specs.Records.Serialize.{serial_host};
 ghost use Rattle.uv_grammar.specs.PartsHost.{referred};
 ghost use Rattle.uv_resolve.specs.Layout.{IsLaid, kind_of, marked_port};
 ghost use Rattle.uv_resolve.specs.Resolve.{HaveValidText};
@@ -15,10 +14,10 @@ use crate::encoded_parts::push_encoded_part;
 use crate::layout::{HostKind, LaidUrl, UrlLayout, has_opaque_path};
 use crate::paths::{made_path, whole_path};
 use crate::records::{class_in, port_of, quotes};
-use crate::schemes::lowered;
+use crate::schemes::push_lowered;
 use std::alloc::{AllocError, Global};
 use uv_grammar::{Form, HostRef, Parts};
-use uv_model::{Class, Host, ListedTexts, Record, UrlPath, push_ipv4, push_ipv6, push_port};
+use uv_model::{Class, Host, Record, dot_prefix, push_ipv4, push_ipv6, push_port};
 
 /// The serialized URL that the parts of a text denote against the base, with room for all of it where the text is
 /// ASCII, and its layout, which is read while it is written. An error is out of memory.
@@ -86,7 +85,7 @@ fn push_scheme(
         ≡ string_bytes out.old ++ spec.denoted_scheme (option_copied base.entry) parts.now.scheme) }
 {
     match parts.scheme() {
-        Some(scheme) => out.push_str(lowered(alloc, scheme)?.as_str()),
+        Some(scheme) => push_lowered(alloc, out, scheme),
         None => push_base_scheme(out, base),
     }
 }
@@ -247,50 +246,30 @@ fn push_path(
             push_encoded_part(out, path, false)?;
             Ok(start)
         }
-        None => push_made(out, has_host, &made_path(alloc, class, parts, base)?),
+        None => push_made_path(alloc, out, class, has_host, parts, base),
     }
 }
 
-fn push_made(out: &mut String, has_host: bool, path: &UrlPath) -> Result<usize, AllocError>
-    ensures { IfOk result (IsWrittenPath has_host path.now (string_bytes out.old) (string_bytes out.new)) }
+#[inline(never)]
+fn push_made_path(
+    alloc: Global,
+    out: &mut String,
+    class: Class,
+    has_host: bool,
+    parts: &Parts<'_>,
+    base: Option<&Record>,
+) -> Result<usize, AllocError>
+    ensures { IfOk result (IsWrittenPath has_host
+        (spec.denoted_path (option_copied base.entry) class parts.now.form parts.now)
+        (string_bytes out.old) (string_bytes out.new)) }
 {
-    match path {
-        UrlPath::Opaque(text) => {
-            let start = out.as_str().len();
-            out.push_str(text.as_str())?;
-            Ok(start)
-        }
-        UrlPath::Segments(list) => {
-            if !has_host {
-                out.push_str(dot_before(list.iter()))?;
-            }
-            let start = out.as_str().len();
-            push_segments(out, list.iter())?;
-            Ok(start)
-        }
+    let path = made_path(alloc, class, parts, base)?;
+    if !has_host {
+        out.push_str(dot_prefix(&path))?;
     }
-}
-
-// `/.` before segments of which the first is empty and others follow.
-fn dot_before(segments: ListedTexts<'_>) -> &'static str
-    ensures { result.now ≡ serial_authority None None (Segments segments.entry) }
-{
-    let mut left = segments;
-    match (left.next_text(), left.next_text()) {
-        (Some(first), Some(_)) if first.is_empty() => "/.",
-        _ => "",
-    }
-}
-
-fn push_segments(out: &mut String, segments: ListedTexts<'_>) -> Result<(), AllocError>
-    ensures { OnOk result (string_bytes out.new ≡ string_bytes out.old ++ serial_segments segments.entry) }
-{
-    let mut left = segments;
-    while let Some(segment) = left.next_text() {
-        out.push('/')?;
-        out.push_str(segment)?;
-    }
-    Ok(())
+    let start = out.as_str().len();
+    out.push_str(path.as_str())?;
+    Ok(start)
 }
 
 // `?` and the query, where there is one. A reference without a path and without a query has the base's.

@@ -6,6 +6,6 @@ use Rattle.uv_resolve.proofs.paths.path_of.Goals as goal
 
 pub returns-in_ok-whole-in-Some : goal.returns-in_ok-whole-in-Some
 returns-in_ok-whole-in-Some c =
-    ap Segments (c.of_path.ensures ∙ c.in_ok-whole-in-Some.ensures)
+    ap Segments c.in_ok-whole-in-Some.ensures
     ∙ whole-segments (option_copied c.args.base) c.args.class c.args.parts.now (chars c.in-Some.text.now)
     c.in-Some.ensures

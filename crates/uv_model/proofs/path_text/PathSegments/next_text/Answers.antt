@@ -1,6 +1,6 @@
 -- The code points of an ASCII text are its bytes.
 use Rattle.std.proofs.lemmas.Str.{chars-IsAscii}
-use Rattle.uv_model.proofs.text_list.ListedTexts.next_text.Goals as goal
+use Rattle.uv_model.proofs.path_text.PathSegments.next_text.Goals as goal
 
 pub returns-in-Some-clause-code_points : goal.returns-in-Some-clause-code_points
 returns-in-Some-clause-code_points c =
