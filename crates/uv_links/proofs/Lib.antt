@@ -1,2 +1,1 @@
 pub mod ReportedLemmas
-pub mod ReportRowsLemmas

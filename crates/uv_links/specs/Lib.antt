@@ -1,7 +1,7 @@
 pub mod Fault
 pub mod Limits
+pub mod LineRows
 pub mod Report
-pub mod ReportRows
 pub mod Reporting
 pub mod Run
 pub mod Said
