@@ -25,9 +25,10 @@ pub fn resolve_laid(
     ensures laid { IsLaidAnswer profile (option_copied base.entry) text.now result }
     ensures memory { RefusesWithoutMemory profile (option_copied base.entry) (chars text.now) result }
 {
-    match check(alloc, text, base, profile)? {
-        Verdict::Yes(parts) => Ok(write_url(alloc, text, &parts, base)?),
-        Verdict::No(refusal) => Err(ResolveFault::Refused(refusal)),
+    let verdict = check(alloc, text, base, profile)?;
+    match &verdict {
+        Verdict::Yes(parts) => Ok(write_url(alloc, text, parts, base)?),
+        Verdict::No(refusal) => Err(ResolveFault::Refused(*refusal)),
     }
 }
 

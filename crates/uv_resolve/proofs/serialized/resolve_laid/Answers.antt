@@ -4,11 +4,11 @@ use Rattle.uv_model.specs.Records.Denote.{denote}
 use Rattle.uv_resolve.proofs.serialized.resolve_laid.Goals as goal
 
 pub write_url-requires : goal.write_url-requires
-write_url-requires c = (c.args.profile, _, (rw c.in-Yes.is at c.in_ok-parts.ensures.answer).valid)
+write_url-requires c = (c.args.profile, _, (rw c.in-Yes.is at c.in_ok-verdict.ensures.answer).valid)
 
-pub returns-in_ok-write_url-in-Yes-clause-laid : goal.returns-in_ok-write_url-in-Yes-clause-laid
-returns-in_ok-write_url-in-Yes-clause-laid c = (
+pub returns-in-Yes-clause-laid : goal.returns-in-Yes-clause-laid
+returns-in-Yes-clause-laid c = (
   denote (option_copied c.args.base) c.in-Yes.parts,
-  (c.in-Yes.parts, (rw c.in-Yes.is at c.in_ok-parts.ensures.answer).valid, refl),
+  (c.in-Yes.parts, (rw c.in-Yes.is at c.in_ok-verdict.ensures.answer).valid, refl),
   c.in_ok-write_url-in-Yes.ensures,
 )
