@@ -29,8 +29,9 @@ pub fn resolve(
 {
     valid_text_runs_to_its_record(text, base, profile);
     parser_decides(text, base);
-    match check(alloc, text, base, profile)? {
-        Verdict::Yes(parts) => denoted(alloc, &parts, base),
-        Verdict::No(refusal) => Err(ResolveFault::Refused(refusal)),
+    let verdict = check(alloc, text, base, profile)?;
+    match &verdict {
+        Verdict::Yes(parts) => denoted(alloc, parts, base),
+        Verdict::No(refusal) => Err(ResolveFault::Refused(*refusal)),
     }
 }

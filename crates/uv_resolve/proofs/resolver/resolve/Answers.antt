@@ -9,14 +9,14 @@ returns-in-Yes-clause-parser c =
     answers_as_parser c.args.profile (option_copied c.args.base) (chars c.args.text.now) c.denoted.result
     c.parser_decides.ensures
     (denoted_resolves c.args.profile (option_copied c.args.base) (chars c.args.text.now) c.in-Yes.parts c.denoted.result
-    (rw c.in-Yes.is at c.in_ok-parts.ensures.answer).valid c.denoted.ensures)
+    (rw c.in-Yes.is at c.in_ok-verdict.ensures.answer).valid c.denoted.ensures)
 
 pub returns-in-Yes-clause-resolved : goal.returns-in-Yes-clause-resolved
 returns-in-Yes-clause-resolved c =
     denoted_resolves c.args.profile (option_copied c.args.base) (chars c.args.text.now) c.in-Yes.parts c.denoted.result
-    (rw c.in-Yes.is at c.in_ok-parts.ensures.answer).valid c.denoted.ensures
+    (rw c.in-Yes.is at c.in_ok-verdict.ensures.answer).valid c.denoted.ensures
 
-pub returns-in-No-clause-parser : goal.returns-in-No-clause-parser
-returns-in-No-clause-parser c =
+pub returns-clause-parser : goal.returns-clause-parser
+returns-clause-parser c =
     answers_as_parser c.args.profile (option_copied c.args.base) (chars c.args.text.now)
-    (Err (Refused c.in-No.refusal)) c.parser_decides.ensures (rw c.in-No.is at c.in_ok-parts.ensures.answer)
+    (Err (Refused c.in-No.refusal)) c.parser_decides.ensures (rw c.in-No.is at c.in_ok-verdict.ensures.answer)
