@@ -85,7 +85,7 @@ fn first_segment_fault(cut: &Cut, setting: &Setting) -> Option<Refusal>
             rule: Rule::FirstSegmentEmpty,
         });
     }
-    if has_forbidden_drive(cut.path_text, setting.profile) && keeps_drive_out(cut, setting) {
+    if keeps_drive_out(cut, setting) && has_forbidden_drive(cut.path_text, setting.profile) {
         Some(Refusal {
             place: 0,
             rule: Rule::DriveAfterHost,
