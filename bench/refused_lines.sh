@@ -58,8 +58,8 @@ compared() {
     awk -v r="$ratio" -v b="$2" 'BEGIN { exit r > 1.05 * b }' || fail "$1: $ratio, and at most $2 is wanted"
 }
 
-compared gnu 14.2
-compared caret 51.9
-compared json 52.6
-compared sarif 71.3
+compared gnu 13.3
+compared caret 48.7
+compared json 49.4
+compared sarif 67.0
 exit $failed
