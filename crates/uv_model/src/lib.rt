@@ -2,7 +2,6 @@
 #![tactic(auto)]
 
 mod address_text;
-mod ascii_units;
 mod code_points;
 mod domain;
 mod extent;
@@ -21,9 +20,6 @@ mod segments;
 mod serializer;
 mod text;
 mod units;
-mod url_hosts;
-mod url_paths;
-mod well_formedness;
 
 pub use address_text::{hex_digit, longest_zero_run, push_ipv4, push_ipv6, push_port};
 pub use code_points::{after_code_points, first_code_point, starts_with_two_hex};
@@ -42,4 +38,3 @@ pub use segments::{is_double_dot, is_drive_letter, is_normalized_drive_letter, i
 pub use serializer::dot_prefix;
 pub use text::Text;
 pub use units::is_url_code_point;
-pub use well_formedness::well_formed;
