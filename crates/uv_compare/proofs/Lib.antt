@@ -1,3 +1,4 @@
 mod NameLemmas
 mod PlainLinkLemmas
 mod PlainBytesLemmas
+mod ReadingLemmas

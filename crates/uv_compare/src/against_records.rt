@@ -5,6 +5,7 @@ ghost use Rattle.uv_compare.specs.Second.{ReadsSame};
 
 use crate::answer::second_url;
 use crate::fault::RoomFault;
+use crate::plain_links::is_own_url;
 use std::alloc::Global;
 use url::Url;
 use uv_model::Record;
@@ -25,7 +26,8 @@ pub fn reading(alloc: Global, base: Option<&Record>, text: &str) -> Result<Optio
     }
 }
 
-/// Whether the second parser reads both texts as URLs with the same text, against the text of the base if there is one.
+/// Whether the second parser reads both texts as URLs with the same text, against the text of the base if there is one. Most
+/// mended texts are the text of their URL, and of those no parse is needed to see it.
 #[tactic(auto, unfolding(crate::specs::Second::second_serial))]
 pub fn reads_same(
     alloc: Global,
@@ -38,6 +40,9 @@ pub fn reads_same(
     let Some(url) = reading(alloc, base, text)? else {
         return Ok(false);
     };
+    if is_own_url(other) {
+        return Ok(url.as_str() == other);
+    }
     let Some(second) = reading(alloc, base, other)? else {
         return Ok(false);
     };
