@@ -1,8 +1,9 @@
 -- The rest of a text after an edit by the rule that it violates.
-use Rattle.std.proofs.Common.{◌≡◌, ◌∙◌, ◌⊎◌, inl, inr, ℕ, ◌+◌, ◌-◌, ◌≤◌, Bool, true, false, ◌&&◌, List, [], ◌∷◌, ◌++◌}
+use Rattle.std.proofs.Common.{◌≡◌, ◌∙◌, ◌⊎◌, inl, inr, ℕ, ◌-◌, ◌≤◌, Bool, true, false, ◌&&◌, List, [], ◌∷◌, ◌++◌}
 use Rattle.std.proofs.Common.{refl, sym, ap, append_assoc, arith, drop, length, take, drop_at, take_at, Option}
 use Rattle.std.proofs.Common.{Some, None}
-use Rattle.std.specs.Prelude.{◌==◌, is_some}
+use Rattle.std.specs.Prelude.{◌==◌, codes, is_some}
+use Rattle.std.specs.Str.{chars}
 use Rattle.std.proofs.lemmas.Bool.{and_parts, eqb-true, false≢true}
 use Rattle.std.proofs.lemmas.Bool.Decides.{nat_tests}
 use Rattle.uv_model.specs.declared.profile.Profile.{Profile}
@@ -253,3 +254,15 @@ rest_after text middle other (inl same) (inr (none, more)) =
 rest_after text middle other (inr (none, dot)) (inl more) = inr (none, more ∙ dot)
 rest_after text middle other (inr (none, dot)) (inr (no_dot, more)) =
     absurd (false≢true (sym no_dot ∙ ap starts_with_dot dot))
+
+-- ---- a text with `/.`, from its parts
+
+dot_segment : chars (codes "/.") ≡ slash ∷ full_stop ∷ []
+unfolding chars
+dot_segment = refl
+
+pub dotted_joined : (place : ℕ) (text before after : List ℕ) → before ≡ take place text → after ≡ drop place text
+    → (before ++ chars (codes "/.")) ++ after ≡ dotted place text
+unfolding dotted
+dotted_joined place text before after is_before is_after =
+    rw (is_before, is_after, dot_segment) (append_assoc (take place text) (slash ∷ full_stop ∷ []) (drop place text))

@@ -1,12 +1,14 @@
 -- Escapes are ASCII, and a text with escapes is an escaping of the text.
 use Rattle.std.proofs.Common.{◌≡◌, ◌⊎◌, inl, inr, ℕ, ◌<◌, Bool, true, false, not, ◌&&◌, ◌||◌, List, [], ◌∷◌, ◌++◌}
-use Rattle.std.proofs.Common.{refl, ap, ◌∙◌, chars, append_assoc, subst, arith, ⊎_elim}
+use Rattle.std.proofs.Common.{refl, ap, sym, ◌∙◌, append_assoc, subst, arith, ⊎_elim, lit<, encode_utf8}
+use Rattle.std.proofs.Common.{encode_utf8_all}
+use Rattle.std.specs.List.{flat_map}
 use Rattle.std.specs.Prelude.{◌==◌}
 use Rattle.std.specs.Str.{IsAscii}
 use Rattle.std.proofs.lemmas.Bool.{cases_Bool}
 use Rattle.std.proofs.lemmas.Bool.Decides.{nat_tests}
 use Rattle.std.proofs.lemmas.List.Elements.{All-weaker}
-use Rattle.std.proofs.lemmas.Str.{chars-IsAscii}
+use Rattle.std.proofs.lemmas.Str.{encodes-IsAscii, IsAscii-append}
 use Rattle.std.proofs.lemmas.Str.Ascii.{IsAscii-from_all}
 use Rattle.percent_encoding.specs.Percent.{percent_encode_byte}
 use Rattle.percent_encoding.proofs.PercentLemmas.{All-percent_encode_byte, IsEscapeByte}
@@ -25,14 +27,21 @@ escape_ascii : (b : ℕ) → IsEscapeByte b → b < 128
 escape_ascii b is = grind arith
 
 -- the escape of a byte is ASCII
-pub escape_is_ascii : (b : ℕ) → IsAscii (percent_encode_byte b)
+escape_is_ascii : (b : ℕ) → IsAscii (percent_encode_byte b)
 escape_is_ascii b =
     IsAscii-from_all (percent_encode_byte b)
     (All-weaker IsEscapeByte (λ c. c < 128) escape_ascii (percent_encode_byte b) (All-percent_encode_byte b))
 
--- and its own list of code points
-pub chars-escape : (b : ℕ) → chars (percent_encode_byte b) ≡ percent_encode_byte b
-chars-escape b = chars-IsAscii (percent_encode_byte b) (escape_is_ascii b)
+-- so are those of bytes, and each is its own UTF-8
+escapes_ascii : (bytes : List ℕ) → IsAscii (flat_map percent_encode_byte bytes)
+escapes_ascii [] = λ i. lit< tt
+escapes_ascii (b ∷ rest) =
+    IsAscii-append (percent_encode_byte b) (flat_map percent_encode_byte rest) (escape_is_ascii b) (escapes_ascii rest)
+
+pub encoded_escape : (c : ℕ) → flat_map percent_encode_byte (encode_utf8 c) ≡ encode_utf8_all (escape c)
+unfolding escape
+encoded_escape c =
+    sym (encodes-IsAscii (flat_map percent_encode_byte (encode_utf8 c)) (escapes_ascii (encode_utf8 c)))
 
 -- ---- the prefixes and what is after them are the text
 
@@ -67,6 +76,16 @@ authority_parts (c ∷ d ∷ rest) =
     slashes : (c d : ℕ) (rest : List ℕ) → ((c == slash) && (d == slash)) ≡ true
         → slash ∷ slash ∷ rest ≡ c ∷ d ∷ rest
     slashes c d rest e = grind (arith, nat_tests)
+
+-- the prefixes and what is written of the rest
+pub escaped_joined : (text scheme after authority rest : List ℕ) → scheme ≡ scheme_prefix text
+    → after ≡ after_scheme text → authority ≡ authority_prefix after → rest ≡ after_authority after
+    → (scheme ++ authority) ++ as_units false rest ≡ escaped text
+unfolding escaped
+escaped_joined text scheme after authority rest is_scheme is_after is_authority is_rest =
+    rw (is_rest, is_authority, is_after, is_scheme)
+    (append_assoc (scheme_prefix text) (authority_prefix (after_scheme text))
+    (as_units false (after_authority (after_scheme text))))
 
 -- ---- escapings
 

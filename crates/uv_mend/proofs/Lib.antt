@@ -1,3 +1,5 @@
+pub mod TextLemmas
+pub mod SameLemmas
 pub mod EscapeLemmas
 pub mod KindLemmas
 pub mod StrippedLemmas

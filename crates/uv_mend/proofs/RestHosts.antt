@@ -1,11 +1,12 @@
 -- The rest of a text with another host, which ends no authority.
 use Rattle.std.proofs.Common.{◌≡◌, ◌∙◌, ℕ, Bool, true, false, ◌||◌, List, [], ◌∷◌, ◌++◌, refl, sym, ap, arith, All}
-use Rattle.std.proofs.Common.{inl, inr, Option, Some, None, chars, option_map, subst}
-use Rattle.std.specs.Prelude.{MatchOption, if◌then◌else◌}
+use Rattle.std.proofs.Common.{append_assoc, inl, inr, Option, Some, None, option_map, subst}
+use Rattle.std.specs.Prelude.{MatchOption, codes}
+use Rattle.std.specs.Str.{IsUtf8, chars}
 use Rattle.std.proofs.lemmas.Bool.{cases_Bool, cond-false, cond-true, false≢true}
 use Rattle.std.proofs.lemmas.Bool.Decides.{nat_tests}
 use Rattle.std.proofs.lemmas.List.Elements.{All-head, All-tail}
-use Rattle.std.proofs.lemmas.Str.{chars-IsAscii}
+use Rattle.std.proofs.lemmas.Str.{chars-IsAscii, encodes-chars}
 use Rattle.url.specs.declared.host.Host.{Host}
 use Rattle.url.specs.Host.{IsHostOf, host_text}
 use Rattle.url.specs.Parts.{IsValid, Parts, has_credentials, has_host, kind_of}
@@ -13,11 +14,14 @@ use Rattle.url.proofs.HostLemmas.{IsAscii-host_text}
 use Rattle.url.proofs.HostRoundTrip.{IsHostByte, host_text_plain}
 use Rattle.uv_model.specs.declared.scheme.Class.{Class}
 use Rattle.uv_model.specs.declared.scheme.Class.TheVariants.{File, Other, SpecialNotFile}
+use Rattle.uv_model.specs.Ascii.{slash}
 use Rattle.uv_model.specs.Cut.{is_port_mark, is_within}
 use Rattle.uv_mend.specs.declared.prefixes.Stop.TheVariants.{Authority}
 use Rattle.uv_mend.specs.CodePoints.{after_one}
-use Rattle.uv_mend.specs.Hosts.{after_host, ends_host, plain_host, with_host}
-use Rattle.uv_mend.specs.Prefixes.{after_scheme, onward, stops}
+use Rattle.uv_model.specs.Records.Url.{Url}
+use Rattle.uv_compare.specs.Second.{reading}
+use Rattle.uv_mend.specs.Hosts.{after_host, ends_host, host_of_reading, plain_host, rehosted, with_host}
+use Rattle.uv_mend.specs.Prefixes.{after_scheme, class_against, onward, scheme_prefix, stops}
 use Rattle.uv_mend.specs.Rest.{KeepsRestAfterHost}
 use Rattle.uv_mend.proofs.RestLemmas.{IsFree, host_rest}
 
@@ -91,3 +95,30 @@ with_host_rest url class text host valid is = λ some.
     (let after = after_one (after_one (after_scheme text)) in
     host_rest text (after_host class false after) host some (subst MayBeFree is (plain_free url valid))
     (onward_host class false after))
+
+-- ---- the text with another host, from its parts
+
+-- two slashes
+pub two_slashes : chars (codes "//") ≡ slash ∷ slash ∷ []
+unfolding chars
+two_slashes = refl
+
+pub host_joined : (class : Class) (text host scheme after rest end : List ℕ) → scheme ≡ scheme_prefix text
+    → after ≡ after_scheme text → rest ≡ after_one (after_one after) → end ≡ after_host class false rest
+    → ((scheme ++ chars (codes "//")) ++ host) ++ end ≡ with_host class text host
+unfolding with_host
+host_joined class text host scheme after rest end is_scheme is_after is_rest is_end =
+    rw (is_end, is_rest, is_after, is_scheme, two_slashes)
+    (append_assoc (scheme_prefix text ++ slash ∷ slash ∷ []) host
+    (after_host class false (after_one (after_one (after_scheme text))))
+    ∙ append_assoc (scheme_prefix text) (slash ∷ slash ∷ [])
+    (host ++ after_host class false (after_one (after_one (after_scheme text)))))
+
+-- the host of what the second parser reads in a text, by its bytes
+pub rehosted_by : (base : Option Url) (bytes : List ℕ) (url : Option Parts) → IsUtf8 bytes → url ≡ reading base bytes
+    → rehosted base (chars bytes)
+    ≡ option_map (with_host (class_against base (chars bytes)) (chars bytes)) (host_of_reading url)
+rehosted_by base bytes url utf8 is =
+    let again = with_host (class_against base (chars bytes)) (chars bytes) in
+    ap (λ t. option_map again (host_of_reading (reading base t))) (encodes-chars bytes utf8)
+    ∙ ap (λ u. option_map again (host_of_reading u)) (sym is)

@@ -1,5 +1,9 @@
--- Texts as lists of code points, and the first of them.
+-- Texts as lists of code points, and parts of them.
 use Rattle.std.specs.Prelude.{◌≡◌, ℕ, List, [], ◌∷◌, ◌++◌}
+
+-- the text ends with the rest
+abbrev pub IsRestOf : List ℕ → List ℕ → Type 0
+IsRestOf text rest = (before : List ℕ) × (text ≡ before ++ rest)
 
 -- the text without its first code point
 abbrev pub after_one : List ℕ → List ℕ

@@ -1,6 +1,6 @@
 -- Code points that aren't URL units, written as the escapes of their UTF-8 (URL Standard, sections 1.3 and 4.3).
 use Rattle.std.specs.Prelude.{◌≡◌, ◌⊎◌, ℕ, Bool, false, not, ◌&&◌, ◌||◌, ◌==◌, List, [], ◌∷◌, ◌++◌, flat_map}
-use Rattle.std.specs.Prelude.{if◌then◌else◌}
+use Rattle.std.specs.Prelude.{encode_utf8_all, if◌then◌else◌, length, ◌≤◌}
 use Rattle.std.specs.Char.{encode_utf8}
 use Rattle.percent_encoding.specs.Percent.{percent_encode_byte}
 use Rattle.uv_model.specs.Ascii.{number_sign}
@@ -22,6 +22,12 @@ abbrev pub as_units : Bool → List ℕ → List ℕ
 as_units in_fragment [] = []
 as_units in_fragment (c ∷ rest) =
     as_unit in_fragment c rest ++ as_units (in_fragment || (c == number_sign)) rest
+
+-- the text goes on with the rest after code points that all stay, and these were appended
+abbrev pub PassesRun : List ℕ → List ℕ → List ℕ → List ℕ → Type 0
+PassesRun old new text rest =
+    ((in_fragment : Bool) → new ++ encode_utf8_all (as_units in_fragment rest)
+    ≡ old ++ encode_utf8_all (as_units in_fragment text)) × (length rest ≤ length text)
 
 -- the text after a scheme: its authority stays
 abbrev pub escaped_after : List ℕ → List ℕ

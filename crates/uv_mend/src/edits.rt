@@ -2,15 +2,16 @@
 //! violates.
 ghost use Rattle.std.specs.Prelude.{◌≡◌, ◌≤◌, IfOk, IfSome, chars, length, option_copied, option_map, string_bytes};
 ghost use Rattle.uv_mend.specs.Edits as spec;
+ghost use Rattle.uv_mend.specs.Repairs.{decoded};
 ghost use Rattle.uv_mend.specs.Rest.{EditHasRestOf};
 
-use crate::code_points::{code_points, push_all, text_of};
+use crate::code_points::{before_rest, push_text};
 use crate::escapes::escaped;
 use crate::hosts::rehosted;
 use crate::slashes::slashed;
 use crate::stripped::stripped;
 use std::alloc::{AllocError, Global};
-use uv_model::{Record, Refusal, Rule};
+use uv_model::{Record, Refusal, Rule, after_code_points};
 
 /// A text without what the parser removes, with its slashes as the parser reads them, and with escapes. In this order,
 /// since what is removed may stand between slashes, and where the path begins depends on these. An error means that
@@ -24,26 +25,24 @@ pub(crate) fn cleaned(
     ensures { IfOk result (λ out. chars (string_bytes out)
         ≡ spec.cleaned (option_copied base.entry) (chars text.now)) }
 {
-    let list = code_points(alloc, text)?;
-    let list = stripped(alloc, &list)?;
-    let list = slashed(alloc, &list, base)?;
-    let list = escaped(alloc, &list)?;
-    text_of(alloc, &list)
+    let stripped = stripped(alloc, text)?;
+    let slashed = slashed(alloc, stripped.as_str(), base)?;
+    escaped(alloc, slashed.as_str())
 }
 
 /// The edit of a text for this refusal, or `None` if its rule has none. An error means that memory ran out.
 #[tactic(auto, unfolding(crate::specs::Edits::edit_of))]
 pub(crate) fn edit_of(
     alloc: Global,
-    text: &[char],
+    text: &str,
     base: Option<&Record>,
     refusal: Refusal,
-) -> Result<Option<Vec<char>>, AllocError>
-    requires { refusal.place ≤ length text.now }
-    ensures edit { IfOk result (λ out. option_map (λ list. list.items) out
-        ≡ spec.edit_of (option_copied base.entry) text.now refusal) }
+) -> Result<Option<String>, AllocError>
+    requires { refusal.place ≤ length (chars text.now) }
+    ensures edit { IfOk result (λ out. option_map decoded out
+        ≡ spec.edit_of (option_copied base.entry) (chars text.now) refusal) }
     ensures rest { IfOk result (λ out.
-        IfSome out (λ list. EditHasRestOf (option_copied base.entry) refusal text.now list.items)) }
+        IfSome out (λ next. EditHasRestOf (option_copied base.entry) refusal (chars text.now) (decoded next))) }
 {
     match refusal.rule {
         Rule::HostDomain | Rule::HostNumber | Rule::HostIpv6 | Rule::HostCodePoint => {
@@ -66,14 +65,14 @@ pub(crate) fn edit_of(
 
 // The text with `/.` before the code point at the place.
 #[tactic(auto, unfolding(crate::specs::Edits::dotted))]
-fn dotted(alloc: Global, text: &[char], place: usize) -> Result<Vec<char>, AllocError>
-    requires { place ≤ length text.now }
-    ensures { IfOk result (λ out. out.items ≡ spec.dotted place text.now) }
+fn dotted(alloc: Global, text: &str, place: usize) -> Result<String, AllocError>
+    requires { place ≤ length (chars text.now) }
+    ensures { IfOk result (λ out. decoded out ≡ spec.dotted place (chars text.now)) }
 {
-    let (before, after) = text.split_at(place);
-    let mut out = Vec::new(alloc);
-    push_all(&mut out, before)?;
-    push_all(&mut out, &['/', '.'])?;
-    push_all(&mut out, after)?;
+    let after = after_code_points(text, place);
+    let mut out = String::with_capacity(alloc, text.len().saturating_add(2))?;
+    push_text(&mut out, before_rest(text, after))?;
+    push_text(&mut out, "/.")?;
+    push_text(&mut out, after)?;
     Ok(out)
 }

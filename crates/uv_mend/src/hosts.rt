@@ -2,34 +2,34 @@
 ghost use Rattle.std.specs.Prelude.{◌≡◌, IfOk, IfSome, chars, false, option_copied, option_map};
 ghost use Rattle.uv_model.specs.Cut.{is_within};
 ghost use Rattle.uv_mend.specs.Hosts as spec;
+ghost use Rattle.uv_mend.specs.Repairs.{decoded};
 ghost use Rattle.uv_mend.specs.Rest.{KeepsRestAfterHost};
 
-use crate::code_points::{first_of, push_all, push_one, push_text, text_of};
-use crate::prefixes::{Stop, after_two, class_against, push_scheme};
+use crate::code_points::push_text;
+use crate::prefixes::{Stop, after_two, class_against, split_scheme};
 use crate::second_parser::reading;
 use std::alloc::{AllocError, Global};
 use url::Url;
-use uv_model::{Class, Record};
+use uv_model::{Class, Record, first_code_point};
 
 /// The text with the host that the second parser reads in it; none if it reads no URL, no host, or a user name or a
 /// password. An error means that memory ran out.
 pub(crate) fn rehosted(
     alloc: Global,
-    text: &[char],
+    text: &str,
     base: Option<&Record>,
-) -> Result<Option<Vec<char>>, AllocError>
-    ensures edit { IfOk result (λ out. option_map (λ list. list.items) out
-        ≡ spec.rehosted (option_copied base.entry) text.now) }
-    ensures rest { IfOk result (λ out. IfSome out (λ list. KeepsRestAfterHost text.now list.items)) }
+) -> Result<Option<String>, AllocError>
+    ensures edit { IfOk result (λ out. option_map decoded out
+        ≡ spec.rehosted (option_copied base.entry) (chars text.now)) }
+    ensures rest { IfOk result (λ out. IfSome out (λ next. KeepsRestAfterHost (chars text.now) (decoded next))) }
 {
-    let written = text_of(alloc, text)?;
-    let Some(url) = reading(alloc, base, written.as_str())? else {
+    let Some(url) = reading(alloc, base, text)? else {
         return Ok(None);
     };
     let Some(host) = plain_host(&url) else {
         return Ok(None);
     };
-    let class = class_against(alloc, text, base)?;
+    let class = class_against(text, base);
     Ok(Some(with_host(alloc, class, text, host)?))
 }
 
@@ -49,30 +49,25 @@ fn plain_host(url: &Url) -> Option<&str>
 
 // The text with a host in place of its own.
 #[tactic(auto, unfolding(crate::specs::Hosts::with_host))]
-fn with_host(
-    alloc: Global,
-    class: Class,
-    text: &[char],
-    host: &str,
-) -> Result<Vec<char>, AllocError>
-    ensures { IfOk result (λ out. out.items ≡ spec.with_host class text.now (chars host.now)) }
+fn with_host(alloc: Global, class: Class, text: &str, host: &str) -> Result<String, AllocError>
+    ensures { IfOk result (λ out. decoded out ≡ spec.with_host class (chars text.now) (chars host.now)) }
 {
-    let mut out = Vec::new(alloc);
-    let after = push_scheme(&mut out, text)?;
-    push_one(&mut out, '/')?;
-    push_one(&mut out, '/')?;
+    let (scheme, after) = split_scheme(text);
+    let mut out = String::new(alloc);
+    push_text(&mut out, scheme)?;
+    push_text(&mut out, "//")?;
     push_text(&mut out, host)?;
-    push_all(&mut out, after_host(class, after_two(after)))?;
+    push_text(&mut out, after_host(class, after_two(after)))?;
     Ok(out)
 }
 
 // What follows the host with which a text begins.
-fn after_host(class: Class, text: &[char]) -> &[char]
-    ensures { result.now ≡ spec.after_host class false text.now }
+fn after_host(class: Class, text: &str) -> &str
+    ensures { chars result.now ≡ spec.after_host class false (chars text.now) }
 {
     let mut within = false;
     let mut rest = text;
-    while let Some((c, after)) = first_of(rest) {
+    while let Some((c, after)) = first_code_point(rest) {
         if ends_host(class, within, c) {
             return rest;
         }

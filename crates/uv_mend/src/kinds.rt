@@ -3,7 +3,7 @@ ghost use Rattle.std.specs.Prelude.{◌≡◌, ◌↔◌, IfOk, IsTrue, chars, o
 ghost use Rattle.uv_mend.specs.Escapes.{escaped};
 ghost use Rattle.uv_mend.specs.Kinds.{IsKind};
 
-use crate::escapes::escaped_text;
+use crate::escapes::escaped;
 use crate::second_parser::reads_same;
 use std::alloc::{AllocError, Global};
 use uv_model::{MendKind, Record};
@@ -30,6 +30,6 @@ pub(crate) fn kind_of(
 fn is_escaped(alloc: Global, text: &str, mended: &str) -> Result<bool, AllocError>
     ensures { IfOk result (λ is. IsTrue is ↔ (chars mended.now ≡ escaped (chars text.now))) }
 {
-    let written = escaped_text(alloc, text)?;
+    let written = escaped(alloc, text)?;
     Ok(written.as_str() == mended)
 }

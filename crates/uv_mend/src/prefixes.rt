@@ -1,5 +1,5 @@
 //! The prefixes of a text: its scheme with `:`, and `//` with the authority.
-ghost use Rattle.std.specs.Prelude.{◌≡◌, ◌++◌, IfOk, OnOk, option_copied};
+ghost use Rattle.std.specs.Prelude.{◌≡◌, chars, option_copied};
 ghost use Rattle.uv_model.specs.Cut.{starts_with_two_slashes};
 ghost use Rattle.uv_model.specs.Scheme as scheme;
 ghost use Rattle.uv_model.specs.Scheme.{is_scheme_code_point};
@@ -8,9 +8,8 @@ ghost use Rattle.uv_mend.specs.Prefixes as spec;
 ghost use Rattle.uv_mend.specs.Prefixes.{after_authority, after_scheme, authority_prefix, before, class_against};
 ghost use Rattle.uv_mend.specs.Prefixes.{onward, scheme_prefix, stops};
 
-use crate::code_points::{first_of, push_one, text_of};
-use std::alloc::{AllocError, Global};
-use uv_model::{Class, Record, class_of};
+use crate::code_points::before_rest;
+use uv_model::{Class, Record, class_of, first_code_point};
 
 /// Where a prefix of a text ends.
 #[derive(Clone, Copy, Debug, PartialEq, Eq)]
@@ -36,74 +35,77 @@ impl Stop {
     }
 }
 
-/// Appends what is before the first code point that ends the prefix, and gives the rest. An error means that memory ran
-/// out.
-pub(crate) fn push_before<'t>(
-    out: &mut Vec<char>,
-    text: &'t [char],
-    stop: Stop,
-) -> Result<&'t [char], AllocError>
-    ensures pushed { OnOk result (out.new.items ≡ out.old.items ++ before stop text.now) }
-    ensures rest { IfOk result (λ rest. rest.now ≡ onward stop text.now) }
+/// What is before the first code point that ends the prefix, and the rest.
+pub(crate) fn split_before(text: &str, stop: Stop) -> (&str, &str)
+    ensures before { chars result.0.now ≡ before stop (chars text.now) }
+    ensures rest { chars result.1.now ≡ onward stop (chars text.now) }
+{
+    let rest = onward(text, stop);
+    (before_rest(text, rest), rest)
+}
+
+// The text from the first code point on that ends the prefix.
+fn onward(text: &str, stop: Stop) -> &str
+    ensures { chars result.now ≡ onward stop (chars text.now) }
 {
     let mut rest = text;
-    while let Some((c, after)) = first_of(rest) {
+    while let Some((c, after)) = first_code_point(rest) {
         if stop.is_at(c) {
-            return Ok(rest);
+            return rest;
         }
-        push_one(out, c)?;
         rest = after;
     }
-    Ok(rest)
+    rest
 }
 
-/// Appends the scheme and its `:`, if the text begins with them, and gives the rest. An error means that memory ran
-/// out.
-#[tactic(auto, unfolding(crate::specs::Prefixes::scheme_prefix, crate::specs::Prefixes::after_scheme))]
-pub(crate) fn push_scheme<'t>(
-    out: &mut Vec<char>,
-    text: &'t [char],
-) -> Result<&'t [char], AllocError>
-    ensures pushed { OnOk result (out.new.items ≡ out.old.items ++ scheme_prefix text.now) }
-    ensures rest { IfOk result (λ rest. rest.now ≡ after_scheme text.now) }
+/// The scheme and its `:`, if the text begins with them, and the rest.
+pub(crate) fn split_scheme(text: &str) -> (&str, &str)
+    ensures prefix { chars result.0.now ≡ scheme_prefix (chars text.now) }
+    ensures rest { chars result.1.now ≡ after_scheme (chars text.now) }
 {
-    if !starts_with_scheme(text) {
-        return Ok(text);
-    }
-    let rest = push_before(out, text, Stop::Scheme)?;
-    match first_of(rest) {
-        Some((c, after)) => {
-            push_one(out, c)?;
-            Ok(after)
-        }
-        None => Ok(rest),
+    let rest = after_scheme(text);
+    (before_rest(text, rest), rest)
+}
+
+// What is after them.
+#[tactic(auto, unfolding(crate::specs::Prefixes::after_scheme))]
+fn after_scheme(text: &str) -> &str
+    ensures { chars result.now ≡ after_scheme (chars text.now) }
+{
+    if starts_with_scheme(text) {
+        after_first(onward(text, Stop::Scheme))
+    } else {
+        text
     }
 }
 
-/// Appends `//` and the authority, if the text begins with them, and gives the rest. An error means that memory ran
-/// out.
-#[tactic(auto, unfolding(crate::specs::Prefixes::authority_prefix, crate::specs::Prefixes::after_authority))]
-pub(crate) fn push_authority<'t>(
-    out: &mut Vec<char>,
-    text: &'t [char],
-) -> Result<&'t [char], AllocError>
-    ensures pushed { OnOk result (out.new.items ≡ out.old.items ++ authority_prefix text.now) }
-    ensures rest { IfOk result (λ rest. rest.now ≡ after_authority text.now) }
+/// `//` and the authority, if the text begins with them, and the rest.
+pub(crate) fn split_authority(text: &str) -> (&str, &str)
+    ensures prefix { chars result.0.now ≡ authority_prefix (chars text.now) }
+    ensures rest { chars result.1.now ≡ after_authority (chars text.now) }
 {
-    if !starts_with_two_slashes(text) {
-        return Ok(text);
+    let rest = after_authority(text);
+    (before_rest(text, rest), rest)
+}
+
+// What is after them.
+#[tactic(auto, unfolding(crate::specs::Prefixes::after_authority))]
+fn after_authority(text: &str) -> &str
+    ensures { chars result.now ≡ after_authority (chars text.now) }
+{
+    if starts_with_two_slashes(text) {
+        onward(after_two(text), Stop::Authority)
+    } else {
+        text
     }
-    push_one(out, '/')?;
-    push_one(out, '/')?;
-    push_before(out, after_two(text), Stop::Authority)
 }
 
 /// Whether a text begins with `//`.
-pub(crate) fn starts_with_two_slashes(text: &[char]) -> bool
-    ensures { result ≡ starts_with_two_slashes text.now }
+pub(crate) fn starts_with_two_slashes(text: &str) -> bool
+    ensures { result ≡ starts_with_two_slashes (chars text.now) }
 {
-    match first_of(text) {
-        Some((first, rest)) => match first_of(rest) {
+    match first_code_point(text) {
+        Some((first, rest)) => match first_code_point(rest) {
             Some((second, _)) => first == '/' && second == '/',
             None => false,
         },
@@ -112,38 +114,38 @@ pub(crate) fn starts_with_two_slashes(text: &[char]) -> bool
 }
 
 /// What is after the first two code points.
-pub(crate) fn after_two(text: &[char]) -> &[char]
-    ensures { result.now ≡ after_one (after_one text.now) }
+pub(crate) fn after_two(text: &str) -> &str
+    ensures { chars result.now ≡ after_one (after_one (chars text.now)) }
 {
     after_first(after_first(text))
 }
 
 // What is after the first code point.
-fn after_first(text: &[char]) -> &[char]
-    ensures { result.now ≡ after_one text.now }
+fn after_first(text: &str) -> &str
+    ensures { chars result.now ≡ after_one (chars text.now) }
 {
-    match first_of(text) {
+    match first_code_point(text) {
         Some((_, rest)) => rest,
         None => text,
     }
 }
 
 /// Whether a text begins with a URL-scheme string and `:`.
-pub(crate) fn starts_with_scheme(text: &[char]) -> bool
-    ensures { result ≡ scheme.starts_with_scheme text.now }
+pub(crate) fn starts_with_scheme(text: &str) -> bool
+    ensures { result ≡ scheme.starts_with_scheme (chars text.now) }
 {
-    match first_of(text) {
+    match first_code_point(text) {
         Some((first, rest)) => first.is_ascii_alphabetic() && goes_on_to_colon(rest),
         None => false,
     }
 }
 
 // Whether code points of a scheme follow, and then `:`.
-fn goes_on_to_colon(text: &[char]) -> bool
-    ensures { result ≡ scheme.goes_on_to_colon text.now }
+fn goes_on_to_colon(text: &str) -> bool
+    ensures { result ≡ scheme.goes_on_to_colon (chars text.now) }
 {
     let mut rest = text;
-    while let Some((c, after)) = first_of(rest) {
+    while let Some((c, after)) = first_code_point(rest) {
         if c == ':' {
             return true;
         }
@@ -162,21 +164,16 @@ fn is_scheme_code_point(c: char) -> bool
     c.is_ascii_alphanumeric() || c == '+' || c == '-' || c == '.'
 }
 
-/// The class of the text's scheme, or else of the base's, or else `Other`. An error means that memory ran out.
-pub(crate) fn class_against(
-    alloc: Global,
-    text: &[char],
-    base: Option<&Record>,
-) -> Result<Class, AllocError>
-    ensures { IfOk result (λ class. class ≡ class_against (option_copied base.entry) text.now) }
+/// The class of the text's scheme, or else of the base's, or else `Other`.
+pub(crate) fn class_against(text: &str, base: Option<&Record>) -> Class
+    ensures { result ≡ class_against (option_copied base.entry) (chars text.now) }
 {
-    if !starts_with_scheme(text) {
-        return Ok(class_of_base(base));
+    if starts_with_scheme(text) {
+        let (scheme, _) = split_before(text, Stop::Scheme);
+        class_of(scheme)
+    } else {
+        class_of_base(base)
     }
-    let mut scheme = Vec::new(alloc);
-    push_before(&mut scheme, text, Stop::Scheme)?;
-    let scheme = text_of(alloc, &scheme)?;
-    Ok(class_of(scheme.as_str()))
 }
 
 // The class of the base's scheme, or `Other` if there is no base.

@@ -5,7 +5,6 @@ ghost use Rattle.uv_model.specs.Violations.Refusal.{IsLeast};
 ghost use Rattle.uv_mend.specs.Rest.{HasRestOf};
 ghost use Rattle.uv_mend.specs.Repairs.{IsTried, IsValid, Repairs, decoded};
 
-use crate::code_points::{code_points, text_of};
 use crate::edits::edit_of;
 use std::alloc::{AllocError, Global};
 use uv_grammar::{Verdict, check};
@@ -97,9 +96,8 @@ fn once_edited(
     let Some(refusal) = least(alloc, text.as_str(), base, profile)? else {
         return Ok(Tried::Valid(text));
     };
-    let list = code_points(alloc, text.as_str())?;
-    match edit_of(alloc, &list, base, refusal)? {
-        Some(next) => Ok(Tried::Edited(text_of(alloc, &next)?)),
+    match edit_of(alloc, text.as_str(), base, refusal)? {
+        Some(next) => Ok(Tried::Edited(next)),
         None => Ok(Tried::Stuck),
     }
 }

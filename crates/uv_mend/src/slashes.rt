@@ -1,41 +1,91 @@
 //! The slashes of a text, as the URL parser reads them.
-ghost use Rattle.std.specs.Prelude.{◌≡◌, ◌++◌, IfOk, OnOk, option_copied};
+ghost use Rattle.std.specs.Cow.{cow_str_bytes};
+ghost use Rattle.std.specs.Prelude.{◌≡◌, ◌++◌, IfOk, OnOk, chars, encode_utf8_all, option_copied, string_bytes, true};
+ghost use Rattle.uv_model.specs.Ascii.{backslash};
+ghost use Rattle.uv_model.specs.Path.{is_without};
 ghost use Rattle.uv_mend.specs.Slashes as spec;
-ghost use Rattle.uv_mend.specs.Slashes.{as_slash, new_slashes, renews_slashes, slashed_after, with_slashes};
+ghost use Rattle.uv_mend.specs.Slashes.{IsSlashed, as_slash, new_slashes, renews_slashes, slashed_after, with_slashes};
 
-use crate::code_points::{first_of, push_all, push_one};
-use crate::prefixes::{Stop, class_against, push_scheme, starts_with_scheme};
+use crate::code_points::{push_one, push_text};
+use crate::prefixes::{
+    Stop, after_two, class_against, split_scheme, starts_with_scheme, starts_with_two_slashes,
+};
+use memchr::memchr;
 use std::alloc::{AllocError, Global};
-use uv_model::{Class, Record};
+use std::borrow::CowStr;
+use uv_model::{Class, Record, first_code_point};
 
 /// The text with its slashes as they are read, which changes only a text of class SpecialNotFile or File. An error
 /// means that memory ran out.
-pub(crate) fn slashed(
+pub(crate) fn slashed<'t>(
     alloc: Global,
-    text: &[char],
+    text: &'t str,
     base: Option<&Record>,
-) -> Result<Vec<char>, AllocError>
-    ensures { IfOk result (λ out. out.items ≡ spec.slashed (option_copied base.entry) text.now) }
+) -> Result<CowStr<'t>, AllocError>
+    ensures { IfOk result (λ out. chars (cow_str_bytes out)
+        ≡ spec.slashed (option_copied base.entry) (chars text.now)) }
 {
-    let class = class_against(alloc, text, base)?;
-    let mut out = Vec::with_capacity(alloc, text.len().saturating_add(2))?;
-    let after = push_scheme(&mut out, text)?;
-    push_slashed(&mut out, class, starts_with_scheme(text), after)?;
-    Ok(out)
+    let (scheme, after) = split_scheme(text);
+    let has_scheme = starts_with_scheme(text);
+    if is_slashed(has_scheme, after) {
+        return Ok(CowStr::Borrowed(text));
+    }
+    let class = class_against(text, base);
+    let mut out = String::with_capacity(alloc, text.len().saturating_add(3))?;
+    push_text(&mut out, scheme)?;
+    push_slashed(&mut out, class, has_scheme, after)?;
+    Ok(CowStr::Owned(out))
+}
+
+// Whether the slashes of what follows a scheme, or of a text without one, are as they are read, whatever its class:
+// those of most texts are.
+fn is_slashed(has_scheme: bool, text: &str) -> bool
+    ensures { result ≡ true → IsSlashed has_scheme (chars text.now) }
+{
+    has_no_backslash(text) && begins_slashed(has_scheme, text)
+}
+
+// Whether a text has no `\`.
+fn has_no_backslash(text: &str) -> bool
+    ensures { result ≡ true → is_without backslash (chars text.now) ≡ true }
+{
+    memchr(b'\\', text.as_bytes()).is_none()
+}
+
+// Whether the slashes at its start are.
+fn begins_slashed(has_scheme: bool, text: &str) -> bool
+    ensures { result ≡ spec.begins_slashed has_scheme (chars text.now) }
+{
+    if starts_with_two_marks(text) {
+        starts_with_two_slashes(text) && !starts_with_mark(after_two(text))
+    } else {
+        !has_scheme
+    }
+}
+
+// Whether a text begins with a slash or a backslash.
+fn starts_with_mark(text: &str) -> bool
+    ensures { result ≡ spec.starts_with_mark (chars text.now) }
+{
+    match first_code_point(text) {
+        Some((first, _)) => is_slash_mark(first),
+        None => false,
+    }
 }
 
 // Appends what follows a scheme, or a text without a scheme.
 #[tactic(auto, unfolding(crate::specs::Slashes::slashed_after))]
 fn push_slashed(
-    out: &mut Vec<char>,
+    out: &mut String,
     class: Class,
     has_scheme: bool,
-    text: &[char],
+    text: &str,
 ) -> Result<(), AllocError>
-    ensures { OnOk result (out.new.items ≡ out.old.items ++ slashed_after class has_scheme text.now) }
+    ensures { OnOk result (string_bytes out.new
+        ≡ string_bytes out.old ++ encode_utf8_all (slashed_after class has_scheme (chars text.now))) }
 {
     if renews_slashes(class, has_scheme, text) {
-        push_all(out, new_slashes(class))?;
+        push_text(out, new_slashes(class))?;
         push_with_slashes(out, class, after_marks(text))
     } else {
         push_with_slashes(out, class, text)
@@ -44,8 +94,8 @@ fn push_slashed(
 
 // Whether the slashes at the start of a text are replaced.
 #[tactic(auto, unfolding(crate::specs::Slashes::renews_slashes))]
-fn renews_slashes(class: Class, has_scheme: bool, text: &[char]) -> bool
-    ensures { result ≡ renews_slashes class has_scheme text.now }
+fn renews_slashes(class: Class, has_scheme: bool, text: &str) -> bool
+    ensures { result ≡ renews_slashes class has_scheme (chars text.now) }
 {
     match class {
         Class::SpecialNotFile => has_scheme || starts_with_two_marks(text),
@@ -55,24 +105,25 @@ fn renews_slashes(class: Class, has_scheme: bool, text: &[char]) -> bool
 }
 
 // The slashes that replace them.
-fn new_slashes(class: Class) -> &'static [char]
-    ensures { result.now ≡ new_slashes class }
+fn new_slashes(class: Class) -> &'static str
+    ensures { chars result.now ≡ new_slashes class }
 {
     match class {
-        Class::SpecialNotFile => &['/', '/'],
-        Class::File => &['/', '/', '/'],
-        Class::Other => &[],
+        Class::SpecialNotFile => "//",
+        Class::File => "///",
+        Class::Other => "",
     }
 }
 
 // Appends a text in which each code point before the query and the fragment is a slash if it is read as one.
-fn push_with_slashes(out: &mut Vec<char>, class: Class, text: &[char]) -> Result<(), AllocError>
-    ensures { OnOk result (out.new.items ≡ out.old.items ++ with_slashes class text.now) }
+fn push_with_slashes(out: &mut String, class: Class, text: &str) -> Result<(), AllocError>
+    ensures { OnOk result (string_bytes out.new
+        ≡ string_bytes out.old ++ encode_utf8_all (with_slashes class (chars text.now))) }
 {
     let mut rest = text;
-    while let Some((c, after)) = first_of(rest) {
+    while let Some((c, after)) = first_code_point(rest) {
         if Stop::Start.is_at(c) {
-            return push_all(out, rest);
+            return push_text(out, rest);
         }
         push_one(out, as_slash(class, c))?;
         rest = after;
@@ -92,11 +143,11 @@ fn as_slash(class: Class, c: char) -> char
 }
 
 // The text after the slashes and backslashes at its start.
-fn after_marks(text: &[char]) -> &[char]
-    ensures { result.now ≡ spec.after_marks text.now }
+fn after_marks(text: &str) -> &str
+    ensures { chars result.now ≡ spec.after_marks (chars text.now) }
 {
     let mut rest = text;
-    while let Some((c, after)) = first_of(rest) {
+    while let Some((c, after)) = first_code_point(rest) {
         if !is_slash_mark(c) {
             return rest;
         }
@@ -106,11 +157,11 @@ fn after_marks(text: &[char]) -> &[char]
 }
 
 // Whether a text begins with two slashes or backslashes.
-fn starts_with_two_marks(text: &[char]) -> bool
-    ensures { result ≡ spec.starts_with_two_marks text.now }
+fn starts_with_two_marks(text: &str) -> bool
+    ensures { result ≡ spec.starts_with_two_marks (chars text.now) }
 {
-    match first_of(text) {
-        Some((first, rest)) => match first_of(rest) {
+    match first_code_point(text) {
+        Some((first, rest)) => match first_code_point(rest) {
             Some((second, _)) => is_slash_mark(first) && is_slash_mark(second),
             None => false,
         },

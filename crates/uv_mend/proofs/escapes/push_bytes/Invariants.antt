@@ -1,10 +1,10 @@
 -- The escapes of the bytes so far were appended.
-use Rattle.std.proofs.Common.{◌≡◌, ◌++◌, drop}
+use Rattle.std.proofs.Common.{◌≡◌, ◌++◌, drop, string_bytes}
 use Rattle.std.specs.List.{flat_map}
 use Rattle.percent_encoding.specs.Percent.{percent_encode_byte}
 use Rattle.uv_mend.proofs.escapes.push_bytes.Given as goal
 
 abbrev pub invariant-loop-byte : goal.invariant-loop-byte
 invariant-loop-byte l =
-    l.out.items ++ flat_map percent_encode_byte (drop l.byte-index l.bytes)
-    ≡ l.fn.out.items ++ flat_map percent_encode_byte l.bytes
+    string_bytes l.out ++ flat_map percent_encode_byte (drop l.byte-index l.bytes)
+    ≡ string_bytes l.fn.out ++ flat_map percent_encode_byte l.bytes

@@ -1,0 +1,17 @@
+-- What was appended, and what is left without tabs, LF and CR, are the text without them.
+use Rattle.std.proofs.Common.{◌≡◌, ◌++◌, encode_utf8_all, length, string_bytes}
+use Rattle.std.specs.Str.{chars}
+use denote.Shadow.{shadow}
+use denote.Text.{Utf8}
+use Rattle.uv_mend.specs.Stripped as spec
+use Rattle.uv_mend.proofs.stripped.push_on_one_line.Given as goal
+
+abbrev pub invariant-loop-c : goal.invariant-loop-c
+invariant-loop-c l = record {
+  is : string_bytes l.out ++ encode_utf8_all (spec.on_one_line (chars l.rest))
+      ≡ string_bytes l.fn.out ++ encode_utf8_all (spec.on_one_line (chars l.fn.text));
+  utf8 : shadow (Utf8 l.rest);
+}
+
+abbrev pub decreases-loop-c : goal.decreases-loop-c
+decreases-loop-c l = length (chars l.rest)
