@@ -1,4 +1,2 @@
-pub mod FirstLemmas
-mod IntentionLemmas
 pub mod PlaceLemmas
 pub mod PrintableLemmas

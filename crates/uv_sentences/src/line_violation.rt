@@ -26,7 +26,7 @@ const NOT_LOCATED_HELP: &str =
     "A located line is FILE:LINE:COLUMN:LINK. FILE isn't empty; LINE and COLUMN are from 1 to 4294967295.";
 
 /// What is wrong with a line of a file: either it is refused as a text, or it isn't a text that is checked.
-#[derive(Clone, Copy, PartialEq, Eq)]
+#[derive(Clone, Copy)]
 pub enum LineViolation {
     /// The line violates a rule of valid URL strings at a place.
     Refused(Refusal),

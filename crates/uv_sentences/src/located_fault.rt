@@ -3,7 +3,7 @@ ghost use Rattle.uv_sentences.specs.Escaping.Printable.{IsLine};
 
 /// Why a line doesn't say where its link is, like `FILE:LINE:COLUMN:LINK` does. If there aren't two numbers between
 /// three colons, LINE is the first number between two colons, or between a colon and the line's end.
-#[derive(Clone, Copy, PartialEq, Eq)]
+#[derive(Clone, Copy)]
 pub enum LocatedFault {
     /// FILE is empty, and LINE and COLUMN are there.
     NoFile,

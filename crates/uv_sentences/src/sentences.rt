@@ -10,6 +10,7 @@ pub(crate) mod ipv6;
 pub(crate) mod message;
 pub(crate) mod named;
 pub(crate) mod pieces;
+pub(crate) mod scheme;
 pub(crate) mod start;
 pub(crate) mod template;
 pub(crate) mod wording;

@@ -5,7 +5,7 @@ use Rattle.std.specs.List.{flat_map}
 use Rattle.std.specs.Str.{chars}
 use Rattle.percent_encoding.specs.Percent.{percent_encode_byte}
 use Rattle.uv_sentences.specs.declared.escaping.escapes.Escapes.{Escapes}
-use Rattle.uv_sentences.specs.declared.escaping.escapes.Escapes.TheVariants.{Shown, Message, Property, Attribute}
+use Rattle.uv_sentences.specs.declared.escaping.escapes.Escapes.TheVariants.{Shown, Copied, Message, Property, Attribute}
 
 -- ---- on a terminal
 
@@ -31,6 +31,14 @@ replacement = 0xEF ∷ 0xBF ∷ 0xBD ∷ []
 -- what is shown of a code point
 abbrev pub shown : ℕ → List ℕ
 shown c = if is_hidden c then replacement else encode_utf8 c
+
+-- a code point percent-encoded: each byte of its UTF-8 encoding is (URL Standard, section 1.3)
+unfoldable pub percent_encoded : ℕ → List ℕ
+percent_encoded c = flat_map percent_encode_byte (encode_utf8 c)
+
+-- what is in a URL that is copied from there, which may have the code points that turn a text or end a line of it
+abbrev pub copied : ℕ → List ℕ
+copied c = if turns_text c then percent_encoded c else shown c
 
 -- ---- in workflow commands
 
@@ -61,11 +69,12 @@ in_attribute c =
     else if is_no_xml c then replacement
     else encode_utf8 c
 
--- ---- the four together
+-- ---- all of these
 
 -- what stands for a code point
 abbrev pub escape : Escapes → ℕ → List ℕ
 escape Shown c = shown c
+escape Copied c = copied c
 escape Message c = in_message c
 escape Property c = in_property c
 escape Attribute c = in_attribute c

@@ -1,10 +1,8 @@
 -- A text of which places are reported, and what was seen of it.
 use Rattle.std.specs.Prelude.{◌≡◌, ℕ, IfSome, List, Option, drop}
 use Rattle.std.specs.Str.{chars}
-use Rattle.uv_sentences.specs.declared.sentences.intention.Intention.{Intention}
 use Rattle.uv_sentences.specs.declared.places.seen_text.Known.{Known}
 use Rattle.uv_sentences.specs.declared.places.seen_text.Spot.{Spot}
-use Rattle.uv_sentences.specs.Sentences.Intention.{shown_intention}
 use Rattle.uv_sentences.specs.Places.Window.{is_cut, is_longer}
 
 -- what is from the place on is the text's
@@ -17,9 +15,7 @@ pub record IsKnown (text : List ℕ) (known : Known) : Type 0 where
   pub cut : known.is_cut ≡ is_cut text
 
 -- the last place, the one at which what is shown begins and what is the same at each place are the text's
-pub record Sees (text : List ℕ) (last window : Spot) (intention : Option (Option Intention)) (known : Option Known)
-    : Type 0 where
+pub record Sees (text : List ℕ) (last window : Spot) (known : Option Known) : Type 0 where
   pub is_last : IsSpot text last
   pub is_window : IsSpot text window
-  pub is_intention : IfSome intention (λ shown. shown ≡ shown_intention text)
   pub is_known : IfSome known (IsKnown text)

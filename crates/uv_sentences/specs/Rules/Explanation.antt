@@ -62,4 +62,4 @@ rule_place PortRange = 9
 rule_place FirstSegmentEmpty = 20
 rule_place DriveAfterHost = 8
 rule_place CodePoint = 10
-rule_place Percent = 9
+rule_place Percent = 12

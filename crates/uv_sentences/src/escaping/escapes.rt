@@ -1,10 +1,13 @@
 //! Texts in which some code points may not be as they are.
-ghost use Rattle.std.specs.Prelude.{◌≡◌, ◌++◌, IfOk, OnOk, string_bytes, encode_utf8, unwrap_or};
+ghost use Rattle.std.specs.Prelude.{◌≡◌, ◌++◌, IfOk, OnOk, flat_map, string_bytes, encode_utf8, unwrap_or};
 ghost use Rattle.std.specs.Option.{option_copied};
+ghost use Rattle.percent_encoding.specs.Percent as percent;
+ghost use Rattle.uv_sentences.specs.declared.escaping.escapes.Escapes.TheVariants.{Copied};
 ghost use Rattle.uv_sentences.specs.Escaping.Escapes as spec;
 ghost use Rattle.uv_sentences.specs.Escaping.Escapes.{escape, escaped, shown_text};
 
 use crate::escaping::printable::is_printable_text;
+use percent_encoding::percent_encode_byte;
 use std::alloc::{AllocError, Global};
 
 /// Which code points may not appear as they are, and what replaces them.
@@ -12,6 +15,9 @@ use std::alloc::{AllocError, Global};
 pub enum Escapes {
     /// On a terminal: controls except the tab, and code points that turn the direction of a text or end a line.
     Shown,
+    /// In a URL that is copied from a terminal: those of these that a URL may have are percent-encoded, so that it is the
+    /// same URL.
+    Copied,
     /// In the message of a workflow command.
     Message,
     /// In a property of a workflow command.
@@ -29,6 +35,18 @@ pub fn push_shown(text: &mut String, source: &str) -> Result<(), AllocError>
         text.push_str(source)
     } else {
         push_escaped(text, source, Escapes::Shown)
+    }
+}
+
+/// Pushes a valid URL string as a terminal may show it, such that what is copied from there is the same URL: code points
+/// that end a line or turn the direction of a text are percent-encoded. If an allocation fails, a prefix of it was pushed.
+pub fn push_copied(text: &mut String, source: &str) -> Result<(), AllocError>
+    ensures { OnOk result (string_bytes text.new ≡ string_bytes text.old ++ escaped Copied source.now) }
+{
+    if is_printable_text(source.as_bytes()) {
+        text.push_str(source)
+    } else {
+        push_escaped(text, source, Escapes::Copied)
     }
 }
 
@@ -56,22 +74,54 @@ pub fn escaped(alloc: Global, source: &str, escapes: Escapes) -> Result<String, 
 fn push_escape(text: &mut String, c: char, escapes: Escapes) -> Result<(), AllocError>
     ensures { OnOk result (string_bytes text.new ≡ string_bytes text.old ++ escape escapes c) }
 {
-    match stand_in(escapes, c) {
+    match escapes {
+        Escapes::Shown => push_or(text, c, shown(c)),
+        Escapes::Copied => push_copied_point(text, c),
+        Escapes::Message => push_or(text, c, in_message(c)),
+        Escapes::Property => push_or(text, c, in_property(c)),
+        Escapes::Attribute => push_or(text, c, in_attribute(c)),
+    }
+}
+
+// Pushes a code point of a URL that is copied from a terminal, or what replaces it.
+fn push_copied_point(text: &mut String, c: char) -> Result<(), AllocError>
+    ensures { OnOk result (string_bytes text.new ≡ string_bytes text.old ++ spec.copied c) }
+{
+    if turns_text(c) {
+        push_percent_encoded(text, c)
+    } else {
+        push_or(text, c, shown(c))
+    }
+}
+
+// Pushes what replaces a code point, if anything does, and otherwise the code point.
+fn push_or(text: &mut String, c: char, stand_in: Option<&'static str>) -> Result<(), AllocError>
+    ensures { OnOk result (string_bytes text.new
+        ≡ string_bytes text.old ++ unwrap_or (option_copied stand_in.entry) (encode_utf8 c)) }
+{
+    match stand_in {
         Some(stand_in) => text.push_str(stand_in),
         None => text.push(c),
     }
 }
 
-// What replaces a code point that may not appear as it is.
-fn stand_in(escapes: Escapes, c: char) -> Option<&'static str>
-    ensures { unwrap_or (option_copied result) (encode_utf8 c) ≡ escape escapes c }
+// Pushes the escapes of a code point's UTF-8.
+#[tactic(auto, unfolding(crate::specs::Escaping::Escapes::percent_encoded))]
+fn push_percent_encoded(text: &mut String, c: char) -> Result<(), AllocError>
+    ensures { OnOk result (string_bytes text.new ≡ string_bytes text.old ++ spec.percent_encoded c) }
 {
-    match escapes {
-        Escapes::Shown => shown(c),
-        Escapes::Message => in_message(c),
-        Escapes::Property => in_property(c),
-        Escapes::Attribute => in_attribute(c),
+    let mut buffer = [0u8; 4];
+    push_bytes(text, c.encode_utf8(&mut buffer).as_bytes())
+}
+
+// Pushes the escape of each byte.
+fn push_bytes(text: &mut String, bytes: &[u8]) -> Result<(), AllocError>
+    ensures { OnOk result (string_bytes text.new ≡ string_bytes text.old ++ flat_map percent.percent_encode_byte bytes.now) }
+{
+    for &byte in bytes {
+        text.push_str(percent_encode_byte(byte))?;
     }
+    Ok(())
 }
 
 // What replaces a code point on a terminal.

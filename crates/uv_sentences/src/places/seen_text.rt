@@ -2,7 +2,6 @@
 //! pass over it.
 ghost use Rattle.std.specs.Prelude.{◌≡◌, ◌≤◌, ℕ, List, drop, slice_get};
 ghost use Rattle.std.specs.Str.{chars};
-ghost use Rattle.uv_sentences.specs.Sentences.Intention as intentions;
 ghost use Rattle.uv_sentences.specs.Places.SeenText.{IsKnown, IsSpot};
 ghost use Rattle.uv_sentences.specs.Places.Window as shown;
 
@@ -10,6 +9,7 @@ use crate::places::window::{is_longer, rest_in};
 use crate::sentences::intention::{Intention, shown_intention};
 use crate::sentences::ipv6;
 use crate::sentences::message::{has_credentials_in, part_length};
+use crate::sentences::scheme::{Start, start_of};
 use std::marker::Model;
 use uv_model::first_code_point;
 
@@ -31,6 +31,7 @@ struct Part {
 // What doesn't depend on the place in a text.
 #[derive(Clone, Copy)]
 struct Known {
+    start: Start,
     has_bare_ipv6: bool,
     is_longer_than_window: bool,
     is_cut: bool,
@@ -58,7 +59,7 @@ impl<'t> Model for SeenText<'t> {
 
     ghost view = { λ s. s.text.now };
 
-    ghost invariant = { λ s. Sees s.text.now s.last s.window s.intention s.known };
+    ghost invariant = { λ s. Sees s.text.now s.last s.window s.known };
 }
 
 impl<'t> SeenText<'t> {
@@ -155,9 +156,7 @@ impl<'t> SeenText<'t> {
     }
 
     /// What the text by itself shows of its author's intention.
-    pub(crate) fn shown_intention(&self) -> Option<Intention>
-        ensures { result ≡ intentions.shown_intention self.now }
-    {
+    pub(crate) fn shown_intention(&self) -> Option<Intention> {
         match self.intention {
             Some(intention) => intention,
             None => shown_intention(self.text),
@@ -169,6 +168,14 @@ impl<'t> SeenText<'t> {
         match self.part {
             Some(part) if part.from <= place && place <= part.to => part.has_credentials,
             _ => has_credentials_in(self.rest_at(place)),
+        }
+    }
+
+    /// What the text begins with, and how long it is up to its query.
+    pub(crate) fn start(&self) -> Start {
+        match self.known {
+            Some(known) => known.start,
+            None => start_of(self.text),
         }
     }
 
@@ -206,6 +213,7 @@ fn known_of(text: &str) -> Known
     ensures { IsKnown text.now result }
 {
     Known {
+        start: start_of(text),
         has_bare_ipv6: ipv6::has_bare_ipv6(text),
         is_longer_than_window: is_longer(text, 200),
         is_cut: is_longer(text, 2_000),

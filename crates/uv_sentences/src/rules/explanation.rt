@@ -101,7 +101,7 @@ const HOST_MISSING: Explanation = Explanation {
     section: "3.4, 4.3",
     address: "https://url.spec.whatwg.org/#valid-host-string",
     base: None,
-    wrong: "https:///a",
+    wrong: "https:///example.com/a",
     place: 8,
     mended: "https://example.com/a",
 };
@@ -230,7 +230,7 @@ const PERCENT: Explanation = Explanation {
     section: "4.3, URL units",
     address: "https://url.spec.whatwg.org/#url-units",
     base: None,
-    wrong: "http://h/%4?a",
-    place: 9,
-    mended: "http://h/%40?a",
+    wrong: "http://h/100%",
+    place: 12,
+    mended: "http://h/100%25",
 };

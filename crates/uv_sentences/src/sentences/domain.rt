@@ -23,20 +23,51 @@ pub(crate) fn domain_sentence(
             "a drive letter is written after file:///, and not in place of a host",
         );
     }
-    match foreign_in(profile, host) {
-        Some(c) => foreign_sentence(alloc, c),
+    if let Some(c) = foreign_in(profile, host) {
+        return foreign_sentence(alloc, c, foreign_advice(line.as_str(), host, c));
+    }
+    match host.chars().find(|c| is_read_as_foreign(profile, *c)) {
+        Some(c) => wide_sentence(alloc, c),
         None => labels_sentence(alloc, profile, host),
     }
 }
 
 // What is said about a code point that isn't allowed in a domain.
-fn foreign_sentence(alloc: Global, c: char) -> Result<String, AllocError> {
+fn foreign_sentence(alloc: Global, c: char, advice: &str) -> Result<String, AllocError> {
     let name = point_name(alloc, c)?;
     let name = name.as_str();
-    if c == ':' {
-        format!(in alloc; "{name} is not allowed in a domain: a file URL has no port")
-    } else {
-        format!(in alloc; "{name} is not allowed in a domain")
+    format!(in alloc; "{name} is not allowed in a domain{advice}")
+}
+
+// What is said about a code point that isn't ASCII, but is read as one that isn't allowed in a domain.
+fn wide_sentence(alloc: Global, c: char) -> Result<String, AllocError> {
+    let name = point_name(alloc, c)?;
+    let name = name.as_str();
+    let ascii = narrow(c).unwrap_or(c);
+    match ascii {
+        '/' | ':' | '?' | '#' => format!(in alloc; "{name} is in place of {ascii}"),
+        _ => format!(in alloc; "{name} is read as {ascii}, which is not allowed in a domain"),
+    }
+}
+
+// What follows the sentence on the first foreign code point of a host.
+fn foreign_advice(line: &str, host: &str, c: char) -> &'static str {
+    match c {
+        ':' => ": a file URL has no port",
+        '~' if is_file_link(line) => ": write the whole path after file://",
+        '"' if has_piece(host, "\">") => "; this looks like HTML: check the link in it",
+        _ if is_after_link(line, host, c) => "; leave it out",
+        _ => "",
+    }
+}
+
+// Whether a code point, which is the first foreign one of a host, is a mark that ends the text, as after a link in
+// prose.
+fn is_after_link(line: &str, host: &str, c: char) -> bool {
+    let is_mark = matches!(c, ',' | ';' | '!' | '>' | ')' | ']' | '"' | '\'' | '`');
+    match host.strip_suffix(c) {
+        Some(front) => is_mark && line.ends_with(c) && !front.contains(c),
+        None => false,
     }
 }
 
@@ -81,6 +112,22 @@ fn is_foreign(profile: Profile, c: char) -> bool {
     c.is_ascii() && !c.is_ascii_alphanumeric() && !is_percent && !is_domain_mark(c, profile)
 }
 
+// Whether a host with this code point, which isn't ASCII, is refused for the ASCII code point that it is read as.
+fn is_read_as_foreign(profile: Profile, c: char) -> bool {
+    match narrow(c) {
+        Some(ascii) => is_foreign(profile, ascii),
+        None => false,
+    }
+}
+
+// The ASCII code point as which ToASCII reads a fullwidth one.
+fn narrow(c: char) -> Option<char> {
+    match c {
+        '\u{FF01}'..='\u{FF5E}' => char::from_u32(u32::from(c).saturating_sub(0xFEE0)),
+        _ => None,
+    }
+}
+
 // The host that begins at a place of a line. No port can follow the host of a `file` link.
 fn host_at<'t>(line: &SeenText<'t>, place: usize) -> &'t str {
     let authority = before_end(line.rest_at(place));
@@ -98,6 +145,7 @@ enum LabelFault {
     Long,
     OuterHyphen,
     InnerHyphens,
+    BothDirections,
 }
 
 impl LabelFault {
@@ -109,10 +157,14 @@ impl LabelFault {
             LabelFault::InnerHyphens => {
                 "a label of this domain has -- in its third and fourth place"
             }
+            LabelFault::BothDirections => {
+                "a label of this domain mixes right-to-left letters with Latin ones"
+            }
         }
     }
 
-    // Whether this is wrong with a label. For a label that ToASCII writes in another way, only emptiness is recognized.
+    // Whether this is wrong with a label. For a label that ToASCII writes in another way, only emptiness and its
+    // letters are recognized.
     fn is_of(self, label: &str) -> bool {
         let is_plain = label.is_ascii() && !has_prefix(label);
         match self {
@@ -121,6 +173,11 @@ impl LabelFault {
             LabelFault::OuterHyphen => is_plain && (label.starts_with('-') || label.ends_with('-')),
             LabelFault::InnerHyphens => {
                 is_plain && label.as_bytes().get(2..4) == Some(b"--".as_slice())
+            }
+            LabelFault::BothDirections => {
+                label.chars().any(|c| is_from_right(c))
+                    && label.bytes().any(|b| b.is_ascii_alphabetic())
+                    && !label.contains('%')
             }
         }
     }
@@ -135,14 +192,28 @@ fn label_fault(profile: Profile, name: &str) -> Option<LabelFault> {
             LabelFault::Long,
             LabelFault::OuterHyphen,
             LabelFault::InnerHyphens,
+            LabelFault::BothDirections,
         ],
-        Profile::Wide => &[LabelFault::Empty, LabelFault::Long],
-        Profile::Parser => &[],
+        Profile::Wide => &[
+            LabelFault::Empty,
+            LabelFault::Long,
+            LabelFault::BothDirections,
+        ],
+        Profile::Parser => &[LabelFault::BothDirections],
     };
     faults
         .iter()
         .find(|fault| name.split('.').any(|label| fault.is_of(label)))
         .copied()
+}
+
+// Whether a code point is a Hebrew or an Arabic letter, or a digit that is written with these.
+fn is_from_right(c: char) -> bool {
+    match c {
+        '\u{5D0}'..='\u{5EA}' | '\u{620}'..='\u{64A}' | '\u{660}'..='\u{669}' => true,
+        '\u{66E}'..='\u{66F}' | '\u{671}'..='\u{6D3}' => true,
+        _ => false,
+    }
 }
 
 // Whether a label begins with `xn--` in any case.

@@ -1,28 +1,110 @@
 //! Why a host in brackets isn't an IPv6 address, and IPv6 addresses without brackets.
 
 use crate::sentences::authority::{authority_of, before_end};
+use crate::sentences::code_point::point_name;
 use crate::sentences::pieces::{after, before, has_piece};
-use std::net::Ipv6Addr;
-use uv_model::Rule;
+use std::alloc::{AllocError, Global};
+use std::net::{Ipv4Addr, Ipv6Addr};
 
 /// What is said about a host that begins with `[`, with which this text begins.
-pub(crate) fn ipv6_sentence(text: &str) -> &'static str {
+pub(crate) fn ipv6_sentence(alloc: Global, text: &str) -> Result<String, AllocError> {
     let authority = before_end(text);
     if !has_piece(authority, "]") {
-        return "] is missing after this IPv6 address";
+        return String::from_str(alloc, missing_bracket(after(authority, '[')));
     }
     let rest = after(authority, ']');
     if !rest.is_empty() && !rest.starts_with(':') {
-        return "nothing but a port can follow the ] of a host";
+        return String::from_str(alloc, "nothing but a port can follow the ] of a host");
     }
     let address = before(after(authority, '['), ']');
     if has_piece(address, "%") && is_ipv6(before(address, '%')) {
-        return "an IPv6 address in a URL has no zone: leave out the % and what follows it";
+        return String::from_str(
+            alloc,
+            "an IPv6 address in a URL has no zone: leave out the % and what follows it",
+        );
     }
-    match address.split_once("::") {
-        Some((_, rest)) if has_piece(rest, "::") => ":: is twice in this IPv6 address",
-        _ => Rule::HostIpv6.sentence(),
+    address_sentence(alloc, address)
+}
+
+// What is said about a text in brackets that isn't an IPv6 address.
+fn address_sentence(alloc: Global, address: &str) -> Result<String, AllocError> {
+    if let Some(c) = address.chars().find(|c| !is_of_address(*c)) {
+        let name = point_name(alloc, c)?;
+        let name = name.as_str();
+        return format!(in alloc; "{name} is not a hex digit of an IPv6 address");
     }
+    match address_fault(address) {
+        Some(said) => String::from_str(alloc, said),
+        None => counted_sentence(alloc, address),
+    }
+}
+
+// What is said about a `[` that no `]` follows.
+fn missing_bracket(text: &str) -> &'static str {
+    if is_ipv6(text) {
+        "] is missing after this IPv6 address"
+    } else {
+        "] is missing after the [ of this host"
+    }
+}
+
+// What is wrong with a text of hex digits, `:` and `.` that isn't an IPv6 address, or with one of its pieces.
+fn address_fault(address: &str) -> Option<&'static str> {
+    let (front, rest) = address.split_once("::").unwrap_or((address, ""));
+    if address.is_empty() {
+        Some("an IPv6 address is missing in these brackets")
+    } else if is_ipv4(address) {
+        Some("an IPv4 address is written without brackets")
+    } else if has_piece(rest, "::") {
+        Some(":: is twice in this IPv6 address")
+    } else if has_empty_piece(front) || has_empty_piece(rest) {
+        Some("a piece of this IPv6 address is empty")
+    } else if address.split(':').any(|piece| is_long(piece)) {
+        Some("a piece of this IPv6 address has more than 4 hex digits")
+    } else if has_piece(address, ".") && !is_ipv4(last_piece(address)) {
+        Some("this IPv6 address ends in no IPv4 address of four numbers up to 255")
+    } else {
+        None
+    }
+}
+
+// What is said about the number of pieces. An IPv4 address at the end stands for two of them.
+fn counted_sentence(alloc: Global, address: &str) -> Result<String, AllocError> {
+    let pieces = address.split(':').filter(|piece| !piece.is_empty()).count();
+    let more = if has_piece(address, ".") { 1 } else { 0 };
+    let count = pieces.saturating_add(more);
+    if has_piece(address, "::") {
+        format!(in alloc;
+            "an IPv6 address with :: has at most seven pieces, and this one has {count}"
+        )
+    } else {
+        format!(in alloc; "an IPv6 address has eight pieces, and this one has {count}")
+    }
+}
+
+// Whether one of the pieces between `:` is empty, though the text isn't.
+fn has_empty_piece(text: &str) -> bool {
+    !text.is_empty() && text.split(':').any(|piece| piece.is_empty())
+}
+
+// What comes after the last `:`.
+fn last_piece(address: &str) -> &str {
+    address.rsplit(':').next().unwrap_or("")
+}
+
+// Whether a text is that of an IPv4 address.
+fn is_ipv4(text: &str) -> bool {
+    Ipv4Addr::parse_ascii(text.as_bytes()).is_ok()
+}
+
+// Whether a code point may be in an IPv6 address.
+fn is_of_address(c: char) -> bool {
+    c.is_ascii_hexdigit() || c == ':' || c == '.'
+}
+
+// Whether a piece has more hex digits than pieces have. One with `.` is an IPv4 address.
+fn is_long(piece: &str) -> bool {
+    piece.len() > 4 && !has_piece(piece, ".")
 }
 
 /// Whether the authority of a text that has one is an IPv6 address.
@@ -30,7 +112,7 @@ pub(crate) fn has_bare_ipv6(line: &str) -> bool {
     is_ipv6(authority_of(line))
 }
 
-// Whether a text is that of an IPv6 address, without brackets.
-fn is_ipv6(text: &str) -> bool {
+/// Whether a text is that of an IPv6 address, without brackets.
+pub(crate) fn is_ipv6(text: &str) -> bool {
     Ipv6Addr::parse_ascii(text.as_bytes()).is_ok()
 }

@@ -8,10 +8,8 @@ use crate::line_violation::LineViolation;
 use crate::places::seen_text::SeenText;
 use crate::sentences::code_point::point_name;
 use crate::sentences::domain::domain_sentence;
-use crate::sentences::intention::is_link_scheme;
 use crate::sentences::ipv4::ipv4_sentence;
 use crate::sentences::ipv6::ipv6_sentence;
-use crate::sentences::pieces::before;
 use crate::sentences::start::start_sentence;
 use crate::sentences::wording::{Checked, rule_note};
 use std::alloc::{AllocError, Global};
@@ -51,8 +49,8 @@ fn violation_sentence(
     match violation {
         LineViolation::Refused(refusal) => {
             let mut said = refusal_sentence(alloc, checked, line, refusal)?;
-            match line.shown_intention() {
-                Some(intention) => said.push_str(intention.note())?,
+            match intention_note(line) {
+                Some(note) => said.push_str(note)?,
                 None => said.push_str(rule_note(alloc, checked, line, refusal)?.as_str())?,
             }
             Ok(said)
@@ -64,6 +62,11 @@ fn violation_sentence(
     }
 }
 
+// What is said about what a line shows of its author's intention, if it shows any.
+fn intention_note(line: &SeenText<'_>) -> Option<&'static str> {
+    line.shown_intention()?.note()
+}
+
 // What is wrong with a refused line.
 fn refusal_sentence(
     alloc: Global,
@@ -72,7 +75,7 @@ fn refusal_sentence(
     refusal: Refusal,
 ) -> Result<String, AllocError> {
     if is_of_authority(refusal.rule) && line.has_credentials(refusal.place) {
-        return credentials_sentence(alloc, line.as_str());
+        return credentials_sentence(alloc, line);
     }
     if is_of_authority(refusal.rule) && line.has_bare_ipv6() {
         return String::from_str(alloc, BARE_IPV6);
@@ -81,14 +84,14 @@ fn refusal_sentence(
         Rule::NoScheme => start_sentence(alloc, line),
         Rule::HostDomain => domain_sentence(alloc, checked.profile, line, refusal.place),
         Rule::HostNumber => ipv4_sentence(alloc, checked.profile, line.rest_at(refusal.place)),
-        Rule::HostIpv6 => String::from_str(alloc, ipv6_sentence(line.rest_at(refusal.place))),
+        Rule::HostIpv6 => ipv6_sentence(alloc, line.rest_at(refusal.place)),
         _ => point_sentence(alloc, refusal.rule, line.point_at(refusal.place)),
     }
 }
 
 // What is said about credentials. Links of other schemes than the special ones may need them.
-fn credentials_sentence(alloc: Global, line: &str) -> Result<String, AllocError> {
-    let advice = if is_link_scheme(before(line, ':')) {
+fn credentials_sentence(alloc: Global, line: &SeenText<'_>) -> Result<String, AllocError> {
+    let advice = if line.start().is_link {
         "; leave them out"
     } else {
         ""

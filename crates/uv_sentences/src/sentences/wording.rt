@@ -1,11 +1,9 @@
 //! What a sentence calls the things that its reader can set, and what follows the sentence.
 
 use crate::places::seen_text::SeenText;
-use crate::sentences::authority::before_query;
-use crate::sentences::pieces::before;
 use crate::sentences::start::start_note;
 use std::alloc::{AllocError, Global};
-use uv_model::{Profile, Refusal, Rule, is_name};
+use uv_model::{Profile, Refusal, Rule};
 
 /// What a profile and a base are called in a sentence, depending on where it is read.
 #[derive(Clone, Copy, PartialEq, Eq)]
@@ -71,8 +69,9 @@ pub(crate) fn rule_note(
         Rule::FirstSegmentEmpty => format!(in alloc; "; write one slash, or use {profile}"),
         Rule::NoScheme => start_note(alloc, checked.wording, line),
         Rule::CodePoint if is_in_path(line, refusal.place) => {
-            String::from_str(alloc, scheme_note(before(line.as_str(), ':')))
+            String::from_str(alloc, line.start().note)
         }
+        Rule::Percent => String::from_str(alloc, escape_note(line.rest_at(refusal.place))),
         _ if profile.is_empty() => Ok(String::new(alloc)),
         _ => format!(in alloc; "; {profile} allows it"),
     }
@@ -95,30 +94,19 @@ fn named_profile(alloc: Global, checked: Checked, rule: Rule) -> Result<String, 
 
 // Whether a place is before the query and the fragment.
 fn is_in_path(line: &SeenText<'_>, place: usize) -> bool {
-    let text = line.as_str();
-    let ahead = text.len().saturating_sub(line.rest_at(place).len());
-    ahead < before_query(text).len()
+    let ahead = line
+        .as_str()
+        .len()
+        .saturating_sub(line.rest_at(place).len());
+    ahead < line.start().path_end
 }
 
-// What a scheme requires of what follows it, if it has a rule of its own.
-fn scheme_note(scheme: &str) -> &'static str {
-    if is_name(scheme, "mailto") {
-        return "; write addresses as in mailto:a@example.com";
+// What is said about a `%`, if it has one hex digit after it and the text or the next escape comes then.
+fn escape_note(rest: &str) -> &'static str {
+    match rest.as_bytes() {
+        [_, digit] | [_, digit, b'%', ..] if digit.is_ascii_hexdigit() => {
+            "; this escape is cut off"
+        }
+        _ => "",
     }
-    if is_name(scheme, "tel") || is_name(scheme, "sms") {
-        return "; write a number without spaces, as in tel:+1-555-0100";
-    }
-    if is_name(scheme, "sip") || is_name(scheme, "sips") || is_name(scheme, "xmpp") {
-        return "; write an address as in sip:a@example.com";
-    }
-    if is_name(scheme, "geo") {
-        return "; write coordinates as in geo:48.2,16.3";
-    }
-    if is_name(scheme, "about") {
-        return "; write a page as in about:blank";
-    }
-    if is_name(scheme, "view-source") {
-        return "; mend the link after view-source:";
-    }
-    ""
 }

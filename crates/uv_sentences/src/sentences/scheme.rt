@@ -1,0 +1,81 @@
+//! What a scheme says of the text that it begins.
+
+use crate::sentences::authority::{before_end, before_query};
+use crate::sentences::intention::is_link_scheme;
+use crate::sentences::pieces::{after, before, has_piece};
+use uv_model::is_name;
+
+/// What a text shows before its query and fragment, which is the same at each of its places.
+#[derive(Clone, Copy)]
+pub(crate) struct Start {
+    /// Whether its scheme is one that `//` follows in links.
+    pub(crate) is_link: bool,
+    /// What its scheme requires of what follows it, or nothing.
+    pub(crate) note: &'static str,
+    /// How many bytes come before the query and the fragment.
+    pub(crate) path_end: usize,
+}
+
+/// What a text shows before its query and fragment.
+pub(crate) fn start_of(text: &str) -> Start {
+    let scheme = before(text, ':');
+    Start {
+        is_link: is_link_scheme(scheme),
+        note: scheme_note(scheme),
+        path_end: before_query(text).len(),
+    }
+}
+
+// What a scheme requires of what follows it, if it has a rule of its own.
+fn scheme_note(scheme: &str) -> &'static str {
+    if is_name(scheme, "mailto") {
+        return "; write addresses as in mailto:a@example.com";
+    }
+    if is_name(scheme, "tel") || is_name(scheme, "sms") {
+        return "; write a number without spaces, as in tel:+1-555-0100";
+    }
+    if is_name(scheme, "sip") || is_name(scheme, "sips") || is_name(scheme, "xmpp") {
+        return "; write an address as in sip:a@example.com";
+    }
+    if is_name(scheme, "geo") {
+        return "; write coordinates as in geo:48.2,16.3";
+    }
+    if is_name(scheme, "about") {
+        return "; write a page as in about:blank";
+    }
+    if is_name(scheme, "view-source") {
+        return "; mend the link after view-source:";
+    }
+    ""
+}
+
+/// Whether a text begins with a host, `:` and the digits of a port.
+pub(crate) fn has_host_as_scheme(text: &str) -> bool {
+    let host = before(text, ':');
+    let port = before_end(after(text, ':'));
+    (is_name(host, "localhost") || is_dotted_name(host))
+        && !port.is_empty()
+        && port.bytes().all(|b| b.is_ascii_digit())
+}
+
+// Whether a text is a name with a full stop, as most hosts and hardly any scheme have one, with a letter first.
+fn is_dotted_name(host: &str) -> bool {
+    host.starts_with(|c: char| c.is_ascii_alphabetic())
+        && has_piece(host, ".")
+        && host
+            .bytes()
+            .all(|b| b.is_ascii_alphanumeric() || b == b'-' || b == b'.')
+}
+
+/// Whether `://` follows a scheme that is neither `http` nor `https`, and has their letters alone, `t` and `p` among
+/// them.
+pub(crate) fn has_misspelled_scheme(text: &str) -> bool {
+    let scheme = before(text, ':');
+    after(text, ':').starts_with("//")
+        && !is_link_scheme(scheme)
+        && has_piece(scheme, "t")
+        && has_piece(scheme, "p")
+        && scheme
+            .bytes()
+            .all(|b| matches!(b, b'h' | b't' | b'p' | b's'))
+}
