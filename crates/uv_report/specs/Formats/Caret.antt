@@ -9,7 +9,7 @@ use Rattle.uv_model.specs.declared.mend_kind.MendKind.{MendKind}
 use Rattle.uv_model.specs.declared.mend_kind.MendKind.TheVariants.{Same, Escaped, Changed}
 use Rattle.uv_report.specs.declared.formats.caret.TheConstants.{HELP, SAME_NOTE, ESCAPED_NOTE, CHANGED_NOTE}
 use Rattle.uv_report.specs.Diagnostic.{DiagnosticView, FixView}
-use Rattle.uv_sentences.specs.declared.escaping.escapes.Escapes.TheVariants.{Shown}
+use Rattle.uv_sentences.specs.declared.escaping.escapes.Escapes.TheVariants.{Shown, Copied}
 use Rattle.uv_report.specs.Places.Column.{shown_width}
 use Rattle.uv_sentences.specs.Escaping.Escapes.{escaped}
 use Rattle.uv_sentences.specs.LineViolation.{named_violation}
@@ -56,9 +56,9 @@ abbrev pub help_words : Bool → MendKind → List ℕ
 help_words true kind = HELP.now
 help_words false kind = named_as kind
 
--- these words, and what is shown of a mended text around a place
+-- these words, and what is shown of a mended text around a place, as it may be copied
 unfoldable pub help_line : List ℕ → ℕ → List ℕ → List ℕ
-help_line words place mended = words ++ (escaped Shown (window mended place) ++ codes "\n")
+help_line words place mended = words ++ (escaped Copied (window mended place) ++ codes "\n")
 
 -- the line of what to write in place of a line of which this place is reported, where that is to be said
 abbrev pub help_text : ℕ → Option FixView → List ℕ

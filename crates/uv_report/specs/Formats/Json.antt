@@ -1,5 +1,5 @@
 -- A diagnostic as an object of JSON.
-use Rattle.std.specs.Prelude.{ℕ, Bool, List, ◌++◌, codes, Option, Some, None}
+use Rattle.std.specs.Prelude.{ℕ, List, ◌++◌, codes, Option, Some, None}
 use Rattle.json.specs.Json.{Json, Members, boolean, member, no_members, object, string}
 use Rattle.uv_model.specs.MendKindName.{kind_name}
 use Rattle.uv_report.specs.Diagnostic.{DiagnosticView, FixView, carried_text}
@@ -17,14 +17,6 @@ plain_value found =
     (member (codes "rule") (string found.rule)
     (member (codes "text") (string (carried_text found)) no_members)))))))
 
--- the message, whether a mended text is offered, the rule, and what is carried of the text
-unfoldable pub offered_members : DiagnosticView → Bool → Members
-offered_members found is_offered =
-    member (codes "message") (string found.message)
-    (member (codes "offered") (boolean is_offered)
-    (member (codes "rule") (string found.rule)
-    (member (codes "text") (string (carried_text found)) no_members)))
-
 -- with how a mended text is to the refused one, the mended text, which is whole, and whether it is offered
 abbrev pub mended_value : DiagnosticView → FixView → Json
 mended_value found fix =
@@ -33,7 +25,11 @@ mended_value found fix =
     (member (codes "file") (string found.file)
     (member (codes "kind") (string (kind_name fix.kind))
     (member (codes "line") (whole found.region.line)
-    (member (codes "mended") (string fix.text) (offered_members found fix.is_offered)))))))
+    (member (codes "mended") (string fix.text)
+    (member (codes "message") (string found.message)
+    (member (codes "offered") (boolean fix.is_offered)
+    (member (codes "rule") (string found.rule)
+    (member (codes "text") (string (carried_text found)) no_members))))))))))
 
 -- by whether there is one
 abbrev pub value_with : DiagnosticView → Option FixView → Json

@@ -166,14 +166,11 @@ fix_sentence Same = SAME_FIX.now
 fix_sentence Escaped = ESCAPED_FIX.now
 fix_sentence Changed = CHANGED_FIX.now
 
--- the text that is written, as the last member
-unfoldable pub inserted_members : List ℕ → Members
-inserted_members text = member (codes "insertedContent") (message text) no_members
-
 -- a text in place of what is in this region
-unfoldable pub replacement_value : Region → List ℕ → Json
+abbrev pub replacement_value : Region → List ℕ → Json
 replacement_value region text =
-    object (member (codes "deletedRegion") (region_value region) (inserted_members text))
+    object (member (codes "deletedRegion") (region_value region)
+    (member (codes "insertedContent") (message text) no_members))
 
 -- a text in place of what is in this region of a file
 abbrev pub change_value : List ℕ → Region → List ℕ → Json

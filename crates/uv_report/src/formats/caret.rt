@@ -1,7 +1,8 @@
 //! Diagnostics with the line that they are about, a caret below the place, and what to write in place of the line.
 ghost use Rattle.std.specs.Prelude.{◌≡◌, ◌++◌, OnOk, option_map, replicate, string_bytes, take};
 ghost use Rattle.std.specs.Str.{chars};
-ghost use Rattle.uv_sentences.specs.Escaping.Escapes.{shown_text};
+ghost use Rattle.uv_sentences.specs.declared.escaping.escapes.Escapes.TheVariants.{Copied};
+ghost use Rattle.uv_sentences.specs.Escaping.Escapes.{escaped};
 ghost use Rattle.uv_report.specs.Diagnostic.{diagnostic_view, fix_view};
 ghost use Rattle.uv_sentences.specs.Places.Window.{window};
 ghost use Rattle.uv_report.specs.Formats.Caret.{below, caret_lines, caret_text, help_line, help_text, help_words};
@@ -14,7 +15,8 @@ use crate::places::column::shown_width;
 use std::alloc::{AllocError, Global};
 use uv_model::MendKind;
 use uv_sentences::{
-    LineViolation, SeenText, cut_out, is_printable_text, named_place, push_shown as push_shown_text,
+    LineViolation, SeenText, cut_out, is_printable_text, named_place, push_copied,
+    push_shown as push_shown_text,
 };
 
 // What is before a mended text that is offered, and before one that isn't, by how it is to the refused one.
@@ -137,7 +139,7 @@ fn push_help_line(
     Ok(())
 }
 
-// Pushes what is shown of a text around a place.
+// Pushes what is shown of a valid URL string around a place, as it may be copied.
 #[tactic(auto, unfolding(uv_sentences::specs::Places::Window::window))]
 fn push_part(
     alloc: Global,
@@ -145,13 +147,13 @@ fn push_part(
     source: &SeenText<'_>,
     place: usize,
 ) -> Result<(), AllocError>
-    ensures { OnOk result (string_bytes text.new ≡ string_bytes text.old ++ shown_text (window source.now place)) }
+    ensures { OnOk result (string_bytes text.new ≡ string_bytes text.old ++ escaped Copied (window source.now place)) }
 {
     if source.is_longer_than_window() {
         let shown = cut_out(alloc, source, place.saturating_sub(99))?;
-        push_shown_text(text, shown.as_str())
+        push_copied(text, shown.as_str())
     } else {
-        push_shown_text(text, source.as_str())
+        push_copied(text, source.as_str())
     }
 }
 

@@ -7,7 +7,7 @@ ghost use Rattle.uv_report.specs.Formats.Gitlab as spec;
 use crate::diagnostic::Diagnostic;
 use crate::formats::fingerprint::file_fingerprint;
 use crate::formats::sarif::separator;
-use crate::json_text::JsonText;
+use crate::json_text::{JsonText, Piece};
 use std::alloc::{AllocError, Global};
 
 /// Pushes an issue, and before it a comma if it isn't the first one.
@@ -34,17 +34,21 @@ fn write_issue(alloc: Global, json: &mut JsonText, found: &Diagnostic<'_>) -> Re
     ensures { OnOk result (json.new ≡ json.old ++ json_tokens (spec.issue_value (diagnostic_view found.now))) }
 {
     let fingerprint = file_fingerprint(alloc, found)?;
-    json.begin_object()?;
-    json.text("check_name", found.rule)?;
-    json.text("description", found.message)?;
+    json.write(&[
+        Piece::Begin,
+        Piece::Text("check_name", found.rule),
+        Piece::Text("description", found.message),
+    ])?;
     json.text("fingerprint", fingerprint.as_str())?;
-    json.begin_member("location")?;
-    json.begin_member("lines")?;
-    json.number("begin", found.region.line)?;
-    json.end_object()?;
-    json.text("path", found.file)?;
-    json.end_object()?;
-    json.text("severity", "major")?;
-    json.end_object()?;
+    json.write(&[
+        Piece::Object("location"),
+        Piece::Object("lines"),
+        Piece::Number("begin", found.region.line),
+        Piece::End,
+        Piece::Text("path", found.file),
+        Piece::End,
+        Piece::Text("severity", "major"),
+        Piece::End,
+    ])?;
     Ok(())
 }

@@ -1,5 +1,5 @@
 //! Diagnostics as a document of reviewdog, which is written diagnostic by diagnostic.
-ghost use Rattle.json.specs.Token.{begin_object, key};
+ghost use Rattle.json.specs.Token.{key};
 ghost use Rattle.json.specs.Tree.{json_tokens, members_tokens};
 ghost use Rattle.std.specs.Prelude.{◌≡◌, ◌∷◌, ◌++◌, OnOk, codes, string_bytes};
 ghost use Rattle.uv_report.specs.Diagnostic.{diagnostic_view, edit_of, edit_view};
@@ -7,7 +7,7 @@ ghost use Rattle.uv_report.specs.Formats.Rdjson as spec;
 
 use crate::diagnostic::{Diagnostic, Fix, Region};
 use crate::formats::sarif::separator;
-use crate::json_text::JsonText;
+use crate::json_text::{JsonText, Piece};
 use std::alloc::{AllocError, Global};
 
 /// What the document begins with.
@@ -37,10 +37,28 @@ pub(crate) fn push_rdjson(
 fn write_diagnostic(json: &mut JsonText, found: &Diagnostic<'_>) -> Result<(), AllocError>
     ensures { OnOk result (json.new ≡ json.old ++ json_tokens (spec.rdjson_value (diagnostic_view found.now))) }
 {
-    json.begin_object()?;
+    json.write(&[Piece::Begin])?;
     write_code(json, found.uri, found.rule)?;
     write_members(json, found)?;
     Ok(())
+}
+
+// Writes the member of the rule, and of its address if it has one.
+#[tactic(auto, unfolding(crate::specs::Formats::Rdjson::code_value))]
+fn write_code<'t>(json: &mut JsonText, uri: &'t str, rule: &'t str) -> Result<(), AllocError>
+    ensures { OnOk result (json.new
+        ≡ json.old ++ key (codes "code") ∷ json_tokens (spec.code_value uri.now rule.now)) }
+{
+    if uri.is_empty() {
+        json.write(&[Piece::ObjectOf("code", "value", rule)])
+    } else {
+        json.write(&[
+            Piece::Object("code"),
+            Piece::Text("url", uri),
+            Piece::Text("value", rule),
+            Piece::End,
+        ])
+    }
 }
 
 // Writes the members that follow the rule's, and ends the object.
@@ -48,47 +66,14 @@ fn write_diagnostic(json: &mut JsonText, found: &Diagnostic<'_>) -> Result<(), A
 fn write_members(json: &mut JsonText, found: &Diagnostic<'_>) -> Result<(), AllocError>
     ensures { OnOk result (json.new ≡ json.old ++ members_tokens (spec.told_members (diagnostic_view found.now))) }
 {
-    write_location(json, found)?;
-    json.text("message", found.message)?;
-    json.text("severity", "ERROR")?;
-    write_suggestions(json, found)?;
-    Ok(())
-}
-
-// Writes the member of the rule, and of its address if it has one.
-#[tactic(auto, unfolding(crate::specs::Formats::Rdjson::code_value))]
-fn write_code(json: &mut JsonText, uri: &str, rule: &str) -> Result<(), AllocError>
-    ensures { OnOk result (json.new
-        ≡ json.old ++ key (codes "code") ∷ json_tokens (spec.code_value uri.now rule.now)) }
-{
-    if uri.is_empty() {
-        json.object_of("code", "value", rule)
-    } else {
-        write_addressed_code(json, uri, rule)
-    }
-}
-
-// Writes the member of a rule and of its address, which it has.
-fn write_addressed_code(json: &mut JsonText, uri: &str, rule: &str) -> Result<(), AllocError>
-    ensures { OnOk result (json.new
-        ≡ json.old ++ key (codes "code") ∷ json_tokens (spec.addressed_code uri.now rule.now)) }
-{
-    json.begin_member("code")?;
-    json.text("url", uri)?;
-    json.text("value", rule)?;
-    json.end_object()?;
-    Ok(())
-}
-
-// Writes the member of the file, and of what is wrong in it.
-fn write_location(json: &mut JsonText, found: &Diagnostic<'_>) -> Result<(), AllocError>
-    ensures { OnOk result (json.new
-        ≡ json.old ++ key (codes "location") ∷ json_tokens (spec.location_value (diagnostic_view found.now))) }
-{
-    json.begin_member("location")?;
-    json.text("path", found.file)?;
+    json.write(&[Piece::Object("location"), Piece::Text("path", found.file)])?;
     write_range(json, found.region)?;
-    json.end_object()?;
+    json.write(&[
+        Piece::End,
+        Piece::Text("message", found.message),
+        Piece::Text("severity", "ERROR"),
+    ])?;
+    write_suggestions(json, found)?;
     Ok(())
 }
 
@@ -99,7 +84,7 @@ fn write_suggestions(json: &mut JsonText, found: &Diagnostic<'_>) -> Result<(), 
 {
     match found.edit() {
         Some((region, fix)) => write_suggestion(json, region, fix),
-        None => json.end_object(),
+        None => json.write(&[Piece::End]),
     }
 }
 
@@ -108,13 +93,14 @@ fn write_suggestion(json: &mut JsonText, region: Region, fix: Fix<'_>) -> Result
     ensures { OnOk result (json.new
         ≡ json.old ++ members_tokens (spec.suggestions_member (Some (edit_view (region, fix.entry))))) }
 {
-    json.begin_array("suggestions")?;
-    json.begin_object()?;
+    json.write(&[Piece::Array("suggestions"), Piece::Begin])?;
     write_range(json, region)?;
-    json.text("text", fix.text)?;
-    json.end_object()?;
-    json.end_array()?;
-    json.end_object()?;
+    json.write(&[
+        Piece::Text("text", fix.text),
+        Piece::End,
+        Piece::EndArray,
+        Piece::End,
+    ])?;
     Ok(())
 }
 
@@ -122,20 +108,16 @@ fn write_suggestion(json: &mut JsonText, region: Region, fix: Fix<'_>) -> Result
 fn write_range(json: &mut JsonText, region: Region) -> Result<(), AllocError>
     ensures { OnOk result (json.new ≡ json.old ++ key (codes "range") ∷ json_tokens (spec.range_value region)) }
 {
-    json.begin_member("range")?;
-    write_position(json, "end", region.end_line, region.end_column)?;
-    write_position(json, "start", region.line, region.column)?;
-    json.end_object()?;
-    Ok(())
-}
-
-// Writes the member of a place.
-fn write_position(json: &mut JsonText, name: &str, line: u64, column: u64) -> Result<(), AllocError>
-    ensures { OnOk result (json.new ≡ json.old ++ key name.now ∷ json_tokens (spec.position_value line column)) }
-{
-    json.begin_member(name)?;
-    json.number("column", column)?;
-    json.number("line", line)?;
-    json.end_object()?;
-    Ok(())
+    json.write(&[
+        Piece::Object("range"),
+        Piece::Object("end"),
+        Piece::Number("column", region.end_column),
+        Piece::Number("line", region.end_line),
+        Piece::End,
+        Piece::Object("start"),
+        Piece::Number("column", region.column),
+        Piece::Number("line", region.line),
+        Piece::End,
+        Piece::End,
+    ])
 }

@@ -1,6 +1,6 @@
 //! Diagnostics as a document of SARIF 2.1.0, which is written result by result.
 ghost use Rattle.json.specs.Json.{object};
-ghost use Rattle.json.specs.Token.{begin_array, begin_object, end_array, end_object, key};
+ghost use Rattle.json.specs.Token.{key};
 ghost use Rattle.json.specs.Tree.{json_tokens, members_tokens};
 ghost use Rattle.std.specs.Prelude.{◌≡◌, ◌∷◌, ◌++◌, IfOk, OnOk, codes, flat_map, string_bytes};
 ghost use Rattle.uv_report.specs.Diagnostic.{carried_text, diagnostic_view, edit_view};
@@ -13,7 +13,7 @@ use crate::completion::Completion;
 use crate::diagnostic::{Diagnostic, Fix, Region};
 use crate::formats::fingerprint::text_fingerprint;
 use crate::formats::uri::push_uri_path;
-use crate::json_text::JsonText;
+use crate::json_text::{JsonText, Piece};
 use crate::places::column::Columns;
 use std::alloc::{AllocError, Global};
 use uv_model::{MendKind, Refusal, Rule};
@@ -141,10 +141,14 @@ fn write_rule(json: &mut JsonText, violation: LineViolation) -> Result<(), Alloc
 fn write_line_rule(json: &mut JsonText, violation: LineViolation) -> Result<(), AllocError>
     ensures { OnOk result (json.new ≡ json.old ++ json_tokens (spec.line_rule violation)) }
 {
-    json.begin_object()?;
-    json.object_of("fullDescription", "text", violation.help())?;
-    json.object_of("help", "text", violation.help())?;
-    write_named(json, violation)?;
+    json.write(&[
+        Piece::Begin,
+        Piece::ObjectOf("fullDescription", "text", violation.help()),
+        Piece::ObjectOf("help", "text", violation.help()),
+        Piece::Text("id", violation.name()),
+        Piece::ObjectOf("shortDescription", "text", violation.sentence()),
+        Piece::End,
+    ])?;
     Ok(())
 }
 
@@ -152,21 +156,15 @@ fn write_line_rule(json: &mut JsonText, violation: LineViolation) -> Result<(), 
 fn write_text_rule(json: &mut JsonText, violation: LineViolation) -> Result<(), AllocError>
     ensures { OnOk result (json.new ≡ json.old ++ json_tokens (spec.text_rule violation)) }
 {
-    json.begin_object()?;
-    json.object_of("fullDescription", "text", violation.help())?;
-    json.object_of("help", "text", violation.help())?;
-    json.text("helpUri", violation.address())?;
-    write_named(json, violation)?;
-    Ok(())
-}
-
-// Writes the members of a rule's name and of what is wrong where it is violated, and ends the rule.
-fn write_named(json: &mut JsonText, violation: LineViolation) -> Result<(), AllocError>
-    ensures { OnOk result (json.new ≡ json.old ++ members_tokens (spec.named_members violation)) }
-{
-    json.text("id", violation.name())?;
-    json.object_of("shortDescription", "text", violation.sentence())?;
-    json.end_object()?;
+    json.write(&[
+        Piece::Begin,
+        Piece::ObjectOf("fullDescription", "text", violation.help()),
+        Piece::ObjectOf("help", "text", violation.help()),
+        Piece::Text("helpUri", violation.address()),
+        Piece::Text("id", violation.name()),
+        Piece::ObjectOf("shortDescription", "text", violation.sentence()),
+        Piece::End,
+    ])?;
     Ok(())
 }
 
@@ -231,7 +229,7 @@ fn write_plain(
     ensures { OnOk result (json.new
         ≡ json.old ++ json_tokens (object (spec.result_members (diagnostic_view found.now)))) }
 {
-    json.begin_object()?;
+    json.write(&[Piece::Begin])?;
     write_members(alloc, json, found, uri)?;
     Ok(())
 }
@@ -249,7 +247,7 @@ fn write_fixed(
     ensures { OnOk result (json.new ≡ json.old ++ json_tokens (object (spec.members_with (diagnostic_view found.now)
         (Some (edit_view (region, fix.entry)))))) }
 {
-    json.begin_object()?;
+    json.write(&[Piece::Begin])?;
     write_fix(json, uri, region, fix)?;
     write_members(alloc, json, found, uri)?;
     Ok(())
@@ -280,6 +278,22 @@ fn write_members(
     Ok(())
 }
 
+// Writes the member of where a diagnostic is.
+fn write_location(json: &mut JsonText, region: Region, uri: &str) -> Result<(), AllocError>
+    ensures { OnOk result (json.new ≡ json.old
+        ++ key (codes "locations") ∷ json_tokens (single (spec.location_value uri.now region))) }
+{
+    json.write(&[
+        Piece::Array("locations"),
+        Piece::Begin,
+        Piece::Object("physicalLocation"),
+        Piece::ObjectOf("artifactLocation", "uri", uri),
+    ])?;
+    write_region(json, "region", region)?;
+    json.write(&[Piece::End, Piece::End, Piece::EndArray])?;
+    Ok(())
+}
+
 // Writes the members of the carried text, and of the violated rule, and ends the result.
 #[tactic(auto, unfolding(crate::specs::Formats::Sarif::violation_members))]
 fn write_violation(
@@ -291,10 +305,12 @@ fn write_violation(
     ensures { OnOk result (json.new
         ≡ json.old ++ members_tokens (spec.violation_members (diagnostic_view found.now))) }
 {
-    json.begin_member("properties")?;
-    json.boolean("cut", found.is_cut())?;
-    json.text("text", carried)?;
-    json.end_object()?;
+    json.write(&[
+        Piece::Object("properties"),
+        Piece::Boolean("cut", found.is_cut()),
+        Piece::Text("text", carried),
+        Piece::End,
+    ])?;
     json.text("ruleId", found.rule)?;
     write_index(json, found.rule)?;
     Ok(())
@@ -305,34 +321,9 @@ fn write_index(json: &mut JsonText, rule: &str) -> Result<(), AllocError>
     ensures { OnOk result (json.new ≡ json.old ++ members_tokens (spec.index_members (rule_index rule.now))) }
 {
     match rule_index(rule) {
-        Some(index) => write_known_index(json, index),
-        None => json.end_object(),
+        Some(index) => json.write(&[Piece::Number("ruleIndex", index), Piece::End]),
+        None => json.write(&[Piece::End]),
     }
-}
-
-// Writes the member of where a rule is among those of the document, and ends the result.
-fn write_known_index(json: &mut JsonText, index: u64) -> Result<(), AllocError>
-    ensures { OnOk result (json.new ≡ json.old ++ members_tokens (spec.index_members (Some index))) }
-{
-    json.number("ruleIndex", index)?;
-    json.end_object()?;
-    Ok(())
-}
-
-// Writes the member of where a diagnostic is.
-fn write_location(json: &mut JsonText, region: Region, uri: &str) -> Result<(), AllocError>
-    ensures { OnOk result (json.new ≡ json.old
-        ++ key (codes "locations") ∷ json_tokens (single (spec.location_value uri.now region))) }
-{
-    json.begin_array("locations")?;
-    json.begin_object()?;
-    json.begin_member("physicalLocation")?;
-    json.object_of("artifactLocation", "uri", uri)?;
-    write_region(json, "region", region)?;
-    json.end_object()?;
-    json.end_object()?;
-    json.end_array()?;
-    Ok(())
 }
 
 // Writes the member of a region.
@@ -340,90 +331,55 @@ fn write_region(json: &mut JsonText, name: &str, region: Region) -> Result<(), A
     ensures { OnOk result (json.new ≡ json.old ++ key name.now ∷ json_tokens (spec.region_value region)) }
 {
     if region.end_line == region.line {
-        write_line_region(json, name, region)
+        json.write(&[
+            Piece::Object(name),
+            Piece::Number("endColumn", region.end_column),
+            Piece::Number("startColumn", region.column),
+            Piece::Number("startLine", region.line),
+            Piece::End,
+        ])
     } else {
-        write_lines_region(json, name, region)
+        json.write(&[
+            Piece::Object(name),
+            Piece::Number("endColumn", region.end_column),
+            Piece::Number("endLine", region.end_line),
+            Piece::Number("startColumn", region.column),
+            Piece::Number("startLine", region.line),
+            Piece::End,
+        ])
     }
 }
 
-// Writes the member of a region that is in one line.
-fn write_line_region(json: &mut JsonText, name: &str, region: Region) -> Result<(), AllocError>
-    ensures { OnOk result (json.new ≡ json.old ++ key name.now ∷ json_tokens (spec.line_region region)) }
-{
-    json.begin_member(name)?;
-    json.number("endColumn", region.end_column)?;
-    json.number("startColumn", region.column)?;
-    json.number("startLine", region.line)?;
-    json.end_object()?;
-    Ok(())
-}
-
-// Writes the member of a region that ends in another line than it begins in.
-fn write_lines_region(json: &mut JsonText, name: &str, region: Region) -> Result<(), AllocError>
-    ensures { OnOk result (json.new ≡ json.old ++ key name.now ∷ json_tokens (spec.lines_region region)) }
-{
-    json.begin_member(name)?;
-    json.number("endColumn", region.end_column)?;
-    json.number("endLine", region.end_line)?;
-    json.number("startColumn", region.column)?;
-    json.number("startLine", region.line)?;
-    json.end_object()?;
-    Ok(())
-}
-
-// Writes the member of the fix that writes a mended text, as the only item of an array.
-fn write_fix(json: &mut JsonText, uri: &str, region: Region, fix: Fix<'_>) -> Result<(), AllocError>
+// Writes the member of the fix that writes a mended text in place of what is in this region.
+fn write_fix<'t>(
+    json: &mut JsonText,
+    uri: &'t str,
+    region: Region,
+    fix: Fix<'t>,
+) -> Result<(), AllocError>
     ensures { OnOk result (json.new ≡ json.old ++ key (codes "fixes")
         ∷ json_tokens (single (spec.fix_value uri.now (edit_view (region, fix.entry))))) }
 {
-    json.begin_array("fixes")?;
-    json.begin_object()?;
-    write_change(json, uri, region, fix.text)?;
-    json.object_of("description", "text", fix_sentence(fix.kind))?;
-    json.end_object()?;
-    json.end_array()?;
-    Ok(())
-}
-
-// Writes the member of the change, as the only item of an array: a text in place of what is in this region.
-fn write_change(
-    json: &mut JsonText,
-    uri: &str,
-    region: Region,
-    text: &str,
-) -> Result<(), AllocError>
-    ensures { OnOk result (json.new ≡ json.old ++ key (codes "artifactChanges")
-        ∷ json_tokens (single (spec.change_value uri.now region text.now))) }
-{
-    json.begin_array("artifactChanges")?;
-    json.begin_object()?;
-    json.object_of("artifactLocation", "uri", uri)?;
-    json.begin_array("replacements")?;
-    write_replacement(json, region, text)?;
-    json.end_array()?;
-    json.end_object()?;
-    json.end_array()?;
-    Ok(())
-}
-
-// Writes a text in place of what is in a region.
-#[tactic(auto, unfolding(crate::specs::Formats::Sarif::replacement_value))]
-fn write_replacement(json: &mut JsonText, region: Region, text: &str) -> Result<(), AllocError>
-    ensures { OnOk result (json.new ≡ json.old ++ json_tokens (spec.replacement_value region text.now)) }
-{
-    json.begin_object()?;
+    json.write(&[
+        Piece::Array("fixes"),
+        Piece::Begin,
+        Piece::Array("artifactChanges"),
+        Piece::Begin,
+        Piece::ObjectOf("artifactLocation", "uri", uri),
+        Piece::Array("replacements"),
+        Piece::Begin,
+    ])?;
     write_region(json, "deletedRegion", region)?;
-    write_inserted(json, text)?;
-    Ok(())
-}
-
-// Writes the member of the text, and ends the object.
-#[tactic(auto, unfolding(crate::specs::Formats::Sarif::inserted_members))]
-fn write_inserted(json: &mut JsonText, text: &str) -> Result<(), AllocError>
-    ensures { OnOk result (json.new ≡ json.old ++ members_tokens (spec.inserted_members text.now)) }
-{
-    json.object_of("insertedContent", "text", text)?;
-    json.end_object()?;
+    json.write(&[
+        Piece::ObjectOf("insertedContent", "text", fix.text),
+        Piece::End,
+        Piece::EndArray,
+        Piece::End,
+        Piece::EndArray,
+        Piece::ObjectOf("description", "text", fix_sentence(fix.kind)),
+        Piece::End,
+        Piece::EndArray,
+    ])?;
     Ok(())
 }
 

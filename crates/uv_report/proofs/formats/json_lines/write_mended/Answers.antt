@@ -1,19 +1,7 @@
 -- The tokens, one after the other.
-use Rattle.std.proofs.Common.{append_assoc}
+use Rattle.std.proofs.Common.{refl}
 use Rattle.uv_report.proofs.formats.json_lines.write_mended.Goals as goal
 
 pub returns : goal.returns
 returns c =
-    rw (
-      c.in_ok-write_offered.ensures,
-      c.in_ok-text-3.ensures,
-      c.in_ok-number-2.ensures,
-      c.in_ok-text-2.ensures,
-      c.in_ok-text.ensures,
-      c.in_ok-boolean.ensures,
-      c.in_ok-number.ensures,
-      c.in_ok-begin_object.ensures,
-      c.is_cut.ensures,
-      c.name.ensures,
-    )
-    (simp append_assoc)
+    rw (c.in_ok-write.ensures, c.name.ensures, c.is_cut.ensures, c.requires) refl

@@ -4,5 +4,5 @@ use Rattle.uv_report.proofs.formats.rdjson.write_diagnostic.Goals as goal
 
 pub returns : goal.returns
 returns c =
-    rw (c.in_ok-write_members.ensures, c.in_ok-write_code.ensures, c.in_ok-begin_object.ensures)
+    rw (c.in_ok-write_members.ensures, c.in_ok-write_code.ensures, c.in_ok-write.ensures)
     (simp append_assoc)

@@ -8,8 +8,8 @@ unfolding told_members
 returns c =
     rw (
       c.in_ok-write_suggestions.ensures,
-      c.in_ok-text-2.ensures,
-      c.in_ok-text.ensures,
-      c.in_ok-write_location.ensures,
+      c.in_ok-write-2.ensures,
+      c.in_ok-write_range.ensures,
+      c.in_ok-write.ensures,
     )
     (simp append_assoc)

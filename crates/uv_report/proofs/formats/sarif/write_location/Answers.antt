@@ -4,14 +4,5 @@ use Rattle.uv_report.proofs.formats.sarif.write_location.Goals as goal
 
 pub returns : goal.returns
 returns c =
-    rw (
-      c.in_ok-end_array.ensures,
-      c.in_ok-end_object-2.ensures,
-      c.in_ok-end_object.ensures,
-      c.in_ok-write_region.ensures,
-      c.in_ok-object_of.ensures,
-      c.in_ok-begin_member.ensures,
-      c.in_ok-begin_object.ensures,
-      c.in_ok-begin_array.ensures,
-    )
+    rw (c.in_ok-write-2.ensures, c.in_ok-write_region.ensures, c.in_ok-write.ensures)
     (simp append_assoc)

@@ -1,17 +1,15 @@
 -- The tokens, one after the other.
-use Rattle.std.proofs.Common.{append_assoc}
+use Rattle.std.proofs.Common.{refl}
 use Rattle.uv_report.proofs.formats.sarif.write_text_rule.Goals as goal
 
 pub returns : goal.returns
 returns c =
     rw (
-      c.in_ok-write_named.ensures,
-      c.in_ok-text.ensures,
-      c.in_ok-object_of-2.ensures,
-      c.in_ok-object_of.ensures,
-      c.in_ok-begin_object.ensures,
-      c.help.ensures,
-      c.help-2.ensures,
+      c.in_ok-write.ensures,
+      c.sentence.ensures,
+      c.name.ensures,
       c.address.ensures,
+      c.help-2.ensures,
+      c.help.ensures,
     )
-    (simp append_assoc)
+    refl

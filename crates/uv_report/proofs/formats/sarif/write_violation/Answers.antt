@@ -8,11 +8,8 @@ unfolding violation_members
 returns c =
     rw (
       c.in_ok-write_index.ensures,
-      c.in_ok-text-2.ensures,
-      c.in_ok-end_object.ensures,
       c.in_ok-text.ensures,
-      c.in_ok-boolean.ensures,
-      c.in_ok-begin_member.ensures,
+      c.in_ok-write.ensures,
       c.is_cut.ensures,
       c.requires,
     )

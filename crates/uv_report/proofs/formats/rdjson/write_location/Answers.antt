@@ -1,8 +1,0 @@
--- The tokens, one after the other.
-use Rattle.std.proofs.Common.{append_assoc}
-use Rattle.uv_report.proofs.formats.rdjson.write_location.Goals as goal
-
-pub returns : goal.returns
-returns c =
-    rw (c.in_ok-end_object.ensures, c.in_ok-write_range.ensures, c.in_ok-text.ensures, c.in_ok-begin_member.ensures)
-    (simp append_assoc)
