@@ -67,11 +67,12 @@ abbrev pub first_said : List (List ℕ) → Option (List ℕ)
 first_said [] = None
 first_said (word ∷ rest) = if is_some (said_of word) then said_of word else first_said rest
 
--- the files of a lint
+-- the files of a lint, or those that are mended in their place
 abbrev pub files_of : Job → List (List ℕ)
 files_of (job.Lint asked) = map string_bytes asked.files.items
+files_of (job.InPlace files asked) = map string_bytes files.items
 files_of other = []
 
--- what is said of these words, where not each argument that isn't UTF-8 is one of the files of a lint
+-- what is said of these words, where not each argument that isn't UTF-8 is one of those files
 abbrev pub refused : List (List ℕ) → List (List ℕ) → Option (List ℕ)
 refused words files = if count_marked files == count_marked words then None else first_said words

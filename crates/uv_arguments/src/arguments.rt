@@ -144,8 +144,8 @@ pub fn without_hyphen(text: &str) -> &str
     }
 }
 
-/// What is said about the first argument that isn't UTF-8, unless each such argument is a file of a lint, which goes on
-/// without it.
+/// What is said about the first argument that isn't UTF-8, unless each such argument is a file of a lint, or one that is
+/// mended in its place: the command goes on without it.
 pub fn refused<'a>(texts: &'a [String], job: Option<&Job>) -> Option<&'a str>
     ensures { option_copied result
         ≡ refused (map string_bytes texts.now) (option_map_or files_of (option_copied job.entry) []) }
@@ -156,12 +156,13 @@ pub fn refused<'a>(texts: &'a [String], job: Option<&Job>) -> Option<&'a str>
     first_said(texts)
 }
 
-// How many files of a lint stand for an argument that isn't UTF-8.
+// How many files of a lint, or files that are mended in their place, stand for an argument that isn't UTF-8.
 fn count_of_files(job: Option<&Job>) -> usize
     ensures { result ≡ count_marked (option_map_or files_of (option_copied job.entry) []) }
 {
     match job {
         Some(Job::Lint(asked)) => count(asked.files.as_slice()),
+        Some(Job::InPlace { files, .. }) => count(files.as_slice()),
         _ => 0,
     }
 }

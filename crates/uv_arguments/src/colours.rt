@@ -3,7 +3,7 @@ ghost use Rattle.std.specs.Prelude.{◌≡◌, MatchResult, Err, Ok, option_map}
 ghost use Rattle.uv_arguments.specs.Colours.{colours_asked, named_colours};
 
 /// When a report that people read has colours.
-#[derive(Clone, Copy, Debug, PartialEq, Eq)]
+#[derive(Clone, Copy)]
 pub enum Colours {
     /// At a terminal, unless the environment says otherwise.
     Auto,

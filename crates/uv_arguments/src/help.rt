@@ -89,7 +89,8 @@ pub(crate) const MEND_NOTES: &str =
     "Prints `mended KIND` and the mended text, `valid`, or `none` and `refused PLACE
 RULE`. Without TEXT each line of standard input is printed: mended where lint
 offers a mended text, and else as it was. With --in-place the lines of files are
-mended, and a file is replaced by a whole new one, or not at all.
+mended, to texts of kind changed only with --only changed or --all-mended, and a
+file is replaced by a whole new one, or not at all.
 
 Exit statuses:
   0  the text is valid, or a mended text is, or so is each line

@@ -77,7 +77,7 @@ pub enum Job {
 }
 
 /// What is said about a rule.
-#[derive(Clone, Copy, Debug, PartialEq, Eq)]
+#[derive(Clone, Copy)]
 pub enum Told {
     /// Its explanation.
     Explanation,

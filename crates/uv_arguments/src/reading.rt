@@ -21,7 +21,7 @@ use std::alloc::{AllocError, Global};
 use uv_model::Profile;
 
 /// Why the arguments give no job.
-#[derive(Debug, Drop)]
+#[derive(Drop)]
 pub enum WordsFault {
     /// The arguments are refused, or ask for help or the version. The error holds the text to show.
     Words(Error),

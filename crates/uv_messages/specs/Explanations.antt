@@ -1,12 +1,26 @@
--- Which names are explained.
-use Rattle.std.specs.Prelude.{ℕ, ◌||◌, Bool, List, Option, String, codes, decimal, find, is_some}
-use Rattle.std.specs.Prelude.{string_bytes}
-use Rattle.std.specs.List.{list_all}
+-- Which names are explained, and by which text. The words are for people: of a rule's section and example no clause says them.
+use Rattle.std.specs.Prelude.{◌≡◌, ℕ, ◌++◌, Bool, true, false, if◌then◌else◌, List, [], Option, Some, None, String, codes}
+use Rattle.std.specs.Prelude.{◌==◌, decimal, filter_map, find, is_some, length, map, option_map, string_bytes}
+use Rattle.std.specs.Option.{option_copied, option_or}
+use Rattle.std.specs.List.{AllZip, join_by, list_all}
 use Rattle.std.specs.Str.{bytes_eq, str_to_ascii_lowercase}
 use Rattle.std.specs.declared.alloc.Global.{Global}
+use Rattle.uv_model.specs.declared.rule.Refusal.{Refusal}
 use Rattle.uv_model.specs.declared.rule.Rule.{Rule}
 use Rattle.uv_model.specs.Violations.Rule.{named_rule, rule_number, rules_in_order}
-use Rattle.uv_sentences.specs.LineViolation.{named_violation}
+use Rattle.uv_sentences.specs.declared.line_violation.LineViolation.{LineViolation}
+use Rattle.uv_sentences.specs.declared.line_violation.LineViolation.TheVariants.{Refused}
+use Rattle.uv_sentences.specs.declared.rules.explanation.Explanation.{Explanation}
+use Rattle.uv_sentences.specs.LineViolation.{named_violation, violation_help, violation_name, violation_sentence}
+use Rattle.uv_sentences.specs.Rules.Explanation.{rule_asks, rule_place, rule_uri}
+use Rattle.uv_arguments.specs.declared.jobs.Told.{Told}
+use Rattle.uv_arguments.specs.declared.jobs.Told.TheVariants as told
+use Rattle.uv_messages.specs.declared.explanations.Topic.{Topic}
+use Rattle.uv_messages.specs.declared.explanations.Topic.TheVariants.{Line, Empty, NoLink}
+use Rattle.uv_messages.specs.declared.explanations.TheConstants.{EMPTY, NO_LINK}
+use Rattle.uv_messages.specs.CheckText.{line, line_of, refused_text}
+
+-- ---- names
 
 -- the text is the rule's number in decimal digits
 abbrev pub has_number : Rule → List ℕ → Bool
@@ -16,17 +30,98 @@ has_number rule text = bytes_eq (decimal (rule_number rule)) text
 abbrev pub numbered : List ℕ → Option Rule
 numbered text = find (λ rule. has_number rule text) rules_in_order
 
--- the name is that of a rule that only documents are checked by
-abbrev pub is_of_documents : List ℕ → Bool
-is_of_documents name = bytes_eq name (codes "empty") || bytes_eq name (codes "no-link")
+-- a rule with the place at which its example is refused
+abbrev pub rule_topic : Rule → Topic
+rule_topic rule = Line (Refused (record { place = rule_place rule; rule = rule }))
+
+-- the rule with this name that only documents are checked by
+abbrev pub document_topic : List ℕ → Option Topic
+document_topic name =
+    if bytes_eq name (codes "empty") then Some Empty else
+    if bytes_eq name (codes "no-link") then Some NoLink else None
 
 -- the name belongs to a rule, to what else may be wrong with a line, or to a rule of documents, or it is a rule's
 -- number
-abbrev pub is_explained : List ℕ → Bool
-is_explained name =
-    is_some (named_rule name) || (is_some (named_violation name)
-    || (is_of_documents name || is_some (numbered name)))
+abbrev pub topic_named : List ℕ → Option Topic
+topic_named name =
+    option_or (option_map rule_topic (named_rule name)) (option_or (option_map Line (named_violation name))
+    (option_or (document_topic name) (option_map rule_topic (numbered name))))
 
--- each of these names is, in any ASCII case
+-- the same in any ASCII case
+abbrev pub topic_of : String Global → Option Topic
+topic_of name = topic_named (str_to_ascii_lowercase (string_bytes name))
+
+-- each of these names is explained
 abbrev pub are_explained : List (String Global) → Bool
-are_explained names = list_all (λ name. is_explained (str_to_ascii_lowercase (string_bytes name))) names
+are_explained names = list_all (λ name. is_some (topic_of name)) names
+
+-- what has these names
+abbrev pub topics_named : List (String Global) → List Topic
+topics_named names = filter_map topic_of names
+
+-- the rules in the order of their numbers
+abbrev pub each_rule : List Topic
+each_rule = map rule_topic rules_in_order
+
+-- what these names have, or each rule without a name
+abbrev pub topics_of : List (String Global) → List Topic
+topics_of names = if length names == 0 then each_rule else topics_named names
+
+-- ---- what is said of a name
+
+-- what a violation is called, what is wrong, and what is required
+abbrev pub violation_head : LineViolation → List ℕ
+violation_head violation =
+    (line (codes "rule ") (violation_name violation) ++ line (codes "means ") (violation_sentence violation))
+    ++ line (codes "asks ") (violation_help violation)
+
+-- the section of a rule, a text that is refused by it, against a base if there is one, and what may have been meant
+abbrev pub example_text : Explanation → Refusal → List ℕ
+example_text explanation refusal =
+    (((line (codes "section ") explanation.section.now ++ line_of (codes "base ") (option_copied explanation.base))
+    ++ line (codes "text ") explanation.wrong.now) ++ refused_text refusal)
+    ++ line (codes "meant ") explanation.mended.now
+
+-- the text explains the rule of a refusal, and has its example, perhaps with what is written in its place
+pub record IsExample (refusal : Refusal) (text : List ℕ) : Type 0 where
+  pub explanation : Explanation
+  pub asks : explanation.asks.now ≡ rule_asks refusal.rule
+  pub mended : Option (List ℕ)
+  pub whole :
+      text ≡ (violation_head (Refused refusal) ++ example_text explanation refusal)
+      ++ line_of (codes "mended ") mended
+
+-- the text explains it, or has the address of the rule's section in a line
+abbrev pub IsTold : Told → Topic → List ℕ → Type 0
+IsTold told.Explanation (Line (Refused refusal)) text = IsExample refusal text
+IsTold told.Explanation (Line violation) text = text ≡ violation_head violation
+IsTold told.Explanation Empty text = text ≡ EMPTY.now
+IsTold told.Explanation NoLink text = text ≡ NO_LINK.now
+IsTold told.Address (Line (Refused refusal)) text = text ≡ line [] (rule_uri refusal.rule)
+IsTold told.Address _ text = text ≡ []
+
+-- a string's text does
+abbrev pub Tells : Told → Topic → String Global → Type 0
+Tells told topic text = IsTold told topic (string_bytes text)
+
+-- ---- what is said of several
+
+-- what is between two explanations, or two addresses
+abbrev pub between : Told → List ℕ
+between told.Explanation = codes "\n"
+between told.Address = []
+
+-- the text has what is said of each, in their order
+pub record TellsAll (told : Told) (topics : List Topic) (text : List ℕ) : Type 0 where
+  pub texts : List (String Global)
+  pub each : AllZip (Tells told) topics texts
+  pub whole : text ≡ join_by string_bytes (between told) texts
+
+-- each of the names is explained, and the text has what is asked for of each
+abbrev pub IsExplained : List (String Global) → Told → List ℕ → Type 0
+IsExplained names told text = (are_explained names ≡ true) × TellsAll told (topics_of names) text
+
+-- the text is that, or one of the names isn't explained
+abbrev pub Answers : List (String Global) → Told → Option (String Global) → Type 0
+Answers names told (Some text) = IsExplained names told (string_bytes text)
+Answers names told None = are_explained names ≡ false

@@ -10,6 +10,8 @@ pub enum Content {
     Gzip,
     /// It is UTF-16, with a byte order mark.
     Utf16,
+    /// It has a NUL, which no text has.
+    Binary,
     /// It looks like JSON.
     Json,
     /// Its lines end with CR alone.
@@ -32,11 +34,12 @@ pub enum LineEnds {
 }
 
 impl Content {
-    // What is said about it after a name, and the command that makes lines of it.
+    // What is said about it after a name, and the command that makes lines of it, if there is one.
     fn text(self) -> &'static str {
         match self {
             Content::Gzip => "is compressed by gzip: gzip -dc FILE",
             Content::Utf16 => "is UTF-16: iconv -f UTF-16 -t UTF-8 FILE",
+            Content::Binary => "isn't text",
             Content::Json => "looks like JSON: jq -r '.. | strings' FILE",
             Content::Returns => "ends its lines by CR alone: tr '\\r' '\\n' <FILE",
             Content::Commas => {
@@ -56,7 +59,11 @@ pub fn content_line(
 ) -> Result<String, AllocError> {
     let name = name_of(name);
     let text = content.text();
-    format!(in alloc; "{name} {text} | urlcheck {reader}")
+    if content == Content::Binary {
+        format!(in alloc; "{name} {text}")
+    } else {
+        format!(in alloc; "{name} {text} | urlcheck {reader}")
+    }
 }
 
 /// What a list looks like, by its first bytes and by what ends its lines, unless it looks like a list of links.
@@ -64,6 +71,7 @@ pub fn content_of(first: &[u8], ends: LineEnds) -> Option<Content> {
     match first {
         [0x1f, 0x8b, ..] => Some(Content::Gzip),
         [0xff, 0xfe, ..] | [0xfe, 0xff, ..] => Some(Content::Utf16),
+        _ if first.contains(&0) => Some(Content::Binary),
         _ if is_json(first) => Some(Content::Json),
         _ if ends == LineEnds::Returns => Some(Content::Returns),
         _ => table_of(first),

@@ -1,5 +1,5 @@
 //! What is said on standard error before the last line.
-ghost use Rattle.std.specs.Prelude.{◌≡◌, IfOk, string_bytes};
+ghost use Rattle.std.specs.Prelude.{◌≡◌, IfOk, [], string_bytes};
 ghost use Rattle.uv_messages.specs.Messages.{IsSaid, message_line};
 
 use std::alloc::{AllocError, Global};
@@ -25,7 +25,9 @@ impl Model for Message {
 
 impl Message {
     /// Nothing.
-    pub fn nothing(alloc: Global) -> Message {
+    pub fn nothing(alloc: Global) -> Message
+        ensures { result ≡ [] }
+    {
         Message {
             text: String::new(alloc),
         }

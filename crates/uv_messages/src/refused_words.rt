@@ -1,5 +1,6 @@
 //! Words of the command line that are refused: why, and what was likely meant.
 
+use crate::file_names::{has_document_end, names_file};
 use crate::hints::Hint;
 use crate::messages::Message;
 use crate::names::{COMMANDS, meant};
@@ -85,10 +86,21 @@ fn near_line(
 fn words_hint(command: Option<&str>, last: Option<&str>, kind: ErrorKind) -> Option<Hint> {
     let is_word = matches!(last, Some(last) if !looks_like_option(last));
     match (kind, command) {
-        (ErrorKind::InvalidSubcommand, _) => Some(Hint::NoCommand),
+        (ErrorKind::InvalidSubcommand, Some(word)) => Some(hint_without_command(word)),
         (ErrorKind::MissingRequiredArgument, Some("lint")) => Some(Hint::InputOfLint),
         (ErrorKind::UnknownArgument, Some("links")) if is_word => Some(Hint::FileOfLinks),
         (ErrorKind::UnknownArgument, Some("check")) if is_word => Some(Hint::OneTextOfCheck),
         _ => None,
+    }
+}
+
+// The hint for a first word that isn't a command: it may name a document or a folder.
+fn hint_without_command(word: &str) -> Hint {
+    if names_file(word) && has_document_end(word) {
+        Hint::DocumentOfText
+    } else if word == "." || (word.ends_with('/') && !word.contains(':')) {
+        Hint::Folder
+    } else {
+        Hint::NoCommand
     }
 }

@@ -7,37 +7,14 @@ use crate::names::{longer_names, nearest};
 use std::alloc::{AllocError, Global};
 use uv_arguments::Colours;
 use uv_model::{MendKind, Profile, Rule};
-use uv_report::{Columns, Format};
 use uv_sentences::{LineViolation, LocatedFault};
-
-// The formats in the order of docs and help.
-const FORMATS: [Format; 9] = [
-    Format::Gnu,
-    Format::Caret,
-    Format::Json,
-    Format::Github,
-    Format::Sarif,
-    Format::Checkstyle,
-    Format::Junit,
-    Format::Gitlab,
-    Format::Rdjson,
-];
 
 // The kinds in the order of docs and help.
 const KINDS: [MendKind; 3] = [MendKind::Same, MendKind::Escaped, MendKind::Changed];
 
-// What columns count, in the order of docs and help.
-const COLUMNS: [Columns; 4] = [
-    Columns::CodePoints,
-    Columns::Bytes,
-    Columns::Utf16,
-    Columns::Screen,
-];
-
-/// What is said about a name that no format has.
-pub fn unknown_format(alloc: Global, name: &str) -> Result<Message, AllocError> {
-    let names: Vec<&str> = FORMATS.iter().map(|format| format.name()).collect(alloc)?;
-    unknown(alloc, "format", &[name], names.as_slice())
+/// What is said about a name that none of these formats has.
+pub fn unknown_format(alloc: Global, names: &[&str], name: &str) -> Result<Message, AllocError> {
+    unknown(alloc, "format", &[name], names)
 }
 
 /// What is said about a name that no kind has.
@@ -56,10 +33,9 @@ pub fn unknown_profile(alloc: Global, name: &str) -> Result<Message, AllocError>
     unknown(alloc, "profile", &[name], names.as_slice())
 }
 
-/// What is said about a name that no unit of columns has.
-pub fn unknown_unit(alloc: Global, name: &str) -> Result<Message, AllocError> {
-    let names: Vec<&str> = COLUMNS.iter().map(|columns| columns.name()).collect(alloc)?;
-    unknown(alloc, "column unit", &[name], names.as_slice())
+/// What is said about a name that none of these units of columns has.
+pub fn unknown_unit(alloc: Global, names: &[&str], name: &str) -> Result<Message, AllocError> {
+    unknown(alloc, "column unit", &[name], names)
 }
 
 /// What is said about a name that doesn't say when there are colours.
@@ -69,16 +45,14 @@ pub fn unknown_colours(alloc: Global, name: &str) -> Result<Message, AllocError>
     unknown(alloc, "colour choice", &[name], names.as_slice())
 }
 
-/// What is said about a unit of columns that the format doesn't take.
-pub fn refused_unit(alloc: Global, format: Format, name: &str) -> Result<Message, AllocError> {
-    let mut names: Vec<&str> = Vec::new(alloc);
-    for columns in &COLUMNS {
-        if format.takes_columns(*columns) {
-            names.push(columns.name())?;
-        }
-    }
-    let names = names.as_slice().join(alloc, " ")?;
-    let format = format.name();
+/// What is said about a unit of columns that the format doesn't take, which takes those with these names.
+pub fn refused_unit(
+    alloc: Global,
+    format: &str,
+    taken: &[&str],
+    name: &str,
+) -> Result<Message, AllocError> {
+    let names = taken.join(alloc, " ")?;
     let refused = format!(in alloc; "{format} doesn't support the column unit {name}")?;
     let mut said = Message::of(alloc, refused.as_str())?;
     let taken = format!(in alloc; "the column units of {format}: {names}")?;

@@ -43,14 +43,24 @@ pub fn unmended(alloc: Global, file: &str, why: Option<ErrorKind>) -> Result<Mes
         Some(ErrorKind::PermissionDenied) => ": permission denied",
         Some(ErrorKind::ReadOnlyFilesystem) => ": its file system is read-only",
         Some(ErrorKind::Unsupported) => ": only the program for Linux writes files",
-        Some(ErrorKind::AlreadyExists) =>
-            ": a file of this name with .urlcheck-new at its end exists",
+        Some(ErrorKind::AlreadyExists) => ": interrupted runs left too many new files",
+        Some(ErrorKind::NotSeekable) => ": it is no ordinary file",
         Some(ErrorKind::InvalidFilename) => ": its name is too long",
         why => reason_of_output(why),
     };
     Message::of(
         alloc,
         format!(in alloc; "{name}: can't be written{reason}; it stays as it was")?.as_str(),
+    )
+}
+
+/// What is said about a new file that has no other's name yet, though this run didn't make it.
+pub fn left_behind(alloc: Global, file: &str) -> Result<Message, AllocError> {
+    Message::of(
+        alloc,
+        format!(in alloc;
+            "{file}: left by an interrupted run; remove it if no other run is going on"
+        )?.as_str(),
     )
 }
 
