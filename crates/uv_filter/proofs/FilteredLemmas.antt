@@ -30,15 +30,15 @@ Filtered-snoc p (l ∷ ls) line text said q r all one =
     )
 
 -- a line that is too long stays as it was
-pub over_fate : (q : Filtering) (closed : Bool) (l : List ℕ) → 65537 < length l
+pub over_fate : (q : Filtering) (closed : Bool) (l : List ℕ) → 65540 < length l
     → Filters q (record { bytes = l; closed = closed }) (whole (record { bytes = l; closed = closed }))
     (with_fate q TooLong)
 over_fate q closed l long =
-    record { fate = TooLong; is_fate = text_long closed l long; written = refl; left = refl }
+    record { fate = TooLong; is_fate = text_long q.is_first closed l long; written = refl; left = refl }
 
 -- after the lines that have ended one that is too long already
 pub with_ready : (b : Bool) (l : List ℕ) (start : Filtering) (lines : List Line) (closed out : List ℕ)
-    (before now : Filtering) → (b ≡ true → 65537 < length l) → Filtered start lines closed before
+    (before now : Filtering) → (b ≡ true → 65540 < length l) → Filtered start lines closed before
     → out ≡ closed ++ passed b l → now ≡ with_over b before → Filtered start (lines ++ over_line b l) out now
 with_ready true l start lines closed out before now long all is counted =
     let more = Filtered-snoc start lines (open_line l) closed (l ++ []) before (with_fate before TooLong) all

@@ -1,15 +1,16 @@
 -- The lines of a list, with their ends, as more of it is read.
-use Rattle.std.proofs.Common.{◌≡◌, ℕ, ◌<◌, ◌≤◌, Bool, true, false, List, [], ◌∷◌, ◌++◌, length, take, map}
+use Rattle.std.proofs.Common.{◌≡◌, ℕ, ◌+◌, ◌<◌, ◌≤◌, Bool, true, false, List, [], ◌∷◌, ◌++◌, cond, drop, length, take, map}
 use Rattle.std.proofs.Common.{refl}
 use Rattle.std.proofs.Common.{sym, ap, ◌∙◌, subst, arith, append_assoc, append-nil, inl, inr}
 use Rattle.std.proofs.lemmas.Grind.{common_steps}
 use Rattle.std.proofs.lemmas.Bool.{cases_lt}
-use Rattle.std.proofs.lemmas.List.{length-append, map-append}
+use Rattle.std.proofs.lemmas.List.{length-append, length-drop, map-append}
+use Rattle.std.specs.Str.{bytes_eq}
 use Rattle.std.proofs.Math.Seq.{take-append_seam, take-length}
-use Rattle.uv_lines.specs.Lines.{line_feed, split}
+use Rattle.uv_lines.specs.Lines.{byte_order_mark, line_feed, split, without_mark}
 use Rattle.uv_lines.specs.Progress.{ended}
 use Rattle.uv_lines.proofs.LineLemmas.{join, split-append, split-closing, split-growing, strip_at_most}
-use Rattle.uv_filter.specs.Lines.{Line, all_lines, ended_line, ended_lines, is_over, last_line, over_line}
+use Rattle.uv_filter.specs.Lines.{Line, all_lines, checked_of, ended_line, ended_lines, is_over, last_line, over_line}
 use Rattle.uv_filter.specs.Lines.{ready_lines}
 
 -- a first LF ends the line that has begun
@@ -67,26 +68,46 @@ first_few xs ys =
 
 -- ---- lines that are too long
 
-pub over_true : (l : List ℕ) → 65537 < length l → is_over l ≡ true
+pub over_true : (l : List ℕ) → 65540 < length l → is_over l ≡ true
 over_true l long = grind (arith, common_steps, long)
 
-pub over_false : (l : List ℕ) → length l ≤ 65537 → is_over l ≡ false
+pub over_false : (l : List ℕ) → length l ≤ 65540 → is_over l ≡ false
 over_false l short = grind (arith, common_steps, short)
 
-pub over_long : (l : List ℕ) → is_over l ≡ true → 65537 < length l
+pub over_long : (l : List ℕ) → is_over l ≡ true → 65540 < length l
 over_long l is =
-    elim (cases_lt 65537 (length l)) [
+    elim (cases_lt 65540 (length l)) [
       | inl long ↦ long
       | inr short ↦ (let no : false ≡ true = sym (over_false l short) ∙ is in cc)
     ]
 
--- the text of such a line is too long too
-pub text_long : (closed : Bool) (l : List ℕ) → 65537 < length l → 65536 < length (ended closed l)
-text_long true l long = let strip = strip_at_most l in omega (arith, strip, long)
-text_long false l long = omega (arith, long)
+-- a byte order mark has three bytes
+mark_at_most : (l : List ℕ) → length l ≤ length (without_mark l) + 3
+mark_at_most l =
+    elim (bytes_eq (take 3 l) byte_order_mark) as (λ b. length l ≤ length (cond b (drop 3 l) l) + 3) [
+      | true ↦ rw (length-drop 3 l) (omega arith)
+      | false ↦ omega arith
+    ]
+
+checked_at_most : (is_first : Bool) (l : List ℕ) → length l ≤ length (checked_of is_first l) + 3
+checked_at_most true l = mark_at_most l
+checked_at_most false l = omega arith
+
+-- without a CR at most one
+ended_at_most : (closed : Bool) (l : List ℕ) → length l ≤ length (ended closed l) + 1
+ended_at_most true l = strip_at_most l
+ended_at_most false l = omega arith
+
+-- what is checked of such a line is too long too
+pub text_long : (is_first closed : Bool) (l : List ℕ) → 65540 < length l
+    → 65536 < length (checked_of is_first (ended closed l))
+text_long is_first closed l long =
+    let strip = ended_at_most closed l in
+    let mark = checked_at_most is_first (ended closed l) in
+    omega (arith, strip, mark, long)
 
 -- it is the last line
-last_over : (l : List ℕ) → 65537 < length l → last_line l ≡ over_line true l
+last_over : (l : List ℕ) → 65540 < length l → last_line l ≡ over_line true l
 last_over [] long = let no : ⊥ = omega (arith, long) in absurd no
 last_over (x ∷ xs) long = refl
 

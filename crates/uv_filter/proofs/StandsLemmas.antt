@@ -75,14 +75,14 @@ Stands-written start old read now begun is_long text waits new newer h passes = 
 pub Stands-kept : (start : Filtering) (old : Option (List ℕ)) (read rest : List ℕ) (now : Filtering)
     (begun kept : List ℕ) (is_long : Bool) (text : List ℕ) (new : Option (List ℕ)) → split rest ≡ ([], rest)
     → Stands start old read now begun is_long text new → is_long ≡ false → kept ≡ begun ++ rest
-    → length kept ≤ 65537 → Stands start old (read ++ rest) now kept is_long text new
+    → length kept ≤ 65540 → Stands start old (read ++ rest) now kept is_long text new
 Stands-kept start old read rest now begun kept is_long text new none h short is few =
     let l = (split read).1 in
     let over : is_over l ≡ false = sym h.long ∙ short in
     let begun_is : begun ≡ l = h.kept ∙ ap (λ c. kept_of c l) over in
     let kept_is : kept ≡ l ++ rest = is ∙ ap (λ t. t ++ rest) begun_is in
     Stands-make start old (read ++ rest) now kept is_long text new (l ++ rest) false h.closed h.before h.written
-    (last-growing read rest none) (over_false (l ++ rest) (subst (λ t. length t ≤ 65537) kept_is few))
+    (last-growing read rest none) (over_false (l ++ rest) (subst (λ t. length t ≤ 65540) kept_is few))
     (subst (λ ls. Filtered start ls h.closed h.before) (sym (ended-growing read rest none)) h.filtered) h.wrote
     (h.out ∙ ap (λ c. h.closed ++ passed c l) over) kept_is short
     (h.counted ∙ ap (λ c. with_over c h.before) over)
@@ -147,7 +147,7 @@ over_known start old read now begun is_long text new rest h is =
 
 pub over_begun : (start : Filtering) (old : Option (List ℕ)) (read : List ℕ) (now : Filtering) (begun : List ℕ)
     (is_long : Bool) (text : List ℕ) (new : Option (List ℕ)) (rest : List ℕ)
-    → Stands start old read now begun is_long text new → is_long ≡ false → 65537 < length begun + length rest
+    → Stands start old read now begun is_long text new → is_long ≡ false → 65540 < length begun + length rest
     → is_over ((split read).1 ++ rest) ≡ true
 over_begun start old read now begun is_long text new rest h short long =
     let l = (split read).1 in

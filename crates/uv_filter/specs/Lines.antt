@@ -69,9 +69,10 @@ last_line (x ∷ xs) = open_line (x ∷ xs) ∷ []
 abbrev pub all_lines : List ℕ → List Line
 all_lines bytes = ended_lines bytes ++ last_line (split bytes).1
 
--- the bytes of a line whose end has not come are too many already, with a CR at their end or without
+-- the bytes of a line whose end has not come are too many already, with a byte order mark at their start and a CR at
+-- their end or without
 abbrev pub is_over : List ℕ → Bool
-is_over bytes = nat_le 65538 (length bytes)
+is_over bytes = nat_le 65541 (length bytes)
 
 -- such a line
 abbrev pub over_line : Bool → List ℕ → List Line

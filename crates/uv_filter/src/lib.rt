@@ -13,4 +13,4 @@ mod written;
 
 pub use counts::FilterCounts;
 pub use run::run_filter;
-pub use setting::FilterSetting;
+pub use setting::{FilterSetting, WrittenKinds};

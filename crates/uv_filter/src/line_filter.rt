@@ -1,5 +1,5 @@
 //! What becomes of the lines of a list, one after another.
-ghost use Rattle.std.specs.Prelude.{◌≡◌, ◌≢◌, [], IfOk, OnErr, OnOk};
+ghost use Rattle.std.specs.Prelude.{◌≡◌, ◌≢◌, ◌&&◌, true, false, [], IfOk, OnErr, OnOk};
 ghost use Rattle.uv_filter.specs.declared.fate.Fate.TheVariants as became;
 ghost use Rattle.uv_filter.specs.Fates.{IsFate, IsTextFate, mender_of};
 ghost use Rattle.uv_filter.specs.Fates as spec;
@@ -9,7 +9,7 @@ ghost use Rattle.uv_filter.specs.Progress.{Adds, passing};
 
 use crate::counts::FilterCounts;
 use crate::fate::Fate;
-use crate::setting::FilterSetting;
+use crate::setting::{FilterSetting, WrittenKinds};
 use crate::written::{ListLine, checked, push_written};
 use std::alloc::{AllocError, Global};
 use std::marker::Model;
@@ -18,7 +18,7 @@ use uv_lines::line_text;
 use uv_mend::{MendKind, Mending, mend};
 use uv_sentences::{SeenText, is_offered};
 
-// How many bytes a line may have, not counting its end.
+// How many bytes a line may have, not counting its end and a byte order mark.
 const LINE_BYTES: usize = 65_536;
 
 /// The state of a filter between two lines: how lines are mended, whether the next line is the first, and the counts of
@@ -108,11 +108,11 @@ impl<'b> LineFilter<'b> {
     fn fate(&self, alloc: Global, line: ListLine<'_>) -> Result<Fate, AllocError>
         ensures { IfOk result (IsFate self.now.mender self.now.is_first (line_view line.entry)) }
     {
-        let text = line_text(line.bytes, line.is_closed);
+        let text = checked(line_text(line.bytes, line.is_closed), self.is_first);
         if text.len() > LINE_BYTES {
             return Ok(Fate::TooLong);
         }
-        self.fate_of_text(alloc, checked(text, self.is_first))
+        self.fate_of_text(alloc, text)
     }
 
     // What becomes of a text that isn't too long.
@@ -148,21 +148,22 @@ impl<'b> LineFilter<'b> {
     }
 }
 
-// Whether a mended text of this kind is written in place of a text: it is of the kind that is asked for, and reports
+// Whether a mended text of this kind is written in place of a text: it is of a kind that is asked for, and reports
 // offer it, unless all are written.
-#[tactic(auto, unfolding(crate::specs::Fates::writes))]
 fn writes(setting: FilterSetting<'_>, text: &str, mended: &str, kind: MendKind) -> bool
-    ensures { result ≡ spec.writes (mender_of setting.entry) text.now mended.now kind }
+    ensures asked { result ≡ true → spec.takes setting.entry.kinds kind ≡ true }
+    ensures left { result ≡ false → (spec.takes setting.entry.kinds kind && setting.entry.all) ≡ false }
 {
-    takes(setting.only, kind) && (setting.all || is_offered(&SeenText::new(text), mended))
+    takes(setting.kinds, kind) && (setting.all || is_offered(&SeenText::new(text), mended))
 }
 
 // Whether mended texts of this kind are written.
-fn takes(only: Option<MendKind>, kind: MendKind) -> bool
-    ensures { result ≡ spec.takes only kind }
+fn takes(kinds: WrittenKinds, kind: MendKind) -> bool
+    ensures { result ≡ spec.takes kinds kind }
 {
-    match only {
-        Some(only) => only == kind,
-        None => true,
+    match kinds {
+        WrittenKinds::Every => true,
+        WrittenKinds::Safe => kind != MendKind::Changed,
+        WrittenKinds::Only(only) => only == kind,
     }
 }

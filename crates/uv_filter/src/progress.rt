@@ -8,8 +8,9 @@ use crate::line_filter::LineFilter;
 use crate::setting::FilterSetting;
 use std::alloc::Global;
 
-/// How many bytes of a line whose end hasn't come yet are kept at most: as many as a line may have, and a CR.
-pub(crate) const KEPT_BYTES: usize = 65_537;
+/// How many bytes of a line whose end hasn't come yet are kept at most: as many as a line may have, a byte order mark
+/// and a CR.
+pub(crate) const KEPT_BYTES: usize = 65_540;
 
 /// The state of a run between two parts of a list: what is kept of a line that may be short enough, whether the line
 /// that has begun is already too long, and what is still to be written for the lines before it.
@@ -19,7 +20,7 @@ pub(crate) struct Progress<'b> {
     pub(crate) begun: Vec<u8>,
     pub(crate) is_long: bool,
     pub(crate) text: Vec<u8>,
-    ghost kept: { vec_len begun ≤ 65537 },
+    ghost kept: { vec_len begun ≤ 65540 },
 }
 
 impl<'b> Progress<'b> {

@@ -10,8 +10,19 @@ pub struct FilterSetting<'b> {
     pub base: Option<&'b Record>,
     /// The profile by which a line is valid.
     pub profile: Profile,
-    /// The kind of mended texts that are written, unless all are.
-    pub only: Option<MendKind>,
+    /// The kinds of the mended texts that are written.
+    pub kinds: WrittenKinds,
     /// Whether mended texts are also written that reports don't offer, because something else was likely meant.
     pub all: bool,
+}
+
+/// The kinds of the mended texts that are written.
+#[derive(Clone, Copy, Debug, PartialEq, Eq)]
+pub enum WrittenKinds {
+    /// Every kind.
+    Every,
+    /// `same` and `escaped`, which leave what the text says as it was: no other URL is written in its place.
+    Safe,
+    /// One kind.
+    Only(MendKind),
 }

@@ -94,7 +94,7 @@ impl<'b> Progress<'b> {
     // Appends what is written for the line that an LF ends after this prefix of a part, and that isn't too long to be
     // kept.
     fn close_short(&mut self, alloc: Global, prefix: &[u8]) -> Result<(), AllocError>
-        requires { vec_len self.old.begun + length prefix.now ≤ 65537 }
+        requires { vec_len self.old.begun + length prefix.now ≤ 65540 }
         ensures added { OnOk result (Adds self.old.filter (ended_line (self.old.begun.items ++ prefix.now))
             self.old.text.items self.new.filter self.new.text.items) }
         ensures begun { OnOk result (self.new.begun.items ≡ []) }

@@ -19,10 +19,11 @@ use Rattle.uv_report.specs.Format.{shows_mended}
 use Rattle.uv_lint.specs.LineViolations.{AreViolations, FileSetting, link_of}
 use Rattle.uv_lint.specs.Located.{LocatedLink}
 
--- a valid text, and how it is to the refused one
+-- a valid text, how it is to the refused one, and whether it is offered in its place
 pub record MendedText : Type 0 where
   pub text : List ℕ
   pub kind : MendKind
+  pub is_offered : Bool
 
 -- what is wrong with a line, what is said of each violation, and what to write in place of the line's text, where that
 -- is to be said
@@ -65,16 +66,17 @@ text_of setting line = text_by (link_of setting.form line) line
 
 -- ---- what to write in its place
 
--- the mended text of an answer
-abbrev pub mended_of : Mending → Option MendedText
-mended_of answer.Valid = None
-mended_of (answer.Mended text kind) = Some (record { text = string_bytes text; kind = kind })
-mended_of (answer.Refused refusal) = None
+-- The mended text is that of an answer, where it has one. Whether it is offered is a judgement of what was meant, of
+-- which nothing is said here.
+abbrev pub IsMendedOf : Mending → Option MendedText → Type 0
+IsMendedOf (answer.Mended text kind) (Some mended) = (mended.text ≡ string_bytes text) × (mended.kind ≡ kind)
+IsMendedOf (answer.Mended text kind) None = ⊥
+IsMendedOf _ mended = mended ≡ None
 
 -- what is answered of the text under the profile, alone or against the base
 abbrev pub IsAnswered : Profile → Option Url → List ℕ → Option MendedText → Type 0
 IsAnswered profile base text mended =
-    (answer : Mending) × IsMending profile base text answer × (mended ≡ mended_of answer)
+    (answer : Mending) × IsMending profile base text answer × IsMendedOf answer mended
 
 -- the refusal that is found first, where a rule of valid URL strings is violated
 abbrev pub first_refusal : List LineViolation → Option Refusal

@@ -13,7 +13,6 @@ use Rattle.uv_report.specs.Diagnostic.{DiagnosticView, FixView}
 use Rattle.uv_sentences.specs.LineViolation.{violation_address, violation_end, violation_name}
 use Rattle.uv_sentences.specs.LineViolation.{violation_place}
 use Rattle.uv_report.specs.Report.{diagnostic_text, file_begin_text, file_end_text}
-use Rattle.uv_sentences.specs.Sentences.Intention.{is_offered}
 use Rattle.uv_lines.specs.Lines.{short_line, without_mark}
 use Rattle.uv_lint.specs.declared.counts.LintCounts.{LintCounts}
 use Rattle.uv_lint.specs.declared.setting.LineForm.{LineForm}
@@ -62,7 +61,7 @@ fix_of columns reported mended = record {
   region = Some (region_in reported reported.start (end_column columns reported.start reported.text));
   text = mended.text;
   kind = mended.kind;
-  is_offered = is_offered reported.text mended.text;
+  is_offered = mended.is_offered;
 }
 
 -- what a diagnostic carries of it

@@ -29,7 +29,8 @@ reported_view reported =
 
 -- a mended text
 abbrev pub mended_line_view : MendedLine → MendedText
-mended_line_view mended = record { text = string_bytes mended.text; kind = mended.kind }
+mended_line_view mended =
+    record { text = string_bytes mended.text; kind = mended.kind; is_offered = mended.is_offered }
 
 -- what is said of a text of which this was found, by these messages
 abbrev pub text_said : ReportedLine → LintSetting → Bool → Option MendedLine → List LineViolation → List (List ℕ)

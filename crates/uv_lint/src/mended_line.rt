@@ -1,7 +1,7 @@
 //! What to write in place of the text of a line.
 ghost use Rattle.std.specs.Prelude.{◌≡◌, IfOk, option_copied, option_map};
 ghost use Rattle.uv_lint.specs.Findings as spec;
-ghost use Rattle.uv_lint.specs.Findings.{IsMended, IsRefusedFirst, mended_of};
+ghost use Rattle.uv_lint.specs.Findings.{IsMended, IsMendedOf, IsRefusedFirst};
 ghost use Rattle.uv_lint.specs.Report.{end_column, fix_on};
 ghost use Rattle.uv_lint.specs.ReportedView.{mended_line_view, reported_view};
 ghost use Rattle.uv_report.specs.Diagnostic.{fix_view};
@@ -15,41 +15,47 @@ use uv_model::Refusal;
 use uv_report::{ColumnCounter, Columns, Fix};
 use uv_sentences::{LineViolation, SeenText, is_offered};
 
-/// A valid text, and how it is to the refused one.
+/// A valid text, how it is to the refused one, and whether it is offered in its place.
 #[derive(Drop)]
 pub(crate) struct MendedLine {
     pub(crate) text: String,
     pub(crate) kind: MendKind,
+    pub(crate) is_offered: bool,
 }
 
 impl MendedLine {
-    // The mended text of an answer, where it has one.
-    fn of(mending: Mending) -> Option<MendedLine>
-        ensures { option_map mended_line_view result ≡ mended_of mending }
+    // The mended text of an answer about a text that is seen so, if it has one.
+    fn of(mending: Mending, seen: &SeenText<'_>) -> Option<MendedLine>
+        ensures { IsMendedOf mending (option_map mended_line_view result) }
     {
         match mending {
-            Mending::Mended { text, kind } => Some(MendedLine { text, kind }),
+            Mending::Mended { text, kind } => Some(MendedLine {
+                is_offered: is_offered(seen, text.as_str()),
+                text,
+                kind,
+            }),
             Mending::Valid | Mending::Refused(_) => None,
         }
     }
 }
 
-/// What to write in place of a text of which this was found. It is asked for of a refused text alone, and where the
-/// format says it.
+/// What to write in place of a text of which this was found, and which is seen so. It is asked for of a refused text
+/// alone, and where the format says it.
 pub(crate) fn mended_line(
     alloc: Global,
     setting: LintSetting<'_>,
     violations: &[LineViolation],
-    text: &str,
+    seen: &SeenText<'_>,
 ) -> Result<Option<MendedLine>, AllocError>
-    requires { IsRefusedFirst setting.profile (option_copied setting.base) violations.now text.now }
+    requires { IsRefusedFirst setting.profile (option_copied setting.base) violations.now seen.now }
     ensures { IfOk result (λ mended. IsMended setting.entry.format setting.entry.profile
-        (option_copied setting.entry.base) violations.now text.now (option_map mended_line_view mended)) }
+        (option_copied setting.entry.base) violations.now seen.now (option_map mended_line_view mended)) }
 {
     match first_refusal(violations) {
         Some(refusal) if setting.format.shows_mended() => {
+            let text = seen.as_str();
             let mending = mend_refused(alloc, text, setting.base, setting.profile, refusal)?;
-            Ok(MendedLine::of(mending))
+            Ok(MendedLine::of(mending, seen))
         }
         _ => Ok(None),
     }
@@ -65,14 +71,12 @@ fn first_refusal(violations: &[LineViolation]) -> Option<Refusal>
     }
 }
 
-/// What a diagnostic carries of what to write in place of a text, which is seen so.
+/// What a diagnostic carries of what to write in place of a text.
 pub(crate) fn fix_in_place<'l>(
     mended: &'l Option<MendedLine>,
     columns: Columns,
     line: &ReportedLine<'_>,
-    seen: &SeenText<'_>,
 ) -> Option<Fix<'l>>
-    requires { seen.now ≡ line.now.text.now }
     ensures { option_map fix_view result
         ≡ fix_on columns (reported_view line.now) (option_map mended_line_view mended.now) }
 {
@@ -81,7 +85,7 @@ pub(crate) fn fix_in_place<'l>(
             region: Some(line.region(line.start, end_column(columns, line.start, line.text))),
             text: mended.text.as_str(),
             kind: mended.kind,
-            is_offered: is_offered(seen, mended.text.as_str()),
+            is_offered: mended.is_offered,
         }),
         None => None,
     }

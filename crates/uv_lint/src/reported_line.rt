@@ -91,8 +91,8 @@ impl<'l> ReportedLine<'l> {
         }
     }
 
-    /// Says a diagnostic for each violation, the first of which says what to write. It is given whether the first of
-    /// them is the first one of the report. A part ends after each diagnostic; room for one is given.
+    /// Says a diagnostic for each violation of the text, which is seen so; the first of them says what to write. It is
+    /// given whether that is the first one of the report. A part ends after each diagnostic; room for one is given.
     pub(crate) fn push<W: Sink>(
         &self,
         alloc: Global,
@@ -100,11 +100,13 @@ impl<'l> ReportedLine<'l> {
         setting: LintSetting<'_>,
         is_first: bool,
         mended: &'l Option<MendedLine>,
+        seen: SeenText<'l>,
         violations: &[LineViolation],
         text: &mut Vec<u8>,
         writer: &mut W,
     ) -> Result<(), ReportFault<AllocError>>
-        requires { W.failed writer.old < 2 ^ 64 - 1 }
+        requires writes { W.failed writer.old < 2 ^ 64 - 1 }
+        requires seen { seen ≡ self.now.text.now }
         ensures text { OnOk result ((messages : List (List ℕ)) × AreMessages violations.now messages
             × Passes (text.old.items ++ text_said self.now setting.entry is_first mended.entry.now violations.now
             messages) (W.contents writer.old) (W.contents writer.new) text.new.items) }
@@ -114,9 +116,9 @@ impl<'l> ReportedLine<'l> {
         ensures failed { IfErr result (λ e. W.failed writer.new ≡ W.failed writer.old + failed_within e) }
     {
         let mut counter = ColumnCounter::new(setting.columns, self.start, self.text);
-        let mut seen = seen_text(self.text, violations);
+        let mut seen = seen;
         let mut is_first = is_first;
-        let mut fix = fix_in_place(mended, setting.columns, self, &seen);
+        let mut fix = fix_in_place(mended, setting.columns, self);
         for violation in violations {
             let column = counter.column(violation.place());
             let end = counter.column_ahead(violation.end());
@@ -207,8 +209,8 @@ fn accepted_by(
     }
 }
 
-// A text of which this was found, as it is seen.
-fn seen_text<'l>(text: &'l str, violations: &[LineViolation]) -> SeenText<'l>
+/// A text of which this was found, as it is seen.
+pub(crate) fn seen_text<'l>(text: &'l str, violations: &[LineViolation]) -> SeenText<'l>
     ensures { result ≡ text.entry.now }
 {
     match violations {

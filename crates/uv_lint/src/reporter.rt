@@ -14,7 +14,7 @@ ghost use Rattle.uv_lint.specs.Reporting.{HasBegun, HasBegunLine, HasReported, H
 use crate::counts::LintCounts;
 use crate::located::link_of;
 use crate::mended_line::mended_line;
-use crate::reported_line::{Place, ReportedLine, shown_text};
+use crate::reported_line::{Place, ReportedLine, seen_text, shown_text};
 use crate::setting::{LineForm, LintSetting};
 use std::alloc::{AllocError, Global};
 use std::marker::Model;
@@ -170,7 +170,8 @@ impl<'a> LintReporter<'a> {
             violations.now) e text.old.items (W.contents writer.old) text.new.items (W.contents writer.new)) }
         ensures failed { IfErr result (λ e. W.failed writer.new ≡ W.failed writer.old + failed_within e) }
     {
-        let Ok(mended) = mended_line(alloc, self.setting, violations, shown) else {
+        let seen = seen_text(shown, violations);
+        let Ok(mended) = mended_line(alloc, self.setting, violations, &seen) else {
             return Err(ReportFault::Reporter(AllocError));
         };
         let reported_line = ReportedLine {
@@ -185,6 +186,7 @@ impl<'a> LintReporter<'a> {
             self.setting,
             self.is_first,
             &mended,
+            seen,
             violations,
             text,
             writer,

@@ -1,9 +1,9 @@
 //! The run over the bytes of a file of vectors.
-ghost use Rattle.std.specs.Prelude.{◌≡◌, ◌+◌, ◌-◌, ◌^◌, ◌<◌, IfOk, IfSome, OnOk, Option, false, is_none, length};
-ghost use Rattle.std.specs.Prelude.{position};
+ghost use Rattle.std.specs.Prelude.{◌≡◌, ◌≤◌, ◌+◌, ◌-◌, ◌^◌, ◌<◌, IfOk, IfSome, OnErr, OnOk, Option, false, is_none};
+ghost use Rattle.std.specs.Prelude.{length, position};
 ghost use Rattle.serde_json.specs.View.{items_view, view};
 ghost use Rattle.uv_vectors.specs.Case.{is_malformed, list_of};
-ghost use Rattle.uv_vectors.specs.Run.{EndsBytes, EndsValue, WritesVectors, WritesVectorsPrefix, is_checked};
+ghost use Rattle.uv_vectors.specs.Run.{EndsBytes, EndsValue, WritesVectors, WritesVectorsPrefix, is_checked, most_bytes};
 
 use crate::case::VectorCase;
 use crate::case_fault::fault_at;
@@ -27,7 +27,7 @@ enum Ending {
 
 /// Runs the cases of a vector file, each under the profile that it names or the standard one, and writes the report:
 /// `fail N` for each case that fails, in order and numbered from 1, and `vectors L pass P fail F`. The answer also says
-/// why the bytes aren't JSON text, or why a value isn't a case.
+/// why the bytes aren't JSON text, or why a value isn't a case. That a file is too large is found without memory.
 ///
 /// A case passes if its base, if it has one, is valid by itself, and if its input against that has the record's text,
 /// or the refusal, that the case expects. No case is checked before all of them have been read. A fault of memory
@@ -39,6 +39,7 @@ pub fn run_cases<S: Sink>(alloc: Global, bytes: &[u8], out: &mut S) -> Result<Ca
     ensures unchecked { IfOk result (λ end. is_checked end ≡ false → out.new ≡ out.old) }
     ensures quiet { OnOk result (S.failed out.new ≡ S.failed out.old) }
     ensures memory { result ≡ Err VectorFault.Memory → out.new ≡ out.old }
+    ensures large { result ≡ Err VectorFault.Memory → length bytes.now ≤ most_bytes }
     ensures prefix { result ≡ Err VectorFault.Write →
         WritesVectorsPrefix bytes.now (S.contents out.old) (S.contents out.new) }
     ensures failed { result ≡ Err VectorFault.Write → S.failed out.new ≡ S.failed out.old + 1 }
@@ -54,7 +55,8 @@ pub fn run_cases<S: Sink>(alloc: Global, bytes: &[u8], out: &mut S) -> Result<Ca
 
 // How a run over the bytes ends.
 fn ending_of_bytes(alloc: Global, bytes: &[u8]) -> Result<Ending, AllocError>
-    ensures { IfOk result (EndsBytes bytes.now) }
+    ensures ends { IfOk result (EndsBytes bytes.now) }
+    ensures large { OnErr result (length bytes.now ≤ most_bytes) }
 {
     if bytes.len() > MOST_BYTES {
         return Ok(Ending::Unchecked(CasesEnd::TooLarge));

@@ -1,6 +1,6 @@
 -- A mended text that isn't written.
-use Rattle.std.proofs.Common.{◌∙◌, string_bytes, ap, sym, subst, inr}
-use Rattle.uv_filter.specs.Fates.{StaysRefused, mender_of, writes}
+use Rattle.std.proofs.Common.{string_bytes, ap, subst, inr}
+use Rattle.uv_filter.specs.Fates.{StaysRefused}
 use Rattle.uv_filter.proofs.line_filter.LineFilter.mended.Goals as goal
 
 pub returns-else-writes : goal.returns-else-writes
@@ -12,8 +12,7 @@ returns-else-writes c = (
       string_bytes c.in-Mended.mended,
       c.in-Mended.kind,
       rw c.in-Mended.is at c.in_ok-mend.ensures,
-      ap (λ t. writes (mender_of c.self.inside.setting) c.args.text.now t c.in-Mended.kind)
-          (sym c.as_str.ensures.value) ∙ sym c.writes.ensures ∙ c.if-writes.false,
+      c.writes.ensures.left c.if-writes.false,
     )),
   ),
 )

@@ -36,11 +36,8 @@ loop-violation-init g c =
       );
       quiet = refl;
       counter = c.new-counter.ensures;
-      seen = c.seen_text-seen.ensures;
+      seen = c.requires.seen;
     }
-
-pub fix_in_place-fix-requires : goal.fix_in_place-fix-requires
-fix_in_place-fix-requires g c = c.seen_text-seen.ensures
 
 pub say_violation-requires-clause-seen : goal.say_violation-requires-clause-seen
 say_violation-requires-clause-seen g c = c.go_to.ensures ∙ c.loop-violation.invariant.seen
