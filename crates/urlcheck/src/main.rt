@@ -3,7 +3,12 @@
 
 use std::io::IsTerminal;
 use std::process::ExitCode;
+use uv_cli::program::{Terminals, run};
 
 fn main(rt: HostRuntime) -> ExitCode {
-    ExitCode::from(uv_cli::program::run(&rt, rt.stdout().is_terminal()))
+    let terminals = Terminals {
+        output: rt.stdout().is_terminal(),
+        errors: rt.stderr().is_terminal(),
+    };
+    ExitCode::from(run(&rt, terminals))
 }

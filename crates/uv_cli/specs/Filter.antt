@@ -1,5 +1,5 @@
 -- What a filter of lines has read and written, and what it has come to.
-use Rattle.std.specs.Prelude.{◌≡◌, ℕ, ◌+◌, Bool, false, List, Option, Some, None, option_map}
+use Rattle.std.specs.Prelude.{◌≡◌, ℕ, ◌+◌, Bool, true, false, List, Option, Some, None, option_map}
 use Rattle.std.specs.Borrow.{Bor}
 use Rattle.std.specs.Io.KnownBytes.{Consumes, IsAtEnd}
 use Rattle.uv_filter.specs.declared.counts.FilterCounts.{FilterCounts}
@@ -9,7 +9,8 @@ use Rattle.uv_filter.specs.Fates.{Mender}
 use Rattle.uv_filter.specs.Filtered.{Filtering, starting}
 use Rattle.uv_filter.specs.Lines.{all_lines}
 use Rattle.uv_filter.specs.Run.{Leaves, Wrote}
-use Rattle.uv_model.specs.declared.mend_kind.MendKind.{MendKind}
+use Rattle.uv_filter.specs.declared.setting.WrittenKinds.{WrittenKinds}
+use Rattle.uv_filter.specs.declared.setting.WrittenKinds.TheVariants.{Every, Safe, Only}
 use Rattle.uv_model.specs.MendKindName.{named_kind}
 use Rattle.uv_model.specs.Records.Url.{Url}
 use Rattle.uv_resolve.specs.Base.{IsBase, IsBaseRefused}
@@ -20,15 +21,20 @@ use Rattle.uv_cli.specs.declared.ends.End.TheVariants as end
 use Rattle.uv_cli.specs.declared.filtered.Filtered.{Filtered}
 use Rattle.uv_cli.specs.Stream.{Stream}
 
--- the kind with this name, or every kind if none is named; none if no kind has the name
-abbrev pub only_of : Option (Bor (List ℕ)) → Option (Option MendKind)
-only_of None = Some None
-only_of (Some name) = option_map Some (named_kind name.now)
+-- the kind with this name, or these kinds if none is named; none if no kind has the name
+abbrev pub kinds_of : WrittenKinds → Option (Bor (List ℕ)) → Option WrittenKinds
+kinds_of unnamed None = Some unnamed
+kinds_of unnamed (Some name) = option_map Only (named_kind name.now)
+
+-- the kinds that are written to files if none is named: no other URL is, unless all mended texts are asked for
+abbrev pub file_kinds : Bool → WrittenKinds
+file_kinds true = Every
+file_kinds false = Safe
 
 -- by what the job asks lines to be mended
-abbrev pub mender_of : FilterJob → Option Url → Option MendKind → Mender
-mender_of asked base only =
-    record { profile = asked.profile; base = base; only = only; all = asked.all }
+abbrev pub mender_of : FilterJob → Option Url → WrittenKinds → Mender
+mender_of asked base kinds =
+    record { profile = asked.profile; base = base; kinds = kinds; all = asked.all }
 
 -- what was written of the bytes that were read, by what stopped the filter
 abbrev pub FilteredBy : Option StopFault → Mender → List ℕ → Filtering → Stream → Stream → Stream → Stream → Type 0
@@ -55,13 +61,13 @@ pub record IsFiltered (mender : Mender) (is_quiet : Bool) (filtered : Filtered) 
 abbrev pub HasFiltered : FilterJob → Option (Bor (List ℕ)) → Option (Bor (List ℕ)) → End
     → Stream → Stream → Stream → Stream → Type 0
 HasFiltered asked base name end.UnknownKind input rest old new =
-    (only_of name ≡ None) × (rest ≡ input) × (new ≡ old)
+    (kinds_of Every name ≡ None) × (rest ≡ input) × (new ≡ old)
 HasFiltered asked base name (end.BaseRefused refusal) input rest old new =
     IsBaseRefused asked.profile base refusal × (rest ≡ input) × (new ≡ old)
 HasFiltered asked base name (end.Fault cli.Memory) input rest old new = (rest ≡ input) × (new ≡ old)
 HasFiltered asked base name (end.Filtered filtered) input rest old new =
-    (url : Option Url) × (only : Option MendKind) × IsBase asked.profile base url × (only_of name ≡ Some only)
-    × IsFiltered (mender_of asked url only) asked.quiet filtered input rest old new
+    (url : Option Url) × (kinds : WrittenKinds) × IsBase asked.profile base url × (kinds_of Every name ≡ Some kinds)
+    × IsFiltered (mender_of asked url kinds) asked.quiet filtered input rest old new
 HasFiltered asked base name _ input rest old new = ⊥
 
 -- all these bytes were read, what a filter writes of their lines was written, and these are its counts
@@ -73,10 +79,10 @@ HasWrittenMended mender bytes old new counts =
 -- How the mending of files in their place ends, by the texts that the job has. The kind is found first, and then the
 -- base is checked alone, before a file is opened. What a file gives and takes no clause can say.
 abbrev pub HasMendedFiles : FilterJob → Option (Bor (List ℕ)) → Option (Bor (List ℕ)) → End → Type 0
-HasMendedFiles asked base name end.UnknownKind = only_of name ≡ None
+HasMendedFiles asked base name end.UnknownKind = kinds_of (file_kinds asked.all) name ≡ None
 HasMendedFiles asked base name (end.BaseRefused refusal) = IsBaseRefused asked.profile base refusal
 HasMendedFiles asked base name (end.Fault cli.Memory) = Unit {0}
 HasMendedFiles asked base name (end.Filtered filtered) =
-    (url : Option Url) × (only : Option MendKind) × IsBase asked.profile base url × (only_of name ≡ Some only)
-    × (filtered.is_quiet ≡ asked.quiet)
+    (url : Option Url) × (kinds : WrittenKinds) × IsBase asked.profile base url
+    × (kinds_of (file_kinds asked.all) name ≡ Some kinds) × (filtered.is_quiet ≡ asked.quiet)
 HasMendedFiles asked base name _ = ⊥

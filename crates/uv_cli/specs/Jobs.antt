@@ -1,5 +1,5 @@
 -- What a job has done with its streams, by the end that it gave.
-use Rattle.std.specs.Prelude.{◌≡◌, ◌≢◌, ℕ, ◌+◌, ◌==◌, Bool, false, true, List, Option, String, length}
+use Rattle.std.specs.Prelude.{◌≡◌, ◌≢◌, ◌≤◌, ℕ, ◌+◌, ◌==◌, Bool, false, true, List, Option, String, length}
 use Rattle.std.specs.Prelude.{option_map, string_bytes}
 use Rattle.std.specs.Borrow.{Bor}
 use Rattle.std.specs.Io.KnownBytes.{Consumes, IsAtEnd}
@@ -15,11 +15,12 @@ use Rattle.uv_links.specs.Run.{Leaves, Reports, reads_failed, writes_failed}
 use Rattle.uv_compare.specs.Second.{AgreesOnBase}
 use Rattle.uv_resolve.specs.Base.{IsBase, IsBaseRefused}
 use Rattle.uv_vectors.specs.Ends.{IsEndOf}
-use Rattle.uv_vectors.specs.Run.{WritesVectors, WritesVectorsPrefix, is_checked}
+use Rattle.uv_vectors.specs.Run.{WritesVectors, WritesVectorsPrefix, is_checked, most_bytes}
 use Rattle.uv_arguments.specs.declared.jobs.FilterJob.{FilterJob}
 use Rattle.uv_arguments.specs.declared.jobs.Job.{Job}
 use Rattle.uv_arguments.specs.declared.jobs.Job.TheVariants as job
 use Rattle.uv_arguments.specs.declared.jobs.LintJob.{LintJob}
+use Rattle.uv_arguments.specs.declared.jobs.Told.{Told}
 use Rattle.uv_cli.specs.declared.check.CheckEnd.TheVariants as check
 use Rattle.uv_cli.specs.declared.explain.ExplainEnd.TheVariants as explain
 use Rattle.uv_cli.specs.declared.fault.CliFault.TheVariants as cli
@@ -27,7 +28,7 @@ use Rattle.uv_cli.specs.declared.ends.End.{End}
 use Rattle.uv_cli.specs.declared.ends.End.TheVariants as end
 use Rattle.uv_cli.specs.Check.{HasWritten, HasWrittenPrefix, RunsAgainst}
 use Rattle.uv_cli.specs.Stream.{Stream}
-use Rattle.uv_cli.specs.Explain.{HasExplained, HasWrittenText}
+use Rattle.uv_cli.specs.Explain.{HasExplained, HasExplainedPrefix}
 use Rattle.uv_cli.specs.Lint.{HasLinted}
 use Rattle.uv_cli.specs.Filter.{HasFiltered, HasMendedFiles}
 use Rattle.uv_cli.specs.Mend.{HasMended}
@@ -104,23 +105,23 @@ abbrev pub HasRunVectors : List ℕ → End → Stream → Stream → Type 0
 HasRunVectors bytes (end.Vectors ended) old new =
     IsEndOf ended (λ told. WritesVectors bytes told old.bytes new.bytes × (is_checked told ≡ false → new ≡ old))
     × (new.failed ≡ old.failed)
-HasRunVectors bytes (end.Fault cli.Memory) old new = new ≡ old
+HasRunVectors bytes (end.Fault cli.Memory) old new = (length bytes ≤ most_bytes) × (new ≡ old)
 HasRunVectors bytes (end.Fault cli.Write) old new =
     WritesVectorsPrefix bytes old.bytes new.bytes × (new.failed ≡ old.failed + 1)
 HasRunVectors bytes _ old new = ⊥
 
 -- ---- an explanation
 
--- what was written of the rules with these names, or of each rule
-abbrev pub HasRunExplain : List (String Global) → End → Stream → Stream → Type 0
-HasRunExplain rules end.Shown old new =
-    HasExplained rules explain.Explained old.bytes new.bytes × (new.failed ≡ old.failed)
-HasRunExplain rules end.UnknownRule old new =
-    HasExplained rules explain.Unknown old.bytes new.bytes × (new ≡ old)
-HasRunExplain rules (end.Fault cli.Memory) old new = new ≡ old
-HasRunExplain rules (end.Fault cli.Write) old new =
-    HasWrittenText rules old.bytes new.bytes × (new.failed ≡ old.failed + 1)
-HasRunExplain rules _ old new = ⊥
+-- what was written of the rules with these names, or of each rule, as it was asked for
+abbrev pub HasRunExplain : List (String Global) → Told → End → Stream → Stream → Type 0
+HasRunExplain rules told end.Shown old new =
+    HasExplained rules told explain.Explained old.bytes new.bytes × (new.failed ≡ old.failed)
+HasRunExplain rules told end.UnknownRule old new =
+    HasExplained rules told explain.Unknown old.bytes new.bytes × (new ≡ old)
+HasRunExplain rules told (end.Fault cli.Memory) old new = new ≡ old
+HasRunExplain rules told (end.Fault cli.Write) old new =
+    HasExplainedPrefix rules told old.bytes new.bytes × (new.failed ≡ old.failed + 1)
+HasRunExplain rules told _ old new = ⊥
 
 -- ---- a job
 
@@ -171,6 +172,6 @@ HasDone (job.InPlace files asked) bytes ended input rest old new =
     HasDoneInPlace files.items asked ended × (rest ≡ input) × (new ≡ old)
 HasDone (job.Vectors file) bytes end input rest old new = HasRunVectors bytes end old new × (rest ≡ input)
 HasDone (job.Explain rules told) bytes end input rest old new =
-    HasRunExplain rules.items end old new × (rest ≡ input)
+    HasRunExplain rules.items told end old new × (rest ≡ input)
 HasDone (job.UnknownProfile name) bytes ended input rest old new =
     (ended ≡ end.UnknownProfile) × (rest ≡ input) × (new ≡ old)

@@ -12,4 +12,5 @@ pub mod Mend
 pub mod Filtered
 pub mod Filter
 pub mod Program
+pub mod Said
 pub mod VectorFile

@@ -27,6 +27,12 @@ HasRun asked file ended input rest old new flushed fault =
     × HasDone asked file end input rest (stream old 0) (stream held failed)
     × Keeps held new × (ended ≡ ended_after end flushed fault)
 
+-- the job was done over its file, an input that had these bytes to come, and an output that held those
+abbrev pub HasRunOver : Job → List ℕ → Option (List ℕ) → Option (List ℕ) → Ended → Type 0
+HasRunOver asked file input old ended =
+    (rest : Stream) × (new : Option (List ℕ)) × (flushed : Bool) × (fault : Option ErrorKind)
+    × HasRun asked file ended (stream input 0) rest old new flushed fault
+
 -- the job has a file
 abbrev pub HasFile : Job → Type 0
 HasFile (job.Vectors file) = Unit {0}
@@ -35,8 +41,7 @@ HasFile other = ⊥
 -- the job was done over some input and output, or its file wasn't read
 abbrev pub HasEndedJob : Job → Ended → Type 0
 HasEndedJob asked ended =
-    ((file : List ℕ) × (input : Stream) × (rest : Stream) × (old : Option (List ℕ)) × (new : Option (List ℕ))
-    × (flushed : Bool) × (fault : Option ErrorKind) × HasRun asked file ended input rest old new flushed fault)
+    ((file : List ℕ) × (input : Option (List ℕ)) × (old : Option (List ℕ)) × HasRunOver asked file input old ended)
     ⊎ (HasFile asked × ((fault : FileFault) × (ended ≡ open_end (end_without_file fault))))
 
 -- ---- no job

@@ -1,7 +1,7 @@
 //! The command `explain`: for some rules or each, what they require, their sections of the URL Standard, and an
 //! example; or the addresses of these sections.
 ghost use Rattle.std.specs.Prelude.{◌≡◌, ◌+◌, ◌-◌, ◌^◌, ◌<◌, IfOk, OnOk};
-ghost use Rattle.uv_cli.specs.Explain.{HasExplained, HasWrittenText};
+ghost use Rattle.uv_cli.specs.Explain.{HasExplained, HasExplainedPrefix};
 
 use crate::fault::CliFault;
 use std::alloc::Global;
@@ -32,13 +32,13 @@ pub fn run_explain<S: Sink>(
     out: &mut S,
 ) -> Result<ExplainEnd, CliFault>
     requires { S.failed out.old < 2 ^ 64 - 1 }
-    ensures written { IfOk result (λ end. HasExplained rules.now end
+    ensures written { IfOk result (λ end. HasExplained rules.now told end
         (S.contents out.old) (S.contents out.new)) }
     ensures unknown { result ≡ Ok ExplainEnd.Unknown → out.new ≡ out.old }
     ensures quiet { OnOk result (S.failed out.new ≡ S.failed out.old) }
     ensures memory { result ≡ Err CliFault.Memory → out.new ≡ out.old }
     ensures prefix { result ≡ Err CliFault.Write →
-        HasWrittenText rules.now (S.contents out.old) (S.contents out.new) }
+        HasExplainedPrefix rules.now told (S.contents out.old) (S.contents out.new) }
     ensures failed { result ≡ Err CliFault.Write → S.failed out.new ≡ S.failed out.old + 1 }
 {
     let Some(text) = explained(alloc, rules, told)? else {

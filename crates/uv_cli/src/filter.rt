@@ -1,6 +1,6 @@
 //! The command `mend` without a text: a filter of the lines of an input.
 ghost use Rattle.std.specs.Prelude.{◌≡◌, ◌-◌, ◌^◌, ◌<◌, option_copied};
-ghost use Rattle.uv_cli.specs.Filter.{HasFiltered, IsFiltered, only_of};
+ghost use Rattle.uv_cli.specs.Filter.{HasFiltered, IsFiltered, file_kinds, kinds_of};
 ghost use Rattle.uv_cli.specs.Filter as spec;
 ghost use Rattle.uv_cli.specs.Stream.{stream};
 
@@ -9,7 +9,7 @@ use crate::fault::CliFault;
 use crate::filtered::Filtered;
 use std::alloc::Global;
 use uv_arguments::FilterJob;
-use uv_filter::{FilterSetting, run_filter};
+use uv_filter::{FilterSetting, WrittenKinds, run_filter};
 use uv_io::{Sink, Source};
 use uv_mend::MendKind;
 use uv_model::Record;
@@ -32,26 +32,38 @@ pub(crate) fn filter_lines<I: Source, S: Sink>(
         (stream (I.remaining input.old) (I.failed input.old)) (stream (I.remaining input.new) (I.failed input.new))
         (stream (S.contents out.old) (S.failed out.old)) (stream (S.contents out.new) (S.failed out.new)) }
 {
-    let Some(only) = only_of(name) else {
+    let Some(kinds) = kinds_of(name, WrittenKinds::Every) else {
         return End::UnknownKind;
     };
     match resolve_base(alloc, base, job.profile) {
-        Ok(base) => End::Filtered(filter_against(alloc, job, base.as_ref(), only, input, out)),
+        Ok(base) => End::Filtered(filter_against(alloc, job, base.as_ref(), kinds, input, out)),
         Err(ResolveFault::Refused(refusal)) => End::BaseRefused(refusal),
         Err(ResolveFault::Memory(_)) => End::Fault(CliFault::Memory),
     }
 }
 
-/// The kind with a name, or every kind if none is named.
-pub(crate) fn only_of(name: Option<&str>) -> Option<Option<MendKind>>
-    ensures { result ≡ only_of name.entry }
+/// The kind with a name, or these kinds if none is named.
+pub(crate) fn kinds_of(name: Option<&str>, unnamed: WrittenKinds) -> Option<WrittenKinds>
+    ensures { result ≡ kinds_of unnamed name.entry }
 {
     match name {
-        None => Some(None),
+        None => Some(unnamed),
         Some(name) => match MendKind::of_name(name) {
-            Some(kind) => Some(Some(kind)),
+            Some(kind) => Some(WrittenKinds::Only(kind)),
             None => None,
         },
+    }
+}
+
+/// The kinds that are written to files if none is named: only those that leave what a line says as it was, unless all
+/// mended texts are asked for.
+pub(crate) fn file_kinds(all: bool) -> WrittenKinds
+    ensures { result ≡ file_kinds all }
+{
+    if all {
+        WrittenKinds::Every
+    } else {
+        WrittenKinds::Safe
     }
 }
 
@@ -60,20 +72,20 @@ fn filter_against<I: Source, S: Sink>(
     alloc: Global,
     job: &FilterJob,
     base: Option<&Record>,
-    only: Option<MendKind>,
+    kinds: WrittenKinds,
     input: &mut I,
     out: &mut S,
 ) -> Filtered
     requires reads { I.failed input.old < 2 ^ 64 - 1 }
     requires writes { S.failed out.old < 2 ^ 64 - 1 }
-    ensures { IsFiltered (spec.mender_of job.now (option_copied base.entry) only) job.now.quiet result
+    ensures { IsFiltered (spec.mender_of job.now (option_copied base.entry) kinds) job.now.quiet result
         (stream (I.remaining input.old) (I.failed input.old)) (stream (I.remaining input.new) (I.failed input.new))
         (stream (S.contents out.old) (S.failed out.old)) (stream (S.contents out.new) (S.failed out.new)) }
 {
     let setting = FilterSetting {
         base,
         profile: job.profile,
-        only,
+        kinds,
         all: job.all,
     };
     let (counts, answer) = run_filter(alloc, input, out, setting);

@@ -5,24 +5,28 @@ ghost use Rattle.uv_filter.specs.Fates.{mender_of};
 
 use crate::ends::End;
 use crate::fault::CliFault;
-use crate::filter::only_of;
+use crate::filter::{file_kinds, kinds_of};
 use crate::filtered::Filtered;
 use crate::watched_streams::{WatchedReader, WatchedWriter};
 use std::alloc::{AllocError, Global};
 use std::fs;
 use std::fs::{Files, OpenFile, OpenOptions};
 use std::io::{self, ErrorKind, Read, Write};
+use std::os::unix::fs::OpenOptionsExt;
 use uv_arguments::FilterJob;
 use uv_arguments::arguments::said_of;
 use uv_filter::{FilterCounts, FilterSetting, run_filter};
 use uv_io::{FromReader, ToWriter};
 use uv_lines::StopFault;
 use uv_messages::messages::{Message, say};
-use uv_messages::unread::{unmended, unread};
+use uv_messages::unread::{left_behind, unmended, unread};
 use uv_resolve::{ResolveFault, resolve_base};
 
-// What comes after the file's name in the name of the new one, until that replaces it.
-const NEW: &str = ".urlcheck-new";
+// How many names are tried for a new file, of which the last are taken only if runs were interrupted.
+const NEW_FILES: usize = 9;
+
+// A new file is its owner's alone until it has the permissions of the old one.
+const OWNERS: u32 = 0o600;
 
 // Why a file stays as it was.
 #[derive(Drop)]
@@ -46,9 +50,10 @@ impl From<AllocError> for Left {
 /// Mends the lines of files as a job asks, each in its place: alone or against the base, which is resolved by itself,
 /// before a file is opened. The base and the name of the kind are the texts that the job has.
 ///
-/// A file's new lines are written to a new file next to it, which gets its permissions and, once it is whole, its name.
-/// A file in which no line is mended stays untouched. So does one that can't be read or written: that is reported on
-/// standard error, and the next file is mended. A link is followed, and stays one.
+/// A file's new lines are written to a new file next to it, which has its permissions before the first byte and, once it
+/// is whole, gets its name. Unless all mended texts are asked for, or a kind is named, those of kind `changed` aren't
+/// written. A file in which no line is mended stays untouched. So does one that can't be read or written: that is
+/// reported on standard error, and the next file is mended. A link is followed, and stays one.
 pub(crate) fn mend_files<R: Files + Eprint + AllocGlobal>(
     rt: &R,
     files: &[String],
@@ -58,7 +63,7 @@ pub(crate) fn mend_files<R: Files + Eprint + AllocGlobal>(
 ) -> End
     ensures { HasMendedFiles job.now base.entry name.entry result }
 {
-    let Some(only) = only_of(name) else {
+    let Some(kinds) = kinds_of(name, file_kinds(job.all)) else {
         return End::UnknownKind;
     };
     match resolve_base(rt.alloc(), base, job.profile) {
@@ -66,7 +71,7 @@ pub(crate) fn mend_files<R: Files + Eprint + AllocGlobal>(
             let setting = FilterSetting {
                 base: base.as_ref(),
                 profile: job.profile,
-                only,
+                kinds,
                 all: job.all,
             };
             End::Filtered(mend_each(rt, files, setting, job.quiet))
@@ -122,7 +127,7 @@ fn mend_next<R: Files + Eprint + AllocGlobal>(
 }
 
 // Mends the lines of a file: they are written to a new one, which takes its place.
-fn mend_file<R: Files + AllocGlobal>(
+fn mend_file<R: Files + Eprint + AllocGlobal>(
     rt: &R,
     file: &str,
     setting: FilterSetting<'_>,
@@ -132,23 +137,52 @@ fn mend_file<R: Files + AllocGlobal>(
         Err(error) => return Err(left_unfound(error.kind())),
     };
     let path = path.as_str();
-    let new = format!(in rt.alloc(); "{path}{NEW}")?;
     let old = match opened(rt, path) {
         Ok(old) => old,
         Err(left) => return Err(left),
     };
-    let made = OpenOptions::new()
-        .write(true)
-        .create_new(true)
-        .open(rt, new.as_str());
-    let answer = match made {
-        Ok(made) => replaced(rt, path, new.as_str(), old, made, setting),
-        Err(error) => return Err(Left::Unwritten(Some(error.kind()))),
+    let (new, made) = match new_file(rt, path) {
+        Ok(new) => new,
+        Err(left) => return Err(left),
     };
+    let answer = replaced(rt, path, new.as_str(), old, made, setting);
     if answer.is_err() {
         let _ = fs::remove_file(rt, new.as_str());
     }
     answer
+}
+
+// Makes a new file next to a file, under the first of its names that is free. What has such a name already is another
+// run's, or was left by one that was interrupted: it is named, and neither written nor followed.
+fn new_file<R: Files + Eprint + AllocGlobal>(
+    rt: &R,
+    path: &str,
+) -> Result<(String, R::File), Left> {
+    for number in 1..=NEW_FILES {
+        let name = new_name(rt.alloc(), path, number)?;
+        let made = OpenOptions::new()
+            .write(true)
+            .create_new(true)
+            .mode(OWNERS)
+            .open(rt, name.as_str());
+        match made {
+            Ok(made) => return Ok((name, made)),
+            Err(error) if error.kind() == ErrorKind::AlreadyExists => {
+                say(rt, left_behind(rt.alloc(), name.as_str()));
+            }
+            Err(error) => return Err(Left::Unwritten(Some(error.kind()))),
+        }
+    }
+    Err(Left::Unwritten(Some(ErrorKind::AlreadyExists)))
+}
+
+// One of the names of a new file.
+fn new_name(alloc: Global, path: &str, number: usize) -> Result<String, AllocError> {
+    if number == 1 {
+        format!(in alloc; "{path}.urlcheck-new")
+    } else {
+        format!(in alloc; "{path}.urlcheck-new-{number}")
+    }
 }
 
 // Why a file stays as it was whose own path isn't found: either there is none, or the system's program can't replace a
@@ -166,7 +200,7 @@ fn opened<R: Files>(rt: &R, path: &str) -> Result<R::File, Left> {
     match fs::metadata(rt, path) {
         Ok(data) if data.is_file() => {}
         Ok(data) if data.is_dir() => return Err(Left::Unread(Some(ErrorKind::IsADirectory))),
-        Ok(_) => return Err(Left::Unwritten(None)),
+        Ok(_) => return Err(Left::Unwritten(Some(ErrorKind::NotSeekable))),
         Err(error) => return Err(Left::Unread(Some(error.kind()))),
     }
     if let Err(error) = fs::open(rt, path) {
@@ -178,8 +212,8 @@ fn opened<R: Files>(rt: &R, path: &str) -> Result<R::File, Left> {
     }
 }
 
-// Writes the lines of an old file to a new one, mended; if a line was mended, the new file gets the permissions and the
-// name of the old one.
+// Writes the lines of an old file to a new one, mended. The new file has the old one's permissions before its first
+// byte, and gets its name if a line was mended.
 fn replaced<R: Files + AllocGlobal>(
     rt: &R,
     path: &str,
@@ -188,6 +222,9 @@ fn replaced<R: Files + AllocGlobal>(
     made: R::File,
     setting: FilterSetting<'_>,
 ) -> Result<FilterCounts, Left> {
+    if let Err(error) = permit_as(&old, &made) {
+        return Err(Left::Unwritten(Some(error.kind())));
+    }
     let (written, answer) = written_mended(rt.alloc(), old, made, setting);
     let counts = answer?;
     if !counts.is_mended() {
@@ -233,11 +270,15 @@ fn left_by(fault: StopFault, read: Option<ErrorKind>, written: Option<ErrorKind>
     }
 }
 
-// Gives a new file, once it is on its disk, the permissions and the name of the old one.
+// Gives a new file the permissions of the old one.
+fn permit_as<F: OpenFile>(old: &F, made: &F) -> io::Result<()> {
+    made.set_permissions(old.metadata()?.permissions())
+}
+
+// Gives a new file, once it is on its disk, the name of the old one.
 fn renamed<R: Files>(rt: &R, path: &str, new: &str, made: R::File) -> io::Result<()> {
     let mut made = made;
     made.flush()?;
-    made.set_permissions(fs::metadata(rt, path)?.permissions())?;
     made.sync_all()?;
     fs::rename(rt, new, path)
 }

@@ -149,7 +149,7 @@ fn mend_text<S: Sink>(
 // Says this about the rules with these names, or about every rule.
 fn explained<S: Sink>(alloc: Global, rules: &[String], told: Told, out: &mut S) -> End
     requires { S.failed out.old < 2 ^ 64 - 1 }
-    ensures { HasRunExplain rules.now result
+    ensures { HasRunExplain rules.now told result
         (stream (S.contents out.old) (S.failed out.old)) (stream (S.contents out.new) (S.failed out.new)) }
 {
     end_of_explanation(run_explain(alloc, rules, told, out))

@@ -6,7 +6,7 @@ use crate::lint::format_of;
 use crate::painting::painted_line;
 use std::alloc::Global;
 use std::env::FillError;
-use std::io::{self, Write};
+use std::io::{self, ErrorKind, Write};
 use std::rt::Env;
 use std::str::from_utf8;
 use uv_arguments::{Colours, Job};
@@ -65,8 +65,7 @@ fn is_dumb<R: Env>(rt: &R) -> bool {
     }
 }
 
-/// A writer of a report, each of whose lines gets its colours once it is whole. A line that doesn't end is written as it
-/// is when the writer is flushed.
+/// A writer of a report in UTF-8, each of whose lines gets its colours once it is whole, and is then written.
 #[derive(Drop)]
 pub(crate) struct PaintedWriter<W> {
     writer: W,
@@ -103,21 +102,13 @@ impl<W: Write> PaintedWriter<W> {
     // Writes the line, which is whole.
     fn write_line(&mut self) -> io::Result<()> {
         let Ok(line) = from_utf8(self.line.as_slice()) else {
-            self.line.push(b'\n')?;
-            return self.write_held();
+            return Err(io::Error::from(ErrorKind::InvalidData));
         };
         let mut painted = painted_line(self.alloc, line, self.format, self.left)?;
         painted.text.push_str("\n")?;
         self.line.clear();
         self.left = painted.left;
         self.writer.write_all(painted.text.as_bytes())
-    }
-
-    // Writes what is held of a line as it is.
-    fn write_held(&mut self) -> io::Result<()> {
-        self.writer.write_all(self.line.as_slice())?;
-        self.line.clear();
-        Ok(())
     }
 }
 
@@ -132,7 +123,6 @@ impl<W: Write> Write for PaintedWriter<W> {
     }
 
     fn flush(&mut self) -> io::Result<()> {
-        self.write_held()?;
         self.writer.flush()
     }
 }

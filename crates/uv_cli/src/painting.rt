@@ -23,16 +23,15 @@ struct Head<'l> {
 }
 
 /// The line with its colours, in a report in this format, if this many lines on the last wrong text were still to come.
-/// A line that already has colours stays as it is.
 pub(crate) fn painted_line(
     alloc: Global,
     line: &str,
     format: Format,
     left: u8,
 ) -> Result<PaintedLine, AllocError> {
-    if left > 1 || line.as_bytes().contains(&27) {
+    if left > 1 {
         let text = line.to_string(alloc)?;
-        let left = left.saturating_sub(1);
+        let left = left - 1;
         return Ok(PaintedLine { text, left });
     }
     if left == 1 {

@@ -5,7 +5,7 @@ ghost use Rattle.std.specs.Io.KnownBytes.{Keeps};
 ghost use Rattle.uv_cli.specs.Calls.{is_closed_by};
 ghost use Rattle.uv_cli.specs.Ends.{status_of};
 ghost use Rattle.uv_cli.specs.Flushed.{ended_after, open_end};
-ghost use Rattle.uv_cli.specs.Program.{HasAnswered, HasEndedJob, HasFile, HasRun, HasShown, IsStatus};
+ghost use Rattle.uv_cli.specs.Program.{HasAnswered, HasEndedJob, HasFile, HasRun, HasRunOver, HasShown, IsStatus};
 ghost use Rattle.uv_cli.specs.Stream.{stream};
 
 use crate::ends::{
@@ -20,7 +20,7 @@ use crate::watched_streams::{WatchedReader, WatchedWriter};
 use std::alloc::AllocError;
 use std::fs::Files;
 use std::io;
-use std::io::{ErrorKind, Write};
+use std::io::{ErrorKind, Read, Write};
 use std::rt::Env;
 use uv_arguments::arguments::{OwnArguments, refused, words_of};
 use uv_arguments::{Job, WordsFault, read_words};
@@ -41,9 +41,21 @@ pub struct Ended {
     pub is_closed: bool,
 }
 
-/// Runs the program on the arguments of the runtime, and gives its exit status. Its output may go to a terminal.
-pub fn run<R: Env + Files + Input + Print + Eprint + AllocGlobal>(rt: &R, is_terminal: bool) -> u8 {
-    match outcome(rt, is_terminal) {
+/// Which of the program's streams go to a terminal, where people read them.
+#[derive(Clone, Copy)]
+pub struct Terminals {
+    /// Whether standard output does.
+    pub output: bool,
+    /// Whether standard error does.
+    pub errors: bool,
+}
+
+/// Runs the program on the arguments of the runtime, and gives its exit status.
+pub fn run<R: Env + Files + Input + Print + Eprint + AllocGlobal>(
+    rt: &R,
+    terminals: Terminals,
+) -> u8 {
+    match outcome(rt, terminals) {
         Ok(
             Ended {
                 end,
@@ -58,7 +70,7 @@ pub fn run<R: Env + Files + Input + Print + Eprint + AllocGlobal>(rt: &R, is_ter
 // Reads the arguments and does what they ask for. An error means that there was no memory for the arguments.
 fn outcome<R: Env + Files + Input + Print + Eprint + AllocGlobal>(
     rt: &R,
-    is_terminal: bool,
+    terminals: Terminals,
 ) -> Result<Ended, AllocError> {
     let words = words_of(rt.alloc(), &OwnArguments::new(rt))?;
     let texts: Vec<&str> = words.iter().map(|word| word.as_str()).collect(rt.alloc())?;
@@ -70,7 +82,7 @@ fn outcome<R: Env + Files + Input + Print + Eprint + AllocGlobal>(
     if let Some(said) = refused(words.as_slice(), job) {
         return Ok(refusal(rt, said));
     }
-    Ok(answered(rt, texts.as_slice(), &asked, is_terminal))
+    Ok(answered(rt, texts.as_slice(), &asked, terminals))
 }
 
 // Does what these arguments ask for, or says why there is nothing to do.
@@ -78,12 +90,12 @@ fn answered<R: Env + Files + Input + Print + Eprint + AllocGlobal>(
     rt: &R,
     words: &[&str],
     asked: &Result<Option<Job>, WordsFault>,
-    is_terminal: bool,
+    terminals: Terminals,
 ) -> Ended
     ensures { HasAnswered asked.now result }
 {
     match asked {
-        Ok(Some(job)) => done(rt, job, is_terminal),
+        Ok(Some(job)) => done(rt, job, terminals),
         Ok(None) => refusal(rt, NO_JOB),
         Err(fault) => shown(rt, words, fault),
     }
@@ -111,7 +123,7 @@ fn open(end: End) -> Ended
 fn done<R: Env + Files + Input + Print + Eprint + AllocGlobal>(
     rt: &R,
     job: &Job,
-    is_terminal: bool,
+    terminals: Terminals,
 ) -> Ended
     ensures { HasEndedJob job.now result }
 {
@@ -120,25 +132,27 @@ fn done<R: Env + Files + Input + Print + Eprint + AllocGlobal>(
         Err(fault) => return open(end_without_file(fault)),
     };
     let out = io::writer(rt);
-    match painted_format(rt, job, is_terminal) {
+    match painted_format(rt, job, terminals.output) {
         Some(format) => {
             let painted = PaintedWriter::new(rt.alloc(), out, format);
-            done_into(rt, job, file.as_slice(), painted)
+            done_into(rt, job, file.as_slice(), rt.reader(), painted, terminals)
         }
-        None => done_into(rt, job, file.as_slice(), out),
+        None => done_into(rt, job, file.as_slice(), rt.reader(), out, terminals),
     }
 }
 
-// Does a job over the runtime's input and a writer, and prints what is to be said about its end.
-fn done_into<R: Files + Input + Eprint + AllocGlobal, W: Write + Drop>(
+// Does a job over a reader and a writer, and prints what is to be said about its end.
+fn done_into<R: Files + Eprint + AllocGlobal, I: Read + Drop, W: Write + Drop>(
     rt: &R,
     job: &Job,
     file: &[u8],
+    reader: I,
     out: W,
+    terminals: Terminals,
 ) -> Ended
-    ensures { HasEndedJob job.now result }
+    ensures { HasRunOver job.now file.now (I.remaining reader) (W.contents out) result }
 {
-    let mut input = FromReader::new(WatchedReader::new(rt.reader()));
+    let mut input = FromReader::new(WatchedReader::new(reader));
     let (ended, out) = done_over(rt, job, file, &mut input, out);
     if !ended.is_closed {
         let reader = input.into_reader();
@@ -147,7 +161,10 @@ fn done_into<R: Files + Input + Eprint + AllocGlobal, W: Write + Drop>(
             written: out.fault(),
             content: reader.content(),
         };
-        say(rt, said_at_end(rt.alloc(), job, ended.end, seen));
+        say(
+            rt,
+            said_at_end(rt.alloc(), job, ended.end, seen, terminals.errors),
+        );
     }
     ended
 }

@@ -1,7 +1,9 @@
 //! What is said on standard error before the last line: about how a job has ended, and about a file that a lint has
 //! read.
+ghost use Rattle.std.specs.Prelude.{◌≡◌, IfOk, IsOk, [], false, true};
+ghost use Rattle.uv_cli.specs.Said.{ends_silently};
 
-use crate::ends::End;
+use crate::ends::{End, status};
 use crate::fault::CliFault;
 use crate::filtered::Filtered;
 use crate::linted::Linted;
@@ -22,9 +24,32 @@ use uv_messages::unknown::{
 };
 use uv_messages::unread::{unread, unwritten, unwritten_line};
 use uv_model::{Extent, Profile, Record, Refusal, Rule};
-use uv_report::Format;
+use uv_report::{Columns, Format};
 use uv_resolve::{ResolveFault, resolve_base};
-use uv_sentences::{Checked, LineViolation, SeenText, Wording, is_offered, message};
+use uv_sentences::{
+    Checked, Escapes, LineViolation, SeenText, Wording, escaped, is_offered, message,
+};
+
+// The formats in the order of docs and help.
+const FORMATS: [Format; 9] = [
+    Format::Gnu,
+    Format::Caret,
+    Format::Json,
+    Format::Github,
+    Format::Sarif,
+    Format::Checkstyle,
+    Format::Junit,
+    Format::Gitlab,
+    Format::Rdjson,
+];
+
+// What columns count, in the order of docs and help.
+const COLUMNS: [Columns; 4] = [
+    Columns::CodePoints,
+    Columns::Bytes,
+    Columns::Utf16,
+    Columns::Screen,
+];
 
 // What standard input is called.
 const INPUT: &str = "standard input";
@@ -55,13 +80,25 @@ pub(crate) struct Seen {
 }
 
 /// What is said about a job that ended like this: about a name that doesn't exist, a stream that failed, a base that is
-/// refused, and what was likely meant.
+/// refused, and what was likely meant. Standard error may go to a terminal, where people read it.
 pub(crate) fn said_at_end(
     alloc: Global,
     job: &Job,
     end: End,
     seen: Seen,
-) -> Result<Message, AllocError> {
+    is_terminal: bool,
+) -> Result<Message, AllocError>
+    ensures silent { is_terminal ≡ false → ends_silently job.now end ≡ true
+        → IsOk result × IfOk result (λ said. said ≡ []) }
+{
+    if !is_terminal && ends_silently(job, end) {
+        return Ok(Message::nothing(alloc));
+    }
+    said_to_people(alloc, job, end, seen)
+}
+
+// What is said about a job that ended like this, if people read it, or if the job doesn't end silently.
+fn said_to_people(alloc: Global, job: &Job, end: End, seen: Seen) -> Result<Message, AllocError> {
     match end {
         End::Refused => said_of_refused(alloc, job, seen.content),
         End::BaseRefused(refusal) => said_of_base(alloc, job, refusal),
@@ -72,6 +109,17 @@ pub(crate) fn said_at_end(
             unwritten(alloc, seen.written)
         }
         _ => said_of_names(alloc, job, end),
+    }
+}
+
+// Whether nothing is said about a job that ended like this unless people read it. The output of these commands says
+// everything, and a script may take any text on standard error for a failure.
+fn ends_silently(job: &Job, end: End) -> bool
+    ensures { result ≡ ends_silently job.now end }
+{
+    match job {
+        Job::Check { .. } | Job::Links { .. } | Job::Vectors { .. } => status(end) <= 1,
+        _ => false,
     }
 }
 
@@ -90,15 +138,38 @@ fn said_of_names(alloc: Global, job: &Job, end: End) -> Result<Message, AllocErr
         (Job::Filter(asked) | Job::InPlace { asked, .. }, End::UnknownKind) => {
             unknown_kind(alloc, or_empty(&asked.only))
         }
-        (Job::Lint(asked), End::UnknownFormat) => unknown_format(alloc, or_empty(&asked.format)),
-        (Job::Lint(asked), End::UnknownColumns) => unknown_unit(alloc, or_empty(&asked.columns)),
-        (Job::Lint(asked), End::ColumnsRefused) => refused_unit(
+        (Job::Lint(asked), End::UnknownFormat) => of_format(alloc, or_empty(&asked.format)),
+        (Job::Lint(asked), End::UnknownColumns) => of_unit(alloc, or_empty(&asked.columns)),
+        (Job::Lint(asked), End::ColumnsRefused) => of_refused_unit(
             alloc,
             Format::of_name(or_empty(&asked.format)).unwrap_or(Format::Gnu),
             or_empty(&asked.columns),
         ),
         _ => Ok(Message::nothing(alloc)),
     }
+}
+
+// What is said about a name that no format has.
+fn of_format(alloc: Global, name: &str) -> Result<Message, AllocError> {
+    let names: Vec<&str> = FORMATS.iter().map(|format| format.name()).collect(alloc)?;
+    unknown_format(alloc, names.as_slice(), name)
+}
+
+// What is said about a name that no unit of columns has.
+fn of_unit(alloc: Global, name: &str) -> Result<Message, AllocError> {
+    let names: Vec<&str> = COLUMNS.iter().map(|columns| columns.name()).collect(alloc)?;
+    unknown_unit(alloc, names.as_slice(), name)
+}
+
+// What is said about a unit of columns that the format doesn't take.
+fn of_refused_unit(alloc: Global, format: Format, name: &str) -> Result<Message, AllocError> {
+    let mut taken: Vec<&str> = Vec::new(alloc);
+    for columns in &COLUMNS {
+        if format.takes_columns(*columns) {
+            taken.push(columns.name())?;
+        }
+    }
+    refused_unit(alloc, format.name(), taken.as_slice(), name)
 }
 
 // A name, or an empty text if none is given.
@@ -160,19 +231,27 @@ fn push_violations(
     let checked = checked_by(alloc, text, base.as_ref(), profile)?;
     let mut seen = SeenText::of_several(text);
     for refusal in &faults(alloc, text, base.as_ref(), profile)? {
-        let place = refusal.place;
+        let (region, place) = (region_of(refusal.rule), refusal.place);
         seen.go_to(place);
         let sentence = message(alloc, checked, &seen, LineViolation::Refused(*refusal))?;
         let sentence = sentence.as_str();
         said.push(
             alloc,
-            format!(in alloc; "at place {place}: {sentence}")?.as_str(),
+            format!(in alloc; "{region}at place {place}: {sentence}")?.as_str(),
         )?;
         if extent == Extent::First {
             break;
         }
     }
     push_offered(alloc, said, &seen, base.as_ref(), profile)
+}
+
+// What comes before the place of a violation: a host is refused at its first code point, whichever one is wrong.
+fn region_of(rule: Rule) -> &'static str {
+    match rule {
+        Rule::HostDomain | Rule::HostNumber | Rule::HostIpv6 => "in the host ",
+        _ => "",
+    }
 }
 
 // How a text was checked, in the words of the sentence on what is wrong with it.
@@ -199,6 +278,7 @@ fn push_offered(
 ) -> Result<(), AllocError> {
     match mend(alloc, seen.as_str(), base, profile)? {
         Mending::Mended { text, .. } if is_offered(seen, text.as_str()) => {
+            let text = escaped(alloc, text.as_str(), Escapes::Copied)?;
             let text = text.as_str();
             said.push(alloc, format!(in alloc; "write {text}")?.as_str())
         }
