@@ -1,6 +1,7 @@
 mod AsciiLemmas
 mod BaseLemmas
 mod BatchLemmas
+mod MemoryLemmas
 mod NextLineLemmas
 mod PlaceLemmas
 mod RecordPlaceLemmas

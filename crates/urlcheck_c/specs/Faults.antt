@@ -10,10 +10,10 @@ use Rattle.urlcheck_c.specs.declared.bases.Base.{Base}
 use Rattle.urlcheck_c.specs.declared.reports.fault_lists.Fault.{Fault}
 use Rattle.urlcheck_c.specs.declared.reports.fault_lists.FaultCount.{FaultCount}
 use Rattle.urlcheck_c.specs.declared.finding.Finding.{Finding}
-use Rattle.urlcheck_c.specs.declared.finding.CallOutcome.TheVariants.{Valid, Refused, Memory}
+use Rattle.urlcheck_c.specs.declared.finding.CallOutcome.TheVariants.{Valid, Refused}
 use Rattle.urlcheck_c.specs.Base.{IsMadeOf, IsStray, IsUnasked}
 use Rattle.urlcheck_c.specs.Finding.{byte_place, plain_finding, refused_finding}
-use Rattle.urlcheck_c.specs.Request.{IsRequest, IsUnchecked}
+use Rattle.urlcheck_c.specs.Request.{IsRequest, IsUnchecked, LacksMemoryUnlessValid}
 
 -- a refusal of a text, with its place in bytes
 abbrev pub fault_of : List ℕ → Refusal → Fault
@@ -33,6 +33,10 @@ abbrev pub first_finding : List ℕ → List Refusal → Finding
 first_finding bytes [] = plain_finding Valid
 first_finding bytes (refusal ∷ rest) = refused_finding Refused bytes refusal
 
+-- no faults, since this was found
+abbrev pub no_faults : Finding → FaultCount
+no_faults found = record { found = found; count = 0 }
+
 -- these are the faults of the text, and the verdict, their count and the buffer are theirs
 pub record AreListed (profile : Profile) (base : Option Url) (bytes : List ℕ) (old new : List Fault)
     (answer : FaultCount) : Type 0 where
@@ -47,11 +51,12 @@ pub record IsUnlisted (old new : List Fault) (answer : FaultCount) : Type 0 wher
   pub count : answer.count ≡ 0
   pub same : new ≡ old
 
--- the text has these faults, or memory ran out and nothing was written
+-- The text has these faults. Or memory ran out for them and nothing was written: a text that is valid without memory
+-- has none all the same.
 abbrev pub IsFaultsChecked : Profile → Option Url → List ℕ → List Fault → List Fault → FaultCount → Type 0
 IsFaultsChecked profile base bytes old new answer =
     AreListed profile base bytes old new answer
-    ⊎ (IsUnlisted old new answer × (answer.found ≡ plain_finding Memory))
+    ⊎ (IsUnlisted old new answer × LacksMemoryUnlessValid profile base bytes answer.found)
 
 -- the text isn't checked, and nothing was written; or it is checked against the base, if one is given
 abbrev pub IsFaultsAnswer : ℕ → Option (List ℕ) → List ℕ → List Fault → List Fault → FaultCount → Type 0

@@ -1,8 +1,10 @@
 -- The fixed texts that a caller asks for by numbers.
 use Rattle.std.specs.Prelude.{◌≡◌, ℕ, ◌==◌, ◌||◌, if◌then◌else◌, Bool, true, false, List, [], Option, Some, None}
+use Rattle.std.specs.Borrow.{Bor}
 use Rattle.std.specs.Int.{is_in_range}
 use Rattle.uv_model.specs.declared.rule.Rule.{Rule}
 use Rattle.uv_report.specs.declared.format.Format.{Format}
+use Rattle.uv_sentences.specs.declared.rules.explanation.Explanation.{Explanation}
 use Rattle.uv_sentences.specs.declared.line_violation.LineViolation.{LineViolation}
 use Rattle.uv_sentences.specs.declared.line_violation.LineViolation.TheVariants.{Refused}
 use Rattle.uv_report.specs.declared.places.column.Columns.{Columns}
@@ -43,6 +45,20 @@ known_text what number =
     if what == 8 then format_name_or_none (format_of number)
     else (if what == 9 then unit_name_or_none (unit_of number)
     else violation_text_or_none what (violation_of number 0))
+
+-- ---- texts for people
+
+-- a text, where there is one
+abbrev pub text_or_none : Option (Bor (List ℕ)) → List ℕ
+text_or_none None = []
+text_or_none (Some text) = text.now
+
+-- of what explains a rule: its section, the base of its example, the example, or a valid text in its place
+abbrev pub explanation_text : ℕ → Explanation → List ℕ
+explanation_text what explanation =
+    if what == 4 then explanation.section.now
+    else (if what == 5 then text_or_none explanation.base
+    else (if what == 6 then explanation.wrong.now else (if what == 7 then explanation.mended.now else [])))
 
 -- ---- what is given
 

@@ -4,7 +4,9 @@ use Rattle.std.specs.Borrow.{Bor}
 use Rattle.std.specs.Str.{chars}
 use Rattle.uv_model.specs.declared.profile.Profile.{Profile}
 use Rattle.uv_model.specs.declared.rule.Refusal.{Refusal}
+use Rattle.uv_model.specs.Parts.{Parts}
 use Rattle.uv_model.specs.Records.Url.{Url}
+use Rattle.uv_model.specs.Valid.{Valid}
 use Rattle.uv_grammar.specs.NoMemory.{TakesNoMemoryAgainst}
 use Rattle.uv_grammar.specs.Verdict.{IsRefused}
 use Rattle.uv_resolve.specs.Resolve.{Denotes, IsRefusedWithoutMemory}
@@ -40,6 +42,16 @@ pub record IsOutOfMemory (profile : Profile) (base : Option Url) (bytes : List �
 -- memory ran out, of bytes that aren't refused without it
 abbrev pub LacksMemory : Profile → Option Url → List ℕ → Finding → Type 0
 LacksMemory profile base bytes finding = IsMemory finding × ¬ (IsRefusedWithoutMemory profile base (chars bytes))
+
+-- the text is valid, and is checked without memory
+abbrev pub IsValidWithoutMemory : Profile → Option Url → List ℕ → Type 0
+IsValidWithoutMemory profile base text =
+    TakesNoMemoryAgainst profile base text × ((parts : Parts) × Valid profile base text parts)
+
+-- memory ran out, of bytes that aren't found valid without it
+abbrev pub LacksMemoryUnlessValid : Profile → Option Url → List ℕ → Finding → Type 0
+LacksMemoryUnlessValid profile base bytes finding =
+    IsMemory finding × ¬ (IsValidWithoutMemory profile base (chars bytes))
 
 -- the bytes of a text, or why they are none
 abbrev pub IsTextRead : CallOutcome → List ℕ → Result (Bor (List ℕ)) Finding → Type 0

@@ -74,9 +74,12 @@ fn checked(alloc: Global, request: &CheckRequest<'_>) -> Answer
     answer_of(request.text, &verdict)
 }
 
-// The verdict on a text that is checked.
+/// The verdict on a text that is checked.
 #[inline(always)]
-fn verdict_on<'t>(alloc: Global, request: &CheckRequest<'t>) -> Result<Verdict<'t>, AllocError>
+pub(crate) fn verdict_on<'t>(
+    alloc: Global,
+    request: &CheckRequest<'t>,
+) -> Result<Verdict<'t>, AllocError>
     ensures verdict { (url : Option Url) → IsOfKindGiven url request.now.kind
         → IfOk result (IsVerdict request.now.profile url (chars request.now.text.now)) }
     ensures memory { (url : Option Url) → IsOfKindGiven url request.now.kind

@@ -1,5 +1,7 @@
 //! What to write in place of a text that is refused.
 ghost use Rattle.std.specs.Prelude.{◌≡◌};
+ghost use Rattle.std.specs.Str.{chars};
+ghost use Rattle.uv_grammar.specs.Verdict.{IsRefused};
 ghost use Rattle.urlcheck_c.specs.Mended.{IsMendedAnswer, IsRequestMended, IsSaid, kind_number, unmended};
 ghost use Rattle.urlcheck_c.specs.Request.{given};
 
@@ -7,8 +9,10 @@ use crate::buffers::write_prefix;
 use crate::finding::{CallOutcome, Finding};
 use crate::request::{Request, given_bytes, prepared};
 use std::alloc::{AllocError, Global};
-use uv_mend::{MendKind, Mending, mend};
-use uv_sentences::intention_of;
+use uv_grammar::{Verdict, check};
+use uv_mend::{MendKind, Mending, mend_refused};
+use uv_model::Refusal;
+use uv_sentences::{SeenText, is_offered};
 
 /// What a text is, and what was made of it.
 #[repr(C)]
@@ -48,7 +52,26 @@ pub extern "C" fn urlcheck_mend(
 fn request_mended(alloc: Global, request: &Request<'_>, out: &mut [u8]) -> Mended
     ensures { IsRequestMended request.now.profile request.now.base request.now.text.now out.old out.new result }
 {
-    match mend(alloc, request.text, request.base.as_ref(), request.profile) {
+    match check(alloc, request.text, request.base.as_ref(), request.profile) {
+        Ok(Verdict::Yes(_)) => Mended::none(Finding::plain(CallOutcome::Valid)),
+        Ok(Verdict::No(refusal)) => refused_mended(alloc, request, refusal, out),
+        Err(AllocError) => Mended::none(Finding::plain(CallOutcome::Memory)),
+    }
+}
+
+// What is made of a text that is refused.
+fn refused_mended(alloc: Global, request: &Request<'_>, refusal: Refusal, out: &mut [u8]) -> Mended
+    requires { IsRefused request.now.profile request.now.base (chars request.now.text.now) refusal }
+    ensures { IsRequestMended request.now.profile request.now.base request.now.text.now out.old out.new result }
+{
+    let mended = mend_refused(
+        alloc,
+        request.text,
+        request.base.as_ref(),
+        request.profile,
+        refusal,
+    );
+    match mended {
         Ok(mending) => said(request.text, &mending, out),
         Err(AllocError) => Mended::none(Finding::plain(CallOutcome::Memory)),
     }
@@ -63,7 +86,7 @@ fn said(text: &str, mending: &Mending, out: &mut [u8]) -> Mended
         Mending::Mended { text: mended, kind } => Mended {
             found: Finding::plain(CallOutcome::Mended),
             kind: kind_number(*kind),
-            offered: u32::from(intention_of(text, mended.as_str()).is_none()),
+            offered: u32::from(is_offered(&SeenText::new(text), mended.as_str())),
             length: write_prefix(mended.as_bytes(), out),
         },
         Mending::Refused(refusal) => {

@@ -1,18 +1,20 @@
 //! All that is wrong with a text, in the caller's buffer.
-ghost use Rattle.std.specs.Prelude.{◌≡◌, IfOk, Option};
+ghost use Rattle.std.specs.Prelude.{◌≡◌, IfOk, List, Option};
 ghost use Rattle.std.specs.Str.{chars};
 ghost use Rattle.uv_model.specs.declared.profile.Profile.{Profile};
 ghost use Rattle.uv_model.specs.Records.Url.{Url};
 ghost use Rattle.uv_model.specs.Violations.AllViolations.{AreFaults};
+ghost use Rattle.urlcheck_c.specs.declared.reports.fault_lists.Fault.{Fault};
 ghost use Rattle.urlcheck_c.specs.Base.{IsOfKindGiven};
-ghost use Rattle.urlcheck_c.specs.Faults.{IsFaultsChecked, IsFaultsTo, first_finding};
+ghost use Rattle.urlcheck_c.specs.Faults.{IsFaultsChecked, IsFaultsTo, first_finding, no_faults};
 ghost use Rattle.urlcheck_c.specs.Request.{given};
 
 use crate::bases::{Base, CheckRequest, asked, given_base};
 use crate::buffers::store;
+use crate::checks::verdict_on;
 use crate::finding::{CallOutcome, Finding};
 use std::alloc::{AllocError, Global};
-use uv_grammar::{faults, faults_of_kind};
+use uv_grammar::{Verdict, faults, faults_of_kind};
 use uv_model::Refusal;
 
 /// A rule that a text violates at a place.
@@ -53,7 +55,7 @@ pub extern "C" fn urlcheck_faults(
 {
     match asked(text, profile, given_base(base, has_base)) {
         Ok(request) => listed_of(alloc, &request, out),
-        Err(found) => FaultCount { found, count: 0 },
+        Err(found) => FaultCount::none(found),
     }
 }
 
@@ -62,8 +64,22 @@ fn listed_of(alloc: Global, request: &CheckRequest<'_>, out: &mut [Fault]) -> Fa
     ensures { (url : Option Url) → IsOfKindGiven url request.now.kind
         → IsFaultsChecked request.now.profile url request.now.text.now out.old out.new result }
 {
-    let all = faults_on(alloc, request);
-    listed(request.text, &all, out)
+    match faults_on(alloc, request) {
+        Ok(found) => listed(request.text, found.as_slice(), out),
+        Err(AllocError) => unlisted(alloc, request),
+    }
+}
+
+// The answer on a text for whose faults memory ran out: one that is valid without memory has none all the same.
+fn unlisted(alloc: Global, request: &CheckRequest<'_>) -> FaultCount
+    ensures { (url : Option Url) (out : List Fault) → IsOfKindGiven url request.now.kind
+        → IsFaultsChecked request.now.profile url request.now.text.now out out result }
+{
+    match verdict_on(alloc, request) {
+        Ok(Verdict::Yes(_)) => FaultCount::none(Finding::plain(CallOutcome::Valid)),
+        Ok(Verdict::No(_)) => FaultCount::none(Finding::plain(CallOutcome::Memory)),
+        Err(AllocError) => FaultCount::none(Finding::plain(CallOutcome::Memory)),
+    }
 }
 
 // The faults of a text that is checked.
@@ -78,23 +94,23 @@ fn faults_on(alloc: Global, request: &CheckRequest<'_>) -> Result<Vec<Refusal>, 
 }
 
 // The answer by the faults of a text, of which as many are written as the buffer holds.
-fn listed(text: &str, all: &Result<Vec<Refusal>, AllocError>, out: &mut [Fault]) -> FaultCount
-    ensures { (profile : Profile) (base : Option Url)
-        → IfOk all.now (λ found. AreFaults profile base (chars text.now) found.items)
+fn listed(text: &str, found: &[Refusal], out: &mut [Fault]) -> FaultCount
+    ensures { (profile : Profile) (base : Option Url) → AreFaults profile base (chars text.now) found.now
         → IsFaultsChecked profile base text.now out.old out.new result }
 {
-    match all {
-        Ok(found) => {
-            store(text, found.as_slice(), out);
-            FaultCount {
-                found: first_found(text, found.as_slice()),
-                count: found.len(),
-            }
-        }
-        Err(AllocError) => FaultCount {
-            found: Finding::plain(CallOutcome::Memory),
-            count: 0,
-        },
+    store(text, found, out);
+    FaultCount {
+        found: first_found(text, found),
+        count: found.len(),
+    }
+}
+
+impl FaultCount {
+    // The answer without faults, since this was found.
+    fn none(found: Finding) -> FaultCount
+        ensures { result ≡ no_faults found }
+    {
+        FaultCount { found, count: 0 }
     }
 }
 

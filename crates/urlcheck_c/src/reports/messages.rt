@@ -1,47 +1,49 @@
 //! The sentence on what is wrong with a text.
-ghost use Rattle.std.specs.Prelude.{IfOk, string_bytes};
+ghost use Rattle.std.specs.Prelude.{IfOk, option_copied, string_bytes};
 ghost use Rattle.uv_sentences.specs.Sentences.Message.{IsMessage};
+ghost use Rattle.urlcheck_c.specs.Request.{given};
 ghost use Rattle.urlcheck_c.specs.Violation.{IsMessageAnswer, IsMessageGiven, IsViolationRead};
 
+use crate::bases::{Base, CheckRequest, asked, given_base};
 use crate::finding::{CallOutcome, Finding};
 use crate::reports::report_numbers::violation_of;
-use crate::request::{profile_of, text_of};
 use crate::written::{Written, text_given};
 use std::alloc::{AllocError, Global};
-use uv_grammar::wider_profile;
+use uv_grammar::{BaseKind, is_valid_of_kind, wider_profile};
 use uv_model::Profile;
 use uv_sentences::{Checked, LineViolation, SeenText, Wording, message};
 use uv_text::count_code_points;
 
-/// What is wrong with a text that is checked by a profile.
+/// What is wrong with a text that is checked, alone or against a base.
 #[derive(Drop)]
 pub(crate) struct FoundViolation<'t> {
-    /// The text.
-    pub(crate) text: &'t str,
-    /// The profile.
-    pub(crate) profile: Profile,
+    /// How the text was checked.
+    pub(crate) request: CheckRequest<'t>,
     /// What is wrong.
     pub(crate) violation: LineViolation,
 }
 
-/// Writes the sentence on a violation of a text by a profile, at a place in code points, without its full stop: what
-/// compilers print after `error: `. The wording is one of four, by its number.
+/// Writes the sentence on a violation of a text by a profile, alone or against a base as `urlcheck_check` has it, at a
+/// place in code points, without its full stop: what compilers print after `error: `. The wording is one of four, by its
+/// number.
 #[unsafe(no_mangle)]
 pub extern "C" fn urlcheck_message(
     alloc: Global,
     text: &[u8],
     profile: u32,
+    base: &Base,
+    has_base: bool,
     wording: u32,
     rule: u32,
     place: usize,
     out: &mut [u8],
 ) -> Written
-    ensures { IsMessageAnswer profile wording rule place text.now out.old out.new result }
+    ensures { IsMessageAnswer profile (given has_base base.now) wording rule place text.now out.old out.new result }
 {
     if wording > 3 {
         return Written::refused(CallOutcome::NoWording);
     }
-    match violation_read(text, profile, rule, place) {
+    match violation_read(text, profile, given_base(base, has_base), rule, place) {
         Ok(found) => said(alloc, &found, wording_of(wording), out),
         Err(found) => Written::none(found),
     }
@@ -57,31 +59,25 @@ fn wording_of(number: u32) -> Wording {
     }
 }
 
-/// What is wrong with the bytes of a text, by the numbers of a profile and of a rule of texts or of lines, at a place;
-/// or why these numbers don't say it.
-pub(crate) fn violation_read<'t>(
+// What is wrong with the bytes of a text, by the numbers of a profile and of a rule of texts or of lines, at a place; or
+// why these numbers don't say it.
+fn violation_read<'t>(
     text: &'t [u8],
     profile: u32,
+    base: Option<&Base>,
     rule: u32,
     place: usize,
 ) -> Result<FoundViolation<'t>, Finding>
-    ensures { IsViolationRead profile rule place text.now result }
+    ensures { IsViolationRead profile (option_copied base.entry) rule place text.now result }
 {
-    let Some(profile) = profile_of(profile) else {
-        return Err(Finding::plain(CallOutcome::NoProfile));
-    };
-    let text = text_of(text, CallOutcome::NoUtf8)?;
+    let request = asked(text, profile, base)?;
     let Some(violation) = violation_of(rule, place) else {
         return Err(Finding::plain(CallOutcome::NoRule));
     };
-    if place > count_code_points(text) {
+    if place > count_code_points(request.text) {
         return Err(Finding::plain(CallOutcome::NoPlace));
     }
-    Ok(FoundViolation {
-        text,
-        profile,
-        violation,
-    })
+    Ok(FoundViolation { request, violation })
 }
 
 // Writes the sentence by this wording.
@@ -102,15 +98,48 @@ fn sentence(
 ) -> Result<String, AllocError>
     ensures { IfOk result (λ text. IsMessage (string_bytes text)) }
 {
+    let request = &found.request;
     let accepted_by = if found.violation.is_by_choice() {
-        wider_profile(alloc, found.text, None, found.profile)?
+        accepting_profile(alloc, request)?
     } else {
         None
     };
     let checked = Checked {
-        profile: found.profile,
+        profile: request.profile,
         accepted_by,
         wording,
     };
-    message(alloc, checked, &SeenText::new(found.text), found.violation)
+    message(
+        alloc,
+        checked,
+        &SeenText::new(request.text),
+        found.violation,
+    )
+}
+
+// The next wider profile by which the text is valid, where there is one.
+fn accepting_profile(
+    alloc: Global,
+    request: &CheckRequest<'_>,
+) -> Result<Option<Profile>, AllocError> {
+    match request.kind {
+        Some(kind) => profile_against(alloc, request.text, kind, request.profile),
+        None => wider_profile(alloc, request.text, None, request.profile),
+    }
+}
+
+// The same against a base of this kind: by each wider profile the base denotes what it does by its own.
+fn profile_against(
+    alloc: Global,
+    text: &str,
+    base: BaseKind,
+    profile: Profile,
+) -> Result<Option<Profile>, AllocError> {
+    if profile == Profile::Standard && is_valid_of_kind(alloc, text, base, Profile::Wide)? {
+        return Ok(Some(Profile::Wide));
+    }
+    if profile != Profile::Parser && is_valid_of_kind(alloc, text, base, Profile::Parser)? {
+        return Ok(Some(Profile::Parser));
+    }
+    Ok(None)
 }

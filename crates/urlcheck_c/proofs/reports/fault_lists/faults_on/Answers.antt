@@ -1,5 +1,5 @@
 -- The faults are those alone, or against each base of the kind.
-use Rattle.std.proofs.Common.{None, Option, subst, sym}
+use Rattle.std.proofs.Common.{Option, subst, sym}
 use Rattle.std.specs.Prelude.{IfOk}
 use Rattle.std.specs.Str.{chars}
 use Rattle.uv_model.specs.Violations.AllViolations.{AreFaults}

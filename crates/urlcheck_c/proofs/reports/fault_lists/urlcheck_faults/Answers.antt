@@ -1,10 +1,12 @@
 -- The faults are those of the text's bytes, and the base is what the bytes that it was made of denote.
-use Rattle.std.proofs.Common.{ℕ, List, inl, inr, refl, subst}
+use Rattle.std.proofs.Common.{ℕ, List, ap, inl, inr, refl, subst, sym}
 use Rattle.std.specs.Prelude.{Err, Ok, Option}
 use Rattle.urlcheck_c.specs.declared.bases.Base.{Base}
-use Rattle.urlcheck_c.specs.Base.{IsAsked}
+use Rattle.urlcheck_c.specs.declared.finding.Finding.{Finding}
+use Rattle.urlcheck_c.specs.declared.reports.fault_lists.FaultCount.{FaultCount}
+use Rattle.urlcheck_c.specs.Base.{IsAsked, IsUnasked}
 use Rattle.urlcheck_c.specs.Faults.{IsFaultsChecked}
-use Rattle.urlcheck_c.specs.Request.{given}
+use Rattle.urlcheck_c.specs.Request.{IsUnchecked, given}
 use Rattle.urlcheck_c.proofs.BaseLemmas.{asked_request, not_stray, unasked}
 use Rattle.urlcheck_c.proofs.reports.fault_lists.urlcheck_faults.Goals as goal
 
@@ -35,7 +37,18 @@ returns-in-Err c =
     let found = c.in-Err.found in
     let is = subst (λ (b : Option Base). IsAsked c.args.profile b c.args.text.now (Err found)) c.given_base.ensures
     c.in-Err.ensures in
+    let none = c.none.ensures in
+    let told = sym (ap (λ (f : FaultCount). f.found) none) in
+    let count = ap (λ (f : FaultCount). f.count) none in
     record {
-      made = λ of made. inl (record { count = refl; same = refl }, unasked c.args.profile base c.args.text.now found of is made);
-      stray = λ stray. (record { count = refl; same = refl }, is);
+      made = λ of made.
+          inl (
+            record { count = count; same = refl },
+            subst (λ (f : Finding). IsUnchecked c.args.profile of c.args.text.now f) told
+                (unasked c.args.profile base c.args.text.now found of is made),
+          );
+      stray = λ stray. (
+        record { count = count; same = refl },
+        subst (λ (f : Finding). IsUnasked c.args.profile base c.args.text.now f) told is,
+      );
     }
