@@ -1,7 +1,8 @@
 //! The base of the tests.
 
 use std::alloc::{AllocError, Global};
-use uv_model::{Host, PathText, Profile, Record, Text, UrlPath, well_formed};
+use uv_calls::well_formed;
+use uv_model::{Host, PathText, Profile, Record, Text, UrlPath};
 
 /// `http://h/`, or none if its parts aren't well formed.
 pub(crate) fn special_base(alloc: Global) -> Result<Option<Record>, AllocError> {

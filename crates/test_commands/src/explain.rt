@@ -12,10 +12,9 @@ const HOST_MISSING: &str = "rule host-missing
 means a host is missing here
 asks After //, ftp, http, https, ws and wss have a host, file a host or a path, and a port follows a host.
 section 3.4, 4.3
-text https:///a
+text https:///example.com/a
 refused 8 host-missing
 meant https://example.com/a
-mended https://a
 ";
 
 // The one name of a rule.

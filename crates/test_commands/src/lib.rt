@@ -5,6 +5,8 @@
 
 mod answered;
 #[cfg(test)]
+mod calls;
+#[cfg(test)]
 mod explain;
 #[cfg(test)]
 mod filter;

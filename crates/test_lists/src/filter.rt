@@ -7,7 +7,7 @@ use scripted_streams::{ScriptSink, ScriptSource};
 use std::alloc::{AllocError, Global};
 use std::process::Abort;
 use std::test::Fail;
-use uv_filter::{FilterCounts, FilterSetting, run_filter};
+use uv_filter::{FilterCounts, FilterSetting, WrittenKinds, run_filter};
 use uv_io::{DeviceFault, Sink};
 use uv_lines::StopFault;
 use uv_model::Profile;
@@ -16,7 +16,7 @@ use uv_model::Profile;
 const SETTING: FilterSetting<'static> = FilterSetting {
     base: None,
     profile: Profile::Standard,
-    only: None,
+    kinds: WrittenKinds::Every,
     all: false,
 };
 

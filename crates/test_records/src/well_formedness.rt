@@ -3,7 +3,8 @@
 use crate::ascii_texts::ascii;
 use crate::texts::segments;
 use std::alloc::{AllocError, Global};
-use uv_model::{Host, Profile, UrlPath, well_formed};
+use uv_calls::well_formed;
+use uv_model::{Host, Profile, UrlPath};
 
 // A scheme, a port, and whether a record with them is well formed.
 type Row = (&'static str, Option<u16>, bool);
