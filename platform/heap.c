@@ -1,4 +1,4 @@
-/* The allocator of platform.h over that of C. */
+/* The allocator of platform.h over C's. */
 #include <stdlib.h>
 
 #include "platform.h"

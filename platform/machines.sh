@@ -1,5 +1,5 @@
 # Sourced at the top of the repository, after tools/builds.sh, by what builds for another machine. `here` is this folder,
-# `shims` the one with the C, and of the target `target` is its name, `triple` that of LLVM, and `cross` how the names of its
+# `shims` the one with the C, and of the target `target` is its name, `triple` LLVM's, and `cross` how the names of its
 # compiler and binutils begin.
 
 # kept_if_newer FILE SOURCE.. : whether the file is there, and no source is newer
@@ -13,9 +13,9 @@ kept_if_newer() {
 # more of clang's. `made_for` is the processor that the toolchain makes the module for, without it plain x86-64.
 lowered() {
     local module=crates/$2/out/${made_for:-x86-64}.bc kept=crates/$2/out/$target.o
-    tools/build-module "$2" "$module" "${made_for:-x86-64}"
+    tools/build-module "$2" "$module" "${made_for:-x86-64}" || return
     kept_if_newer "$kept" "$module" "$here/lower" "$here/calls.ll" "$here/webassembly.ll" "$here/machines.sh" ||
-        "$here/lower" "$1" "$module" "$triple" "$kept" "${@:3}"
+        "$here/lower" "$1" "$module" "$triple" "$kept" "${@:3}" || return
     echo "$kept"
 }
 

@@ -1,8 +1,8 @@
 /*
  * What the proved program asks of a system for which the toolchain has no archives, and what is assumed of each. A shim
- * gives these functions: posix.c with heap.c, windows.c and windows_words.c with it, or wasi.c with wasi_heap.c, and beside
+ * gives these functions: posix.c with heap.c, windows.c and windows_words.c with it, or wasi.c with wasi_heap.c, and with
  * each arguments.c. For Linux on ARM the toolchain compiles the program itself, and asks for the allocator, the
- * arguments and the environment alone.
+ * arguments and the environment.
  *
  * The proofs assume of them what the toolchain's contracts say of C's functions of these names on Linux. Flags and errors
  * have Linux's numbers. Each number is 64 bits wide, so that no calling convention has a word in how it is extended.
@@ -50,7 +50,7 @@ int64_t platform_open(const char *path, int64_t flags, int64_t mode);
 /* 0, or -1. */
 int64_t platform_close(int64_t file);
 
-/* How many bytes were read, 0 at the end alone; or -1, and then none was. They are the file's own bytes, as they are. */
+/* How many bytes were read, 0 only at the end; or -1, and then none was. They are the file's own bytes, as they are. */
 int64_t platform_read(int64_t file, uint8_t *buffer, uint64_t room);
 
 /* How many bytes were written, which may be fewer than given; or -1, and then none was. */
@@ -68,7 +68,7 @@ int32_t platform_main(void);
 /* The flags of an opening that a shim knows; others have no part in it. */
 enum { FLAG_WRONLY = 1, FLAG_RDWR = 2, FLAG_CREAT = 0100, FLAG_EXCL = 0200, FLAG_TRUNC = 01000, FLAG_APPEND = 02000 };
 
-/* Errors. What a system has beside these is ERROR_IO. */
+/* Errors. What else a system has is ERROR_IO. */
 enum {
     ERROR_PERM = 1,
     ERROR_NOENT = 2,

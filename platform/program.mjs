@@ -49,7 +49,7 @@ function givenArguments() {
 
 const words = [Buffer.from('urlcheck'), ...givenArguments()].map(word => Buffer.concat([word, Buffer.from([0])]))
 
-/** An open file: how far it was read or written, and whether that is another place than the system's own. */
+/** An open file: how far it was read or written, and whether the system's own place differs. */
 class OpenFile {
   // `seeks` is whether it can be at another place.
   /** @param {number} file @param {boolean} seeks */
@@ -69,7 +69,7 @@ class OpenFile {
 /** @type {Map<number, OpenFile>} */
 const files = new Map([0, 1, 2].map(number => [number, new OpenFile(number, false)]))
 
-// The memory of the program. It is looked at anew each time, since a view of one that has grown is empty.
+// The memory of the program. It is looked at again each time, since a view of one that has grown is empty.
 /** @type {WebAssembly.Memory} */
 let memory
 const view = () => new DataView(memory.buffer)
@@ -165,7 +165,7 @@ const system = {
     return NO_ERROR
   },
   /**
-   * Opens a file below a given folder. Its number is above those of all folders and open files.
+   * Opens a file below a given folder. Its number is above the numbers of all folders and open files.
    * @param {number} folder @param {number} _lookup @param {number} at @param {number} length @param {number} how
    * @param {bigint} rights @param {bigint} _inherited @param {number} flags @param {number} to
    */

@@ -71,7 +71,7 @@ static uint64_t start_below(const char *path, const char *folder, uint64_t lengt
     return same;
 }
 
-/* A host gives its folders the numbers after those of the three streams. The last is a limit, so the search ends. */
+/* A host gives its folders the numbers after the three streams. The last is a limit, so the search ends. */
 enum { FIRST_FOLDER = 3, LAST_FOLDER = 63 };
 
 /*
@@ -153,7 +153,7 @@ int64_t platform_lseek(int64_t file, int64_t offset, int64_t from) {
     return answered(ended, (int64_t)place);
 }
 
-/* The program asks this for colours alone, which it has on the host by --color always. */
+/* The program asks this only for colours, which it has on the host by --color always. */
 int64_t platform_env(const char *name, uint8_t *buffer, uint64_t room) {
     (void)name, (void)buffer, (void)room;
     return -1;
@@ -181,7 +181,7 @@ static _Bool takes_arguments(void) {
 /* The status with which the program itself ends when it runs out of memory. */
 enum { FAILED = 3 };
 
-/* Where a host begins, in place of main. */
+/* The start for a host, in place of main. */
 void _start(void);
 
 /* (without its arguments the program says what it says of an allocation that fails) */

@@ -1,6 +1,6 @@
 /*
  * The system of platform.h on Windows, by its own functions, which read and write the bytes of a file as they are. A
- * file's number is its handle, which is a multiple of 4, so that it is none of the three streams.
+ * file's number is its handle, which is a multiple of 4, so that it isn't one of the three streams.
  */
 #define WIN32_LEAN_AND_MEAN
 #include <stdlib.h>

@@ -10,7 +10,7 @@ int keeps_words(void);
 
 /*
  * Writes units of UTF-16 in the form of UTF-8, at most three bytes for each: how many bytes. Half a pair becomes bytes
- * that aren't UTF-8: the program refuses them, and would check another text if they were those of U+FFFD.
+ * that aren't UTF-8: the program refuses them, and would check another text if they were read as U+FFFD.
  */
 size_t put_units(char *bytes, const wchar_t *units, size_t count);
 

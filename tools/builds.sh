@@ -1,6 +1,7 @@
 # Sourced at the top of the repository: the builds of the program and of the library for each processor, which the
 # proofs of the crates below them come before. They are kept in the crates' folders out/, and made again where a source
 # is newer.
+shopt -s inherit_errexit
 
 # The processors, plain x86-64 first.
 processors=(x86-64 x86-64-v2)
@@ -23,12 +24,25 @@ build_of() {
     echo "$kept"
 }
 
+# series : the series of the interface for C, by which the shared library and its package for Debian are named
+series() {
+    sed -n '/^URLCHECK_/ { s/^URLCHECK_\([0-9.]*\) {$/\1/p; q }' bindings/c/library.map
+}
+
 # glibc_of FILE.. : the oldest version of glibc that has all that the files ask for
 glibc_of() {
-    local versions
-    versions=$(${OBJDUMP:-objdump} -T "$@" | grep -o 'GLIBC_[0-9.]*' | sed 's/GLIBC_//' | sort -Vu)
+    local symbols versions
+    symbols=$(${OBJDUMP:-objdump} -T "$@") || return
+    versions=$(sed -n 's/.*GLIBC_\([0-9.]*\).*/\1/p' <<<"$symbols" | sort -V)
     [ -n "$versions" ] || { echo "urlcheck: $* names no version of glibc" >&2; return 1; }
     tail -n 1 <<<"$versions"
+}
+
+# installed_size FOLDER : how many KiB Debian says that a package's tree takes: those that each file fills or begins, and one for all else,
+# whatever the file system needs for them
+installed_size() {
+    find "$1" -mindepth 1 -path "$1/DEBIAN" -prune -o -printf '%y %s\n' |
+        awk '{ sum += $1 == "f" ? int(($2 + 1023) / 1024) : 1 } END { print sum + 0 }'
 }
 
 # bare FILE : takes away what the compilers note of themselves

@@ -7,11 +7,14 @@ exports() {
     sed -n 's/^ *\(urlcheck_[a-z_0-9]*\);$/\1/p' bindings/c/library.map
 }
 
-# named_build WHOLE.o ENDING OBJECT : a build of the proved code, whose exports alone are seen, by names with that
-# ending
+# proved_names ENDING FILE : the functions that the exports call, each with that ending after its name, as a list for objcopy
+proved_names() {
+    exports | sed -e 's/_to$//' -e "s/.*/& &_$1/" >"$2"
+}
+
+# named_build WHOLE.o ENDING OBJECT : a build of the proved code, of which only the functions are seen, by names with that ending
 named_build() {
-    local name
-    for name in $(exports); do echo "$name ${name}_$2"; done >"$work/names"
+    proved_names "$2" "$work/names"
     ${OBJCOPY:-objcopy} --redefine-syms="$work/names" --wildcard --keep-global-symbol='urlcheck_*' "$1" "$3"
 }
 
@@ -27,7 +30,7 @@ cmake_files() {
 whole_library() {
     local folder=$1 version soname words=(-O2 -fPIC -fvisibility=hidden -ffunction-sections)
     version=$(cat VERSION)
-    soname=liburlcheck.so.${version%%.*}
+    soname=liburlcheck.so.$(series)
     shift
     [ $# -gt 1 ] || words+=(-DONE_BUILD)
     mkdir -p "$folder/lib/pkgconfig" "$folder/include"
@@ -72,11 +75,12 @@ python_files() {
 # python_package FOLDER HEADERS MACHINE : the Python package over the library of the folder, as pip installs it. Its
 # extension module has the library in it, and is one for all versions from 3.8 on.
 python_package() {
-    local folder=$1 headers=$2 glibc
+    local folder=$1 headers=$2 needed glibc
     python_files "$folder"
     build_native "$headers" "$work/native" "$folder/lib/liburlcheck.a" "$folder/python/urlcheck/_native.abi3.so"
     bare "$folder/python/urlcheck/_native.abi3.so"
     # A system whose glibc is older than what the module asks for isn't told to take the wheel.
-    glibc=$(printf '%s\n' 2.17 "$(glibc_of "$folder/python/urlcheck/_native.abi3.so")" | sort -V | tail -n 1)
+    needed=$(glibc_of "$folder/python/urlcheck/_native.abi3.so") || return
+    glibc=$(printf '%s\n' 2.17 "$needed" | sort -V | tail -n 1)
     echo "manylinux_${glibc/./_}_$3" >"$folder/python/PLATFORM"
 }

@@ -1,26 +1,28 @@
-"""How far a build of the crates is: the functions and the crates that are proved of all, and the time that is likely left.
+"""How far a build of the crates is: the crates that are built and the functions that are proved of all, and the time that is likely left.
 
-At a terminal that is one line, which is written again each second; elsewhere it is a line each half minute.
+At a terminal that is one line, which is written again each second; elsewhere it is a line each half minute. The time never
+grows: while it would, the line has none.
 """
 
 from __future__ import annotations
 
 import contextlib
+import math
 import os
 import re
 import sys
 import threading
 import time
 from collections.abc import Iterator
-from typing import IO
+from typing import IO, TYPE_CHECKING
+
+if TYPE_CHECKING:
+    from schedule import Schedule
 
 # A function in a source, and what is derived there, of which most is a function that is proved too.
 FUNCTION = re.compile(rb"^[ \t]*(?:pub(?:\([^)]*\))? )?(?:const )?(?:unsafe )?(?:extern \"C\" )?fn \w", re.MULTILINE)
 DERIVED = re.compile(rb"\bderive\(([^)]*)\)")
 WITHOUT_CODE = {b"Copy", b"Eq"}
-
-# What the toolchain says of a function as soon as it is proved.
-PROVED = re.compile(rb"^fn \S+: proved$", re.MULTILINE)
 
 # The seconds between two lines: at a terminal, and elsewhere.
 AT_TERMINAL, ELSEWHERE = 1.0, 30.0
@@ -31,7 +33,8 @@ def functions_of(crate: str) -> int:
     count = 0
     for folder, _, files in os.walk(f"crates/{crate}/src"):
         for name in files:
-            if name.endswith(".rt"):
+            # (an editor may have a link there that leads nowhere)
+            if name.endswith(".rt") and os.path.isfile(f"{folder}/{name}"):
                 with open(f"{folder}/{name}", "rb") as file:
                     text = file.read()
                 derived = (it.strip() for found in DERIVED.findall(text) for it in found.split(b","))
@@ -45,44 +48,25 @@ def minutes(seconds: float) -> str:
     return f"{whole // 60} min {whole % 60:02} s" if whole >= 60 else f"{whole} s"
 
 
+def about(seconds: float) -> str:
+    """About how long that is, in words."""
+    return f"about {math.ceil(seconds / 60)} min" if seconds > 60 else "less than a minute"
+
+
 class Progress:
-    """What is proved of some crates so far, each of which is likely to cost so much.
+    """A line about what is built and proved so far, by the schedule of the build."""
 
-    It is told when the build of a crate begins and ends. How many functions are proved meanwhile it reads from what that
-    build says.
-    """
-
-    def __init__(self, costs: dict[str, int], output: IO[str] = sys.stderr) -> None:
-        self._costs, self._output = costs, output
-        self._functions = {crate: functions_of(crate) for crate in costs}
-        self._built: set[str] = set()
-        self._said: dict[str, tuple[int, int]] = {}
-        self._running: dict[str, IO[str]] = {}
-        self._started = time.monotonic()
+    def __init__(self, schedule: Schedule, output: IO[str] = sys.stderr) -> None:
+        self._schedule, self._output = schedule, output
+        self._functions = {crate: functions_of(crate) for crate in schedule.seconds}
+        self._least = math.inf
         self._lock = threading.Lock()
         self._is_terminal = output.isatty()
         self._shown = 0
 
-    @contextlib.contextmanager
-    def of(self, crate: str, said: IO[str]) -> Iterator[None]:
-        """The time in which a crate is built, by a command that writes to this file what it says."""
-        with self._lock:
-            self._said.pop(crate, None)
-            self._running[crate] = said
-        try:
-            yield
-        finally:
-            with self._lock:
-                del self._running[crate]
-
-    def is_built(self, crate: str) -> None:
-        """Notes that a crate is built."""
-        with self._lock:
-            self._built.add(crate)
-
     def count(self) -> str:
         """How many crates are built of all."""
-        return f"{len(self._built)} of {len(self._costs)}"
+        return f"{len(self._schedule.built)} of {len(self._functions)}"
 
     def say(self, line: str) -> None:
         """Writes a line of its own."""
@@ -106,35 +90,19 @@ class Progress:
 
     def line(self) -> str:
         """How far the build is."""
-        with self._lock:
-            proved = {crate: self._proved(crate) for crate in self._running}
-            built = set(self._built)
-        functions = sum(self._functions[it] for it in built) + sum(proved.values())
-        done = sum(self._costs[it] for it in built)
-        done += sum(self._costs[it] * count // self._functions[it] for it, count in proved.items())
-        left = self._left(done / max(1, sum(self._costs.values())))
+        proved = sum(self._functions[it] for it in list(self._schedule.built))
         return (
-            f"urlcheck: {functions} of about {sum(self._functions.values())} functions proved, "
-            f"{len(built)} of {len(self._costs)} crates built{left}"
+            f"urlcheck: {self.count()} crates built, {proved} of about {sum(self._functions.values())} functions "
+            f"proved{self._left()}"
         )
 
-    def _left(self, part: float) -> str:
-        """The time that is left when this part is done: nothing as long as that would be a guess."""
-        taken = time.monotonic() - self._started
-        if part < 0.02 or taken < 10:
+    def _left(self) -> str:
+        """The time that is left, in words, once a crate has shown the pace, and unless it is longer than one that was said."""
+        left = self._schedule.seconds_left(time.monotonic())
+        if math.ceil(left / 60) > self._least or not self._schedule.built:
             return ""
-        seconds = taken * (1 - part) / part
-        return f", about {max(1, round(seconds / 60))} min left" if seconds >= 30 else ", less than a minute left"
-
-    def _proved(self, crate: str) -> int:
-        """How many functions of a crate its build has said to be proved. (Each read begins where the last one ended.)"""
-        place, count = self._said.get(crate, (0, 0))
-        with contextlib.suppress(OSError, ValueError):
-            text = os.pread(self._running[crate].fileno(), 1 << 20, place)
-            whole = text.rfind(b"\n") + 1
-            count += len(PROVED.findall(text[:whole]))
-            self._said[crate] = place + whole, count
-        return min(count, self._functions[crate])
+        self._least = math.ceil(left / 60)
+        return f", {about(left)} left"
 
     def _show(self, ended: threading.Event) -> None:
         """Writes the line again and again, until the build has ended."""
@@ -153,4 +121,3 @@ class Progress:
         if self._shown:
             print(f"\r{' ' * self._shown}\r", end="", file=self._output, flush=True)
             self._shown = 0
-

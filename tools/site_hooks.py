@@ -1,4 +1,4 @@
-"""What tools/build-site adds to the pages of the site: a link from each to its source, which is beside it as a text."""
+"""What tools/build-site adds to the pages of the site: a link from each to its source, which is next to it as a text."""
 
 import posixpath
 import re
@@ -42,9 +42,12 @@ def on_post_page(output: str, page: Any, config: Any) -> str:
 
 
 def on_post_build(config: Any) -> None:
-    """Puts the sources into the site."""
+    """Puts the sources into the site, and leaves out a map of a site whose address isn't known."""
     pages, site = Path(config["docs_dir"]), Path(config["site_dir"])
     for page in sorted(pages.rglob("*.md")):
         to = site / source_of(page.relative_to(pages).as_posix())
         to.parent.mkdir(parents=True, exist_ok=True)
         shutil.copyfile(page, to)
+    if not config["site_url"]:
+        for map_of_site in site.glob("sitemap.xml*"):
+            map_of_site.unlink()
