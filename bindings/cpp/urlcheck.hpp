@@ -10,15 +10,24 @@
 
 #include <cstddef>
 #include <cstdint>
+#include <iterator>
 #include <memory>
 #include <new>
 #include <optional>
+#include <ostream>
 #include <string>
 #include <string_view>
 #include <type_traits>
 #include <utility>
 
 #include "urlcheck.h"
+
+// What a call gives holds a view of what it is called on: compilers that know the word warn where that has ended.
+#if defined(__has_cpp_attribute) && __has_cpp_attribute(clang::lifetimebound)
+#define URLCHECK_VIEWS [[clang::lifetimebound]]
+#else
+#define URLCHECK_VIEWS
+#endif
 
 namespace urlcheck {
 
@@ -52,6 +61,36 @@ enum class rule : std::uint32_t {
     percent = URLCHECK_PERCENT
 };
 
+namespace detail {
+
+// The names of the rules, in the order of their numbers, which begin at 1.
+constexpr std::string_view rule_names[] = {
+    "no-scheme",       "opaque-base", "two-slashes", "host-missing",        "host-domain",      "host-number", "host-ipv6",
+    "host-code-point", "port-digit",  "port-range",  "first-segment-empty", "drive-after-host", "code-point",  "percent"};
+
+} // namespace detail
+
+// The rule's name, such as `host-domain`.
+constexpr std::string_view name(rule of) noexcept {
+    return *(std::data(detail::rule_names) + static_cast<std::uint32_t>(of) - 1);
+}
+
+// The rule, or the profile, that has the name.
+constexpr std::optional<rule> rule_named(std::string_view name) noexcept {
+    std::uint32_t number = 0;
+    for (std::string_view it : detail::rule_names)
+        if (++number; it == name) return static_cast<rule>(number);
+    return std::nullopt;
+}
+constexpr std::optional<profile> profile_named(std::string_view named) noexcept {
+    for (profile it : {profile::standard, profile::wide, profile::parser})
+        if (name(it) == named) return it;
+    return std::nullopt;
+}
+
+// The version of the library, such as "0.4.0", as a number: 10,000 times the first part, 100 times the second, and the third.
+inline std::uint32_t version() noexcept { return urlcheck_version(); }
+
 // A rule that a text violates at a place.
 struct violation {
     urlcheck::rule rule;
@@ -68,7 +107,7 @@ inline bool operator!=(const violation &one, const violation &other) noexcept { 
 enum class reason : std::uint32_t {
     refused = URLCHECK_REFUSED,       // the text, or the base that was to be made, violates a rule
     no_utf8 = URLCHECK_NO_UTF8,       // it isn't UTF-8
-    no_memory = URLCHECK_MEMORY,      // no memory was left; nothing is said of the text
+    no_memory = URLCHECK_MEMORY,      // no memory was left; the text may be valid or not
     no_profile = URLCHECK_NO_PROFILE, // no profile has the number
     no_place = URLCHECK_NO_PLACE      // the place of a violation is after the end of the text
 };
@@ -78,7 +117,7 @@ struct error {
     urlcheck::reason reason;
     std::size_t place;      // in code points: of a refusal its place, of bytes that aren't UTF-8 where these begin
     std::size_t byte_place; // the same place in bytes
-    std::uint32_t number;   // of a refusal the number of its rule, else 0
+    std::uint32_t number;   // the number of a refusal's rule, otherwise 0
 
     // The violation for which the text is refused.
     [[nodiscard]] std::optional<urlcheck::violation> violation() const noexcept {
@@ -90,20 +129,21 @@ struct error {
 // A value, or the error in its place: true if there is the value.
 template <class T> class [[nodiscard]] result {
 public:
-    explicit result(T value) noexcept : value_(std::move(value)), error_() {}
-    explicit result(const urlcheck::error &error) noexcept : error_(error) {}
+    result(T value) noexcept : value_(std::move(value)), error_() {}
+    result(const urlcheck::error &error) noexcept : error_(error) {}
 
     explicit operator bool() const noexcept { return value_.has_value(); }
     [[nodiscard]] bool has_value() const noexcept { return value_.has_value(); }
 
     // The value, which has to be there.
-    const T &operator*() const & noexcept { return *value_; }
-    T &&operator*() && noexcept { return *std::move(value_); }
-    const T *operator->() const noexcept { return &*value_; }
+    const T &operator*() const & noexcept URLCHECK_VIEWS { return *value_; }
+    // (a value of its own, so that a loop over what a call gives has it for as long)
+    T operator*() && noexcept { return *std::move(value_); }
+    const T *operator->() const noexcept URLCHECK_VIEWS { return &*value_; }
 
     // The value, if it is there.
-    [[nodiscard]] const std::optional<T> &value() const & noexcept { return value_; }
-    [[nodiscard]] std::optional<T> &&value() && noexcept { return std::move(value_); }
+    [[nodiscard]] const std::optional<T> &value() const & noexcept URLCHECK_VIEWS { return value_; }
+    [[nodiscard]] std::optional<T> value() && noexcept { return std::move(value_); }
 
     // The error, if there is no value.
     [[nodiscard]] const urlcheck::error &error() const noexcept { return error_; }
@@ -113,7 +153,17 @@ private:
     urlcheck::error error_;
 };
 
+class text;
+
 namespace detail {
+
+template <class Write> auto written(std::size_t room, Write write, text &out) noexcept;
+
+// Whether it is a string, or a text of the library, that ends with the call to which it is handed.
+template <class T>
+inline constexpr bool ends_with_the_call =
+    std::is_rvalue_reference_v<T> && !std::is_const_v<std::remove_reference_t<T>> &&
+    (std::is_same_v<std::decay_t<T>, std::string> || std::is_same_v<std::decay_t<T>, text>);
 
 inline const std::uint8_t *bytes(std::string_view text) noexcept {
     return reinterpret_cast<const std::uint8_t *>(text.data());
@@ -165,41 +215,59 @@ private:
 
 } // namespace detail
 
-// A text that the library has written.
+// A text that the library has written. It is empty once it was moved from.
 class text {
 public:
-    [[nodiscard]] std::string_view view() const noexcept {
+    [[nodiscard]] std::string_view view() const & noexcept URLCHECK_VIEWS {
         return {reinterpret_cast<const char *>(bytes_.data()), bytes_.size()};
     }
-    operator std::string_view() const noexcept { return view(); }
-
-    // Asks `write` for a text: it is handed a buffer, and gives an answer and the length of the text. Where the buffer
-    // is too short, it is called once more. The answer is the last one, or none if no memory was left.
-    template <class Write> static auto written(std::size_t room, Write write, text &out) noexcept {
-        using answer = decltype(write(nullptr, room).first);
-        for (;;) {
-            detail::array<std::uint8_t> bytes(room);
-            if (bytes.data() == nullptr) return std::optional<answer>();
-            const auto [given, length] = write(bytes.data(), room);
-            if (length <= room) {
-                bytes.shrink(length);
-                out.bytes_ = std::move(bytes);
-                return std::optional<answer>(given);
-            }
-            room = length;
-        }
-    }
+    operator std::string_view() const & noexcept URLCHECK_VIEWS { return view(); }
+    // (of a text that ends with the call no view is given)
+    [[nodiscard]] std::string_view view() const && = delete;
+    operator std::string_view() const && = delete;
+    [[nodiscard]] std::string str() const { return std::string(view()); }
 
 private:
+    template <class Write> friend auto detail::written(std::size_t room, Write write, text &out) noexcept;
+
     detail::array<std::uint8_t> bytes_;
 };
 
-// The parts of a text, which `Text` holds: views of it without their delimiters.
+inline bool operator==(const text &one, const text &other) noexcept { return one.view() == other.view(); }
+inline bool operator==(const text &one, std::string_view other) noexcept { return one.view() == other; }
+inline bool operator==(std::string_view one, const text &other) noexcept { return one == other.view(); }
+inline bool operator!=(const text &one, const text &other) noexcept { return !(one == other); }
+inline bool operator!=(const text &one, std::string_view other) noexcept { return !(one == other); }
+inline bool operator!=(std::string_view one, const text &other) noexcept { return !(one == other); }
+inline std::ostream &operator<<(std::ostream &out, const text &it) { return out << it.view(); }
+
+namespace detail {
+
+// Asks `write` for a text: it is handed a buffer, and gives an answer and the length of the text. If the buffer
+// is too short, it is called once more. The answer is the last one, or none if no memory was left.
+template <class Write> auto written(std::size_t room, Write write, text &out) noexcept {
+    using answer = decltype(write(nullptr, room).first);
+    for (;;) {
+        array<std::uint8_t> bytes(room);
+        if (bytes.data() == nullptr) return std::optional<answer>();
+        const auto [given, length] = write(bytes.data(), room);
+        if (length <= room) {
+            bytes.shrink(length);
+            out.bytes_ = std::move(bytes);
+            return std::optional<answer>(given);
+        }
+        room = length;
+    }
+}
+
+} // namespace detail
+
+// The parts of a text, which `Text` holds: views of it without their delimiters. A text that was moved from has none.
 template <class Text> class parts {
 public:
     parts(Text text, const urlcheck_spans &spans) noexcept : text_(std::move(text)), spans_(spans) {}
 
-    [[nodiscard]] std::string_view text() const noexcept { return text_; }
+    [[nodiscard]] std::string_view text() const noexcept URLCHECK_VIEWS { return text_; }
     [[nodiscard]] std::optional<std::string_view> scheme() const noexcept { return part(spans_.scheme); }
     [[nodiscard]] std::optional<std::string_view> host() const noexcept { return part(spans_.host); }
     [[nodiscard]] std::optional<std::string_view> port() const noexcept { return part(spans_.port); }
@@ -210,8 +278,8 @@ public:
 
 private:
     [[nodiscard]] std::optional<std::string_view> part(const urlcheck_span &span) const noexcept {
-        if (!span.present) return std::nullopt;
-        return std::string_view(text().data() + span.start, span.length);
+        if (!span.present || span.start + span.length > text().size()) return std::nullopt;
+        return text().substr(span.start, span.length);
     }
 
     Text text_;
@@ -219,7 +287,7 @@ private:
 };
 
 // A valid text with its parts as they are written, which are views of the caller's text.
-using url = parts<std::string_view>;
+using valid = parts<std::string_view>;
 
 // The kinds of hosts (section 3.1).
 enum class host_kind : std::uint32_t {
@@ -232,9 +300,9 @@ enum class host_kind : std::uint32_t {
 };
 
 // The URL that a valid text denotes, serialized (section 4.5), with its parts.
-class record : public parts<urlcheck::text> {
+class url : public parts<urlcheck::text> {
 public:
-    record(urlcheck::text text, const urlcheck_record &found) noexcept
+    url(urlcheck::text text, const urlcheck_record &found) noexcept
         : parts(std::move(text), found.parts), host_(found.host), has_opaque_path_(found.opaque_path != 0) {}
 
     [[nodiscard]] urlcheck::host_kind host_kind() const noexcept { return static_cast<urlcheck::host_kind>(host_); }
@@ -245,6 +313,10 @@ private:
     std::uint32_t host_;
     bool has_opaque_path_;
 };
+
+inline bool operator==(const url &one, const url &other) noexcept { return one.text() == other.text(); }
+inline bool operator!=(const url &one, const url &other) noexcept { return !(one == other); }
+inline std::ostream &operator<<(std::ostream &out, const url &it) { return out << it.text(); }
 
 // How a mended text differs from the refused one.
 enum class mend_kind : std::uint32_t {
@@ -265,47 +337,44 @@ struct mended {
     bool is_offered; // whether reports offer it: if not, its author seems to have meant another link
 };
 
+// (a violation is laid out as the library writes one)
+static_assert(sizeof(violation) == sizeof(urlcheck_fault) && std::is_standard_layout_v<violation> &&
+                  offsetof(violation, rule) == offsetof(urlcheck_fault, rule) &&
+                  offsetof(violation, place) == offsetof(urlcheck_fault, place) &&
+                  offsetof(violation, byte_place) == offsetof(urlcheck_fault, byte_place),
+              "layout");
+
 // All that is wrong with a text, by place and at one place by rule.
 class violations {
 public:
-    class iterator {
-    public:
-        explicit iterator(const urlcheck_fault *at) noexcept : at_(at) {}
-        violation operator*() const noexcept { return {static_cast<rule>(at_->rule), at_->place, at_->byte_place}; }
-        iterator &operator++() noexcept {
-            ++at_;
-            return *this;
-        }
-        bool operator==(const iterator &other) const noexcept { return at_ == other.at_; }
-        bool operator!=(const iterator &other) const noexcept { return at_ != other.at_; }
+    using value_type = violation;
+    using const_iterator = const violation *;
+    using iterator = const_iterator;
 
-    private:
-        const urlcheck_fault *at_;
-    };
+    explicit violations(detail::array<violation> found) noexcept : found_(std::move(found)) {}
 
-    explicit violations(detail::array<urlcheck_fault> faults) noexcept : faults_(std::move(faults)) {}
-
-    [[nodiscard]] std::size_t size() const noexcept { return faults_.size(); }
+    [[nodiscard]] std::size_t size() const noexcept { return found_.size(); }
     [[nodiscard]] bool empty() const noexcept { return size() == 0; }
-    [[nodiscard]] iterator begin() const noexcept { return iterator(faults_.data()); }
-    [[nodiscard]] iterator end() const noexcept { return iterator(faults_.data() + size()); }
+    [[nodiscard]] const violation *begin() const noexcept URLCHECK_VIEWS { return found_.data(); }
+    [[nodiscard]] const violation *end() const noexcept URLCHECK_VIEWS { return begin() + size(); }
+    [[nodiscard]] const violation &operator[](std::size_t at) const noexcept URLCHECK_VIEWS { return begin()[at]; }
 
 private:
-    detail::array<urlcheck_fault> faults_;
+    detail::array<violation> found_;
 };
 
-// A base that is valid alone, checked once for many texts. It keeps a view of its text, which has to be there as long
-// as texts are resolved or mended against it.
+// A base that is valid by itself, checked once for many texts. It keeps a view of its text, which has to be there as
+// long as texts are resolved or mended against it.
 class base {
 public:
-    // The base of a text, checked by a profile, by which texts are then checked against it; or the error of the base.
-    static result<base> of(std::string_view text, urlcheck::profile by = urlcheck::profile::standard) noexcept {
+    // The base of a text, checked under a profile, which texts are then checked under too; or the error of the base.
+    static result<base> of(std::string_view text URLCHECK_VIEWS, urlcheck::profile by = urlcheck::profile::standard) noexcept {
         const urlcheck_base prepared = urlcheck_prepare(detail::bytes(text), text.size(), detail::number(by));
-        if (prepared.found.verdict != URLCHECK_VALID) return result<base>(detail::error_of(prepared.found));
-        return result<base>(base(text, prepared));
+        if (prepared.found.verdict != URLCHECK_VALID) return detail::error_of(prepared.found);
+        return base(text, prepared);
     }
     // (of a string that ends with the call no view is kept)
-    template <class Text, std::enable_if_t<std::is_same_v<Text, std::string>, int> = 0>
+    template <class Text, std::enable_if_t<detail::ends_with_the_call<Text &&>, int> = 0>
     static result<base> of(Text &&text, urlcheck::profile by = urlcheck::profile::standard) = delete;
 
     [[nodiscard]] std::string_view text() const noexcept { return text_; }
@@ -321,133 +390,118 @@ private:
     urlcheck_base prepared_;
 };
 
-namespace detail {
+// What a text is checked by: a profile, or a base and its profile. A call takes either in its place.
+class setting {
+public:
+    setting(urlcheck::profile by = urlcheck::profile::standard) noexcept : profile_(detail::number(by)) {}
+    setting(const base &against) noexcept
+        : profile_(detail::number(against.profile())), prepared_(&against.prepared()), base_(against.text()) {}
 
-// What a text is checked by: a profile, and a base or none.
-struct setting {
-    std::uint32_t profile;
-    const urlcheck_base *prepared = nullptr;
-    std::string_view base;
+    // (a base that ends with the call is not kept)
+    setting(const base &&) = delete;
 
-    setting(urlcheck::profile by) noexcept : profile(number(by)) {}
-    setting(const urlcheck::base &against) noexcept
-        : profile(number(against.profile())), prepared(&against.prepared()), base(against.text()) {}
-
-    // A base's bytes, or null if there is none. (That of a base is never null, since it is valid and so not empty.)
+    [[nodiscard]] std::uint32_t profile() const noexcept { return profile_; }
+    // The base, or null; and its bytes, or null. (That of a base is never null, since it is valid and so not empty.)
+    [[nodiscard]] const urlcheck_base *prepared() const noexcept { return prepared_; }
     [[nodiscard]] const std::uint8_t *base_bytes() const noexcept {
-        return prepared == nullptr ? nullptr : bytes(base);
+        return prepared_ == nullptr ? nullptr : detail::bytes(base_);
     }
-    // This many bytes hold the URL of nearly every text in which nothing is percent-encoded.
-    [[nodiscard]] std::size_t usual_room(std::string_view text) const noexcept { return text.size() + base.size() + 4; }
+    [[nodiscard]] std::size_t base_size() const noexcept { return base_.size(); }
+
+private:
+    std::uint32_t profile_;
+    const urlcheck_base *prepared_ = nullptr;
+    std::string_view base_;
 };
 
-inline result<url> check(std::string_view text, const setting &by) noexcept {
-    const urlcheck_answer answer = urlcheck_check(bytes(text), text.size(), by.profile, by.prepared);
-    if (answer.found.verdict != URLCHECK_VALID) return result<url>(error_of(answer.found));
-    return result<url>(url(text, answer.parts));
+// The valid text with its parts.
+inline result<valid> check(std::string_view text URLCHECK_VIEWS, const setting &by = {}) noexcept {
+    const urlcheck_answer answer = urlcheck_check(detail::bytes(text), text.size(), by.profile(), by.prepared());
+    if (answer.found.verdict != URLCHECK_VALID) return detail::error_of(answer.found);
+    return valid(text, answer.parts);
+}
+// (of a string, or a text, that ends with the call no view is kept; `is_valid` takes one)
+template <class Text, std::enable_if_t<detail::ends_with_the_call<Text &&>, int> = 0>
+result<valid> check(Text &&text, const setting &by = {}) = delete;
+
+// Whether the text is valid: the fastest call. It is also false if no memory was left for a domain that isn't ASCII,
+// and if no profile has the number; `check` tells these apart.
+inline bool is_valid(std::string_view text, const setting &by = {}) noexcept {
+    return urlcheck_is_valid(detail::bytes(text), text.size(), by.profile(), by.prepared());
 }
 
-inline result<record> resolve(std::string_view text, const setting &by) noexcept {
+namespace detail {
+
+// This many bytes hold the URL of nearly every text in which nothing is percent-encoded.
+inline std::size_t usual_room(std::string_view text, const setting &by) noexcept {
+    return text.size() + by.base_size() + 4;
+}
+
+} // namespace detail
+
+// The URL that the text denotes.
+inline result<url> resolve(std::string_view text, const setting &by = {}) noexcept {
     urlcheck::text out;
     const auto write = [&](std::uint8_t *memory, std::size_t room) {
-        const urlcheck_record found =
-            urlcheck_resolve(bytes(text), text.size(), by.profile, by.base_bytes(), by.base.size(), memory, room);
+        const urlcheck_record found = urlcheck_resolve(detail::bytes(text), text.size(), by.profile(), by.base_bytes(),
+                                                       by.base_size(), memory, room);
         return std::pair(found, found.length);
     };
-    const auto found = urlcheck::text::written(by.usual_room(text), write, out);
-    if (!found) return result<record>(no_memory());
-    if (found->found.verdict != URLCHECK_VALID) return result<record>(error_of(found->found));
-    return result<record>(record(std::move(out), *found));
+    const auto found = detail::written(detail::usual_room(text, by), write, out);
+    if (!found) return detail::no_memory();
+    if (found->found.verdict != URLCHECK_VALID) return detail::error_of(found->found);
+    return url(std::move(out), *found);
 }
 
-inline result<std::optional<mended>> mend(std::string_view text, const setting &by) noexcept {
+// The valid text to write in place of a refused one; nothing if the text is valid; its error if the edits make no
+// valid text of it.
+inline result<std::optional<mended>> mend(std::string_view text, const setting &by = {}) noexcept {
     urlcheck::text out;
     const auto write = [&](std::uint8_t *memory, std::size_t room) {
-        const urlcheck_mended found =
-            urlcheck_mend(bytes(text), text.size(), by.profile, by.base_bytes(), by.base.size(), memory, room);
+        const urlcheck_mended found = urlcheck_mend(detail::bytes(text), text.size(), by.profile(), by.base_bytes(),
+                                                    by.base_size(), memory, room);
         return std::pair(found, found.length);
     };
-    const auto found = urlcheck::text::written(by.usual_room(text), write, out);
-    using answer = result<std::optional<mended>>;
-    if (!found) return answer(no_memory());
-    if (found->found.verdict == URLCHECK_VALID) return answer(std::optional<mended>());
-    if (found->found.verdict != URLCHECK_MENDED) return answer(error_of(found->found));
-    return answer(mended{std::move(out), static_cast<mend_kind>(found->kind), found->offered != 0});
+    const auto found = detail::written(detail::usual_room(text, by), write, out);
+    if (!found) return detail::no_memory();
+    if (found->found.verdict == URLCHECK_VALID) return std::optional<mended>();
+    if (found->found.verdict != URLCHECK_MENDED) return detail::error_of(found->found);
+    return std::optional(mended{std::move(out), static_cast<mend_kind>(found->kind), found->offered != 0});
 }
 
-inline result<violations> all(std::string_view text, const setting &by) noexcept {
-    std::size_t room = 4;
-    for (;;) {
-        array<urlcheck_fault> faults(room);
-        if (faults.data() == nullptr) return result<violations>(no_memory());
+// All that is wrong with the text; nothing if it is valid.
+inline result<violations> violations_of(std::string_view text, const setting &by = {}) noexcept {
+    for (std::size_t room = 4;;) {
+        detail::array<violation> all(room);
+        if (all.data() == nullptr) return detail::no_memory();
         const urlcheck_fault_count found =
-            urlcheck_faults(bytes(text), text.size(), by.profile, by.prepared, faults.data(), room);
+            urlcheck_faults(detail::bytes(text), text.size(), by.profile(), by.prepared(),
+                            reinterpret_cast<urlcheck_fault *>(all.data()), room);
         const bool is_said = found.found.verdict == URLCHECK_VALID || found.found.verdict == URLCHECK_REFUSED;
-        if (!is_said) return result<violations>(error_of(found.found));
+        if (!is_said) return detail::error_of(found.found);
         if (found.count <= room) {
-            faults.shrink(found.count);
-            return result<violations>(violations(std::move(faults)));
+            all.shrink(found.count);
+            return violations(std::move(all));
         }
         room = found.count;
     }
 }
 
-inline bool is_valid(std::string_view text, const setting &by) noexcept {
-    return urlcheck_is_valid(bytes(text), text.size(), by.profile, by.prepared);
-}
+namespace detail {
 
 inline text fixed_text(std::uint32_t what, rule of) noexcept {
     text out;
     const auto write = [&](std::uint8_t *memory, std::size_t room) {
         return std::pair(0, urlcheck_text(what, static_cast<std::uint32_t>(of), memory, room));
     };
-    text::written(usual_fixed_text, write, out);
+    written(usual_fixed_text, write, out);
     return out;
 }
 
 } // namespace detail
 
-// The valid text with its parts, alone by a profile or against a base by its profile.
-inline result<url> check(std::string_view text, profile by = profile::standard) noexcept {
-    return detail::check(text, by);
-}
-inline result<url> check(std::string_view text, const base &against) noexcept { return detail::check(text, against); }
-
-// Whether the text is valid: the fastest call. It is also false if no memory was left for a domain that isn't ASCII,
-// and if no profile has the number; `check` tells these apart.
-inline bool is_valid(std::string_view text, profile by = profile::standard) noexcept {
-    return detail::is_valid(text, by);
-}
-inline bool is_valid(std::string_view text, const base &against) noexcept { return detail::is_valid(text, against); }
-
-// The URL that the text denotes.
-inline result<record> resolve(std::string_view text, profile by = profile::standard) noexcept {
-    return detail::resolve(text, by);
-}
-inline result<record> resolve(std::string_view text, const base &against) noexcept {
-    return detail::resolve(text, against);
-}
-
-// The valid text to write in place of a refused one; nothing if the text is valid; its error if the edits make no
-// valid text of it.
-inline result<std::optional<mended>> mend(std::string_view text, profile by = profile::standard) noexcept {
-    return detail::mend(text, by);
-}
-inline result<std::optional<mended>> mend(std::string_view text, const base &against) noexcept {
-    return detail::mend(text, against);
-}
-
-// All that is wrong with the text; nothing if it is valid.
-inline result<violations> violations_of(std::string_view text, profile by = profile::standard) noexcept {
-    return detail::all(text, by);
-}
-inline result<violations> violations_of(std::string_view text, const base &against) noexcept {
-    return detail::all(text, against);
-}
-
-// The rule's name, such as `host-domain`. It is empty if no memory was left, as are those below.
-inline text name(rule of) noexcept { return detail::fixed_text(URLCHECK_RULE_NAME, of); }
-// What is wrong at the place of a violation, without the code point that is there: `message` names it.
+// What is wrong at the place of a violation, without the code point that is there: `message` names it. It is empty if no
+// memory was left, as are those below.
 inline text sentence(rule of) noexcept { return detail::fixed_text(URLCHECK_RULE_SENTENCE, of); }
 // The address of the section of the URL Standard that has the rule.
 inline text address(rule of) noexcept { return detail::fixed_text(URLCHECK_RULE_ADDRESS, of); }
@@ -456,21 +510,22 @@ inline text requires_of(rule of) noexcept { return detail::fixed_text(URLCHECK_R
 // The number of that section, and what it calls what the rule is about.
 inline text section(rule of) noexcept { return detail::fixed_text(URLCHECK_RULE_SECTION, of); }
 
-// The sentence on a violation of a text that was checked by a profile, which names the code point at the place.
-inline result<text> message(std::string_view about, const violation &wrong, profile by = profile::standard) noexcept {
+// The sentence on a violation of a text that was checked so, which names the code point at the place.
+inline result<text> message(std::string_view about, const violation &wrong, const setting &by = {}) noexcept {
     text out;
     const auto write = [&](std::uint8_t *memory, std::size_t room) {
         const urlcheck_written found =
-            urlcheck_message(detail::bytes(about), about.size(), detail::number(by), URLCHECK_WORDING_NONE,
+            urlcheck_message(detail::bytes(about), about.size(), by.profile(), by.prepared(), URLCHECK_WORDING_NONE,
                              static_cast<std::uint32_t>(wrong.rule), wrong.place, memory, room);
         return std::pair(found, found.length);
     };
-    const auto found = text::written(detail::usual_message, write, out);
-    if (!found) return result<text>(detail::no_memory());
-    if (found->found.verdict != URLCHECK_DONE) return result<text>(detail::error_of(found->found));
-    return result<text>(std::move(out));
+    const auto found = detail::written(detail::usual_message, write, out);
+    if (!found) return detail::no_memory();
+    if (found->found.verdict != URLCHECK_DONE) return detail::error_of(found->found);
+    return out;
 }
 
 } // namespace urlcheck
 
+#undef URLCHECK_VIEWS
 #endif

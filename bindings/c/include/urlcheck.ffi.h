@@ -212,40 +212,10 @@ typedef struct urlcheck_reported {
     const uint8_t *fix;
     size_t fix_length;
 } urlcheck_reported;
-urlcheck_base urlcheck_prepare(const uint8_t *base, size_t length, uint32_t profile);
-urlcheck_answer urlcheck_check(const uint8_t *text, size_t length, uint32_t profile, const urlcheck_base *base);
-urlcheck_bool urlcheck_is_valid(const uint8_t *text, size_t length, uint32_t profile, const urlcheck_base *base);
-urlcheck_fault_count urlcheck_faults(const uint8_t *text, size_t length, uint32_t profile, const urlcheck_base *base,
-                                     urlcheck_fault *out, size_t room);
-urlcheck_record urlcheck_resolve(const uint8_t *text, size_t length, uint32_t profile, const uint8_t *base,
-                                 size_t base_length, uint8_t *out, size_t room);
-urlcheck_mended urlcheck_mend(const uint8_t *text, size_t length, uint32_t profile, const uint8_t *base,
-                              size_t base_length, uint8_t *out, size_t room);
-urlcheck_batch urlcheck_check_many(const uint8_t *texts, size_t length, const uint64_t *offsets, size_t count,
-                                   uint32_t profile, const urlcheck_base *base, uint8_t *verdicts, uint8_t *rules,
-                                   uint64_t *places);
-urlcheck_batch urlcheck_resolve_many(const uint8_t *texts, size_t length, const uint64_t *offsets, size_t count,
-                                     uint32_t profile, uint8_t *verdicts, uint8_t *rules, uint64_t *places,
-                                     uint64_t *ends, uint8_t *out, size_t room);
-urlcheck_line urlcheck_next_refused(const uint8_t *lines, size_t length, size_t from, uint32_t profile);
-urlcheck_written urlcheck_report_begin(uint32_t format, uint32_t unit, uint8_t *out, size_t room);
-urlcheck_written urlcheck_report_file_begin(uint32_t format, const uint8_t *file, size_t length, uint8_t *out,
-                                            size_t room);
-urlcheck_written urlcheck_diagnostic(uint32_t format, uint32_t is_first, const urlcheck_reported *reported,
-                                     uint8_t *out, size_t room);
-urlcheck_written urlcheck_report_file_end(uint32_t format, uint8_t *out, size_t room);
-urlcheck_written urlcheck_report_end(uint32_t format, uint32_t completion, uint8_t *out, size_t room);
-urlcheck_written urlcheck_message(const uint8_t *text, size_t length, uint32_t profile, uint32_t wording, uint32_t rule,
-                                  size_t place, uint8_t *out, size_t room);
-urlcheck_counted urlcheck_column(const uint8_t *text, size_t length, uint32_t unit, uint64_t start, size_t place);
-urlcheck_bool urlcheck_shows_mended(uint32_t format);
-urlcheck_bool urlcheck_takes_unit(uint32_t format, uint32_t unit);
-size_t urlcheck_text(uint32_t what, uint32_t number, uint8_t *out, size_t room);
-size_t urlcheck_example_place(uint32_t rule);
-uint32_t urlcheck_version(void);
 void urlcheck_prepare_to(urlcheck_base *answer, const uint8_t *base, size_t length, uint32_t profile);
 void urlcheck_check_to(urlcheck_answer *answer, const uint8_t *text, size_t length, uint32_t profile,
                        const urlcheck_base *base);
+urlcheck_bool urlcheck_is_valid(const uint8_t *text, size_t length, uint32_t profile, const urlcheck_base *base);
 void urlcheck_faults_to(urlcheck_fault_count *answer, const uint8_t *text, size_t length, uint32_t profile,
                         const urlcheck_base *base, urlcheck_fault *out, size_t room);
 void urlcheck_resolve_to(urlcheck_record *answer, const uint8_t *text, size_t length, uint32_t profile,
@@ -268,6 +238,12 @@ void urlcheck_diagnostic_to(urlcheck_written *answer, uint32_t format, uint32_t 
 void urlcheck_report_file_end_to(urlcheck_written *answer, uint32_t format, uint8_t *out, size_t room);
 void urlcheck_report_end_to(urlcheck_written *answer, uint32_t format, uint32_t completion, uint8_t *out, size_t room);
 void urlcheck_message_to(urlcheck_written *answer, const uint8_t *text, size_t length, uint32_t profile,
-                         uint32_t wording, uint32_t rule, size_t place, uint8_t *out, size_t room);
+                         const urlcheck_base *base, uint32_t wording, uint32_t rule, size_t place, uint8_t *out,
+                         size_t room);
 void urlcheck_column_to(urlcheck_counted *answer, const uint8_t *text, size_t length, uint32_t unit, uint64_t start,
                         size_t place);
+urlcheck_bool urlcheck_shows_mended(uint32_t format);
+urlcheck_bool urlcheck_takes_unit(uint32_t format, uint32_t unit);
+size_t urlcheck_text(uint32_t what, uint32_t number, uint8_t *out, size_t room);
+size_t urlcheck_example_place(uint32_t rule);
+uint32_t urlcheck_version(void);

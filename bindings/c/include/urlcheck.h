@@ -2,7 +2,7 @@
  * The checker of valid URL strings (WHATWG URL Standard, sections 3.4 and 4.3), alone or against a base.
  *
  * A text is bytes and their length. It may hold any bytes, and needs no NUL at its end. Each function has a proved
- * contract: on every input it is safe, ends, and returns what is said here. It requires only this of its caller:
+ * contract: on every input it is safe, ends, and returns what this header says. It requires only this of its caller:
  *
  * - a pointer points to as many bytes or elements as its length says;
  * - nothing else writes to the arguments during the call, and an `out` overlaps no other argument;
@@ -11,8 +11,7 @@
  * A null pointer stands for no bytes if its length or room is 0. Otherwise the call answers URLCHECK_NULL, and neither
  * reads nor writes anything.
  *
- * There is no setup, no state and nothing to free: each call frees all memory that it took, answers by value and keeps
- * no pointer. A base for many texts is prepared once, as a value without a pointer. Any number of threads may call at
+ * There is no setup, no state and nothing to free: each call frees all memory that it took, and keeps no pointer. A base for many texts is prepared once, as a value without a pointer. Any number of threads may call at
  * once.
  *
  * A place counts from 0, in code points or in bytes. A profile is a number: see urlcheck_profile.
@@ -188,7 +187,7 @@ typedef struct urlcheck_base {
     uint32_t empty_host;    /* 1 if the host is the empty one, otherwise 0 */
 } urlcheck_base;
 
-/* What is wrong with a line that isn't checked, for reports. The numbers come after those of the rules. */
+/* What is wrong with a line that isn't checked, for reports. The numbers come after the rules' numbers. */
 enum urlcheck_line_rule {
     URLCHECK_LINE_NO_UTF8 = 101,      /* the line isn't UTF-8 */
     URLCHECK_LINE_TOO_LONG = 102,     /* the line has more than 65536 bytes */
@@ -321,14 +320,16 @@ typedef struct urlcheck_reported {
  * Checks a base under a profile, for calls with the same profile. If it isn't valid, `found` says why, and those calls
  * say the same. A result with URLCHECK_NULL isn't a base.
  */
-urlcheck_base urlcheck_prepare(const uint8_t *base, size_t length, uint32_t profile);
+void urlcheck_prepare_to(urlcheck_base *answer, const uint8_t *base, size_t length, uint32_t profile);
 
 /*
  * Whether the text is a valid URL string: without a base if `base` is null, otherwise against a base that
  * urlcheck_prepare made under the same profile. If the base has another profile or is all zeros, the verdict is
- * URLCHECK_NO_BASE; if it isn't valid, the verdict is the base's.
+ * URLCHECK_NO_BASE; if it isn't valid, the verdict is the base's. Each call looks at the profile first, then at the
+ * text, and then at the base: a text that isn't UTF-8 is URLCHECK_NO_UTF8 with any base.
  */
-urlcheck_answer urlcheck_check(const uint8_t *text, size_t length, uint32_t profile, const urlcheck_base *base);
+void urlcheck_check_to(urlcheck_answer *answer, const uint8_t *text, size_t length, uint32_t profile,
+                       const urlcheck_base *base);
 
 /*
  * Whether the text is known to be a valid URL string, with a base as for urlcheck_check: the fastest call. True means
@@ -343,8 +344,8 @@ urlcheck_bool urlcheck_is_valid(const uint8_t *text, size_t length, uint32_t pro
  * `room`; it is 0 if and only if the verdict isn't URLCHECK_REFUSED. Elements after the last one written stay as they
  * are.
  */
-urlcheck_fault_count urlcheck_faults(const uint8_t *text, size_t length, uint32_t profile, const urlcheck_base *base,
-                                     urlcheck_fault *out, size_t room);
+void urlcheck_faults_to(urlcheck_fault_count *answer, const uint8_t *text, size_t length, uint32_t profile,
+                        const urlcheck_base *base, urlcheck_fault *out, size_t room);
 
 /*
  * Writes the text of the URL record that the text denotes (sections 4.4 and 4.5) to the start of `out`, without a NUL,
@@ -355,8 +356,8 @@ urlcheck_fault_count urlcheck_faults(const uint8_t *text, size_t length, uint32_
  * If `base` is null, there is no base. Otherwise it has the bytes of a base, which is checked under the same profile;
  * with a length of 0 it is the empty text, which is refused.
  */
-urlcheck_record urlcheck_resolve(const uint8_t *text, size_t length, uint32_t profile, const uint8_t *base,
-                                 size_t base_length, uint8_t *out, size_t room);
+void urlcheck_resolve_to(urlcheck_record *answer, const uint8_t *text, size_t length, uint32_t profile,
+                         const uint8_t *base, size_t base_length, uint8_t *out, size_t room);
 
 /*
  * Writes a valid URL string in place of a refused text, from which it differs by local edits, to the start of `out`, as
@@ -364,8 +365,8 @@ urlcheck_record urlcheck_resolve(const uint8_t *text, size_t length, uint32_t pr
  * itself, URLCHECK_MENDED if there is a mended text, and URLCHECK_REFUSED, with the text's rule and place, if there is
  * none. It is also URLCHECK_MEMORY if a second parser would make a text of 4 GiB or more.
  */
-urlcheck_mended urlcheck_mend(const uint8_t *text, size_t length, uint32_t profile, const uint8_t *base,
-                              size_t base_length, uint8_t *out, size_t room);
+void urlcheck_mend_to(urlcheck_mended *answer, const uint8_t *text, size_t length, uint32_t profile,
+                      const uint8_t *base, size_t base_length, uint8_t *out, size_t room);
 
 /*
  * Checks many texts under a profile, with a base as for urlcheck_check. Text i is the bytes from offsets[i] to
@@ -373,39 +374,41 @@ urlcheck_mended urlcheck_mend(const uint8_t *text, size_t length, uint32_t profi
  * verdicts[i], rules[i] and, in code points, places[i]. Each of these columns is null or has `count` elements. If the
  * outcome isn't URLCHECK_DONE, nothing is written.
  */
-urlcheck_batch urlcheck_check_many(const uint8_t *texts, size_t length, const uint64_t *offsets, size_t count,
-                                   uint32_t profile, const urlcheck_base *base, uint8_t *verdicts, uint8_t *rules,
-                                   uint64_t *places);
+void urlcheck_check_many_to(urlcheck_batch *answer, const uint8_t *texts, size_t length, const uint64_t *offsets,
+                            size_t count, uint32_t profile, const urlcheck_base *base, uint8_t *verdicts,
+                            uint8_t *rules, uint64_t *places);
 
 /*
  * Resolves many texts without a base under a profile. Texts and columns are as for urlcheck_check_many, with what
- * urlcheck_resolve answers. The texts of the records are one after the other at the start of `out`: that of text i is
+ * urlcheck_resolve answers. The texts of the records are one after the other at the start of `out`: the record of text i is
  * from ends[i] to ends[i + 1], and is empty if the verdict isn't URLCHECK_VALID. So `ends` has `count` + 1 elements, or
  * is null. The answer has the length of all of them. If `room` is less, `out` stays as it is and everything else is
  * written, so a second call with enough room writes them. If malloc gave no memory for a record, the verdict is
  * URLCHECK_MEMORY. If the outcome isn't URLCHECK_DONE, nothing is written.
  */
-urlcheck_batch urlcheck_resolve_many(const uint8_t *texts, size_t length, const uint64_t *offsets, size_t count,
-                                     uint32_t profile, uint8_t *verdicts, uint8_t *rules, uint64_t *places,
-                                     uint64_t *ends, uint8_t *out, size_t room);
+void urlcheck_resolve_many_to(urlcheck_batch *answer, const uint8_t *texts, size_t length, const uint64_t *offsets,
+                              size_t count, uint32_t profile, uint8_t *verdicts, uint8_t *rules, uint64_t *places,
+                              uint64_t *ends, uint8_t *out, size_t room);
 
 /*
  * Checks the lines of a buffer without a base under a profile, from the byte `from` on, up to the first that isn't
  * valid. A line ends with LF, and one CR before that isn't part of its text. Bytes after the last LF are a line too. An
  * empty line is the empty text. `found` is what urlcheck_check finds about the line. If all lines are valid, it is
- * URLCHECK_VALID, and `start` and `next` are the end of the buffer. The next call goes on from `next`.
+ * URLCHECK_VALID, and `start` and `next` are the end of the buffer. The next call goes on from `next`. If `from` is after
+ * the end of the buffer, `found` is URLCHECK_NO_PLACE, and each number is 0: nothing is left to go on from.
  */
-urlcheck_line urlcheck_next_refused(const uint8_t *lines, size_t length, size_t from, uint32_t profile);
+void urlcheck_next_refused_to(urlcheck_line *answer, const uint8_t *lines, size_t length, size_t from,
+                              uint32_t profile);
 
 /*
  * Reports, as `urlcheck lint` writes them: a beginning, for each file its own beginning, its diagnostics and its end,
  * and then an end. Each call writes its text, in UTF-8 and without a NUL, to the start of `out` if `room` bytes hold
  * it, and returns its length, which may be 0. Otherwise `out` stays as it is. All calls of a report have the same unit.
  */
-urlcheck_written urlcheck_report_begin(uint32_t format, uint32_t unit, uint8_t *out, size_t room);
+void urlcheck_report_begin_to(urlcheck_written *answer, uint32_t format, uint32_t unit, uint8_t *out, size_t room);
 
-urlcheck_written urlcheck_report_file_begin(uint32_t format, const uint8_t *file, size_t length, uint8_t *out,
-                                            size_t room);
+void urlcheck_report_file_begin_to(urlcheck_written *answer, uint32_t format, const uint8_t *file, size_t length,
+                                   uint8_t *out, size_t room);
 
 /*
  * A diagnostic of the report. `is_first` is 1 if it is the first one, otherwise 0. There is none if no format has the
@@ -416,22 +419,25 @@ urlcheck_written urlcheck_report_file_begin(uint32_t format, const uint8_t *file
  * (URLCHECK_MENDED_NO_UTF8). SARIF and rdjson write an edit, so they leave out a fix that isn't offered or has no
  * region. Formats without mended texts (urlcheck_shows_mended) leave out every fix.
  */
-urlcheck_written urlcheck_diagnostic(uint32_t format, uint32_t is_first, const urlcheck_reported *reported,
-                                     uint8_t *out, size_t room);
+void urlcheck_diagnostic_to(urlcheck_written *answer, uint32_t format, uint32_t is_first,
+                            const urlcheck_reported *reported, uint8_t *out, size_t room);
 
-urlcheck_written urlcheck_report_file_end(uint32_t format, uint8_t *out, size_t room);
+void urlcheck_report_file_end_to(urlcheck_written *answer, uint32_t format, uint8_t *out, size_t room);
 
-urlcheck_written urlcheck_report_end(uint32_t format, uint32_t completion, uint8_t *out, size_t room);
+void urlcheck_report_end_to(urlcheck_written *answer, uint32_t format, uint32_t completion, uint8_t *out, size_t room);
 
 /*
- * The sentence on a violation of a text under a profile, as in the format gnu after `error: `. The rule is one of
+ * The sentence on a violation of a text under a profile, as in the format gnu after `error: `. The base is that of
+ * urlcheck_check: the sentence may name a wider profile, if that accepts the text against it. The rule is one of
  * urlcheck_rule or urlcheck_line_rule, the place is in code points, and the wording is one of urlcheck_wording.
  */
-urlcheck_written urlcheck_message(const uint8_t *text, size_t length, uint32_t profile, uint32_t wording, uint32_t rule,
-                                  size_t place, uint8_t *out, size_t room);
+void urlcheck_message_to(urlcheck_written *answer, const uint8_t *text, size_t length, uint32_t profile,
+                         const urlcheck_base *base, uint32_t wording, uint32_t rule, size_t place, uint8_t *out,
+                         size_t room);
 
 /* The column of a place, in a unit, if the text begins in the column `start`. The place is in code points. */
-urlcheck_counted urlcheck_column(const uint8_t *text, size_t length, uint32_t unit, uint64_t start, size_t place);
+void urlcheck_column_to(urlcheck_counted *answer, const uint8_t *text, size_t length, uint32_t unit, uint64_t start,
+                        size_t place);
 
 /* Whether diagnostics of the format say what to write in place of a text; false if no format has the number. */
 urlcheck_bool urlcheck_shows_mended(uint32_t format);
@@ -449,47 +455,137 @@ size_t urlcheck_text(uint32_t what, uint32_t number, uint8_t *out, size_t room);
 /* The place at which the example of the rule is refused, in code points; 0 if no rule has the number. */
 size_t urlcheck_example_place(uint32_t rule);
 
-/* The version of the library, as URLCHECK_VERSION is that of the header. */
+/* The version of the library; URLCHECK_VERSION is the header's. */
 uint32_t urlcheck_version(void);
 
 /*
- * The same calls for languages that can't handle a struct by value: each writes its answer to the first argument, which
- * isn't null.
+ * Each call that ends with _to writes its answer to its first argument, which isn't null. Its form without that ending
+ * returns the answer: `answer = urlcheck_check(..)` does what `urlcheck_check_to(&answer, ..)` does. These forms are part
+ * of your program, and the library doesn't export them; with URLCHECK_NO_INLINE there are none.
  */
-void urlcheck_prepare_to(urlcheck_base *answer, const uint8_t *base, size_t length, uint32_t profile);
-void urlcheck_check_to(urlcheck_answer *answer, const uint8_t *text, size_t length, uint32_t profile,
-                       const urlcheck_base *base);
-void urlcheck_faults_to(urlcheck_fault_count *answer, const uint8_t *text, size_t length, uint32_t profile,
-                        const urlcheck_base *base, urlcheck_fault *out, size_t room);
-void urlcheck_resolve_to(urlcheck_record *answer, const uint8_t *text, size_t length, uint32_t profile,
-                         const uint8_t *base, size_t base_length, uint8_t *out, size_t room);
-void urlcheck_mend_to(urlcheck_mended *answer, const uint8_t *text, size_t length, uint32_t profile,
-                      const uint8_t *base, size_t base_length, uint8_t *out, size_t room);
-void urlcheck_check_many_to(urlcheck_batch *answer, const uint8_t *texts, size_t length, const uint64_t *offsets,
-                            size_t count, uint32_t profile, const urlcheck_base *base, uint8_t *verdicts,
-                            uint8_t *rules, uint64_t *places);
-void urlcheck_resolve_many_to(urlcheck_batch *answer, const uint8_t *texts, size_t length, const uint64_t *offsets,
-                              size_t count, uint32_t profile, uint8_t *verdicts, uint8_t *rules, uint64_t *places,
-                              uint64_t *ends, uint8_t *out, size_t room);
-void urlcheck_next_refused_to(urlcheck_line *answer, const uint8_t *lines, size_t length, size_t from,
-                              uint32_t profile);
-void urlcheck_report_begin_to(urlcheck_written *answer, uint32_t format, uint32_t unit, uint8_t *out, size_t room);
-void urlcheck_report_file_begin_to(urlcheck_written *answer, uint32_t format, const uint8_t *file, size_t length,
-                                   uint8_t *out, size_t room);
-void urlcheck_diagnostic_to(urlcheck_written *answer, uint32_t format, uint32_t is_first,
-                            const urlcheck_reported *reported, uint8_t *out, size_t room);
-void urlcheck_report_file_end_to(urlcheck_written *answer, uint32_t format, uint8_t *out, size_t room);
-void urlcheck_report_end_to(urlcheck_written *answer, uint32_t format, uint32_t completion, uint8_t *out, size_t room);
-void urlcheck_message_to(urlcheck_written *answer, const uint8_t *text, size_t length, uint32_t profile,
-                         uint32_t wording, uint32_t rule, size_t place, uint8_t *out, size_t room);
-void urlcheck_column_to(urlcheck_counted *answer, const uint8_t *text, size_t length, uint32_t unit, uint64_t start,
-                        size_t place);
+#ifndef URLCHECK_NO_INLINE
+#if defined(__cplusplus)
+#define URLCHECK_INLINE inline
+#elif defined(__STDC_VERSION__) && __STDC_VERSION__ >= 199901L
+#define URLCHECK_INLINE static inline
+#elif defined(__GNUC__)
+#define URLCHECK_INLINE static __inline__
+#else
+#define URLCHECK_INLINE static
+#endif
+
+URLCHECK_INLINE urlcheck_base urlcheck_prepare(const uint8_t *base, size_t length, uint32_t profile) {
+    urlcheck_base answer;
+    urlcheck_prepare_to(&answer, base, length, profile);
+    return answer;
+}
+
+URLCHECK_INLINE urlcheck_answer urlcheck_check(const uint8_t *text, size_t length, uint32_t profile,
+                                               const urlcheck_base *base) {
+    urlcheck_answer answer;
+    urlcheck_check_to(&answer, text, length, profile, base);
+    return answer;
+}
+
+URLCHECK_INLINE urlcheck_fault_count urlcheck_faults(const uint8_t *text, size_t length, uint32_t profile,
+                                                     const urlcheck_base *base, urlcheck_fault *out, size_t room) {
+    urlcheck_fault_count answer;
+    urlcheck_faults_to(&answer, text, length, profile, base, out, room);
+    return answer;
+}
+
+URLCHECK_INLINE urlcheck_record urlcheck_resolve(const uint8_t *text, size_t length, uint32_t profile,
+                                                 const uint8_t *base, size_t base_length, uint8_t *out, size_t room) {
+    urlcheck_record answer;
+    urlcheck_resolve_to(&answer, text, length, profile, base, base_length, out, room);
+    return answer;
+}
+
+URLCHECK_INLINE urlcheck_mended urlcheck_mend(const uint8_t *text, size_t length, uint32_t profile, const uint8_t *base,
+                                              size_t base_length, uint8_t *out, size_t room) {
+    urlcheck_mended answer;
+    urlcheck_mend_to(&answer, text, length, profile, base, base_length, out, room);
+    return answer;
+}
+
+URLCHECK_INLINE urlcheck_batch urlcheck_check_many(const uint8_t *texts, size_t length, const uint64_t *offsets,
+                                                   size_t count, uint32_t profile, const urlcheck_base *base,
+                                                   uint8_t *verdicts, uint8_t *rules, uint64_t *places) {
+    urlcheck_batch answer;
+    urlcheck_check_many_to(&answer, texts, length, offsets, count, profile, base, verdicts, rules, places);
+    return answer;
+}
+
+URLCHECK_INLINE urlcheck_batch urlcheck_resolve_many(const uint8_t *texts, size_t length, const uint64_t *offsets,
+                                                     size_t count, uint32_t profile, uint8_t *verdicts, uint8_t *rules,
+                                                     uint64_t *places, uint64_t *ends, uint8_t *out, size_t room) {
+    urlcheck_batch answer;
+    urlcheck_resolve_many_to(&answer, texts, length, offsets, count, profile, verdicts, rules, places, ends, out, room);
+    return answer;
+}
+
+URLCHECK_INLINE urlcheck_line urlcheck_next_refused(const uint8_t *lines, size_t length, size_t from,
+                                                    uint32_t profile) {
+    urlcheck_line answer;
+    urlcheck_next_refused_to(&answer, lines, length, from, profile);
+    return answer;
+}
+
+URLCHECK_INLINE urlcheck_written urlcheck_report_begin(uint32_t format, uint32_t unit, uint8_t *out, size_t room) {
+    urlcheck_written answer;
+    urlcheck_report_begin_to(&answer, format, unit, out, room);
+    return answer;
+}
+
+URLCHECK_INLINE urlcheck_written urlcheck_report_file_begin(uint32_t format, const uint8_t *file, size_t length,
+                                                            uint8_t *out, size_t room) {
+    urlcheck_written answer;
+    urlcheck_report_file_begin_to(&answer, format, file, length, out, room);
+    return answer;
+}
+
+URLCHECK_INLINE urlcheck_written urlcheck_diagnostic(uint32_t format, uint32_t is_first,
+                                                     const urlcheck_reported *reported, uint8_t *out, size_t room) {
+    urlcheck_written answer;
+    urlcheck_diagnostic_to(&answer, format, is_first, reported, out, room);
+    return answer;
+}
+
+URLCHECK_INLINE urlcheck_written urlcheck_report_file_end(uint32_t format, uint8_t *out, size_t room) {
+    urlcheck_written answer;
+    urlcheck_report_file_end_to(&answer, format, out, room);
+    return answer;
+}
+
+URLCHECK_INLINE urlcheck_written urlcheck_report_end(uint32_t format, uint32_t completion, uint8_t *out, size_t room) {
+    urlcheck_written answer;
+    urlcheck_report_end_to(&answer, format, completion, out, room);
+    return answer;
+}
+
+URLCHECK_INLINE urlcheck_written urlcheck_message(const uint8_t *text, size_t length, uint32_t profile,
+                                                  const urlcheck_base *base, uint32_t wording, uint32_t rule,
+                                                  size_t place, uint8_t *out, size_t room) {
+    urlcheck_written answer;
+    urlcheck_message_to(&answer, text, length, profile, base, wording, rule, place, out, room);
+    return answer;
+}
+
+URLCHECK_INLINE urlcheck_counted urlcheck_column(const uint8_t *text, size_t length, uint32_t unit, uint64_t start,
+                                                 size_t place) {
+    urlcheck_counted answer;
+    urlcheck_column_to(&answer, text, length, unit, start, place);
+    return answer;
+}
+
+#undef URLCHECK_INLINE
+#endif
 
 #ifdef __cplusplus
 }
 #endif
 
-/* The structs are laid out as those of the library, whose own build asserts the same sizes. */
+/* The structs are laid out as in the library, whose own build asserts the same sizes. */
 #if defined(__cplusplus)
 #if __cplusplus >= 201103L
 #define URLCHECK_HOLDS(fact) static_assert(fact, "the library lays out its structs in another way")
