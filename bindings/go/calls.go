@@ -11,12 +11,13 @@ package urlcheck
 import "C"
 
 import (
+	"fmt"
 	"sync"
 	"unicode/utf8"
 	"unsafe"
 )
 
-// base is a base that is valid alone.
+// base is a base that is valid by itself.
 type base struct {
 	text     string
 	prepared C.urlcheck_base
@@ -60,12 +61,12 @@ func errorOf(found *C.urlcheck_finding, profile Profile) error {
 	}
 }
 
-// spanOf gives a part; one that is missing ends before it begins, so that it differs from an empty part.
+// spanOf gives a part; one that is missing is the zero span, from which an empty part differs.
 func spanOf(from C.urlcheck_span) span {
 	if !from.present {
-		return span{0, -1}
+		return span{}
 	}
-	return span{int(from.start), int(from.start + from.length)}
+	return span{int(from.start), int(from.start+from.length) + 1}
 }
 
 // partsOf gives the parts of a valid text, in the order of the struct parts.
@@ -74,35 +75,34 @@ func partsOf(from *C.urlcheck_spans) parts {
 		spanOf(from.fragment)}
 }
 
-// prepare checks a base once for all texts that are checked against it.
-func prepare(text string, profile Profile) (*base, error) {
+// Against gives the checker of texts against a base, which is checked by itself under the same profile, once for all
+// texts. The error is about the base, and each call of the checker that comes with it gives it, too.
+func Against(text string, profile Profile) (Checker, error) {
 	start, length := bytesOf(text)
 	prepared := C.urlcheck_prepare(start, length, C.uint32_t(profile))
-	if err := errorOf(&prepared.found, profile); err != nil {
-		return nil, err
-	}
-	return &base{text, prepared}, nil
+	return Checker{profile: profile, base: &base{text, prepared}}, errorOf(&prepared.found, profile)
 }
 
-// The methods from here on have each the meaning of the exported one with the same name, in urlcheck.go.
-
-func (c Checker) check(text string) (URL, error) {
+// Check gives a valid text with its parts. It allocates nothing, but for a refusal.
+func (c Checker) Check(text string) (Valid, error) {
 	start, length := bytesOf(text)
 	answer := C.urlcheck_check(start, length, C.uint32_t(c.profile), c.prepared())
 	if answer.found.verdict != C.URLCHECK_VALID {
-		return URL{}, errorOf(&answer.found, c.profile)
+		return Valid{}, errorOf(&answer.found, c.profile)
 	}
-	return URL{text, partsOf(&answer.parts)}, nil
+	return Valid{withParts{text, partsOf(&answer.parts)}}, nil
 }
 
-func (c Checker) isValid(text string) bool {
+// IsValid says whether the text is valid: the fastest call. It is also false if no profile has the Checker's number,
+// and if no memory was left for a domain that isn't ASCII. Check tells these apart.
+func (c Checker) IsValid(text string) bool {
 	start, length := bytesOf(text)
 	return bool(C.urlcheck_is_valid(start, length, C.uint32_t(c.profile), c.prepared()))
 }
 
 // written gives the text that a call writes. The call is handed a buffer of this many bytes, of one at least, and gives
 // the length of its text; if that is longer, it is called once more. The callers' first rooms hold what most calls
-// write: a URL's text is seldom more than four bytes longer than the text that denotes it.
+// write: a URL's text is rarely more than four bytes longer than the text that denotes it.
 func written(room int, write func(out *C.uint8_t, room C.size_t) C.size_t) string {
 	for {
 		buffer := make([]byte, room)
@@ -116,7 +116,8 @@ func written(room int, write func(out *C.uint8_t, room C.size_t) C.size_t) strin
 	}
 }
 
-func (c Checker) resolve(text string) (Record, error) {
+// Resolve gives the URL that the text denotes, against the base if there is one.
+func (c Checker) Resolve(text string) (URL, error) {
 	start, length := bytesOf(text)
 	base, baseLength := c.baseBytes()
 	var answer C.urlcheck_record
@@ -125,12 +126,14 @@ func (c Checker) resolve(text string) (Record, error) {
 		return answer.length
 	})
 	if err := errorOf(&answer.found, c.profile); err != nil {
-		return Record{}, err
+		return URL{}, err
 	}
-	return Record{URL{url, partsOf(&answer.parts)}, HostKind(answer.host), answer.opaque_path != 0}, nil
+	return URL{withParts{url, partsOf(&answer.parts)}, HostKind(answer.host), answer.opaque_path != 0}, nil
 }
 
-func (c Checker) mend(text string) (Mended, error) {
+// Mend gives the valid text to write in place of a refused one. For a valid text it gives the text itself, and its kind
+// is Unchanged. If the edits make no valid text, the error is the *Refusal of the text.
+func (c Checker) Mend(text string) (Mended, error) {
 	start, length := bytesOf(text)
 	base, baseLength := c.baseBytes()
 	var answer C.urlcheck_mended
@@ -139,7 +142,7 @@ func (c Checker) mend(text string) (Mended, error) {
 		return answer.length
 	})
 	if answer.found.verdict == C.URLCHECK_MENDED {
-		return Mended{mended, Kind(answer.kind), answer.offered != 0}, nil
+		return Mended{mended, MendKind(answer.kind), answer.offered != 0}, nil
 	}
 	if err := errorOf(&answer.found, c.profile); err != nil {
 		return Mended{}, err
@@ -147,7 +150,8 @@ func (c Checker) mend(text string) (Mended, error) {
 	return Mended{text, Unchanged, false}, nil
 }
 
-func (c Checker) violations(text string) ([]Violation, error) {
+// Violations gives all that is wrong with the text, by place and at one place by rule; nothing if it is valid.
+func (c Checker) Violations(text string) ([]Violation, error) {
 	start, length := bytesOf(text)
 	for room := 4; ; {
 		faults := make([]C.urlcheck_fault, room)
@@ -175,8 +179,8 @@ func violationsOf(faults []C.urlcheck_fault) []Violation {
 func message(text string, profile Profile, violation Violation) string {
 	start, length := bytesOf(text)
 	return written(128, func(out *C.uint8_t, room C.size_t) C.size_t {
-		return C.urlcheck_message(start, length, C.uint32_t(profile), C.URLCHECK_WORDING_NONE, C.uint32_t(violation.Rule),
-			C.size_t(violation.Place), out, room).length
+		return C.urlcheck_message(start, length, C.uint32_t(profile), nil, C.URLCHECK_WORDING_NONE,
+			C.uint32_t(violation.Rule), C.size_t(violation.Place), out, room).length
 	})
 }
 
@@ -209,9 +213,11 @@ func fixedText(what uint32, rule Rule) string {
 	return kept.text
 }
 
-// Version gives the version of the library that answers: 10000 times its first number, 100 times its second, and its
-// third.
-func Version() int { return int(C.urlcheck_version()) }
+// Version gives the version of the library that answers, such as "0.4.0".
+func Version() string {
+	number := int(C.urlcheck_version())
+	return fmt.Sprintf("%d.%d.%d", number/10000, number/100%100, number%100)
+}
 
 // columns are what is found of each of many texts.
 type columns struct {
@@ -238,8 +244,11 @@ func joined(texts []string) ([]byte, []C.uint64_t) {
 	return append(bytes, 0), offsets
 }
 
-// checkMany checks texts by one call. The columns need an element each, so there has to be a text.
-func (c Checker) checkMany(texts []string) []error {
+// CheckMany checks texts by one call of the library: of each text it gives the error that Check gives, or nil.
+func (c Checker) CheckMany(texts []string) []error {
+	if len(texts) == 0 {
+		return nil
+	}
 	bytes, offsets := joined(texts)
 	columns := columnsOf(len(texts))
 	batch := C.urlcheck_check_many((*C.uint8_t)(&bytes[0]), C.size_t(len(bytes)), &offsets[0], C.size_t(len(texts)),
@@ -247,8 +256,24 @@ func (c Checker) checkMany(texts []string) []error {
 	return columns.errors(texts, batch.outcome, c.profile)
 }
 
-// resolveMany resolves texts without a base: the library has no such call against one. There has to be a text.
-func (c Checker) resolveMany(texts []string) ([]string, []error) {
+// ResolveMany gives the URL of each text, or the empty text and the error that Resolve gives.
+func (c Checker) ResolveMany(texts []string) ([]string, []error) {
+	if len(texts) == 0 {
+		return nil, nil
+	}
+	if c.base == nil {
+		return c.resolveAlone(texts)
+	}
+	urls, errs := make([]string, len(texts)), make([]error, len(texts))
+	for row, text := range texts {
+		record, err := c.Resolve(text)
+		urls[row], errs[row] = record.text, err
+	}
+	return urls, errs
+}
+
+// resolveAlone resolves texts without a base: the library has no such call against one. There has to be a text.
+func (c Checker) resolveAlone(texts []string) ([]string, []error) {
 	bytes, offsets := joined(texts)
 	columns, ends := columnsOf(len(texts)), make([]C.uint64_t, len(offsets))
 	var batch C.urlcheck_batch

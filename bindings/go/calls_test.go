@@ -1,6 +1,7 @@
 package urlcheck
 
 import (
+	"encoding/json"
 	"errors"
 	"fmt"
 	"reflect"
@@ -29,8 +30,8 @@ func against(t *testing.T, text string, profile Profile) Checker {
 }
 
 func TestVersion(t *testing.T) {
-	if Version()/100 != 4 {
-		t.Errorf("the library has the version %d", Version())
+	if !strings.HasPrefix(Version(), "0.4.") {
+		t.Errorf("the library has the version %s", Version())
 	}
 }
 
@@ -132,7 +133,7 @@ func TestProfilesThatAreMistakes(t *testing.T) {
 	}
 }
 
-func TestRecord(t *testing.T) {
+func TestURL(t *testing.T) {
 	record, err := against(t, "https://example.com:8080/a/b", Standard).Resolve("../\u00e9?q#f")
 	if err != nil || record.String() != "https://example.com:8080/%C3%A9?q#f" {
 		t.Fatal(record, err)
@@ -223,7 +224,7 @@ func TestNames(t *testing.T) {
 	if _, err := ParseProfile("narrow"); err != ErrProfile {
 		t.Error(err)
 	}
-	if Profile(3).String() != "no profile" || Kind(4).String() != "no kind" || Changed.String() != "changed" {
+	if Profile(3).String() != "no profile" || MendKind(5).String() != "no kind" || Changed.String() != "changed" {
 		t.Error("names of numbers")
 	}
 }
@@ -270,6 +271,49 @@ func TestGoroutinesShareABase(t *testing.T) {
 		}()
 	}
 	all.Wait()
+}
+
+func TestZeroValues(t *testing.T) {
+	url, err := Check("not a url")
+	for part, of := range map[string]func() (string, bool){
+		"scheme": url.Scheme, "host": url.Host, "port": url.Port, "query": url.Query, "fragment": url.Fragment,
+	} {
+		if text, isThere := of(); isThere || text != "" {
+			t.Errorf("a text that is refused has the %s %q", part, text)
+		}
+	}
+	if err == nil || url.Path() != "" || url != (Valid{}) {
+		t.Errorf("%v, %v", url, err)
+	}
+	if mended, err := Mend("http://[::1"); err == nil || mended.Kind != NoKind || mended.Kind.String() != "none" {
+		t.Errorf("%+v, %v", mended, err)
+	}
+	checker, refused := Against("a", Standard)
+	_, checking := checker.Check("http://h/")
+	_, resolving := checker.Resolve("http://h/")
+	for _, err := range []error{refused, checking, resolving, checker.CheckMany([]string{"http://h/"})[0]} {
+		if refusal(t, err).Rule != NoScheme {
+			t.Error(err)
+		}
+	}
+	if checker.IsValid("http://h/") {
+		t.Error("valid against a base that is refused")
+	}
+}
+
+func TestValuesInMapsAndJSON(t *testing.T) {
+	known := map[string]Valid{}
+	known["a"], _ = Check("http://h/a?q")
+	if known["a"].Path() != "/a" {
+		t.Error("a part of a URL in a map")
+	}
+	record, err := Resolve("HTTP://h/")
+	mended, mending := Mend("http://h/a b")
+	written, marshalling := json.Marshal([]interface{}{known["a"], record, CodePoint, Wide, mended})
+	wanted := `["http://h/a?q","http://h/","code-point","wide",{"Text":"http://h/a%20b","Kind":"same","IsOffered":true}]`
+	if string(written) != wanted || err != nil || mending != nil || marshalling != nil {
+		t.Errorf("%s", written)
+	}
 }
 
 func TestURLIsAStringer(t *testing.T) {

@@ -23,8 +23,8 @@ type Violation struct {
 	BytePlace int
 }
 
-// Message is the sentence on this violation of the text, which was checked by the profile. It names the code point at
-// the place, if there is one. If the place is after the end of the text, it is the rule's own sentence.
+// Message is the sentence on this violation of the text, which was checked under the profile. It names the code point
+// at the place, if there is one. If the place is after the end of the text, it is the rule's own sentence.
 func (v Violation) Message(text string, profile Profile) string {
 	if said := message(text, profile, v); said != "" {
 		return said
@@ -32,8 +32,8 @@ func (v Violation) Message(text string, profile Profile) string {
 	return v.Rule.Sentence()
 }
 
-// Refusal is the error on a text, or a base, that isn't valid: its first violation, and of several at that place the
-// one of the least rule.
+// Refusal is the error on a text, or a base, that isn't valid: its first violation, and if several are at that place the
+// one whose rule comes first.
 type Refusal struct {
 	Violation
 	// Profile is the one by which the text was checked.

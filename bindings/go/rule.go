@@ -4,7 +4,7 @@ import "strconv"
 
 // The rules. The library has their names and sentences; only their numbers are repeated here, as urlcheck.h has them.
 
-// Rule is a rule that a text can violate. Of several violations at one place the one of the least rule is named.
+// Rule is a rule that a text can violate. If several violations are at one place, the one whose rule comes first is named.
 type Rule uint32
 
 // Each rule by its number. Its name is given by String, and what it requires by Requires.
@@ -32,6 +32,9 @@ func (r Rule) String() string {
 	}
 	return "Rule(" + strconv.FormatUint(uint64(r), 10) + ")"
 }
+
+// MarshalText gives the name of String.
+func (r Rule) MarshalText() ([]byte, error) { return []byte(r.String()), nil }
 
 // Sentence says what is wrong at the place of a violation, without the code point that is there. Message names it.
 func (r Rule) Sentence() string { return fixedText(ruleSentence, r) }

@@ -1,7 +1,7 @@
 // Package urlcheck says whether a text is a valid URL string (WHATWG URL Standard, sections 3.4 and 4.3), alone or
 // against a base.
 //
-// The functions check a text alone, by the standard profile. A Checker checks by another profile, or against a base.
+// The functions check a text without a base, under the standard profile. A Checker has another profile, or a base.
 // The checker itself is a library for C, of which each answer is proved: cgo finds it by pkg-config. Texts are handed
 // over without a copy. There is no state, nothing has to be closed, and any goroutine may call.
 //
@@ -10,13 +10,13 @@
 package urlcheck
 
 // Check gives a valid text with its parts, under the standard profile. It allocates nothing, but for a refusal.
-func Check(text string) (URL, error) { return Checker{}.Check(text) }
+func Check(text string) (Valid, error) { return Checker{}.Check(text) }
 
 // IsValid says whether the text is valid under the standard profile.
 func IsValid(text string) bool { return Checker{}.IsValid(text) }
 
 // Resolve gives the URL that the text denotes, under the standard profile.
-func Resolve(text string) (Record, error) { return Checker{}.Resolve(text) }
+func Resolve(text string) (URL, error) { return Checker{}.Resolve(text) }
 
 // Mend gives the valid text to write in place of a refused one, under the standard profile. See Checker.Mend.
 func Mend(text string) (Mended, error) { return Checker{}.Mend(text) }
@@ -45,6 +45,9 @@ func (p Profile) String() string {
 	}
 	return "no profile"
 }
+
+// MarshalText gives the name of String.
+func (p Profile) MarshalText() ([]byte, error) { return []byte(p.String()), nil }
 
 // ParseProfile gives the profile of a name, or ErrProfile.
 func ParseProfile(name string) (Profile, error) {

@@ -17,7 +17,7 @@ pub struct Base {
 }
 
 impl Base {
-    /// Checks a base by a profile, by which texts are then checked against it.
+    /// Checks a base under a profile, by which texts are then checked against it.
     ///
     /// # Errors
     ///

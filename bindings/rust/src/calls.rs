@@ -4,11 +4,12 @@
 //! meanwhile, and that `out` overlaps nothing else. Slices, shared and exclusive, are exactly that. The library keeps
 //! no pointer, and any thread may call.
 
+use std::mem::MaybeUninit;
 use std::ptr;
 
 use crate::ffi;
 
-/// The pointer and the length of a base's bytes, or those of no base.
+/// The pointer and the length of a base's bytes, or null and 0 without one.
 fn parts_of(base: Option<&str>) -> (*const u8, usize) {
     base.map_or((ptr::null(), 0), |base| (base.as_ptr(), base.len()))
 }
@@ -18,10 +19,22 @@ fn pointer_to(base: Option<&ffi::Base>) -> *const ffi::Base {
     base.map_or(ptr::null(), |base| base)
 }
 
+/// The answer that a call writes.
+///
+/// # Safety
+///
+/// The call writes the whole answer to where it is told.
+unsafe fn answered<A>(call: impl FnOnce(*mut A)) -> A {
+    let mut answer = MaybeUninit::uninit();
+    call(answer.as_mut_ptr());
+    // SAFETY: the call has written it.
+    unsafe { answer.assume_init() }
+}
+
 /// The verdict on a text, with its parts.
 pub fn check(text: &str, profile: u32, base: Option<&ffi::Base>) -> ffi::Answer {
     // SAFETY: the bytes of `text` and the base are borrowed for the call.
-    unsafe { ffi::urlcheck_check(text.as_ptr(), text.len(), profile, pointer_to(base)) }
+    unsafe { answered(|it| ffi::urlcheck_check_to(it, text.as_ptr(), text.len(), profile, pointer_to(base))) }
 }
 
 /// Whether a text is valid, without its parts.
@@ -33,7 +46,7 @@ pub fn is_valid(text: &str, profile: u32, base: Option<&ffi::Base>) -> bool {
 /// Checks a base once, for all texts that are checked against it.
 pub fn prepare(base: &str, profile: u32) -> ffi::Base {
     // SAFETY: the bytes of `base` are borrowed for the call.
-    unsafe { ffi::urlcheck_prepare(base.as_ptr(), base.len(), profile) }
+    unsafe { answered(|it| ffi::urlcheck_prepare_to(it, base.as_ptr(), base.len(), profile)) }
 }
 
 /// The violations of a text, all of them. Few texts have more than four; for those that have, the library is called
@@ -42,10 +55,12 @@ pub fn faults(text: &str, profile: u32, base: Option<&ffi::Base>) -> (ffi::Findi
     let mut faults = Vec::with_capacity(4);
     loop {
         let room = faults.capacity();
+        let out = faults.as_mut_ptr();
         // SAFETY: as in `check`; `out` is the vector's own memory, which has `room` elements.
-        let answer = unsafe {
-            let out = faults.as_mut_ptr();
-            ffi::urlcheck_faults(text.as_ptr(), text.len(), profile, pointer_to(base), out, room)
+        let answer: ffi::FaultCount = unsafe {
+            answered(|it| {
+                ffi::urlcheck_faults_to(it, text.as_ptr(), text.len(), profile, pointer_to(base), out, room);
+            })
         };
         if answer.count <= room {
             // SAFETY: the library has written this many elements.
@@ -83,7 +98,11 @@ pub fn resolve(text: &str, profile: u32, base: Option<&str>) -> (ffi::Record, St
     let (start, length) = parts_of(base);
     text_of(usual_room(text, base), |out, room| {
         // SAFETY: the bytes of `text` and the base are borrowed for the call; `out` has `room` bytes of its own.
-        let record = unsafe { ffi::urlcheck_resolve(text.as_ptr(), text.len(), profile, start, length, out, room) };
+        let record: ffi::Record = unsafe {
+            answered(|it| {
+                ffi::urlcheck_resolve_to(it, text.as_ptr(), text.len(), profile, start, length, out, room);
+            })
+        };
         (record, record.length)
     })
 }
@@ -93,24 +112,29 @@ pub fn mend(text: &str, profile: u32, base: Option<&str>) -> (ffi::Mended, Strin
     let (start, length) = parts_of(base);
     text_of(usual_room(text, base), |out, room| {
         // SAFETY: as in `resolve`.
-        let mended = unsafe { ffi::urlcheck_mend(text.as_ptr(), text.len(), profile, start, length, out, room) };
+        let mended: ffi::Mended = unsafe {
+            answered(|it| ffi::urlcheck_mend_to(it, text.as_ptr(), text.len(), profile, start, length, out, room))
+        };
         (mended, mended.length)
     })
 }
 
-/// The sentence on a violation of a text. The room is that of most sentences.
+/// The sentence on a violation of a text. Most sentences fit the room.
 pub fn message(text: &str, profile: u32, rule: u32, place: usize) -> (ffi::Finding, String) {
     text_of(128, |out, room| {
+        // (in this wording a sentence is the same against each base)
+        let (wording, base) = (ffi::WORDING_NONE, ptr::null());
         // SAFETY: the bytes of `text` are borrowed for the call; `out` has `room` bytes of its own.
-        let written = unsafe {
-            let wording = ffi::WORDING_NONE;
-            ffi::urlcheck_message(text.as_ptr(), text.len(), profile, wording, rule, place, out, room)
+        let written: ffi::Written = unsafe {
+            answered(|it| {
+                ffi::urlcheck_message_to(it, text.as_ptr(), text.len(), profile, base, wording, rule, place, out, room);
+            })
         };
         (written.found, written.length)
     })
 }
 
-/// One of the library's fixed texts; the empty one if there is none. The room is that of most of them.
+/// One of the library's fixed texts; the empty one if there is none. Most of them fit the room.
 pub fn fixed_text(what: u32, number: u32) -> String {
     let write = |out, room| {
         // SAFETY: `out` has `room` bytes of its own.
@@ -172,18 +196,21 @@ pub fn check_many(texts: &Texts, profile: u32, base: Option<&ffi::Base>) -> Colu
     let mut columns = Columns::of(texts.count());
     // SAFETY: the texts and the base are borrowed for the call, there are `count` + 1 offsets, and each column is a
     // vector of `count` elements.
-    let batch = unsafe {
-        ffi::urlcheck_check_many(
-            texts.bytes.as_ptr(),
-            texts.bytes.len(),
-            texts.offsets.as_ptr(),
-            texts.count(),
-            profile,
-            pointer_to(base),
-            columns.verdicts.as_mut_ptr(),
-            columns.rules.as_mut_ptr(),
-            columns.places.as_mut_ptr(),
-        )
+    let batch: ffi::Batch = unsafe {
+        answered(|it| {
+            ffi::urlcheck_check_many_to(
+                it,
+                texts.bytes.as_ptr(),
+                texts.bytes.len(),
+                texts.offsets.as_ptr(),
+                texts.count(),
+                profile,
+                pointer_to(base),
+                columns.verdicts.as_mut_ptr(),
+                columns.rules.as_mut_ptr(),
+                columns.places.as_mut_ptr(),
+            );
+        })
     };
     columns.outcome = batch.outcome;
     columns
@@ -195,20 +222,23 @@ pub fn resolve_many(texts: &Texts, profile: u32) -> (Columns, String, Vec<u64>) 
     let mut ends = vec![0; texts.offsets.len()];
     let (outcome, urls) = text_of(texts.bytes.len() + 4 * texts.count(), |out, room| {
         // SAFETY: as in `check_many`; `ends` has `count` + 1 elements, and `out` has `room` bytes of its own.
-        let batch = unsafe {
-            ffi::urlcheck_resolve_many(
-                texts.bytes.as_ptr(),
-                texts.bytes.len(),
-                texts.offsets.as_ptr(),
-                texts.count(),
-                profile,
-                columns.verdicts.as_mut_ptr(),
-                columns.rules.as_mut_ptr(),
-                columns.places.as_mut_ptr(),
-                ends.as_mut_ptr(),
-                out,
-                room,
-            )
+        let batch: ffi::Batch = unsafe {
+            answered(|it| {
+                ffi::urlcheck_resolve_many_to(
+                    it,
+                    texts.bytes.as_ptr(),
+                    texts.bytes.len(),
+                    texts.offsets.as_ptr(),
+                    texts.count(),
+                    profile,
+                    columns.verdicts.as_mut_ptr(),
+                    columns.rules.as_mut_ptr(),
+                    columns.places.as_mut_ptr(),
+                    ends.as_mut_ptr(),
+                    out,
+                    room,
+                );
+            })
         };
         (batch.outcome, batch.length)
     });

@@ -1,10 +1,10 @@
-//! The checks, by a profile, alone or against a base.
+//! The checks, under a profile, alone or against a base.
 
 use crate::violation::{fail, read_finding};
 use crate::{calls, ffi};
 use crate::{Base, HostKind, MendKind, Mended, Profile, Refusal, Rule, Url, Valid, Violation};
 
-/// Checks texts by a profile, alone or against a base. It is a small value, to be copied.
+/// Checks texts under a profile, alone or against a base. It is a small value, to be copied.
 ///
 /// ```
 /// use urlcheck::{Base, Checker, Profile};
@@ -22,13 +22,13 @@ pub struct Checker<'base> {
 }
 
 impl<'base> Checker<'base> {
-    /// The checker of texts alone, by a profile.
+    /// The checker of texts without a base, under a profile.
     #[must_use]
     pub const fn new(profile: Profile) -> Self {
         Self { profile, base: None }
     }
 
-    /// The checker of texts against a base, by its profile.
+    /// The checker of texts against a base, under its profile.
     #[must_use]
     pub const fn against(base: &'base Base) -> Self {
         Self { profile: base.profile(), base: Some(base) }

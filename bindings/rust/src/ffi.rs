@@ -126,18 +126,20 @@ const _: () = assert!(size_of::<FaultCount>() == 32 && size_of::<Base>() == 40);
 const _: () = assert!(size_of::<Batch>() == 32 && size_of::<Written>() == 32);
 
 extern "C" {
-    pub fn urlcheck_check(text: *const u8, length: usize, profile: u32, base: *const Base) -> Answer;
+    pub fn urlcheck_check_to(answer: *mut Answer, text: *const u8, length: usize, profile: u32, base: *const Base);
     pub fn urlcheck_is_valid(text: *const u8, length: usize, profile: u32, base: *const Base) -> bool;
-    pub fn urlcheck_prepare(base: *const u8, length: usize, profile: u32) -> Base;
-    pub fn urlcheck_faults(
+    pub fn urlcheck_prepare_to(answer: *mut Base, base: *const u8, length: usize, profile: u32);
+    pub fn urlcheck_faults_to(
+        answer: *mut FaultCount,
         text: *const u8,
         length: usize,
         profile: u32,
         base: *const Base,
         out: *mut Fault,
         room: usize,
-    ) -> FaultCount;
-    pub fn urlcheck_resolve(
+    );
+    pub fn urlcheck_resolve_to(
+        answer: *mut Record,
         text: *const u8,
         length: usize,
         profile: u32,
@@ -145,8 +147,9 @@ extern "C" {
         base_length: usize,
         out: *mut u8,
         room: usize,
-    ) -> Record;
-    pub fn urlcheck_mend(
+    );
+    pub fn urlcheck_mend_to(
+        answer: *mut Mended,
         text: *const u8,
         length: usize,
         profile: u32,
@@ -154,8 +157,9 @@ extern "C" {
         base_length: usize,
         out: *mut u8,
         room: usize,
-    ) -> Mended;
-    pub fn urlcheck_check_many(
+    );
+    pub fn urlcheck_check_many_to(
+        answer: *mut Batch,
         texts: *const u8,
         length: usize,
         offsets: *const u64,
@@ -165,8 +169,9 @@ extern "C" {
         verdicts: *mut u8,
         rules: *mut u8,
         places: *mut u64,
-    ) -> Batch;
-    pub fn urlcheck_resolve_many(
+    );
+    pub fn urlcheck_resolve_many_to(
+        answer: *mut Batch,
         texts: *const u8,
         length: usize,
         offsets: *const u64,
@@ -178,17 +183,19 @@ extern "C" {
         ends: *mut u64,
         out: *mut u8,
         room: usize,
-    ) -> Batch;
+    );
     pub fn urlcheck_text(what: u32, number: u32, out: *mut u8, room: usize) -> usize;
-    pub fn urlcheck_message(
+    pub fn urlcheck_message_to(
+        answer: *mut Written,
         text: *const u8,
         length: usize,
         profile: u32,
+        base: *const Base,
         wording: u32,
         rule: u32,
         place: usize,
         out: *mut u8,
         room: usize,
-    ) -> Written;
+    );
     pub fn urlcheck_version() -> u32;
 }

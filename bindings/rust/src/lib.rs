@@ -12,17 +12,15 @@
 //! # Ok::<(), urlcheck::Refusal>(())
 //! ```
 //!
-//! The functions here check a text alone, by the standard profile. A [`Checker`] checks by another [`Profile`], or
-//! against a [`Base`]. The checker itself is a library for C, of which each answer is proved; this crate hands texts
-//! over without a copy. There is no state: any thread may call, and every type here is `Send` and `Sync`.
+//! The functions here check a text without a base, under the standard profile. A [`Checker`] has another
+//! [`Profile`], or a [`Base`]. The checker itself is a library for C, of which each answer is proved; this crate hands
+//! texts over without a copy. There is no state: any thread may call, and every type here is `Send` and `Sync`.
 //!
 //! A text is a `&str`, so it may hold NUL, and is never refused for not being UTF-8; of bytes see
 //! [`std::str::from_utf8`]. If no memory is left, a call ends as Rust's own collections do.
 
 #![deny(missing_docs, rust_2018_idioms, unsafe_op_in_unsafe_fn)]
 #![warn(clippy::pedantic, clippy::undocumented_unsafe_blocks)]
-// (the manifest of this folder has no feature, and that of `serde/` has one)
-#![allow(unexpected_cfgs)]
 
 mod base;
 mod calls;
@@ -106,9 +104,9 @@ pub fn violations(text: &str) -> Vec<Violation> {
     STANDARD.violations(text)
 }
 
-/// The version of the library that answers, such as `(0, 4, 0)`.
+/// The version of the library that answers, such as `0.4.0`.
 #[must_use]
-pub fn version() -> (u32, u32, u32) {
+pub fn version() -> String {
     let version = calls::version();
-    (version / 10_000, version / 100 % 100, version % 100)
+    format!("{}.{}.{}", version / 10_000, version / 100 % 100, version % 100)
 }

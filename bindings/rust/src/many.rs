@@ -8,7 +8,7 @@ use crate::{calls, ffi};
 use crate::{Checker, Rule, Violation};
 
 impl Checker<'_> {
-    /// What is found of each text, in their order: nothing of a valid one, else the violation for which it is refused.
+    /// What is found of each text, in their order: nothing of a valid one, or the violation that it is refused for.
     ///
     /// ```
     /// use urlcheck::{Checker, Profile};
@@ -42,7 +42,7 @@ impl Checker<'_> {
         I::Item: AsRef<str>,
     {
         if self.base().is_some() {
-            return texts.into_iter().map(|text| self.resolved(text.as_ref())).collect();
+            return Urls::gathered(texts.into_iter().map(|text| self.resolved(text.as_ref())));
         }
         let texts = Texts::collect(texts);
         let (columns, urls, ends) = calls::resolve_many(&texts, self.profile().number());
@@ -119,10 +119,8 @@ impl Urls {
     fn url(&self, row: &Result<Range<usize>, Violation>) -> Result<&str, Violation> {
         row.clone().map(|range| &self.text[range])
     }
-}
 
-impl FromIterator<Result<String, Violation>> for Urls {
-    fn from_iter<I: IntoIterator<Item = Result<String, Violation>>>(urls: I) -> Self {
+    fn gathered(urls: impl Iterator<Item = Result<String, Violation>>) -> Self {
         let mut all = Self::default();
         for url in urls {
             let start = all.text.len();
@@ -132,5 +130,14 @@ impl FromIterator<Result<String, Violation>> for Urls {
             }));
         }
         all
+    }
+}
+
+impl<'urls> IntoIterator for &'urls Urls {
+    type Item = Result<&'urls str, Violation>;
+    type IntoIter = Box<dyn ExactSizeIterator<Item = Self::Item> + 'urls>;
+
+    fn into_iter(self) -> Self::IntoIter {
+        Box::new(self.iter())
     }
 }

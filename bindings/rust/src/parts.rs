@@ -1,8 +1,11 @@
 //! Texts with their parts.
 
+use std::cmp::Ordering;
 use std::fmt;
+use std::str::FromStr;
 
 use crate::ffi::{Span, Spans};
+use crate::Refusal;
 
 /// The part of a text that a span is, or none if the text lacks it.
 fn slice(text: &str, span: Span) -> Option<&str> {
@@ -92,6 +95,7 @@ impl AsRef<str> for Valid<'_> {
 
 /// The kinds of hosts (URL Standard, section 3.1).
 #[derive(Clone, Copy, Debug, PartialEq, Eq, Hash)]
+#[non_exhaustive]
 pub enum HostKind {
     /// A domain, of a special URL.
     Domain,
@@ -159,7 +163,7 @@ impl Url {
         slice(&self.text, self.parts.host)
     }
 
-    /// Of which kind the host is, if there is one.
+    /// The kind of the host, if there is one.
     #[must_use]
     pub const fn host_kind(&self) -> Option<HostKind> {
         self.host_kind
@@ -214,6 +218,39 @@ impl AsRef<str> for Url {
     }
 }
 
+impl PartialOrd for Url {
+    fn partial_cmp(&self, other: &Self) -> Option<Ordering> {
+        Some(self.cmp(other))
+    }
+}
+
+impl Ord for Url {
+    fn cmp(&self, other: &Self) -> Ordering {
+        self.text.cmp(&other.text)
+    }
+}
+
+impl PartialEq<str> for Url {
+    fn eq(&self, other: &str) -> bool {
+        self.text == other
+    }
+}
+
+impl PartialEq<&str> for Url {
+    fn eq(&self, other: &&str) -> bool {
+        self.text == *other
+    }
+}
+
+/// Resolves a text alone, under the standard profile.
+impl FromStr for Url {
+    type Err = Refusal;
+
+    fn from_str(text: &str) -> Result<Self, Refusal> {
+        crate::resolve(text)
+    }
+}
+
 impl From<Url> for String {
     fn from(url: Url) -> Self {
         url.text
@@ -233,6 +270,7 @@ pub struct Mended {
 
 /// How a mended text differs from the refused one.
 #[derive(Clone, Copy, Debug, PartialEq, Eq, Hash)]
+#[non_exhaustive]
 pub enum MendKind {
     /// A second parser reads both as the same URL.
     Same,

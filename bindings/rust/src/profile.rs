@@ -6,6 +6,7 @@ use std::str::FromStr;
 
 /// Which texts are valid. Each profile accepts what the one before it accepts.
 #[derive(Clone, Copy, Debug, Default, PartialEq, Eq, PartialOrd, Ord, Hash)]
+#[non_exhaustive]
 pub enum Profile {
     /// The URL Standard's valid URL strings.
     #[default]

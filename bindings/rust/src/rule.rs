@@ -9,6 +9,7 @@ use crate::{calls, ffi};
 
 /// A rule that a text can violate. Of several violations at one place the first in this order is named.
 #[derive(Clone, Copy, Debug, PartialEq, Eq, PartialOrd, Ord, Hash)]
+#[non_exhaustive]
 pub enum Rule {
     /// `no-scheme`
     NoScheme = 1,

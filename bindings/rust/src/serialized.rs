@@ -1,4 +1,4 @@
-//! `Serialize` of serde, for what the calls give. Names are those of the members and methods, and a rule, a profile or
+//! `Serialize` of serde, for what the calls give. Names are as for the members and methods, and a rule, a profile or
 //! a kind is its own name.
 
 use serde::ser::{Serialize, SerializeStruct, Serializer};

@@ -9,7 +9,7 @@ use crate::{calls, Profile, Rule};
 /// A rule that a text violates at a place.
 #[derive(Clone, Copy, Debug, PartialEq, Eq, PartialOrd, Ord, Hash)]
 pub struct Violation {
-    /// Where the text is wrong, in bytes from 0: an index that `&text[..byte_place]` accepts.
+    /// The wrong place in the text, in bytes from 0: an index that `&text[..byte_place]` accepts.
     pub byte_place: usize,
     /// The same place in code points from 0.
     pub place: usize,
@@ -37,7 +37,9 @@ impl fmt::Display for Violation {
     }
 }
 
-/// Why a text, or a base, isn't valid: its first violation, and of several at that place the one whose rule is first.
+impl Error for Violation {}
+
+/// Why a text, or a base, isn't valid: its first violation, and if several are at that place the one whose rule is first.
 #[derive(Clone, Copy, Debug, PartialEq, Eq, Hash)]
 pub struct Refusal {
     violation: Violation,
@@ -57,13 +59,13 @@ impl Refusal {
         self.violation.rule
     }
 
-    /// Where the text is wrong, in code points from 0.
+    /// The wrong place in the text, in code points from 0.
     #[must_use]
     pub const fn place(&self) -> usize {
         self.violation.place
     }
 
-    /// Where the text is wrong, in bytes from 0.
+    /// The wrong place in the text, in bytes from 0.
     #[must_use]
     pub const fn byte_place(&self) -> usize {
         self.violation.byte_place

@@ -19,8 +19,7 @@ fn every_type_is_shared_between_threads() {
 
 #[test]
 fn the_library_has_the_version_of_the_crate() {
-    let (first, second, third) = urlcheck::version();
-    assert_eq!(format!("{first}.{second}.{third}"), env!("CARGO_PKG_VERSION"));
+    assert_eq!(urlcheck::version(), env!("CARGO_PKG_VERSION"));
 }
 
 #[test]
@@ -161,4 +160,33 @@ fn threads_share_a_base() {
             });
         }
     });
+}
+
+#[test]
+fn a_violation_is_an_error() {
+    fn first_of(texts: &[&str]) -> Result<(), Box<dyn std::error::Error>> {
+        for found in Checker::new(Profile::Standard).check_many(texts) {
+            found?;
+        }
+        Ok(())
+    }
+    assert!(first_of(&["http://h/"]).is_ok());
+    assert!(first_of(&["http://h/", "x"]).unwrap_err().to_string().ends_with("[no-scheme]"));
+}
+
+#[test]
+fn urls_are_parsed_compared_and_gone_through() {
+    let one: urlcheck::Url = "HTTP://h/a".parse().unwrap();
+    assert_eq!(one, "http://h/a");
+    assert_eq!(one, *"http://h/a");
+    assert_eq!("x".parse::<urlcheck::Url>().unwrap_err().rule(), Rule::NoScheme);
+    let mut all = [urlcheck::resolve("http://h/b").unwrap(), one.clone()];
+    all.sort();
+    assert_eq!(all[0], one);
+    let urls = Checker::new(Profile::Standard).resolve_many(["http://H/", "x"]);
+    let mut count = 0;
+    for url in &urls {
+        count += usize::from(url == Ok("http://h/"));
+    }
+    assert_eq!((count, (&urls).into_iter().len()), (1, 2));
 }

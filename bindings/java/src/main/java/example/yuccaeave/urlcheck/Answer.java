@@ -15,7 +15,7 @@ final class Answer {
     static final int MENDED = 8;
     static final int DONE = 9;
 
-    /** Where the rule and the place in bytes of a finding are, which each struct begins with. */
+    /** The offsets of the rule and of the place in bytes in a finding, with which each struct begins. */
     private static final int RULE = 4;
     private static final int PLACE = 8;
     private static final int BYTE_PLACE = 16;

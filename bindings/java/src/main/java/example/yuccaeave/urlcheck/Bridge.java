@@ -8,7 +8,7 @@ final class Bridge extends Library {
     private Bridge() {
     }
 
-    /** Binds the functions below to those of a library. */
+    /** Binds the functions below to a library's. */
     static Library load(String file) {
         try {
             Native.register(Functions.class, NativeLibrary.getInstance(file));
@@ -45,11 +45,11 @@ final class Bridge extends Library {
 
         static native long urlcheck_text(int what, int number, byte[] out, long room);
 
-        static native void urlcheck_message_to(long[] answer, byte[] text, long length, int profile, int wording,
-                int rule, long place, byte[] out, long room);
+        static native void urlcheck_message_to(long[] answer, byte[] text, long length, int profile, long[] prepared,
+                int wording, int rule, long place, byte[] out, long room);
     }
 
-    /** The length of bytes that may be null, as those of a base that isn't given. */
+    /** The length of bytes that may be null, as for a base that isn't given. */
     private static long lengthOf(byte[] bytes) {
         return bytes == null ? 0 : bytes.length;
     }
@@ -103,6 +103,6 @@ final class Bridge extends Library {
 
     @Override
     void message(long[] answer, byte[] text, int profile, int wording, int rule, long place, byte[] out) {
-        Functions.urlcheck_message_to(answer, text, text.length, profile, wording, rule, place, out, out.length);
+        Functions.urlcheck_message_to(answer, text, text.length, profile, null, wording, rule, place, out, out.length);
     }
 }

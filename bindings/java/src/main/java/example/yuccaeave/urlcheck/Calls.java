@@ -12,7 +12,6 @@ import java.util.concurrent.atomic.AtomicReferenceArray;
  */
 final class Calls {
     /** The texts of {@code urlcheck_text}. */
-    static final int RULE_NAME = 0;
     static final int RULE_SENTENCE = 1;
     static final int RULE_ADDRESS = 2;
     static final int RULE_REQUIRES = 3;
@@ -42,12 +41,12 @@ final class Calls {
     }
 
     /** A valid text with its parts. */
-    static Url check(String text, Profile profile, long[] prepared) throws Refusal {
+    static Valid check(String text, Profile profile, long[] prepared) throws Refusal {
         byte[] bytes = Utf8.encode(text);
         Answer answer = new Answer();
         Library.get().check(answer.memory(), bytes, profile.number(), prepared);
         answer.requireValid(text, profile);
-        return new Url(Parts.of(text, bytes.length, answer, Answer.ANSWER_PARTS));
+        return new Valid(Parts.of(text, bytes.length, answer, Answer.ANSWER_PARTS));
     }
 
     /** A call that writes a text: it is handed a buffer, and gives the length of its text. */
@@ -77,7 +76,7 @@ final class Calls {
     }
 
     /** The URL of a text. In {@code urlcheck_record} the length, the parts, the host and the opaque path come last. */
-    static ResolvedUrl resolve(String text, Profile profile, byte[] base) throws Refusal {
+    static Url resolve(String text, Profile profile, byte[] base) throws Refusal {
         byte[] bytes = Utf8.encode(text);
         Answer answer = new Answer();
         byte[] out = written(usualRoom(bytes, base), room -> {
@@ -88,7 +87,7 @@ final class Calls {
         int length = (int) answer.number(Answer.RECORD_LENGTH);
         Parts parts = Parts.of(Utf8.decode(out, length), length, answer, Answer.RECORD_PARTS);
         HostKind host = HostKind.of(answer.word(Answer.RECORD_HOST_KIND));
-        return new ResolvedUrl(parts, host, answer.word(Answer.RECORD_HAS_OPAQUE_PATH) != 0);
+        return new Url(parts, host, answer.word(Answer.RECORD_HAS_OPAQUE_PATH) != 0);
     }
 
     /** The text to write in place of a refused one: in {@code urlcheck_mended} its kind, the offer and the length. */
@@ -146,7 +145,7 @@ final class Calls {
         return (int) count;
     }
 
-    /** The sentence on a violation, or that of its rule if its place is after the end of the text. */
+    /** The sentence on a violation, or its rule's sentence if its place is after the end of the text. */
     static String message(String text, Profile profile, Violation violation) {
         byte[] bytes = Utf8.encode(text);
         Answer answer = new Answer();

@@ -5,10 +5,10 @@ import java.util.List;
 import java.util.Objects;
 import java.util.Optional;
 
-/** Checks texts by a profile, alone or against a base. It never changes, and threads may share it. */
+/** Checks texts under a profile, alone or against a base. It never changes, and threads may share it. */
 public final class Checker {
     private final Profile profile;
-    /** The base's text, its bytes, and what the library has prepared of it; null if texts are checked alone. */
+    /** The base's text, its bytes, and what the library has prepared of it; null if there is no base. */
     private final String base;
     private final byte[] baseBytes;
     private final long[] prepared;
@@ -21,7 +21,7 @@ public final class Checker {
     }
 
     /**
-     * The checker of texts alone.
+     * The checker of texts without a base.
      *
      * @param profile the profile
      * @return the checker
@@ -31,7 +31,7 @@ public final class Checker {
     }
 
     /**
-     * The checker of texts against a base, which is itself checked alone, once for all texts.
+     * The checker of texts against a base, which is checked by itself, once for all texts.
      *
      * @param base the base, such as the address of a page
      * @param profile the profile, of the base and of the texts
@@ -68,7 +68,7 @@ public final class Checker {
      * @return the text with its parts, as they are written
      * @throws Refusal if the text isn't valid
      */
-    public Url check(String text) throws Refusal {
+    public Valid check(String text) throws Refusal {
         return Calls.check(text, profile, prepared);
     }
 
@@ -89,7 +89,7 @@ public final class Checker {
      * @return the URL with its parts
      * @throws Refusal if the text isn't valid
      */
-    public ResolvedUrl resolve(String text) throws Refusal {
+    public Url resolve(String text) throws Refusal {
         return Calls.resolve(text, profile, baseBytes);
     }
 

@@ -32,7 +32,7 @@ abstract class Library {
     /** The name by which the system finds the library. */
     private static String usualName() {
         boolean isLinux = System.getProperty("os.name").startsWith("Linux");
-        return isLinux ? "liburlcheck.so.0" : System.mapLibraryName("urlcheck");
+        return isLinux ? "liburlcheck.so.0.5" : System.mapLibraryName("urlcheck");
     }
 
     /** The error for a library that can't be loaded, which says how to name its file. */

@@ -1,5 +1,7 @@
 package example.yuccaeave.urlcheck;
 
+import java.util.Objects;
+
 /** A valid text in place of a refused one. */
 public final class Mended {
     private final String text;
@@ -37,6 +39,17 @@ public final class Mended {
      */
     public boolean isOffered() {
         return isOffered;
+    }
+
+    @Override
+    public boolean equals(Object other) {
+        return other instanceof Mended && text.equals(((Mended) other).text) && kind == ((Mended) other).kind
+            && isOffered == ((Mended) other).isOffered;
+    }
+
+    @Override
+    public int hashCode() {
+        return Objects.hash(text, kind, isOffered);
     }
 
     @Override

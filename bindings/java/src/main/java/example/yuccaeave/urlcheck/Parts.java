@@ -2,7 +2,7 @@ package example.yuccaeave.urlcheck;
 
 import java.util.Optional;
 
-/** Where the parts of a text are, in its UTF-16 units. */
+/** The places of the parts of a text, in its UTF-16 units. */
 final class Parts {
     /** The parts, in the order of {@code urlcheck_spans}. */
     static final int SCHEME = 0;

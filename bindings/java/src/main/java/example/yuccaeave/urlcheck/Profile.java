@@ -21,6 +21,22 @@ public enum Profile {
         return name().toLowerCase(Locale.ROOT);
     }
 
+    /**
+     * The profile that has the name.
+     *
+     * @param name the name, such as {@code wide}
+     * @return the profile
+     * @throws IllegalArgumentException if no profile has the name
+     */
+    public static Profile of(String name) {
+        for (Profile profile : values()) {
+            if (profile.toString().equals(name)) {
+                return profile;
+            }
+        }
+        throw new IllegalArgumentException("no profile has the name " + name + ": there are standard, wide and parser");
+    }
+
     int number() {
         return ordinal();
     }

@@ -1,6 +1,9 @@
 package example.yuccaeave.urlcheck;
 
-/** Why a text, or a base, isn't valid: its first violation, and of several at that place the one of the first rule. */
+/**
+ * Why a text, or a base, isn't valid: its first violation, and if several are at that place, the one whose rule comes first. It is
+ * a common answer and no fault of the program, so it has no stack trace, which would take longer than the check.
+ */
 public final class Refusal extends Exception {
     private static final long serialVersionUID = 1L;
 
@@ -10,7 +13,7 @@ public final class Refusal extends Exception {
     private final Profile profile;
 
     Refusal(Violation violation, Profile profile) {
-        super(violation.toString());
+        super(violation.toString(), null, false, false);
         this.violation = violation;
         this.profile = profile;
     }
@@ -34,7 +37,7 @@ public final class Refusal extends Exception {
     }
 
     /**
-     * Where the text is wrong, in code points.
+     * The wrong place in the text, in code points.
      *
      * @return the place, from 0
      */
@@ -43,7 +46,7 @@ public final class Refusal extends Exception {
     }
 
     /**
-     * Where the text is wrong, in UTF-16 units, as {@link String#substring(int)} takes it.
+     * The wrong place in the text, in UTF-16 units, as {@link String#substring(int)} takes it.
      *
      * @return the index, from 0
      */

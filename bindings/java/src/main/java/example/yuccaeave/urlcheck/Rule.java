@@ -1,6 +1,8 @@
 package example.yuccaeave.urlcheck;
 
-/** A rule that a text can violate. Of several violations at one place the one of the first rule is named. */
+import java.util.Locale;
+
+/** A rule that a text can violate. If several violations are at one place, the one whose rule comes first is named. */
 public enum Rule {
     /** {@code no-scheme}. */
     NO_SCHEME,
@@ -40,7 +42,7 @@ public enum Rule {
      */
     @Override
     public String toString() {
-        return Calls.fixedText(Calls.RULE_NAME, this);
+        return name().toLowerCase(Locale.ROOT).replace('_', '-');
     }
 
     /**
@@ -77,6 +79,22 @@ public enum Rule {
      */
     public String section() {
         return Calls.fixedText(Calls.RULE_SECTION, this);
+    }
+
+    /**
+     * The rule that has the name.
+     *
+     * @param name the name, such as {@code host-domain}
+     * @return the rule
+     * @throws IllegalArgumentException if no rule has the name
+     */
+    public static Rule of(String name) {
+        for (Rule rule : ALL) {
+            if (rule.toString().equals(name)) {
+                return rule;
+            }
+        }
+        throw new IllegalArgumentException("no rule has the name " + name);
     }
 
     int number() {

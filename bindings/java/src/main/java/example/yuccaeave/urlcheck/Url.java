@@ -1,89 +1,34 @@
 package example.yuccaeave.urlcheck;
 
-import java.util.Optional;
-
 /**
- * A valid URL string with its parts as they are written: capitals, escapes, dot segments and a default port stay. A
- * reference has nothing of its base.
+ * The URL that a valid text denotes, serialized (URL Standard, section 4.5), with its parts. A domain is in ASCII, and
+ * a default port isn't there.
  */
-public class Url {
-    private final Parts parts;
+public final class Url extends AbstractUrl {
+    private final HostKind hostKind;
+    private final boolean hasOpaquePath;
 
-    Url(Parts parts) {
-        this.parts = parts;
+    Url(Parts parts, HostKind hostKind, boolean hasOpaquePath) {
+        super(parts);
+        this.hostKind = hostKind;
+        this.hasOpaquePath = hasOpaquePath;
     }
 
     /**
-     * The scheme, without its {@code :}.
+     * Of which kind the host is.
      *
-     * @return the scheme; a reference has none
+     * @return the kind
      */
-    public final Optional<String> scheme() {
-        return parts.part(Parts.SCHEME);
+    public HostKind hostKind() {
+        return hostKind;
     }
 
     /**
-     * The host, after {@code //}.
+     * Whether the path is opaque, as in {@code urn:isbn:1}: it has no segments.
      *
-     * @return the host, which may be empty
+     * @return whether it is
      */
-    public final Optional<String> host() {
-        return parts.part(Parts.HOST);
-    }
-
-    /**
-     * The port, without its {@code :}.
-     *
-     * @return the port, which may be empty
-     */
-    public final Optional<String> port() {
-        return parts.part(Parts.PORT);
-    }
-
-    /**
-     * The path, with its first {@code /}.
-     *
-     * @return the path, which may be empty
-     */
-    public final String path() {
-        return parts.path();
-    }
-
-    /**
-     * The query, without its {@code ?}.
-     *
-     * @return the query, which may be empty
-     */
-    public final Optional<String> query() {
-        return parts.part(Parts.QUERY);
-    }
-
-    /**
-     * The fragment, without its {@code #}.
-     *
-     * @return the fragment, which may be empty
-     */
-    public final Optional<String> fragment() {
-        return parts.part(Parts.FRAGMENT);
-    }
-
-    @Override
-    public final boolean equals(Object other) {
-        return other != null && getClass() == other.getClass() && toString().equals(other.toString());
-    }
-
-    @Override
-    public final int hashCode() {
-        return toString().hashCode();
-    }
-
-    /**
-     * The whole text.
-     *
-     * @return the text
-     */
-    @Override
-    public final String toString() {
-        return parts.text();
+    public boolean hasOpaquePath() {
+        return hasOpaquePath;
     }
 }

@@ -3,7 +3,7 @@ package example.yuccaeave.urlcheck;
 import java.util.List;
 import java.util.Optional;
 
-/** The checks of a text alone, by the standard profile. A {@link Checker} has those by others, and against a base. */
+/** Checks a text without a base, under the standard profile. A {@link Checker} has another profile, or a base. */
 public final class UrlCheck {
     private static final Checker STANDARD = Checker.by(Profile.STANDARD);
 
@@ -17,7 +17,7 @@ public final class UrlCheck {
      * @return the text with its parts, as they are written
      * @throws Refusal if the text isn't valid
      */
-    public static Url check(String text) throws Refusal {
+    public static Valid check(String text) throws Refusal {
         return STANDARD.check(text);
     }
 
@@ -38,7 +38,7 @@ public final class UrlCheck {
      * @return the URL with its parts
      * @throws Refusal if the text isn't valid
      */
-    public static ResolvedUrl resolve(String text) throws Refusal {
+    public static Url resolve(String text) throws Refusal {
         return STANDARD.resolve(text);
     }
 
@@ -61,5 +61,15 @@ public final class UrlCheck {
      */
     public static List<Violation> violations(String text) {
         return STANDARD.violations(text);
+    }
+
+    /**
+     * The version of the library that answers.
+     *
+     * @return the version, such as {@code 0.4.0}
+     */
+    public static String version() {
+        int version = Library.get().version();
+        return version / 10_000 + "." + version / 100 % 100 + "." + version % 100;
     }
 }

@@ -8,11 +8,11 @@ public final class Violation implements Serializable {
 
     /** The rule. */
     private final Rule rule;
-    /** Where the text is wrong, in code points. */
+    /** The wrong place in the text, in code points. */
     private final long place;
-    /** Where the text is wrong, in bytes. */
+    /** The wrong place in the text, in bytes. */
     private final long bytePlace;
-    /** Where the text is wrong, in UTF-16 units. */
+    /** The wrong place in the text, in UTF-16 units. */
     private final int index;
 
     Violation(Rule rule, long place, long bytePlace, int index) {
@@ -32,7 +32,7 @@ public final class Violation implements Serializable {
     }
 
     /**
-     * Where the text is wrong, in code points.
+     * The wrong place in the text, in code points.
      *
      * @return the place, from 0
      */
@@ -41,7 +41,7 @@ public final class Violation implements Serializable {
     }
 
     /**
-     * Where the text is wrong, in bytes of UTF-8.
+     * The wrong place in the text, in bytes of UTF-8.
      *
      * @return the place, from 0
      */
@@ -50,7 +50,7 @@ public final class Violation implements Serializable {
     }
 
     /**
-     * Where the text is wrong, in UTF-16 units, as {@link String#substring(int)} takes it.
+     * The wrong place in the text, in UTF-16 units, as {@link String#substring(int)} takes it.
      *
      * @return the index, from 0
      */
@@ -63,7 +63,7 @@ public final class Violation implements Serializable {
      *
      * @param text the text
      * @param profile the profile by which it was checked
-     * @return the sentence, without its end; that of the rule if the place is after the end of the text
+     * @return the sentence, without its end; the rule's sentence if the place is after the end of the text
      */
     public String message(String text, Profile profile) {
         return Calls.message(text, profile, this);

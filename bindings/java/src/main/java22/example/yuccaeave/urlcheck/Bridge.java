@@ -46,8 +46,8 @@ final class Bridge extends Library {
                 ADDRESS, ADDRESS, ADDRESS, ADDRESS);
         text = function(library, "urlcheck_text",
                 FunctionDescriptor.of(JAVA_LONG, JAVA_INT, JAVA_INT, ADDRESS, JAVA_LONG));
-        message = writing(library, "urlcheck_message_to", ADDRESS, JAVA_LONG, JAVA_INT, JAVA_INT, JAVA_INT, JAVA_LONG,
-                ADDRESS, JAVA_LONG);
+        message = writing(library, "urlcheck_message_to", ADDRESS, JAVA_LONG, JAVA_INT, ADDRESS, JAVA_INT, JAVA_INT,
+                JAVA_LONG, ADDRESS, JAVA_LONG);
     }
 
     /** Finds the library, by its path or by the name that the system knows. */
@@ -85,7 +85,7 @@ final class Bridge extends Library {
         return words == null ? MemorySegment.NULL : MemorySegment.ofArray(words);
     }
 
-    /** The length of bytes that may be null, as those of a base that isn't given. */
+    /** The length of bytes that may be null, as for a base that isn't given. */
     private static long lengthOf(byte[] bytes) {
         return bytes == null ? 0 : bytes.length;
     }
@@ -184,8 +184,8 @@ final class Bridge extends Library {
     @Override
     void message(long[] answer, byte[] bytes, int profile, int wording, int rule, long place, byte[] out) {
         try {
-            message.invokeExact(of(answer), of(bytes), (long) bytes.length, profile, wording, rule, place, of(out),
-                    (long) out.length);
+            message.invokeExact(of(answer), of(bytes), (long) bytes.length, profile, MemorySegment.NULL, wording, rule,
+                    place, of(out), (long) out.length);
         } catch (Throwable reason) {
             throw thrown(reason);
         }

@@ -34,14 +34,14 @@ public final class UrlCheckTest {
 
     @Test
     public void aValidTextHasItsParts() throws Refusal {
-        Url url = UrlCheck.check("HTTPS://Example.com:443/a/../b?x#y");
+        Valid url = UrlCheck.check("HTTPS://Example.com:443/a/../b?x#y");
         assertEquals(Optional.of("HTTPS"), url.scheme());
         assertEquals(Optional.of("Example.com"), url.host());
         assertEquals(Optional.of("443"), url.port());
         assertEquals("/a/../b", url.path());
         assertEquals(Optional.of("x"), url.query());
         assertEquals(Optional.of("y"), url.fragment());
-        Url urn = UrlCheck.check("urn:isbn:0451450523");
+        Valid urn = UrlCheck.check("urn:isbn:0451450523");
         assertEquals(Optional.empty(), urn.host());
         assertEquals("isbn:0451450523", urn.path());
         assertEquals(urn, UrlCheck.check("urn:isbn:0451450523"));
@@ -49,10 +49,41 @@ public final class UrlCheckTest {
 
     @Test
     public void partsAfterWideCodePointsAreWhereTheyAre() throws Refusal {
-        Url url = UrlCheck.check("http://h/" + WIDE + "/b?" + WIDE + "#" + WIDE);
+        Valid url = UrlCheck.check("http://h/" + WIDE + "/b?" + WIDE + "#" + WIDE);
         assertEquals("/" + WIDE + "/b", url.path());
         assertEquals(Optional.of(WIDE), url.query());
         assertEquals(Optional.of(WIDE), url.fragment());
+    }
+
+    @Test
+    public void theVersionIsAText() {
+        assertTrue(UrlCheck.version(), UrlCheck.version().startsWith("0.4."));
+    }
+
+    @Test
+    public void aRefusalHasNoStackTrace() {
+        assertEquals(0, refusal("x").getStackTrace().length);
+    }
+
+    @Test
+    public void profilesAndRulesHaveNames() {
+        for (Profile profile : Profile.values()) {
+            assertEquals(profile, Profile.of(profile.toString()));
+        }
+        for (Rule rule : Rule.values()) {
+            assertEquals(rule, Rule.of(rule.toString()));
+        }
+        assertEquals("host-ipv6", Rule.HOST_IPV6.toString());
+        assertThrows(IllegalArgumentException.class, () -> Profile.of("Wide"));
+        assertThrows(IllegalArgumentException.class, () -> Rule.of("HOST_IPV6"));
+    }
+
+    @Test
+    public void mendedTextsAreCompared() throws Refusal {
+        Mended mended = UrlCheck.mend("http://h/a b").get();
+        assertEquals(mended, UrlCheck.mend("http://h/a b").get());
+        assertEquals(mended.hashCode(), UrlCheck.mend("http://h/a b").get().hashCode());
+        assertFalse(mended.equals(UrlCheck.mend("http://h/a  b").get()));
     }
 
     @Test
@@ -129,7 +160,7 @@ public final class UrlCheckTest {
 
     @Test
     public void aUrlHasItsParts() throws Refusal {
-        ResolvedUrl url = Checker.against("https://example.com:8080/a/b", Profile.STANDARD).resolve("../\u00e9?q#f");
+        Url url = Checker.against("https://example.com:8080/a/b", Profile.STANDARD).resolve("../\u00e9?q#f");
         assertEquals("https://example.com:8080/%C3%A9?q#f", url.toString());
         assertEquals(Optional.of("8080"), url.port());
         assertEquals("/%C3%A9", url.path());

@@ -1,5 +1,7 @@
 //! What is serialized, as JSON.
 
+#![cfg(feature = "serde")]
+
 use serde_json::{json, to_value};
 use urlcheck::{Checker, Profile, Rule};
 
