@@ -1,9 +1,9 @@
-"""Builds the wheel of the package, and an archive of what it is built from (PEP 517), by the standard library alone, so
+"""Builds the wheel of the package, and an archive of what it is built from (PEP 517), with the standard library, so
 that installing it needs no network.
 
-The folder is what tools/build-library writes: beside pyproject.toml are VERSION, PLATFORM (the tag of the systems on
-which the extension module runs), the licences, and the package with that module, which the archive has too. Where there
-is a folder `bin`, the programs in it are installed with the package, as those of a release's wheel. Two builds give the
+The folder is what tools/build-library writes: next to pyproject.toml are VERSION, PLATFORM (the tag of the systems on
+which the extension module runs), the licences, and the package with that module, which the archive has too. If there
+is a folder `bin`, the programs in it are installed with the package, as in a release's wheel. Two builds give the
 same bytes.
 """
 
@@ -180,7 +180,7 @@ def _digest(data):
 
 
 def _seconds():
-    """The time of each file that is written: that of SOURCE_DATE_EPOCH, or else the first that a zip file can hold."""
+    """The time of each file that is written: SOURCE_DATE_EPOCH, or the first that a zip file can hold."""
     return max(int(os.environ.get("SOURCE_DATE_EPOCH", "315532800")), 315532800)
 
 
@@ -196,7 +196,7 @@ def build_wheel(wheel_directory, config_settings=None, metadata_directory=None):
         for name, data in files.items():
             entry = zipfile.ZipInfo(name, time.gmtime(_seconds())[:6])
             entry.compress_type = zipfile.ZIP_DEFLATED
-            # (an installer makes a script executable where its mode says so, as that of a regular file)
+            # (an installer makes a script executable if its mode says so, as the mode of a regular file does)
             entry.external_attr = (stat.S_IFREG | (0o755 if name.startswith(_scripts()) else 0o644)) << 16
             out.writestr(entry, data)
     return wheel

@@ -314,6 +314,17 @@ PyObject *native_export(PyObject *module, PyObject *args) {
     return answer;
 }
 
+/* layout(schema): the format of a schema; of indexes into a dictionary, and after a space the dictionary's. */
+PyObject *native_layout(PyObject *module, PyObject *capsule) {
+    const struct ArrowSchema *schema = PyCapsule_GetPointer(capsule, "arrow_schema");
+
+    (void)module;
+    if (!schema) return NULL;
+    if (!schema->release || !schema->format) return refuse_array("it was released before");
+    if (!schema->dictionary || !schema->dictionary->format) return PyUnicode_FromString(schema->format);
+    return PyUnicode_FromFormat("%s %s", schema->format, schema->dictionary->format);
+}
+
 /* ---- a stream of arrays */
 
 /* The next array of a stream in a capsule: None at its end, null and an error if it gives none. */

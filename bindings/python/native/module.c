@@ -3,7 +3,7 @@
 
 #include <stdio.h>
 
-/* What a base is found to be: its bytes and the struct, as two objects of type `bytes`. */
+/* What a base is found to be: its profile, its bytes and the struct, the last two as objects of type `bytes`. */
 static PyObject *native_prepare(PyObject *module, PyObject *args) {
     state *state = PyModule_GetState(module);
     PyObject *text, *profile, *made = NULL;
@@ -11,7 +11,7 @@ static PyObject *native_prepare(PyObject *module, PyObject *args) {
 
     if (!PyArg_ParseTuple(args, "OO:prepare", &text, &profile)) return NULL;
     if (read_valid_setting(state, text, profile, &request))
-        made = Py_BuildValue("(OOy#)", request.base_bytes, state->profiles[request.profile],
+        made = Py_BuildValue("(OOy#)", state->profiles[request.profile], request.base_bytes,
                              (const char *)&request.prepared, (Py_ssize_t)sizeof request.prepared);
     drop_request(&request);
     return made;
@@ -23,17 +23,19 @@ static PyObject *native_version(PyObject *module, PyObject *args) {
     return PyLong_FromUnsignedLong(urlcheck_version());
 }
 
-/* Takes the tuple's objects over into the fields, which are as many. */
+/* Takes the tuple's objects over into the fields, which are as many, in place of what they have. */
 static int take_all(PyObject *tuple, PyObject **fields, Py_ssize_t count) {
     if (PyTuple_Size(tuple) != count) return 0;
     for (Py_ssize_t at = 0; at < count; at++) {
+        PyObject *before = fields[at];
         fields[at] = PyTuple_GetItem(tuple, at);
         Py_INCREF(fields[at]);
+        Py_XDECREF(before);
     }
     return 1;
 }
 
-/* use(classes, profiles, kinds, kind_names, rules): what the package hands over when it is loaded, once. */
+/* use(classes, profiles, kinds, kind_names, rules): what the package hands over when it is loaded, or loaded again. */
 static PyObject *native_use(PyObject *module, PyObject *args) {
     state *state = PyModule_GetState(module);
     PyObject *classes, *profiles, *kinds, *kind_names, *rules;
@@ -41,7 +43,7 @@ static PyObject *native_use(PyObject *module, PyObject *args) {
     if (!PyArg_ParseTuple(args, "O!O!O!O!O!:use", &PyTuple_Type, &classes, &PyTuple_Type, &profiles, &PyTuple_Type,
                           &kinds, &PyTuple_Type, &kind_names, &PyTuple_Type, &rules))
         return NULL;
-    if (state->valid || !take_all(classes, &state->valid, 7) || !take_all(profiles, state->profiles, PROFILE_COUNT)
+    if (!take_all(classes, &state->valid, 7) || !take_all(profiles, state->profiles, PROFILE_COUNT)
         || !take_all(kinds, state->kinds, KIND_COUNT) || !take_all(kind_names, state->kind_names, KIND_COUNT)
         || !take_all(rules, state->rules, RULE_COUNT)) {
         PyErr_SetString(PyExc_ValueError, "the package isn't the module's");
@@ -51,11 +53,11 @@ static PyObject *native_use(PyObject *module, PyObject *args) {
     return state->none;
 }
 
-#define ARGUMENTS "(text, base=None, profile=0)\n--\n\n"
+#define ARGUMENTS "(text, base=None, profile=None)\n--\n\n"
 #define RAISES                                                                                                         \
     "\n\nRaises ``BaseRefused`` where the base isn't valid alone, ``UnicodeEncodeError`` where a text holds a "         \
     "surrogate,\nwhich is no code point of a text, ``TypeError`` where the text or the base is no ``str``, "            \
-    "``ValueError`` where no\nprofile has the number, and ``MemoryError``."
+    "``ValueError`` where no\nprofile has the number or the name, or the base has another one, and ``MemoryError``."
 
 static PyMethodDef methods[] = {
     {"check", (PyCFunction)(void (*)(void))native_check, METH_VARARGS | METH_KEYWORDS,
@@ -70,8 +72,8 @@ static PyMethodDef methods[] = {
      "mend" ARGUMENTS
      "What to write in place of a refused text: a valid one made of it by local edits, which keep all else.\n\n"
      "``None`` where the text is valid, and its refusal where the edits give no valid text." RAISES},
-    {"faults", (PyCFunction)(void (*)(void))native_faults, METH_VARARGS | METH_KEYWORDS,
-     "faults" ARGUMENTS
+    {"violations", (PyCFunction)(void (*)(void))native_violations, METH_VARARGS | METH_KEYWORDS,
+     "violations" ARGUMENTS
      "All that is wrong with the text, by place and at one place by the rule's number; none where it is valid." RAISES},
     {"prepare", native_prepare, METH_VARARGS, NULL},
     {"text", native_text, METH_VARARGS, NULL},
@@ -92,9 +94,9 @@ static PyMethodDef methods[] = {
     {"check_arrow", native_check_arrow, METH_VARARGS, NULL},
     {"write_arrow", native_write_arrow, METH_VARARGS, NULL},
     {"arrays_of", native_arrays_of, METH_O, NULL},
+    {"layout", native_layout, METH_O, NULL},
     {"export", native_export, METH_VARARGS, NULL},
     {"bits", native_bits, METH_VARARGS, NULL},
-    {"check_lines", native_check_lines, METH_VARARGS, NULL},
     {NULL, NULL, 0, NULL},
 };
 

@@ -19,13 +19,13 @@ enum { PART_COUNT = 6, RULE_COUNT = 16, NO_UTF8_RULE = 15, KIND_COUNT = 4, PROFI
 
 /* What the module holds: objects of Python, and nothing else. */
 typedef struct state {
-    PyObject *valid, *refused, *mended, *fault; /* the classes of answers */
+    PyObject *valid, *refused, *mended, *violation; /* the classes of answers */
     PyObject *base, *base_refused;
-    PyObject *profile_of;              /* a profile of what a caller gave, or an error that says why it is none */
+    PyObject *profile_of;              /* a profile of what a caller gave, or an error that says why it isn't one */
     PyObject *profiles[PROFILE_COUNT]; /* by their numbers */
     PyObject *kinds[KIND_COUNT];       /* of mended texts, from 1 */
     PyObject *kind_names[KIND_COUNT];
-    PyObject *rules[RULE_COUNT]; /* their names, from 1, and at last that of bytes that aren't UTF-8 */
+    PyObject *rules[RULE_COUNT]; /* their names, from 1, and at last the name for bytes that aren't UTF-8 */
     PyObject *parts[PART_COUNT]; /* the names of the parts, in the order of urlcheck_spans */
     PyObject *rule, *place, *text, *kind, *is_offered, *dict, *held, *data, *none;
     PyObject *no_arguments;
@@ -37,11 +37,11 @@ typedef struct request {
     PyObject *bytes; /* its UTF-8 */
     const uint8_t *data;
     size_t length;
-    PyObject *base_bytes; /* the UTF-8 of the base; if the text is checked alone it and its data are null */
+    PyObject *base_bytes; /* the UTF-8 of the base; if the text is checked by itself it and its data are null */
     const uint8_t *base_data;
     size_t base_length;
     urlcheck_base prepared;
-    const urlcheck_base *base; /* `prepared`, or null if the text is checked alone */
+    const urlcheck_base *base; /* `prepared`, or null if the text is checked by itself */
     uint32_t profile;
 } request;
 
@@ -51,7 +51,7 @@ int read_arguments(PyObject *args, PyObject *named, const char *format, PyObject
 /* Reads a base and a profile, either of which may be null, into a request of zeros: false and an error if it can't. */
 int read_setting(state *state, PyObject *base, PyObject *profile, request *request);
 
-/* Reads a base and a profile as read_setting does: false and an error also if the base isn't valid. */
+/* Reads a base and a profile as read_setting does, and checks the base: false and an error if it isn't valid. */
 int read_valid_setting(state *state, PyObject *base, PyObject *profile, request *request);
 
 /* Reads the arguments of a call into a request of zeros: false and an error if one of them isn't right. */
@@ -76,20 +76,20 @@ PyObject *native_check(PyObject *module, PyObject *args, PyObject *named);
 PyObject *native_is_valid(PyObject *module, PyObject *args, PyObject *named);
 PyObject *native_resolve(PyObject *module, PyObject *args, PyObject *named);
 PyObject *native_mend(PyObject *module, PyObject *args, PyObject *named);
-PyObject *native_faults(PyObject *module, PyObject *args, PyObject *named);
+PyObject *native_violations(PyObject *module, PyObject *args, PyObject *named);
 
 /*
  * The calls over many texts, functions of the module. Those of texts take a list and a tuple of what stands for a missing
- * text, those of Arrow the two capsules of an array.
+ * text, from Arrow the two capsules of an array.
  */
 PyObject *native_check_texts(PyObject *module, PyObject *args);
 PyObject *native_write_texts(PyObject *module, PyObject *args);
 PyObject *native_check_arrow(PyObject *module, PyObject *args);
 PyObject *native_write_arrow(PyObject *module, PyObject *args);
 PyObject *native_arrays_of(PyObject *module, PyObject *stream);
+PyObject *native_layout(PyObject *module, PyObject *schema);
 PyObject *native_export(PyObject *module, PyObject *args);
 PyObject *native_bits(PyObject *module, PyObject *args);
-PyObject *native_check_lines(PyObject *module, PyObject *args);
 
 /* The calls that write reports and fixed texts, functions of the module. */
 PyObject *native_text(PyObject *module, PyObject *args);

@@ -15,6 +15,7 @@ typedef struct writing {
     uint64_t place;
     const uint8_t *text;
     size_t length;
+    const urlcheck_base *base;
     urlcheck_reported reported;
 } writing;
 
@@ -40,8 +41,8 @@ static urlcheck_written write_end(const writing *writing, uint8_t *out, size_t r
 }
 
 static urlcheck_written write_message(const writing *writing, uint8_t *out, size_t room) {
-    return urlcheck_message(writing->text, writing->length, writing->profile, writing->wording, writing->rule,
-                            (size_t)writing->place, out, room);
+    return urlcheck_message(writing->text, writing->length, writing->profile, writing->base, writing->wording,
+                            writing->rule, (size_t)writing->place, out, room);
 }
 
 /* False, with an error, if a call gave nothing. */
@@ -137,15 +138,23 @@ PyObject *native_file_end(PyObject *module, PyObject *args) {
     return PyArg_ParseTuple(args, "I:file_end", &writing.format) ? written_text(&writing) : NULL;
 }
 
-/* message(text, profile, wording, rule, place) */
+/* message(text, base, profile, wording, rule, place) */
 PyObject *native_message(PyObject *module, PyObject *args) {
+    state *state = PyModule_GetState(module);
     writing writing = {.call = write_message};
+    PyObject *arguments[3], *text = NULL;
+    request request = {0};
 
-    (void)module;
-    return PyArg_ParseTuple(args, "s#IIIO&:message", &writing.text, &writing.length, &writing.profile, &writing.wording,
-                            &writing.rule, read_number, &writing.place)
-               ? written_text(&writing)
-               : NULL;
+    if (!PyArg_ParseTuple(args, "OOOIIO&:message", &arguments[0], &arguments[1], &arguments[2], &writing.wording,
+                          &writing.rule, read_number, &writing.place))
+        return NULL;
+    if (read_request(state, arguments, &request) && (!request.base || is_checked(state, request.base->found))) {
+        writing.text = request.data, writing.length = request.length;
+        writing.profile = request.profile, writing.base = request.base;
+        text = written_text(&writing);
+    }
+    drop_request(&request);
+    return text;
 }
 
 /*

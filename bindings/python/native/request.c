@@ -1,4 +1,4 @@
-/* The arguments of a call: a text, a base and a profile, and errors that say why something is none of them. */
+/* The arguments of a call: a text, a base and a profile, and errors that say why something isn't one of them. */
 #include "native.h"
 
 #include <string.h>
@@ -37,7 +37,6 @@ static int profile_number(state *state, PyObject *given) {
     PyObject *profile;
     int found = -1;
 
-    if (!given) return URLCHECK_STANDARD;
     for (int number = 0; number < PROFILE_COUNT; number++)
         if (given == state->profiles[number]) return number;
     profile = PyObject_CallFunctionObjArgs(state->profile_of, given, NULL);
@@ -47,15 +46,20 @@ static int profile_number(state *state, PyObject *given) {
     return found;
 }
 
-/* Reads what a urlcheck.Base holds. */
-static int read_prepared(state *state, PyObject *base, request *request) {
+/* Reads what a urlcheck.Base holds, whose profile has to be the one that was said, if one was. */
+static int read_prepared(state *state, PyObject *base, int is_said, request *request) {
     PyObject *held = PyObject_GetAttr(base, state->held), *name;
     size_t length = 0;
 
-    if (held && PyBytes_AsString(held)) memcpy(&request->prepared, bytes_of(held, &length), sizeof request->prepared);
+    if (held && PyBytes_Check(held) && PyBytes_Size(held) == (Py_ssize_t)sizeof request->prepared)
+        memcpy(&request->prepared, bytes_of(held, &length), sizeof request->prepared);
     Py_XDECREF(held);
-    if (length != sizeof request->prepared) return 0;
-    if (request->profile != URLCHECK_STANDARD && request->profile != request->prepared.profile) {
+    if (!held) return 0;
+    if (!length) {
+        PyErr_SetString(PyExc_TypeError, "a base has lost what was checked of it");
+        return 0;
+    }
+    if (is_said && request->profile != request->prepared.profile) {
         name = PyObject_GetAttrString(state->profiles[request->prepared.profile % PROFILE_COUNT], "name");
         if (name) PyErr_Format(PyExc_ValueError, "the base was checked by another profile: %U", name);
         Py_XDECREF(name);
@@ -69,18 +73,18 @@ static int read_prepared(state *state, PyObject *base, request *request) {
 }
 
 int read_setting(state *state, PyObject *base, PyObject *profile, request *request) {
-    int number, is_base;
+    int number = URLCHECK_STANDARD, is_base, is_said = profile && profile != state->none;
 
     if (base && base != state->none && !PyUnicode_Check(base)) {
         is_base = PyObject_IsInstance(base, state->base);
         if (is_base < 0) return 0;
         if (!is_base) return refuse_text(base, "a base is a str, a urlcheck.Base or None") != NULL;
     }
-    number = profile_number(state, profile);
+    if (is_said) number = profile_number(state, profile);
     if (number < 0) return 0;
     request->profile = (uint32_t)number;
     if (!base || base == state->none) return 1;
-    if (!PyUnicode_Check(base)) return read_prepared(state, base, request);
+    if (!PyUnicode_Check(base)) return read_prepared(state, base, is_said, request);
     request->base_bytes = PyUnicode_AsUTF8String(base);
     if (!request->base_bytes) return 0;
     request->base_data = bytes_of(request->base_bytes, &request->base_length);

@@ -6,7 +6,7 @@
 /* Texts from this length on are checked without the interpreter's lock. */
 enum { LONG = 16384 };
 
-/* What most answers fit in: so many bytes, so many faults. */
+/* What most answers fit in: so many bytes, so many violations. */
 enum { MOST = 512, MOST_FAULTS = 16 };
 
 /* Gives up the interpreter's lock for a long text, so that other threads run meanwhile. */
@@ -18,7 +18,7 @@ static void locked(PyThreadState *thread) {
 }
 
 /*
- * An object of a class whose fields are those of a dictionary, which is taken over. (A frozen class takes none by its own
+ * An object of a class with the fields of a dictionary, which is taken over. (A frozen class takes none by its own
  * `__setattr__`, and a call of it costs more than the check.) Its fields are texts, numbers and members of an
  * enumeration, so that it is in no cycle, and the collector needn't look at it: to look at a million answers takes longer
  * than to check.
@@ -75,7 +75,7 @@ static PyObject *part_of(const request *request, state *state, urlcheck_span spa
     return text_of(request->data + span.start, span.length);
 }
 
-/* A valid text with its parts. Of ASCII the text itself is cut, since its places are those of the bytes. */
+/* A valid text with its parts. From ASCII the text itself is cut, since its places are places of bytes. */
 static PyObject *valid(state *state, const request *request, const urlcheck_spans *parts) {
     const urlcheck_span spans[PART_COUNT] = {parts->scheme, parts->host,  parts->port,
                                              parts->path,   parts->query, parts->fragment};
@@ -197,7 +197,7 @@ PyObject *native_mend(PyObject *module, PyObject *args, PyObject *named) {
     return read_arguments(args, named, "O|OO:mend", arguments) ? write_answer(module, arguments, 1) : NULL;
 }
 
-/* Has the library list the faults, as many as there is room for. */
+/* Has the library list the violations, as many as there is room for. */
 static urlcheck_fault_count list_once(const request *request, urlcheck_fault *out, size_t room) {
     PyThreadState *thread = unlocked(request);
     urlcheck_fault_count answer =
@@ -207,13 +207,13 @@ static urlcheck_fault_count list_once(const request *request, urlcheck_fault *ou
     return answer;
 }
 
-/* The faults as a list of objects. */
-static PyObject *fault_list(state *state, const urlcheck_fault *faults, size_t count) {
+/* The violations as a list of objects. */
+static PyObject *violation_list(state *state, const urlcheck_fault *faults, size_t count) {
     PyObject *list = PyList_New((Py_ssize_t)count);
 
     for (size_t at = 0; list && at < count; at++) {
-        PyObject *fault = at_place(state, state->fault, faults[at].rule, faults[at].place);
-        if (!fault || PyList_SetItem(list, (Py_ssize_t)at, fault) < 0) {
+        PyObject *violation = at_place(state, state->violation, faults[at].rule, faults[at].place);
+        if (!violation || PyList_SetItem(list, (Py_ssize_t)at, violation) < 0) {
             Py_DECREF(list);
             return NULL;
         }
@@ -221,21 +221,21 @@ static PyObject *fault_list(state *state, const urlcheck_fault *faults, size_t c
     return list;
 }
 
-PyObject *native_faults(PyObject *module, PyObject *args, PyObject *named) {
+PyObject *native_violations(PyObject *module, PyObject *args, PyObject *named) {
     state *state = PyModule_GetState(module);
     PyObject *arguments[3], *list = NULL;
     urlcheck_fault most[MOST_FAULTS], *out = most;
     urlcheck_fault_count answer;
     request request = {0};
 
-    if (!read_arguments(args, named, "O|OO:faults", arguments)) return NULL;
+    if (!read_arguments(args, named, "O|OO:violations", arguments)) return NULL;
     if (read_request(state, arguments, &request)) {
         answer = list_once(&request, most, MOST_FAULTS);
         if (answer.count > MOST_FAULTS && answer.count <= SIZE_MAX / sizeof *out)
             out = malloc(answer.count * sizeof *out);
         if (answer.count > MOST_FAULTS && out) answer = list_once(&request, out, answer.count);
         if (!out) PyErr_SetString(PyExc_MemoryError, "urlcheck");
-        if (out && is_checked(state, answer.found)) list = fault_list(state, out, answer.count);
+        if (out && is_checked(state, answer.found)) list = violation_list(state, out, answer.count);
         if (out != most) free(out);
     }
     drop_request(&request);

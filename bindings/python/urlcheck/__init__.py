@@ -28,7 +28,6 @@ __all__ = [
     "Diagnostic",
     "Explanation",
     "FORMATS",
-    "Fault",
     "Findings",
     "MendKind",
     "Mended",
@@ -39,13 +38,13 @@ __all__ = [
     "Region",
     "UNITS",
     "Valid",
+    "Violation",
     "__version__",
     "check",
     "check_each",
     "check_many",
     "column",
     "explain",
-    "faults",
     "is_valid",
     "is_valid_many",
     "mend",
@@ -56,6 +55,7 @@ __all__ = [
     "resolve_many",
     "sentence",
     "version",
+    "violations",
 ]
 
 
@@ -73,6 +73,10 @@ class Profile(enum.IntEnum):
     """Also ``_`` and hyphens anywhere in domains, and any segments after an authority."""
     PARSER = 2
     """Each text that the URL Standard's parser accepts without a validation error, and no other."""
+
+
+AnyProfile = Union[Profile, Literal["standard", "wide", "parser"], None]
+"""A profile or its name. None is the base's profile, and without one the standard profile."""
 
 
 @dataclass(frozen=True)
@@ -93,7 +97,7 @@ class Valid:
 
 @dataclass(frozen=True)
 class Refused:
-    """A text that violates ``rule`` at ``place``, counted in code points from 0: its first fault. It is false.
+    """A text that violates ``rule`` at ``place``, counted in code points from 0: its first violation. It is false.
     ``sentence(rule)`` says what is wrong there."""
 
     rule: str
@@ -129,7 +133,7 @@ class Mended:
 
 
 @dataclass(frozen=True)
-class Fault:
+class Violation:
     """A rule that a text violates at a place, counted in code points from 0; ``sentence(rule)`` says what is wrong."""
 
     rule: str
@@ -152,18 +156,28 @@ class BaseRefused(ValueError):
 class Base:
     """A base that is checked once, for many texts: the functions accept it in place of the base's text.
 
-    Two bases are equal if their texts and profiles are. A text is checked against a base under the base's profile. With
-    another profile than that, ``WIDE`` or ``PARSER`` raises ``ValueError``, while ``STANDARD`` counts as not given.
-    Raises ``BaseRefused`` if the base isn't valid, and otherwise what ``check`` raises about a text.
+    It never changes, and two bases are equal if their texts and profiles are. A text is checked against a base under the
+    base's profile; a call with another profile raises ``ValueError``. Raises ``BaseRefused`` if the base isn't valid, and
+    otherwise what ``check`` raises about a text.
     """
 
     __slots__ = ("text", "profile", "_data", "_held")
+    text: str
+    profile: Profile
+    _data: bytes
+    _held: bytes
 
-    def __init__(self, text: str, profile: Profile = Profile.STANDARD) -> None:
+    def __init__(self, text: str, profile: AnyProfile = None) -> None:
         if not isinstance(text, str):
             raise TypeError("a base is a str, not {}".format(type(text).__name__))
-        self._data, self.profile, self._held = native.prepare(text, profile)
-        self.text = text
+        for name, value in zip(self.__slots__, (text, *native.prepare(text, profile))):
+            object.__setattr__(self, name, value)
+
+    def __setattr__(self, name: str, value: object) -> None:
+        raise AttributeError("a Base doesn't change: make another one")
+
+    def __delattr__(self, name: str) -> None:
+        raise AttributeError("a Base doesn't change: make another one")
 
     def __reduce__(self) -> Tuple[Any, Tuple[str, Profile]]:
         return Base, (self.text, self.profile)
@@ -184,14 +198,14 @@ AnyBase = Union[str, Base, None]
 
 
 check = native.check
+violations = native.violations
 is_valid = native.is_valid
 resolve = native.resolve
 mend = native.mend
-faults = native.faults
 
 
 def check_each(
-    texts: Iterable[str], base: AnyBase = None, profile: Profile = Profile.STANDARD
+    texts: Iterable[str], base: AnyBase = None, profile: AnyProfile = None
 ) -> Iterator[Union[Valid, Refused]]:
     """The answers of ``check`` for these texts, one by one as you ask for them. A base is checked once.
 
@@ -218,7 +232,7 @@ def __dir__() -> List[str]:
     return sorted(__all__)
 
 
-def _answers(texts: Iterator[str], base: AnyBase, profile: Profile) -> Iterator[Union[Valid, Refused]]:
+def _answers(texts: Iterator[str], base: AnyBase, profile: AnyProfile) -> Iterator[Union[Valid, Refused]]:
     """The answers on the texts, against a base that is checked at the first of them."""
     for text in texts:
         if isinstance(base, str):
@@ -226,15 +240,18 @@ def _answers(texts: Iterator[str], base: AnyBase, profile: Profile) -> Iterator[
         yield check(text, base, profile)
 
 
-def _profile(number: object) -> Profile:
-    """The profile of a number."""
-    if isinstance(number, bool) or not isinstance(number, int):
-        raise TypeError("a profile is a urlcheck.Profile, not {}".format(type(number).__name__))
-    try:
-        return Profile(number)
-    except ValueError:
-        names = ", ".join("{} ({})".format(it.name, it.value) for it in Profile)
-        raise ValueError("no profile has the number {}: there are {}".format(number, names)) from None
+def _profile(given: object) -> Profile:
+    """The profile of a number, or of a name, as ``wide``; the standard one of None."""
+    if given is None:
+        return Profile.STANDARD
+    if isinstance(given, bool) or not isinstance(given, (int, str)):
+        raise TypeError("a profile is a urlcheck.Profile or its name, not {}".format(type(given).__name__))
+    for profile in Profile:
+        if given in (profile.value, profile.name.lower()):
+            return profile
+    names = ", ".join("{} ({})".format(it.name.lower(), it.value) for it in Profile)
+    what = "name" if isinstance(given, str) else "number"
+    raise ValueError("no profile has the {} {}: there are {}".format(what, given, names))
 
 
 _NO_UTF8 = "no-utf8"
@@ -245,7 +262,7 @@ RULES: Tuple[str, ...] = _NAMES[1:-1]
 """The names of the rules, in the order of their numbers."""
 
 native.use(
-    (Valid, Refused, Mended, Fault, Base, BaseRefused, _profile),
+    (Valid, Refused, Mended, Violation, Base, BaseRefused, _profile),
     tuple(Profile),
     (None, *MendKind),
     (None, *(kind.value for kind in MendKind)),

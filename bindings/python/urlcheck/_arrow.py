@@ -1,7 +1,7 @@
 """Columns of Arrow, read and handed out by its C data interface and the PyCapsule interface over it."""
 
 import sys
-from typing import Any, Iterable, List, Optional, Sequence, Tuple
+from typing import Any, List, Optional, Sequence, Tuple
 
 from ._library import native
 
@@ -66,24 +66,40 @@ class Column:
     @staticmethod
     def joined(columns: List["Column"], texts: object) -> Any:
         """The columns as what these texts are: of another library than pyarrow in one piece."""
-        if type(texts).__module__.partition(".")[0] != "pyarrow":
+        pyarrow: Any = sys.modules.get("pyarrow")
+        if pyarrow is None or not isinstance(texts, (pyarrow.Array, pyarrow.ChunkedArray)):
             (column,) = columns
             return column
-        import pyarrow
-
         made = [_imported(pyarrow, column) for column in columns]
         return made[0] if len(made) == 1 and not hasattr(texts, "chunks") else pyarrow.chunked_array(made)
 
     @staticmethod
     def chunks(texts: Any) -> List[Tuple[object, object]]:
-        """The pieces in which texts are, each as the capsules of a schema and an array."""
-        if hasattr(texts, "__arrow_c_array__"):
-            return [texts.__arrow_c_array__()]
-        if hasattr(texts, "__arrow_c_stream__"):
-            schema, arrays = native.arrays_of(texts.__arrow_c_stream__())
-            return [(schema, array) for array in arrays]
-        chunks: Iterable[Any] = texts.chunks if hasattr(texts, "chunks") else [texts]
-        return [_exported(chunk) for chunk in chunks]
+        """The pieces in which texts are, one at least, each as the capsules of a schema and an array. Texts in a
+        dictionary, or by views, are asked for in one buffer. (What hands them out may not do that.)"""
+        if not hasattr(texts, "__arrow_c_array__") and not hasattr(texts, "__arrow_c_stream__"):
+            raise TypeError("an array that has __arrow_c_array__ is wanted, as pyarrow 14 and later give")
+        chunks = _handed(texts, None)
+        is_plain = native.layout(chunks[0][0]) not in _SCATTERED
+        return chunks if is_plain else _handed(texts, _no_texts()[0])
+
+
+_SCATTERED = frozenset(("vu", *("{} {}".format(index, text) for index in "cCsSiIlL" for text in ("u", "U", "vu"))))
+"""The layouts of texts that aren't in one buffer: by views, and by indexes into a dictionary."""
+
+
+def _no_texts() -> Tuple[object, object]:
+    """The capsules of the schema and of an array of no texts."""
+    return Column.texts(b"", bytearray(8), bytearray()).__arrow_c_array__()
+
+
+def _handed(texts: Any, wanted: Optional[object]) -> List[Tuple[object, object]]:
+    """The pieces as they are handed out, or as this schema if it is wanted. If there are none, an empty one, so that
+    type, base and profile are asked as they are with one."""
+    if hasattr(texts, "__arrow_c_array__"):
+        return [texts.__arrow_c_array__(wanted)]
+    schema, arrays = native.arrays_of(texts.__arrow_c_stream__(wanted))
+    return [(schema, array) for array in arrays or [_no_texts()[1]]]
 
 
 def _imported(pyarrow: Any, column: Column) -> Any:
@@ -91,8 +107,3 @@ def _imported(pyarrow: Any, column: Column) -> Any:
     if hasattr(pyarrow.Array, "_import_from_c_capsule"):
         return pyarrow.Array._import_from_c_capsule(*column.__arrow_c_array__())
     raise TypeError("pyarrow 14 or later is wanted")
-
-
-def _exported(chunk: Any) -> Tuple[object, object]:
-    """Refuses an array of a pyarrow before version 14, which hands out no capsules."""
-    raise TypeError("an array that has __arrow_c_array__ is wanted, as pyarrow 14 and later give")

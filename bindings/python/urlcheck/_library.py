@@ -1,4 +1,4 @@
-"""The library, called by the extension module ``_native``, and what is said if Python has no module that fits."""
+"""The library, called by the extension module ``_native``, and the error if Python has no module that fits."""
 
 import os
 import sys

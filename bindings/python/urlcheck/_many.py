@@ -4,11 +4,12 @@ kind.
 numpy, pandas and pyarrow are imported only when what came in is theirs.
 """
 
+import re
 import sys
 from array import array as Numbers
 from typing import Any, Iterable, List, NamedTuple, Optional, Tuple
 
-from . import AnyBase, Profile
+from . import AnyBase, AnyProfile
 from ._arrow import Column, is_arrow
 from ._library import native
 
@@ -20,7 +21,7 @@ _RULES: Tuple[Optional[str], ...] = (None, *(native.text(0, rule) for rule in ra
 
 
 class Findings(NamedTuple):
-    """What is found of many texts, a column each. Where a text is missing, so are its answers."""
+    """The findings on many texts, in columns. If a text is missing, so are its answers."""
 
     valid: Any
     """Whether the text is valid."""
@@ -39,37 +40,37 @@ class Mendings(NamedTuple):
     """How it differs from a refused text: ``same``, ``escaped`` or ``changed``, as ``MendKind`` says."""
 
 
-def check_many(texts: Iterable[Optional[str]], base: AnyBase = None, profile: Profile = Profile.STANDARD) -> Findings:
-    """What ``check`` finds of each text: whether it is valid, and the rule and the place of its first fault.
+def check_many(texts: Iterable[Optional[str]], base: AnyBase = None, profile: AnyProfile = None) -> Findings:
+    """What ``check`` finds of each text: whether it is valid, and the rule and the place of its first violation.
 
     The texts are a list or another iterable, a numpy array of objects, a pandas Series, or an Arrow array of strings,
     which isn't copied. Columns of the same kind are given: lists; arrays of numpy, where a place is -1 and a rule
     ``None`` for a valid text; Series with the same index; arrays of Arrow. ``None``, NaN and ``pandas.NA`` are missing
     texts. Other threads run while texts are checked.
 
-    Raises what ``check`` raises, and ``ValueError`` for an Arrow array that is broken.
+    Raises what ``check`` raises, ``TypeError`` for a table, and ``ValueError`` for an Arrow array that is broken.
     """
     found: Findings = _kind_of(texts).check(texts, base, profile)
     return found
 
 
-def is_valid_many(texts: Iterable[Optional[str]], base: AnyBase = None, profile: Profile = Profile.STANDARD) -> Any:
+def is_valid_many(texts: Iterable[Optional[str]], base: AnyBase = None, profile: AnyProfile = None) -> Any:
     """Whether each text is valid, as a column of the kind that came in: see ``check_many``. It takes the least time."""
     return _kind_of(texts).is_valid(texts, base, profile)
 
 
-def resolve_many(texts: Iterable[Optional[str]], base: AnyBase = None, profile: Profile = Profile.STANDARD) -> Any:
+def resolve_many(texts: Iterable[Optional[str]], base: AnyBase = None, profile: AnyProfile = None) -> Any:
     """The text of the URL of each text, as ``resolve`` gives it, missing if a text is refused: see ``check_many``."""
     return _kind_of(texts).write(texts, base, profile, False)[0]
 
 
-def mend_many(texts: Iterable[Optional[str]], base: AnyBase = None, profile: Profile = Profile.STANDARD) -> Mendings:
+def mend_many(texts: Iterable[Optional[str]], base: AnyBase = None, profile: AnyProfile = None) -> Mendings:
     """A valid text in place of each one, and how it differs from it, as ``mend`` gives them: see ``check_many``."""
     return Mendings(*_kind_of(texts).write(texts, base, profile, True))
 
 
 def _missing() -> Tuple[Any, ...]:
-    """What stands for a missing text: also that of pandas, but only if pandas was imported."""
+    """What stands for a missing text, also in pandas if that was imported."""
     return None, getattr(sys.modules.get("pandas"), "NA", None)
 
 
@@ -82,11 +83,11 @@ class _Lists:
             raise TypeError("texts are wanted, not one {}".format(type(texts).__name__))
         return texts if type(texts) is list else list(texts)
 
-    def found(self, texts: Any, base: AnyBase, profile: Profile, is_all: bool) -> Tuple[bytearray, ...]:
+    def found(self, texts: Any, base: AnyBase, profile: AnyProfile, is_all: bool) -> Tuple[bytearray, ...]:
         """The verdicts of the texts, and of all the rules and the places too."""
         return native.check_texts(self.listed(texts), _missing(), base, profile, is_all)
 
-    def check(self, texts: Any, base: AnyBase, profile: Profile) -> Findings:
+    def check(self, texts: Any, base: AnyBase, profile: AnyProfile) -> Findings:
         """What ``check_many`` gives."""
         verdicts, rules, places = self.found(texts, base, profile, True)
         numbers = memoryview(places).cast("q").tolist()
@@ -96,11 +97,11 @@ class _Lists:
             [place if place >= 0 else None for place in numbers] if any(rules) else [None] * len(rules),
         )
 
-    def is_valid(self, texts: Any, base: AnyBase, profile: Profile) -> Any:
+    def is_valid(self, texts: Any, base: AnyBase, profile: AnyProfile) -> Any:
         """What ``is_valid_many`` gives."""
         return _truths(self.found(texts, base, profile, False)[0])
 
-    def write(self, texts: Any, base: AnyBase, profile: Profile, mends: bool) -> Tuple[Any, Any]:
+    def write(self, texts: Any, base: AnyBase, profile: AnyProfile, mends: bool) -> Tuple[Any, Any]:
         """What ``mend_many`` gives, or the texts of URLs."""
         return native.write_texts(self.listed(texts), _missing(), base, profile, mends)
 
@@ -137,17 +138,17 @@ class _Arrays(_Lists):
         truths[numbers == _MISSING] = None
         return truths
 
-    def check(self, texts: Any, base: AnyBase, profile: Profile) -> Findings:
+    def check(self, texts: Any, base: AnyBase, profile: AnyProfile) -> Findings:
         import numpy
 
         verdicts, rules, places = self.found(texts, base, profile, True)
         names = numpy.array(_RULES, object)[numpy.frombuffer(rules, numpy.uint8)]
         return Findings(self.truths(verdicts), names, numpy.frombuffer(places, numpy.int64))
 
-    def is_valid(self, texts: Any, base: AnyBase, profile: Profile) -> Any:
+    def is_valid(self, texts: Any, base: AnyBase, profile: AnyProfile) -> Any:
         return self.truths(self.found(texts, base, profile, False)[0])
 
-    def write(self, texts: Any, base: AnyBase, profile: Profile, mends: bool) -> Tuple[Any, Any]:
+    def write(self, texts: Any, base: AnyBase, profile: AnyProfile, mends: bool) -> Tuple[Any, Any]:
         return _objects(super().write(texts, base, profile, mends))
 
 
@@ -164,7 +165,7 @@ def _objects(columns: Tuple[List[Any], List[Any]]) -> Tuple[Any, Any]:
 class _Series(_Lists):
     """Columns of pandas, with their index. Texts that are held by Arrow are read where they are."""
 
-    def found(self, texts: Any, base: AnyBase, profile: Profile, is_all: bool) -> Tuple[bytearray, ...]:
+    def found(self, texts: Any, base: AnyBase, profile: AnyProfile, is_all: bool) -> Tuple[bytearray, ...]:
         """The verdicts of the texts, and of all the rules and the places too."""
         array = _arrow_of(texts)
         if array is not None:
@@ -180,7 +181,7 @@ class _Series(_Lists):
         column = pandas.arrays.BooleanArray(numbers == 0, numbers == _MISSING)
         return pandas.Series(column, index=texts.index, name=texts.name)
 
-    def check(self, texts: Any, base: AnyBase, profile: Profile) -> Findings:
+    def check(self, texts: Any, base: AnyBase, profile: AnyProfile) -> Findings:
         import numpy
         import pandas
 
@@ -192,20 +193,19 @@ class _Series(_Lists):
         made = (pandas.Series(column, index=texts.index, name=texts.name) for column in columns)
         return Findings(self.truths(texts, verdicts), *made)
 
-    def is_valid(self, texts: Any, base: AnyBase, profile: Profile) -> Any:
+    def is_valid(self, texts: Any, base: AnyBase, profile: AnyProfile) -> Any:
         return self.truths(texts, self.found(texts, base, profile, False)[0])
 
-    def write(self, texts: Any, base: AnyBase, profile: Profile, mends: bool) -> Tuple[Any, Any]:
+    def write(self, texts: Any, base: AnyBase, profile: AnyProfile, mends: bool) -> Tuple[Any, Any]:
         import pandas
 
         array = _arrow_of(texts)
         if array is not None:
             written, kinds = _Arrow().write(array, base, profile, mends)
-            columns = [pandas.array(written, texts.dtype), pandas.Categorical(kinds.to_pylist(), _KINDS)]
+            kinds = kinds.to_pylist()
         else:
-            listed = native.write_texts(texts.tolist(), _missing(), base, profile, mends)
-            written, kinds = _objects(listed)
-            columns = [pandas.array(written, texts.dtype), pandas.Categorical(kinds, _KINDS)]
+            written, kinds = _objects(native.write_texts(texts.tolist(), _missing(), base, profile, mends))
+        columns = (pandas.array(written, _written_type(texts.dtype)), pandas.Categorical(kinds, _KINDS))
         made = [pandas.Series(column, index=texts.index, name=texts.name) for column in columns]
         return made[0], made[1]
 
@@ -216,22 +216,58 @@ _KINDS = ["same", "escaped", "changed"]
 
 def _arrow_of(texts: Any) -> Any:
     """The array of Arrow in which a Series has its texts, or ``None``."""
-    has_arrow = "pyarrow" in sys.modules and "pyarrow" in (getattr(texts.dtype, "storage", None) or str(texts.dtype))
-    return texts.array.__arrow_array__() if has_arrow else None
+    import pandas
+
+    is_string = isinstance(texts.dtype, pandas.StringDtype) and texts.dtype.storage.startswith("pyarrow")
+    return texts.array.__arrow_array__() if is_string or _held_by(texts.dtype) is not None else None
+
+
+def _held_by(dtype: Any) -> Any:
+    """The type of Arrow that a type of pandas is, if it is one. (Before version 1.5 there are none.)"""
+    import pandas
+
+    return dtype.pyarrow_dtype if isinstance(dtype, getattr(pandas, "ArrowDtype", ())) else None
+
+
+_OF_TEXTS = re.compile(r"(?P<scattered>dictionary<values=|(?=string_view))?(?:large_)?string\b")
+"""The name of a type of texts of Arrow, and whether they are in a dictionary or by views."""
+
+
+def is_of_texts(dtype: Any) -> bool:
+    """Whether a column of this type of pandas may hold texts."""
+    import pandas
+
+    if isinstance(dtype, pandas.CategoricalDtype):
+        return is_of_texts(dtype.categories.dtype)
+    held = _held_by(dtype)
+    if held is None:
+        return dtype == object or isinstance(dtype, pandas.StringDtype)
+    return _OF_TEXTS.match(str(held)) is not None
+
+
+def _written_type(dtype: Any) -> Any:
+    """The type of a column of new texts in place of the texts of a column of this type. It is another one if that has room
+    only for the texts that it has."""
+    import pandas
+
+    found = _OF_TEXTS.match(str(_held_by(dtype)))
+    if found and found["scattered"] is not None:
+        import pyarrow
+
+        return pandas.ArrowDtype(pyarrow.large_string())
+    return object if isinstance(dtype, pandas.CategoricalDtype) else dtype
 
 
 class _Arrow(_Lists):
     """Arrays of Arrow, by its C data interface: one piece, or several of which the answers are joined."""
 
-    def found(self, texts: Any, base: AnyBase, profile: Profile, is_all: bool) -> Tuple[bytearray, ...]:
+    def found(self, texts: Any, base: AnyBase, profile: AnyProfile, is_all: bool) -> Tuple[bytearray, ...]:
         """The verdicts of the texts, and of all the rules and the places too."""
         chunks = Column.chunks(texts)
         parts = [native.check_arrow(schema, array, base, profile, is_all) for schema, array in chunks]
-        if len(parts) == 1:
-            return parts[0]
-        return tuple(bytearray().join(columns) for columns in zip(*parts)) or tuple(bytearray() for _ in range(3))
+        return parts[0] if len(parts) == 1 else tuple(bytearray().join(columns) for columns in zip(*parts))
 
-    def check(self, texts: Any, base: AnyBase, profile: Profile) -> Findings:
+    def check(self, texts: Any, base: AnyBase, profile: AnyProfile) -> Findings:
         verdicts, rules, places = self.found(texts, base, profile, True)
         return Findings(
             Column.truths(verdicts, _MISSING).like(texts),
@@ -239,13 +275,13 @@ class _Arrow(_Lists):
             Column.numbers(places, rules).like(texts),
         )
 
-    def is_valid(self, texts: Any, base: AnyBase, profile: Profile) -> Any:
+    def is_valid(self, texts: Any, base: AnyBase, profile: AnyProfile) -> Any:
         return Column.truths(self.found(texts, base, profile, False)[0], _MISSING).like(texts)
 
-    def write(self, texts: Any, base: AnyBase, profile: Profile, mends: bool) -> Tuple[Any, Any]:
+    def write(self, texts: Any, base: AnyBase, profile: AnyProfile, mends: bool) -> Tuple[Any, Any]:
         chunks = Column.chunks(texts)
         parts = [native.write_arrow(schema, array, base, profile, mends) for schema, array in chunks]
-        if not parts or not hasattr(texts, "chunks"):
+        if not hasattr(texts, "chunks"):
             parts = [_whole(parts)]
         made = [Column.texts(*part) for part in parts]
         kinds = [Column.names(_lowered(marks), _KINDS) for _, _, marks in parts]
@@ -271,10 +307,17 @@ def _lowered(marks: bytearray) -> bytearray:
 
 
 def _kind_of(texts: Any) -> Any:
-    """How texts are read and answered, by the module that they are of."""
-    module = type(texts).__module__.partition(".")[0]
-    if module == "pandas" and hasattr(texts, "index") and hasattr(texts, "dtype"):
+    """How texts are read and answered, by what they are. Raises ``TypeError`` for a table of pandas, which would be read
+    as the names of its columns."""
+    if _is_instance(texts, "pandas", "DataFrame"):
+        raise TypeError("a column of texts is wanted, not a DataFrame: name one, as frame[{!r}]".format("url"))
+    if _is_instance(texts, "pandas", "Series"):
         return _Series()
-    if module == "numpy" and hasattr(texts, "dtype"):
+    if _is_instance(texts, "numpy", "ndarray"):
         return _Arrays()
     return _Arrow() if is_arrow(texts) else _Lists()
+
+
+def _is_instance(texts: Any, module: str, name: str) -> bool:
+    """Whether texts are of a class of a module, which isn't imported for that."""
+    return isinstance(texts, getattr(sys.modules.get(module), name, ()))

@@ -29,9 +29,28 @@ _HIDDEN = re.compile("[\x00-\x08\x0a-\x1f\x7f-\x9f\u061c\u200e\u200f\u2028-\u202
 """The controls but the tab, and what turns the direction of a text or ends its line."""
 
 
+class Unwritable(Exception):
+    """Why a report, or what else was asked for, can't be written, in the words that are printed; none if its reader has
+    ended."""
+
+    @classmethod
+    def by(cls, name: str, error: OSError) -> "Unwritable":
+        """That something of that name can't be, for the system's reason."""
+        return cls("" if is_closed_pipe(error) else "{}: can't be written: {}".format(name, reason_of(error)))
+
+
 def named(name: str) -> str:
-    """A document's name as lines show it: U+FFFD stands for a control but the tab, and for what turns its direction."""
+    """A name as lines show it: U+FFFD stands for a control but the tab, and for what turns its direction."""
     return _HIDDEN.sub("\ufffd", name)
+
+
+_MOST_SHOWN = 120
+"""How many code points are shown of a link, which may have a whole picture in it."""
+
+
+def shown(link: str) -> str:
+    """A link as a build's warning shows it: of a long one the beginning, and how long it is."""
+    return named(link if len(link) <= _MOST_SHOWN else "{}.. ({} code points)".format(link[:_MOST_SHOWN], len(link)))
 
 
 def reason_of(error: OSError) -> str:
@@ -55,9 +74,14 @@ def closed() -> OSError:
     return OSError(errno.EBADF, os.strerror(errno.EBADF))
 
 
-def tell(line: str) -> None:
+def line_of(words: str) -> str:
+    """A line of standard error, after the program's name. U+FFFD stands for what drives a terminal."""
+    return "urlcheck-documents: " + named(words).replace("\t", "\ufffd") + "\n"
+
+
+def tell(words: str) -> None:
     """Writes a line to standard error, after the program's name."""
-    say("urlcheck-documents: " + line + "\n")
+    say(line_of(words))
 
 
 def say(lines: str) -> None:
@@ -76,28 +100,39 @@ def stop(line: str) -> int:
     return 2
 
 
+_OUTPUT = "standard output"
+
 _DRIVES = re.compile("[\x00-\x08\x0b-\x1f\x7f-\x9f\u061c\u200e\u200f\u2028-\u202e\u2066-\u2069]")
 """What drives a terminal: controls but the tab and the line feed, and what ends a line or turns a text's direction."""
 
 
 def write(lines: bytes, paint: Optional[Callable[[str], str]] = None) -> None:
-    """Writes whole lines, as they are, or with colours; to a terminal what drives it is shown as U+FFFD."""
+    """Writes whole lines, as they are, or with colours; to a terminal what drives it is shown as U+FFFD. Raises
+    ``Unwritable``."""
     if not lines:
         return
     # (there is none if it was closed before the start)
     if sys.stdout is None:
-        raise closed()
+        raise Unwritable.by(_OUTPUT, closed())
     if sys.stdout.isatty() or paint is not None:
         shown = lines.decode("utf-8", "surrogateescape")
         shown = _DRIVES.sub("\ufffd", shown) if sys.stdout.isatty() else shown
         lines = (paint(shown) if paint else shown).encode("utf-8", "surrogateescape")
-    sys.stdout.buffer.write(lines)
+    try:
+        sys.stdout.buffer.write(lines)
+        if sys.stdout.isatty():
+            sys.stdout.buffer.flush()
+    except OSError as error:
+        raise Unwritable.by(_OUTPUT, error) from None
 
 
 def flush() -> None:
-    """Writes out what was written."""
-    if sys.stdout is not None:
-        sys.stdout.buffer.flush()
+    """Writes out what was written. Raises ``Unwritable``."""
+    try:
+        if sys.stdout is not None:
+            sys.stdout.buffer.flush()
+    except OSError as error:
+        raise Unwritable.by(_OUTPUT, error) from None
 
 
 def write_nowhere(number: int) -> None:

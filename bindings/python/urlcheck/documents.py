@@ -5,156 +5,189 @@ each that is refused. With ``--list`` it prints a line ``FILE:LINE:COLUMN:LINK``
 does, which ``urlcheck lint --located -`` reads.
 """
 
-import contextlib
 import os
 import signal
+import stat
 import sys
-from typing import BinaryIO, Callable, Iterator, List, Optional, Tuple
+from typing import Dict, Iterable, Iterator, List, Optional, Tuple
 
-from . import BaseRefused, Profile, check, message
-from ._documents.arguments import Asked, Settings, asked, with_format
-from ._documents.configuration import NONE, Misconfigured, configuration_of
-from ._documents.folders import Excluded, NoGit, Passed, configured_folder, documents_of
+from ._documents.arguments import Command, Settings, asked, with_format
+from ._documents.configuration import Misconfigured, Project
+from ._documents.document import Document
+from ._documents.effective import Effective, effective
+from ._documents.folders import Documents, Entry
 from ._documents.limits import limit_memory
 from ._documents.progress import Progress
 from ._documents.run import Counts, Run
 from ._documents.screen import Paint, Screen
+from ._fixes.writing import Output, held_of
 from ._reports import baseline
+from ._reports.checker import Checker
 from ._reports.colours import COLOURED, are_wanted, coloured
 from ._reports.finding import Report
-from ._streams import as_utf8, flush, is_closed_pipe, named, reason_of, stop, tell, write_nowhere
+from ._reports.report import shows_mended
+from ._streams import Unwritable, as_utf8, flush, reason_of, stop, tell, write_nowhere
+
+
+class Refusal(Exception):
+    """Why nothing is read, in the words that are printed."""
 
 
 def run(words: Optional[List[str]] = None) -> int:
     """Runs the program on these words, and gives its status."""
-    given = asked(sys.argv[1:] if words is None else words)
-    refused = _base_refused(given.settings.base, given.settings.profile)
-    if refused is not None:
-        return stop(refused)
+    command = asked(sys.argv[1:] if words is None else words)
     try:
-        return _run(given)
-    except Misconfigured as misconfigured:
-        return stop(named(str(misconfigured)))
+        return _run(command)
+    except (Misconfigured, Refusal) as refused:
+        return stop(str(refused))
 
 
-def _run(given: Asked) -> int:
-    """Runs the program on what is asked for. Raises ``Misconfigured``."""
-    settings = given.settings
-    if settings.is_configured:
-        settings = with_format(settings, configuration_of(configured_folder(None)).format, given.is_checked)
-    # (what is wrong with the configuration is said before anything is reported)
-    for name in given.files if settings.is_configured else ():
-        configuration_of(configured_folder(name))
-    if given.output is None:
-        return _run_into(None, given, settings)
-    with _written(given.output) as file:
-        return _run_into(file, given, settings)
-
-
-def _run_into(file: Optional[BinaryIO], given: Asked, settings: Settings) -> int:
-    """Runs it, with its report in this file, or on standard output."""
-    names, passed, no_git = _documents(given.files, settings)
-    progress = Progress(len(names), given.is_quiet)
-    screen = Screen(file, _paint(given, settings.format), progress)
+def _run(command: Command) -> int:
+    """Runs the program on what is asked for: first it finds the documents, then what each is checked by, and only then
+    is anything read, written or reported. Raises ``Misconfigured``, ``Refusal`` and ``Unwritable``."""
+    project = Project(command.is_configured)
+    settings = with_format(command, project.configuration_of(_current_folder()))
+    found = Documents(project, command.given.excluded, command.is_by_git)
+    entries = [it for name in command.files for it in found.of(name, command.stdin_name)]
+    documents = list(_documents(command, settings, _unwritten(command, project, entries)))
+    output, known = _outputs(command)
+    progress = Progress(len(documents), command.is_quiet)
+    screen = Screen(output, _paint(command, settings.format), progress)
     # (a difference and counts are in place of a report)
-    is_reported = not given.has_statistics and not (settings.fixing and settings.fixing.is_shown)
-    report = Report(settings.format, settings.unit, screen.write if is_reported else _leave)
-    seen = Run(settings, given.is_checked, given.is_quiet, report, screen)
-    report.begin()
-    for name, folder in names:
-        seen.take(name, folder)
-    seen.end()
-    progress.end()
-    if no_git is not None:
-        seen.counts.unread += 1
-        tell(named(no_git))
-    report.end(not seen.counts.unread)
-    if given.has_statistics:
+    is_reported = not command.has_statistics and not (settings.fixing and settings.fixing.is_shown)
+    with Report(settings.format, settings.unit, screen.write if is_reported else _leave) as report:
+        seen = Run(command, settings, report, screen)
+        for document in documents:
+            seen.take(document)
+        seen.end()
+        progress.end()
+        report.is_whole = not seen.counts.unread
+    if command.has_statistics:
         screen.write(seen.statistics.said().encode("utf-8", "surrogateescape"))
     flush()
-    return _ended(given, seen, passed)
+    for folder in found.walked:
+        seen.compared.has_walked(folder)
+    return _ended(command, seen, found, output, known)
+
+
+def _current_folder() -> str:
+    """The current folder. Raises ``Refusal``."""
+    try:
+        return os.getcwd()
+    except OSError as error:
+        raise Refusal("the current folder can't be read: {}".format(reason_of(error))) from None
 
 
 def _leave(_lines: bytes) -> None:
     """Writes nothing."""
 
 
-def _documents(files: List[str], settings: Settings) -> Tuple[List[Tuple[str, Optional[str]]], Passed, Optional[str]]:
-    """The documents, each with the folder in which it was found; what was passed over; and why Git doesn't say more."""
-    names: List[Tuple[str, Optional[str]]] = []
-    passed = Passed()
+def _documents(command: Command, settings: Settings, entries: Iterable[Entry]) -> Iterator[Document]:
+    """The documents, each with what it is checked by. Raises ``Misconfigured``."""
+    has_mended = shows_mended(settings.format) or settings.fixing is not None
+    held: Dict[str, Tuple[Effective, Optional[Checker]]] = {}
+    for entry in entries:
+        if entry.config.file not in held:
+            counts = effective(entry.config, command.given, "options")
+            checker = counts.checker(has_mended, wording="options") if command.is_checked else None
+            held[entry.config.file] = counts, checker
+        yield Document(settings, entry, *held[entry.config.file])
+
+
+def _unwritten(command: Command, project: Project, entries: List[Entry]) -> List[Entry]:
+    """The documents but for the files that are to be written, which are passed over in folders. Raises ``Refusal`` if
+    one is named itself, or is read as something else."""
+    given = {"--output": command.output, "--write-baseline": command.baseline}
+    files = {option: name for option, name in given.items() if name is not None}
+    written = {_identity(name): option for option, name in files.items()}
+    if len(written) < len(files):
+        raise Refusal("--output and --write-baseline name the same file")
+    if not written:
+        return entries
+    for name in [*command.reads, *project.files()]:
+        _refuse(name, written)
+    for name in command.files:
+        _refuse(name, written)
+    return [it for it in entries if it.folder is None or _identity(it.path) not in written]
+
+
+def _refuse(name: str, written: Dict[object, str]) -> None:
+    """Raises ``Refusal`` if a file that is read is to be written."""
+    option = written.get(_identity(name))
+    if option is not None:
+        raise Refusal("{}: is read, so that {} needs another FILE".format(name, option))
+
+
+def _identity(name: str) -> object:
+    """What tells a file from others, by whatever name it is there; of one that isn't, where it would be."""
+    held = held_of(name)
+    if held is None:
+        return os.path.realpath(name)
+    return (held.st_dev, held.st_ino) if stat.S_ISREG(held.st_mode) else object()
+
+
+def _outputs(command: Command) -> Tuple[Optional[Output], Optional[Output]]:
+    """The files that the report and the baseline are written into. Raises ``Refusal`` if the
+    baseline would replace something else, and ``Unwritable``."""
+    report = Output(command.output) if command.output is not None else None
+    if command.baseline is None:
+        return report, None
     try:
-        for it in documents_of(files, _excluded_by(settings), passed, settings.is_by_git):
-            names.append(it)
-    except NoGit as no_git:
-        return names, passed, str(no_git)
-    return names, passed, None
+        held = held_of(command.baseline)
+        if held is not None and held.st_size and stat.S_ISREG(held.st_mode):
+            baseline.read(command.baseline)
+    except (OSError, baseline.NoBaseline):
+        raise Refusal("{}: isn't a baseline, and isn't written".format(command.baseline)) from None
+    return report, Output(command.baseline)
 
 
-def _excluded_by(settings: Settings) -> Callable[[str], Tuple[Excluded, ...]]:
-    """What says of a folder which patterns leave out documents below it: those of the run, and of its configuration."""
-    def excluded_of(name: str) -> Tuple[Excluded, ...]:
-        """The patterns for a folder of this name."""
-        config = configuration_of(configured_folder(name)) if settings.is_configured else NONE
-        return settings.excluded + config.excluded
-
-    return excluded_of
-
-
-def _paint(given: Asked, format: str) -> Optional[Paint]:
+def _paint(command: Command, format: str) -> Optional[Paint]:
     """What gives a report its colours, if it has some."""
-    is_report = given.is_checked and given.output is None and not given.has_statistics
-    is_painted = is_report and format in COLOURED and are_wanted(given.colour, sys.stdout)
+    is_report = command.is_checked and command.output is None and not command.has_statistics
+    is_painted = is_report and format in COLOURED and are_wanted(command.colour, sys.stdout)
     return (lambda lines: coloured(format, lines)) if is_painted else None
 
 
-@contextlib.contextmanager
-def _written(name: str) -> Iterator[BinaryIO]:
-    """The file of that name, to be written. What goes wrong is an ``OSError`` that has its name."""
-    try:
-        with open(name, "wb") as file:
-            yield file
-    except OSError as error:
-        raise OSError(error.errno, error.strerror, name) from None
-
-
-def _ended(given: Asked, seen: Run, passed: Passed) -> int:
-    """Writes the baseline that is asked for, says what was seen, and gives the status."""
-    if given.baseline is not None:
-        with _written(given.baseline) as file:
-            file.write(baseline.written(seen.faults))
-    gone = len(given.settings.known - seen.met)
-    if gone and not given.is_quiet:
-        tell("{} of the baseline {} gone".format(_number(gone, "fault"), "is" if gone == 1 else "are"))
-    if seen.counts.unsafe and not given.is_quiet:
-        more = _number(seen.counts.unsafe, "more link")
-        tell("{} could be fixed with --unsafe-fixes, perhaps to another URL".format(more))
-    if not given.is_quiet:
-        tell(_counted(seen.counts, given) + named(passed.said()))
+def _ended(command: Command, seen: Run, found: Documents, output: Optional[Output], known: Optional[Output]) -> int:
+    """Writes the files that are asked for, says what was seen, and gives the status."""
+    said = []
+    kept = seen.compared.kept()
+    gone = len(command.known) - len(kept)
+    if output is not None:
+        output.end()
+    if known is not None:
+        known.write(baseline.written(kept + seen.compared.new))
+        known.end()
+        counts = len(kept), len(seen.compared.new), gone
+        said += ["{}: {} kept, {} added, {} gone".format(command.baseline, *counts)] * bool(command.known)
+    elif gone:
+        said.append("{} of the baseline {} gone".format(_number(gone, "fault"), "is" if gone == 1 else "are"))
+    said += ["{}: was left by a run that was killed, and isn't needed".format(it) for it in found.passed.left]
+    if not command.is_quiet:
+        for line in [*said, *_left(seen.counts), _counted(seen.counts, command) + found.passed.said()]:
+            tell(line)
     status = seen.counts.status()
-    return 0 if status == 1 and (given.is_zero_for_refused or given.baseline is not None) else status
+    return 0 if status == 1 and command.is_zero_for_refused else status
 
 
-def _base_refused(base: Optional[str], profile: Profile) -> Optional[str]:
-    """Why nothing can be checked against this base, if there is one and it is refused."""
-    if base is None:
-        return None
-    try:
-        check("", base, profile)
-    except BaseRefused as refused:
-        # A base is checked alone, so that it needs a scheme.
-        why = "it has no scheme" if refused.rule == "no-scheme" else message(base, refused, profile, "options")
-        return "the base is refused at place {}: {} [{}]".format(refused.place, why, refused.rule)
-    return None
+def _left(counts: Counts) -> Iterator[str]:
+    """What is said of links that aren't fixed."""
+    if counts.left:
+        why = ", ".join("{1} {0}".format(*it) for it in counts.left.most_common())
+        number = sum(counts.left.values())
+        yield "{} {} fixed: {}".format(_number(number, "link"), "isn't" if number == 1 else "aren't", why)
+    if counts.unsafe:
+        more = _number(counts.unsafe, "more link")
+        yield "{} could be fixed with --unsafe-fixes, perhaps to another URL".format(more)
 
 
-def _counted(counts: Counts, given: Asked) -> str:
+def _counted(counts: Counts, command: Command) -> str:
     """The counts, as standard error ends with them."""
     said = [_number(counts.documents, "document"), _number(counts.links, "link")]
-    said += ["{} refused".format(counts.refused)] * given.is_checked
+    said += ["{} refused".format(counts.refused)] * command.is_checked
     said += ["{} ignored".format(counts.ignored)]
-    said += ["{} known".format(counts.known)] * (given.settings.known != frozenset())
-    fixing = given.settings.fixing
+    said += ["{} known".format(counts.known)] * bool(command.known)
+    fixing = command.settings.fixing
     if fixing is not None:
         said += ["{} would be fixed".format(counts.shown) if fixing.is_shown else "{} fixed".format(counts.fixed)]
     return ", ".join(said)
@@ -166,8 +199,8 @@ def _number(count: int, noun: str) -> str:
 
 
 def main() -> None:
-    """The program ``urlcheck-documents``."""
-    # Where one of the three was closed before the start, no other file is to take its number.
+    """The program ``urlcheck-documents``. It ends with 1 only if a link is refused."""
+    # If one of the three was closed before the start, no other file is to take its number.
     for stream in (sys.stdin, sys.stdout, sys.stderr):
         if stream is None:
             os.open(os.devnull, os.O_RDWR)
@@ -177,13 +210,19 @@ def main() -> None:
     as_utf8()
     try:
         status = run()
-    except OSError as error:
+    except Unwritable as unwritable:
         write_nowhere(1)
-        if not is_closed_pipe(error):
-            name = "standard output" if error.filename is None else named(str(error.filename))
-            tell("{}: can't be written: {}".format(name, reason_of(error)))
+        if str(unwritable):
+            tell(str(unwritable))
         status = 3
+    except Exception as error:
+        write_nowhere(1)
+        status = stop("failed: {}".format(repr(error)[:_MOST_SHOWN]))
     sys.exit(status)
+
+
+_MOST_SHOWN = 120
+"""How much is shown of what the program fails with."""
 
 
 if __name__ == "__main__":

@@ -1,6 +1,6 @@
 """A plugin of MkDocs: a warning for each link of a page that isn't a valid URL string, which ends a strict build.
 
-``plugins: [search, urlcheck]`` in mkdocs.yml. Its reader is that of CommonMark; the HTML of a page is read too, since
+``plugins: [search, urlcheck]`` in mkdocs.yml. It reads CommonMark; the HTML of a page is read too, since
 Python-Markdown takes links that CommonMark doesn't.
 """
 
@@ -8,17 +8,18 @@ import importlib
 import logging
 import os
 import re
-from typing import Any, Optional, Set
+from typing import Any, List, Optional, Set
 
-from . import BaseRefused, Profile
-from ._documents.configuration import Misconfigured, configuration_of
+from . import Profile
+from ._documents.configuration import Configuration, Misconfigured, Project
+from ._documents.effective import effective
 from ._readers import html_links, markdown_links
 from ._readers.comments import covered
 from ._readers.front_matter import front_matter_of
 from ._readers.literals import Literals
-from ._readers.source import Link, Source
-from ._reports.checker import Checker
+from ._readers.source import Asks, Link, Source
 from ._reports.ignoring import Ignoring
+from ._streams import shown
 
 _OPTIONS: Any = importlib.import_module("mkdocs.config.config_options")
 _PLUGINS: Any = importlib.import_module("mkdocs.plugins")
@@ -37,8 +38,8 @@ class Plugin(_PLUGINS.BasePlugin):  # type: ignore[misc]
         ("profile", _OPTIONS.Choice([it.name.lower() for it in Profile], default=None)),
         ("base", _OPTIONS.Type(str, default=None)),
         ("ignore", _OPTIONS.Type(list, default=[])),
-        ("gfm", _OPTIONS.Type(bool, default=False)),
-        ("no_empty", _OPTIONS.Type(bool, default=False)),
+        ("gfm", _OPTIONS.Type(bool, default=None)),
+        ("no_empty", _OPTIONS.Type(bool, default=None)),
         ("rendered", _OPTIONS.Type(bool, default=True)),
     )
 
@@ -46,22 +47,36 @@ class Plugin(_PLUGINS.BasePlugin):  # type: ignore[misc]
         """Takes the settings. Raises MkDocs's ``PluginError`` if one is wrong."""
         failed: Any = importlib.import_module("mkdocs.exceptions").PluginError
         try:
-            project = configuration_of(os.path.dirname(os.path.abspath(config["config_file_path"] or "mkdocs.yml")))
+            folder = os.path.dirname(os.path.abspath(config["config_file_path"] or "mkdocs.yml"))
+            # (each build reads it again, also one of a server that goes on)
+            project = Project().configuration_of(folder)
+            self._configured_by = project.file
             name = self.config["profile"]
-            profile = Profile[name.upper()] if name else project.profile or Profile.STANDARD
-            base = self.config["base"] or project.base or config["site_url"] or None
-            is_empty_taken = self.config["no_empty"] or project.is_empty_taken
-            self._checker = Checker(base, profile, False, is_empty_taken, selected=project.selected)
-            self._is_all_reported = project.selected.are_all()
-            self._ignored = tuple(re.compile(it) for it in self.config["ignore"]) + project.ignored
-            self._is_gfm = self.config["gfm"] or project.gfm
-        except BaseRefused as refused:
-            raise failed("urlcheck: {}".format(refused)) from None
+            given = Configuration(
+                profile=Profile[name.upper()] if name else None,
+                base=self.config["base"] or None,
+                ignored=tuple(re.compile(it) for it in self.config["ignore"]),
+                gfm=self.config["gfm"],
+                is_empty_taken=self.config["no_empty"],
+            )
+            if given.base is None and project.base is None:
+                given = given._replace(base=config["site_url"] or None)
+            counts = effective(project, given)
+            self._checker = counts.checker(False)
+            self._is_all_reported = counts.selected.are_all()
+            self._ignored = counts.ignored
+            self._is_gfm = counts.gfm
         except re.error as error:
             raise failed("urlcheck: ignore has no regular expression: {}".format(error)) from None
         except Misconfigured as misconfigured:
             raise failed("urlcheck: {}".format(misconfigured)) from None
         return config
+
+    def on_serve(self, server: Any, **_: Any) -> Any:
+        """Has a server build again when the project's configuration is saved."""
+        if self._configured_by:
+            server.watch(self._configured_by)
+        return server
 
     def on_page_markdown(self, markdown: str, page: Any, config: Any, files: Any, **_: Any) -> Optional[str]:
         """Checks what the author wrote: the page's file as it is, if no other plugin changed its text."""
@@ -77,7 +92,11 @@ class Plugin(_PLUGINS.BasePlugin):  # type: ignore[misc]
         links, comments, *_more = markdown_links.links_of(text, self._is_gfm)
         self._written = text if is_written else None
         self._comments, self._ignoring = comments, Ignoring(comments)
+        self._texts: List[Link] = []
         for link in covered(text, links, comments):
+            if link.asks is Asks.ANOTHER and self.config["rendered"]:
+                self._texts.append(link)
+                continue
             # (the page's HTML doesn't have what is before its text)
             if not front or link.offset >= front[0]:
                 self._seen.add(_ABOVE.sub("", link.text))
@@ -93,6 +112,10 @@ class Plugin(_PLUGINS.BasePlugin):  # type: ignore[misc]
                 if text not in self._seen:
                     self._seen.add(text)
                     self._tell_made(page.file.src_path, link)
+        # (Python-Markdown takes some for links that are text in CommonMark)
+        for link in self._texts:
+            if link.text not in self._seen:
+                self._tell(page.file.src_path, link, self._written)
         for remark in self._ignoring.remarks(self._is_all_reported):
             where = ":{}:{}".format(*self._written.position(remark.offset)) if self._written is not None else ""
             _LOG.warning("%s%s: %s [comment]", page.file.src_path, where, remark.message)
@@ -117,4 +140,4 @@ class Plugin(_PLUGINS.BasePlugin):  # type: ignore[misc]
         if wrong is None or is_left_out or any(it.search(link.text) for it in self._ignored):
             return
         where = "" if source is None else ":{}:{}".format(*source.position(link.place(wrong.place)))
-        _LOG.warning("%s%s: %s: %s [%s]", name, where, link.text, wrong.message, wrong.rule)
+        _LOG.warning("%s%s: %s: %s [%s]", name, where, shown(link.text), wrong.message, wrong.rule)

@@ -1,23 +1,24 @@
 """An extension of Sphinx: a warning for each link of a document that isn't a valid URL string.
 
 ``extensions = ["urlcheck.sphinx"]`` in conf.py. Each warning has the type ``urlcheck`` and the rule as its subtype, so
-that ``suppress_warnings = ["urlcheck.percent"]`` silences those of a rule.
+that ``suppress_warnings = ["urlcheck.percent"]`` silences the warnings of a rule.
 """
 
 import importlib
 import os
 import re
-from typing import Any, Dict, Iterator, List, NamedTuple, Optional, Tuple
+from typing import Any, Dict, Iterator, List, NamedTuple, Optional, Sequence, Tuple
 
-from . import BaseRefused, Profile, version
-from ._documents.configuration import Misconfigured, configuration_of
+from . import Profile, version
+from ._documents.configuration import Configuration, Misconfigured, Project
+from ._documents.effective import Effective, effective
 from ._readers import markdown_links, rst_links
 from ._readers.comments import covered
-from ._readers.kinds import kind_of
 from ._readers.literals import Literals
 from ._readers.source import Comment, Link, Source
 from ._reports.checker import Checker
 from ._reports.ignoring import Ignoring
+from ._streams import shown
 
 _LOG: Any = importlib.import_module("sphinx.util.logging").getLogger(__name__)
 
@@ -60,48 +61,76 @@ def setup(app: Any) -> Dict[str, Any]:
     app.add_config_value("urlcheck_profile", None, "env", [str])
     app.add_config_value("urlcheck_base", None, "env", [str])
     app.add_config_value("urlcheck_ignore", [], "env", [list])
-    app.add_config_value("urlcheck_no_empty", False, "env", [bool])
+    app.add_config_value("urlcheck_no_empty", None, "env", [bool])
     app.add_config_value("urlcheck_columns", False, "", [bool])
-    app.connect("config-inited", lambda app, _: _settings(app))
+    app.add_config_value(_COUNTS, "", "env", [str])
+    app.connect("config-inited", _configure)
     app.connect("doctree-read", _check_document, priority=_BEFORE_COLLECTORS)
     return {"version": version(), "parallel_read_safe": True, "parallel_write_safe": True}
 
 
-def _settings(app: Any) -> _Settings:
+_COUNTS = "urlcheck_counts"
+"""A value of the configuration that no conf.py has: what links are checked by. Sphinx reads all documents again if it has
+changed since the last build, as by a project's file."""
+
+
+def _configure(app: Any, config: Any) -> None:
+    """Notes what links of this build are checked by. Raises Sphinx's ``ConfigError``."""
+    counts = _effective(app)
+    patterns, rules = [it.pattern for it in counts.ignored], sorted(counts.selected.names)
+    by = int(counts.profile), counts.base, patterns, counts.gfm, counts.is_empty_taken, rules
+    setattr(config, _COUNTS, repr(by))
+    is_gfm = counts.gfm or "linkify" in (getattr(config, "myst_enable_extensions", None) or ())
+    app.urlcheck_settings = _Settings(
+        checker=counts.checker(False),
+        ignored=counts.ignored,
+        has_columns=config.urlcheck_columns,
+        is_gfm=is_gfm,
+        is_all_reported=counts.selected.are_all(),
+    )
+
+
+def _effective(app: Any) -> Effective:
     """What links are checked by: what conf.py says, otherwise the project's configuration. Raises Sphinx's
     ``ConfigError``."""
     failed: Any = importlib.import_module("sphinx.errors").ConfigError
     config = app.config
     try:
-        project = configuration_of(os.path.abspath(app.srcdir))
+        project = Project().configuration_of(os.path.abspath(app.srcdir))
         name = config.urlcheck_profile
         if name is not None and name not in [it.name.lower() for it in Profile]:
             raise failed("urlcheck_profile is one of {}".format(", ".join(it.name.lower() for it in Profile)))
-        profile = Profile[name.upper()] if name is not None else project.profile or Profile.STANDARD
-        is_empty_taken = config.urlcheck_no_empty or project.is_empty_taken
-        base = config.urlcheck_base or project.base
-        checker = Checker(base, profile, False, is_empty_taken, selected=project.selected)
-        ignored = tuple(re.compile(it) for it in config.urlcheck_ignore) + project.ignored
-    except BaseRefused as refused:
-        raise failed("urlcheck_base: {}".format(refused)) from None
+        given = Configuration(
+            file="urlcheck_base",
+            profile=None if name is None else Profile[name.upper()],
+            base=config.urlcheck_base or None,
+            ignored=tuple(re.compile(it) for it in config.urlcheck_ignore),
+            is_empty_taken=config.urlcheck_no_empty,
+        )
+        return effective(project, given)
     except re.error as error:
-        raise failed("urlcheck_ignore: no regular expression: {}".format(error)) from None
+        raise failed("urlcheck_ignore: not a regular expression: {}".format(error)) from None
     except Misconfigured as misconfigured:
         raise failed(str(misconfigured)) from None
-    is_gfm = project.gfm or "linkify" in (getattr(config, "myst_enable_extensions", None) or ())
-    return _Settings(checker, ignored, config.urlcheck_columns, is_gfm, project.selected.are_all())
+
+
+def _is_markdown(app: Any, path: str) -> bool:
+    """Whether Sphinx reads a document by a parser of Markdown, whatever the end of its name is."""
+    kinds = [kind for end, kind in app.config.source_suffix.items() if path.endswith(end)]
+    parser = app.registry.get_source_parsers().get(kinds[0]) if kinds else None
+    return "markdown" in getattr(parser, "supported", ())
 
 
 def _check_document(app: Any, tree: Any) -> None:
     """Checks the links that the author of a document wrote, before Sphinx adds its own."""
-    settings, literals = _settings(app), Literals()
+    settings, literals = app.urlcheck_settings, Literals()
     path = os.path.abspath(app.env.doc2path(app.env.docname))
     written = literals.source(path)
     found: List[_Found] = []
-    comments: List[Comment] = []
-    if written is not None and kind_of(path) == "markdown":
+    comments: Sequence[Comment] = ()
+    if written is not None and _is_markdown(app, path):
         # (MyST percent-encodes what it reads, so that its nodes don't say what was written)
-        links, comments, _, _ = markdown_links.links_of(written, settings.is_gfm)
+        links, comments, *_ = markdown_links.links_of(written, settings.is_gfm)
         found = [_Found(_Said(path, written.position(it.offset)[0], it.text), written, it) for it in links]
     elif written is not None:
         nodes: Any = importlib.import_module("docutils.nodes")
@@ -119,7 +148,7 @@ def _check_document(app: Any, tree: Any) -> None:
     _tell_all(settings, found, comments, _Found(_Said(path, 1, ""), written, Link("", 0, False)))
 
 
-def _tell_all(settings: _Settings, found: List[_Found], comments: List[Comment], document: _Found) -> None:
+def _tell_all(settings: _Settings, found: List[_Found], comments: Sequence[Comment], document: _Found) -> None:
     """Warns of the links of a document that are wrong, but for those that its comments leave out, and of comments."""
     source = document.source
     ignoring = Ignoring(comments)
@@ -197,4 +226,4 @@ def _tell(settings: _Settings, found: _Found, ignoring: Ignoring) -> None:
         column = "" if settings.has_columns else ", column {}".format(at)
         where += [at] if settings.has_columns else []
     kind = {"location": ":".join(map(str, where)), "type": "urlcheck", "subtype": wrong.rule}
-    _LOG.warning("%s: %s%s [%s]", said.text, wrong.message, column, wrong.rule, **kind)
+    _LOG.warning("%s: %s%s [%s]", shown(said.text), wrong.message, column, wrong.rule, **kind)

@@ -4,7 +4,11 @@ import os
 import pickle
 import subprocess
 import sys
-from typing import BinaryIO, Callable, Iterator, List, NamedTuple, Optional, Sequence, Tuple
+from collections import Counter
+from dataclasses import dataclass, field
+from typing import BinaryIO, Callable
+from typing import Counter as Counts
+from typing import Iterator, List, NamedTuple, Optional, Sequence, Tuple
 
 from .._fixes.fixing import Fixed
 from .._reports.baseline import Known
@@ -13,8 +17,8 @@ from . import limits
 from .started import hand_on, started
 
 
-class Fault(NamedTuple):
-    """Why a document wasn't read to its end, or what is wrong with a comment in it."""
+class Told(NamedTuple):
+    """What is told of a document besides its links: why it wasn't read to its end, or what is wrong with a comment."""
 
     reason: str
     line: Optional[int] = None
@@ -37,95 +41,67 @@ class Counted(NamedTuple):
     known: Known
 
 
-class Taken(NamedTuple):
-    """What a part of a document has given."""
+@dataclass
+class Taken:
+    """What a part of a document gives. All that is only in the first part is about the whole document."""
 
-    documents: int
+    documents: int = 0
     """1 in the first part of a document that is read."""
-    links: int
-    refused: int
-    ignored: int
-    lines: bytes
+    links: int = 0
+    refused: int = 0
+    ignored: int = 0
+    lines: bytearray = field(default_factory=bytearray)
     """What the report says about its links, but for the first link that it says something about."""
-    fault: Optional[Fault] = None
-    """Why it wasn't read to its end, if it wasn't."""
-    notes: Tuple[str, ...] = ()
-    """What its reader passed over."""
-    counted: Tuple[Counted, ...] = ()
-    """Its faults, if they are counted."""
-    known: Tuple[str, ...] = ()
-    """The fingerprints of its faults that are known, and not reported."""
-    fixed: Optional[Fixed] = None
-    """The document with other texts in place of links, to which the other fields then refer; only in the first part."""
-    warnings: Tuple[Fault, ...] = ()
-    """What is said about its comments."""
-    unsafe: int = 0
-    """How many more links would be fixed if unsafe fixes were written too; only in the first part."""
     first: Tuple[bytes, bytes] = (b"", b"")
     """What the report says about the first such link, if others come before it and if none does; both empty if it says
     nothing about links."""
-
-
-class Part:
-    """A part of a document that is being taken."""
-
-    def __init__(self, documents: int, fixed: Optional[Fixed] = None, unsafe: int = 0) -> None:
-        self._documents = documents
-        self._links = 0
-        self._refused = 0
-        self._ignored = 0
-        self._lines = bytearray()
-        self._first = (b"", b"")
-        self._counted: List[Counted] = []
-        self._known: List[str] = []
-        self._fixed = fixed
-        self._unsafe = unsafe
+    counted: List[Counted] = field(default_factory=list)
+    """Its faults, if they are counted."""
+    known: List[str] = field(default_factory=list)
+    """The fingerprints of its faults that are known, and not reported."""
+    fixed: Optional[Fixed] = None
+    """The document with other texts in place of links, to which the other fields then refer; only in the first part."""
+    unsafe: int = 0
+    """How many more links would be fixed if unsafe fixes were written too; only in the first part."""
+    left: Counts[str] = field(default_factory=Counter)
+    """How many wrong links aren't fixed, if they are to be, by why."""
+    fault: Optional[Told] = None
+    """Why it wasn't read to its end, if it wasn't."""
+    lost: int = 0
+    """How many parts of it weren't read, each of which a warning tells."""
+    warnings: Tuple[Told, ...] = ()
+    """What is said about its comments, and about parts that weren't read."""
+    notes: Tuple[str, ...] = ()
+    """What its reader passed over."""
 
     def add(self, line: str = "") -> None:
         """Adds a link that is listed in this line, or is valid."""
-        self._links += 1
-        self._lines += line.encode("utf-8", "surrogateescape")
+        self.links += 1
+        self.lines += line.encode("utf-8", "surrogateescape")
 
-    def says_nothing(self) -> bool:
-        """Whether nothing is said yet of its links."""
-        return not self._first[0]
-
-    def add_refused(self, after: str, first: str) -> None:
-        """Adds a refused link, with what the report says about it if others come before it, and if none does. The
-        latter counts for the first one."""
-        self._links += 1
-        self._refused += 1
-        if not self.says_nothing():
-            self._lines += after.encode("utf-8", "surrogateescape")
+    def add_refused(self, lines: Callable[[bool], str]) -> None:
+        """Adds a refused link, with what the report says about it, by whether it is the first one in the report."""
+        self.links += 1
+        self.refused += 1
+        after = lines(False).encode("utf-8", "surrogateescape")
+        if self.first[0]:
+            self.lines += after
         else:
-            self._first = after.encode("utf-8", "surrogateescape"), first.encode("utf-8", "surrogateescape")
+            self.first = after, lines(True).encode("utf-8", "surrogateescape")
 
     def add_ignored(self) -> None:
         """Adds a link that is left out."""
-        self._links += 1
-        self._ignored += 1
-
-    def add_counted(self, counted: Counted) -> None:
-        """Adds a fault to those that are counted."""
-        self._counted.append(counted)
+        self.links += 1
+        self.ignored += 1
 
     def add_known(self, fingerprint: str) -> None:
         """Adds a link whose fault is known."""
-        self._links += 1
-        self._known.append(fingerprint)
+        self.links += 1
+        self.known.append(fingerprint)
 
     def is_full(self) -> bool:
         """Whether it has as much as a part is to have."""
-        return len(self._lines) >= _ENOUGH or len(self._counted) + len(self._known) >= _MOST_COUNTED
-
-    def taken(
-        self, fault: Optional[Fault] = None, notes: Tuple[str, ...] = (), warnings: Tuple[Fault, ...] = ()
-    ) -> Taken:
-        """What it has given."""
-        numbers = self._documents, self._links, self._refused, self._ignored
-        more = tuple(self._counted), tuple(self._known), self._fixed
-        last = warnings, self._unsafe, self._first
-        return Taken(*numbers, bytes(self._lines), fault, notes, *more, *last)
+        return len(self.lines) >= _ENOUGH or len(self.counted) + len(self.known) >= _MOST_COUNTED
 
 
 _ENOUGH = 256 * 1024
@@ -133,6 +109,9 @@ _ENOUGH = 256 * 1024
 
 MOST_GROWN = 64 * 1024 * 1024
 """How many bytes of memory documents may have taken, before another process takes those after them."""
+
+_MOST_SHOWN = 80
+"""How much is shown of what a reader fails with."""
 
 _MOST_COUNTED = 4096
 """How many faults a part has that are counted or known, before the next one begins."""
@@ -143,14 +122,14 @@ Parts = Callable[[], Iterator[Taken]]
 
 def nothing(reason: str) -> Taken:
     """What a document gives that isn't read."""
-    return Taken(0, 0, 0, 0, b"", Fault(reason))
+    return Taken(fault=Told(reason))
 
 
 class Apart:
     """Documents that are taken one after another in a process of their own, which begins at once. When memory runs
     short, Python may do anything, even go on without an end: so the process is ended from outside, and only the parts
     that it gave whole are taken. When a process ends, another one goes on: with the same document, unless that was its
-    first or took too long. So what is said about a document never depends on those before it."""
+    first or took too long. So the report on a document never depends on earlier ones."""
 
     def __init__(self, documents: Sequence[Parts], is_input: bool = False) -> None:
         self._documents = documents
@@ -207,7 +186,7 @@ def _ended(status: int, is_begun: bool) -> Taken:
     reason = limits.ended_by(status)
     if is_begun:
         return nothing(reason + ", and isn't reported to its end")
-    return nothing(reason if limits.is_from_outside(status) else reason + " to read")
+    return nothing(reason + " to read" if limits.is_of_time(status) or status == limits.NO_MEMORY else reason)
 
 
 def apart(parts: Parts) -> Iterator[Taken]:
@@ -308,7 +287,7 @@ def _whole(pipe: BinaryIO) -> Iterator[Optional[Taken]]:
 def _give(documents: Sequence[Parts], writer: int) -> None:
     """Writes the parts of documents to this file, and ends the process: with 0 if all of them were written whole. Once
     they have taken much memory, the others are left to another process."""
-    ended = 1
+    ended = limits.FAILED
     try:
         write_nowhere(2)
         most = limits.memory_taken() + MOST_GROWN
@@ -324,6 +303,9 @@ def _give(documents: Sequence[Parts], writer: int) -> None:
                 if limits.memory_taken() > most:
                     break
         ended = 0
+    except (MemoryError, SystemError):
+        # (Python raises a SystemError too where an allocation failed)
+        ended = limits.NO_MEMORY
     finally:
         os._exit(ended)
 
@@ -340,7 +322,6 @@ def _sure(parts: Parts) -> Iterator[Taken]:
     try:
         yield from parts()
     except (MemoryError, SystemError):
-        # (Python raises a SystemError too where an allocation failed)
         raise
     except Exception as error:
-        yield nothing("its reader failed: {!r}".format(error))
+        yield nothing("its reader failed: {}".format(repr(error)[:_MOST_SHOWN]))

@@ -3,9 +3,9 @@
 import argparse
 import difflib
 import sys
-from typing import Iterable, List, NoReturn
+from typing import Iterable, List, NoReturn, Optional
 
-from .._streams import named, say, stop, tell
+from .._streams import line_of, say, stop, tell
 
 
 class Parser(argparse.ArgumentParser):
@@ -17,7 +17,7 @@ class Parser(argparse.ArgumentParser):
         refused = sys.exc_info()[1]
         if isinstance(refused, argparse.ArgumentError) and refused.argument_name:
             message = self._said_of(refused.argument_name.rpartition("/")[2])
-        say("{}{}: {}\n".format(self.format_usage(), self.prog, message))
+        say(self.format_usage() + line_of(message))
         raise SystemExit(2)
 
     def _said_of(self, option: str) -> str:
@@ -28,25 +28,48 @@ class Parser(argparse.ArgumentParser):
 
     def no_option(self, word: str) -> NoReturn:
         """Says that there is no such option, and which one is close to it."""
-        name = named(word.partition("=")[0])
-        options = [it for action in self._actions for it in action.option_strings if it.startswith("--")]
-        self.error("there is no option {}{}".format(name, _OF_OTHERS.get(name) or _nearest(name, options)))
+        name = word.partition("=")[0]
+        actions = [it for it in self._actions if it.help != argparse.SUPPRESS]
+        options = [it for action in actions for it in action.option_strings if it.startswith("--")]
+        # (a value may follow an option of one letter at once, as in -j4)
+        habit = _OF_OTHERS.get(name) or _OF_OTHERS.get(name[:2])
+        self.error("there is no option {}{}".format(name, habit or _nearest(name, options)))
 
+
+_NO_FETCH = "; no link is fetched: only how it is written is checked"
+_OF_FOLDERS = "; a folder is read with all folders in it"
+_SHOWN = "; --format caret shows each link, and --version the version"
+_QUICK = "; each run reads all, and needs no cache"
 
 _OF_OTHERS = {
     "--wide": "; write --profile wide",
     "--output-format": "; write --format FORMAT",
     "--json": "; write --format json",
     "-j": "; write --jobs N",
+    "-v": _SHOWN,
+    "--verbose": _SHOWN,
     "--all": "; pipe the links, which --list prints, into urlcheck lint --located --all -",
+    "-r": _OF_FOLDERS,
+    "-R": _OF_FOLDERS,
+    "--recursive": _OF_FOLDERS,
+    "--cache": _QUICK,
+    "--no-cache": _QUICK,
+    "--timeout": _NO_FETCH,
+    "--external": _NO_FETCH,
+    "--check-extern": _NO_FETCH,
+    "--offline": _NO_FETCH,
+    "--retries": _NO_FETCH,
+    "--watch": "; the language server checks while a document is edited",
 }
 """What is said about options of ``urlcheck lint`` and of other checkers that are called something else here."""
 
 
-def chosen(name: str, names: List[str], noun: str) -> str:
-    """The name, if it is one of these. Otherwise raises ``SystemExit``, and says which there are."""
+def chosen(name: str, names: List[str], noun: str, meant: Optional[str] = None) -> str:
+    """The name, if it is one of these. Otherwise raises ``SystemExit``, and says which there are, and which is likely
+    meant: this one, if it is known, or the nearest."""
     if name not in names:
-        tell("no {} is named '{}'{}".format(noun, named(name), _nearest(name, names)))
+        near = "; the nearest is " + meant if meant else _nearest(name, names)
+        tell("no {} is named '{}'{}".format(noun, name, near))
         raise SystemExit(stop("the {}s: {}".format(noun, " ".join(names))))
     return name
 

@@ -6,7 +6,7 @@ import struct
 import sys
 import threading
 import time
-from typing import Any, List
+from typing import Any, List, Tuple
 
 MOST_SECONDS = 60
 """How long a document's bytes may take to come, and how much processor time it may take."""
@@ -17,6 +17,12 @@ MOST_MEMORY = 480 * 1024 * 1024
 LATE = 124
 """The status of a process whose document's bytes didn't come, on a system that has no signal for that."""
 
+FAILED = 1
+"""The status of a process that failed otherwise."""
+
+NO_MEMORY = 123
+"""The status of a process that ran out of memory, and noticed it."""
+
 _OUT_OF_QUOTA = 1816
 """The status by which Windows ends a process that takes more than its job permits: ``ERROR_NOT_ENOUGH_QUOTA``."""
 
@@ -25,6 +31,9 @@ _JOB_LIMITS = struct.Struct("<qqI4xQQI4xQII48xQQQQ")
 
 _OF_TIME, _OF_MEMORY = 0x2, 0x100
 """Which of them count."""
+
+_before: List[Tuple[int, int]] = []
+"""What memory the program might have had before it was limited, on a system that says so."""
 
 _waiting: List[threading.Timer] = []
 """What ends the process when it has waited too long, on a system that has no signal for that."""
@@ -39,7 +48,16 @@ def limit_memory() -> None:
 
         soft, hard = resource.getrlimit(resource.RLIMIT_AS)
         if soft == resource.RLIM_INFINITY or soft > MOST_MEMORY:
+            _before.append((soft, hard))
             resource.setrlimit(resource.RLIMIT_AS, (MOST_MEMORY, hard))
+
+
+def lift_memory() -> None:
+    """From here on the process may take as much memory as the caller permits."""
+    if sys.platform != "win32" and _before:
+        import resource
+
+        resource.setrlimit(resource.RLIMIT_AS, _before[0])
 
 
 def limit_time(seconds: int) -> None:
@@ -87,9 +105,8 @@ _LATE = (LATE, -getattr(signal, "SIGALRM", -LATE))
 _SLOW = tuple(-getattr(signal, it, -_OUT_OF_QUOTA) for it in ("SIGPROF", "SIGXCPU"))
 """The statuses of processes that took too much processor time."""
 
-_ENDING = ("SIGKILL", "SIGTERM", "SIGHUP", "SIGINT", "SIGQUIT")
-_FROM_OUTSIDE = {-getattr(signal, it): it for it in _ENDING if hasattr(signal, it)}
-"""The statuses of processes that another one ended, with the signals by which it did."""
+_ENDS = {-it.value: it.name for it in signal.Signals}
+"""The statuses of processes that a signal ended, as another process sends it or the system does."""
 
 
 def is_of_time(status: int) -> bool:
@@ -97,20 +114,15 @@ def is_of_time(status: int) -> bool:
     return status in _LATE + _SLOW
 
 
-def is_from_outside(status: int) -> bool:
-    """Whether another process ended it, by its status."""
-    return status in _FROM_OUTSIDE
-
-
 def ended_by(status: int) -> str:
-    """Why a process was ended, by its status: that of a signal is below 0."""
+    """Why a process was ended, by its status, which is below 0 for a signal."""
     if status in _LATE:
         return "takes more than {} seconds".format(MOST_SECONDS)
     if status in _SLOW:
         return "takes more than {} seconds of processor time".format(MOST_SECONDS)
-    if status in _FROM_OUTSIDE:
-        return "lost its process to {}".format(_FROM_OUTSIDE[status])
-    return "needs more than {} MiB of memory".format(MOST_MEMORY >> 20)
+    if status == NO_MEMORY:
+        return "needs more than {} MiB of memory".format(MOST_MEMORY >> 20)
+    return "lost its process to {}".format(_ENDS.get(status) or "status {}".format(status))
 
 
 def job_limits(seconds: float) -> bytes:

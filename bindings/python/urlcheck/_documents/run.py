@@ -2,18 +2,20 @@
 order."""
 
 import os
-from collections import deque
+from collections import Counter, deque
+from typing import Counter as Counted
 from typing import Deque, Iterable, List, Optional, Set, Tuple
 
 from .._fixes.fixing import Fixed, Fixing
 from .._fixes.writing import Unwritten, replace
 from .._readers.reading import prepare
-from .._reports.baseline import Known
+from .._reports.baseline import Compared
 from .._reports.finding import Report, not_read
+from .._reports.names import Name
 from .._reports.statistics import Statistics
-from .._streams import named, reason_of
-from .apart import Apart, Fault, Parts, Taken, apart
-from .arguments import Settings
+from .._streams import reason_of
+from .apart import Apart, Parts, Taken, Told, apart
+from .arguments import Command, Settings
 from .document import ENOUGH, Document
 from .screen import Screen
 
@@ -31,6 +33,7 @@ class Counts:
         self.shown = 0
         self.unsafe = 0
         self.unread = 0
+        self.left: Counted[str] = Counter()
 
     def add(self, taken: Taken) -> None:
         """Adds what a document gave."""
@@ -41,6 +44,7 @@ class Counts:
         self.known += len(taken.known)
         self.unsafe += taken.unsafe
         self.unread += taken.fault is not None
+        self.left.update(taken.left)
 
     def status(self) -> int:
         """2 if a document wasn't read, otherwise 1 if a link is refused or would be written differently, otherwise
@@ -51,10 +55,9 @@ class Counts:
 class Run:
     """The documents read so far: what was asked for, and what was seen."""
 
-    def __init__(self, settings: Settings, is_checked: bool, is_quiet: bool, report: Report, screen: Screen) -> None:
+    def __init__(self, command: Command, settings: Settings, report: Report, screen: Screen) -> None:
+        self._command = command
         self._settings = settings
-        self._is_checked = is_checked
-        self._is_quiet = is_quiet
         self._report = report
         self._screen = screen
         self._noted: Set[str] = set()
@@ -65,15 +68,11 @@ class Run:
         self._begun: Deque[Tuple[List[Document], Apart]] = deque()
         self.counts = Counts()
         self.statistics = Statistics()
-        self.faults: List[Known] = []
-        """The faults, if they are counted."""
-        self.met: Set[str] = set()
-        """The fingerprints of the known faults that are there."""
+        self.compared = Compared(command.known)
 
-    def take(self, name: str, folder: Optional[str] = None) -> None:
-        """Takes a document, which was found in that folder unless it was named itself. It is read with others in one
-        process, and those before it are reported once too many wait. Raises ``Misconfigured``."""
-        document = Document(self._settings, self._is_checked, name, folder)
+    def take(self, document: Document) -> None:
+        """Takes a document. It is read with others in one process, and those before it are reported once too many
+        wait."""
         work = document.work()
         if self._work + work >= ENOUGH:
             self._begin()
@@ -98,7 +97,7 @@ class Run:
             prepare(kind)
         parts: List[Parts] = [it.parts for it in documents]
         self._begun.append((documents, Apart(parts, documents[0].is_input)))
-        while len(self._begun) >= self._settings.jobs:
+        while len(self._begun) >= self._command.jobs:
             self._end_first()
 
     def _end_first(self) -> None:
@@ -110,35 +109,38 @@ class Run:
 
     def _end(self, document: Document, apart: Apart) -> None:
         """Writes the located links of a document or what is wrong with them."""
-        self._screen.at(self.counts.documents, self.counts.refused, document.name)
-        is_passed = self._is_checked
+        self._screen.at(self.counts.documents, self.counts.refused, str(document.name))
+        is_whole, is_passed = True, self._command.is_checked
         for taken in self._fixed(document, apart):
             self.counts.add(taken)
-            self._report.add(*taken.first, taken.lines)
+            self._report.add(*taken.first, bytes(taken.lines))
             self._count(taken)
+            is_whole = is_whole and taken.fault is None and not taken.lost
             is_passed = is_passed and not taken.refused and taken.fault is None
             for note in taken.notes:
                 self._note(document.name, note)
-            for warning in taken.warnings:
-                self._warn(document.name, warning)
+            for warning in taken.warnings if not self._command.is_quiet else ():
+                self._tell(document, warning)
             if taken.fault is not None:
-                self._tell_fault(document, taken.fault)
+                name = Name(document.name.file, taken.fault.inner)
+                self._report.tell(not_read(self._settings.format, name, taken.fault))
+                self._tell(document, taken.fault)
+        if is_whole:
+            self.compared.has_read(document.name, document.counts.selected)
         if is_passed:
             self._report.passed(document.name)
 
-    def _tell_fault(self, document: Document, fault: Fault) -> None:
-        """Says in the report and on standard error why a document, or a part of it, wasn't read."""
-        name = document.name + ("/" + fault.inner if fault.inner else "")
-        self._report.tell(not_read(self._settings.format, name, fault))
-        is_input = name == "-" and fault.line is None
-        self._screen.tell(("standard input" if is_input else named(name) or "''") + fault.after())
+    def _tell(self, document: Document, told: Told) -> None:
+        """Says something of a document, or a part of it, on standard error."""
+        name = Name(document.name.file, told.inner)
+        self._screen.tell((name.shown() if told.line is None else str(name)) + told.after())
 
     def _count(self, taken: Taken) -> None:
         """Counts the faults of a part, for the statistics and the baseline."""
         for fault in taken.counted:
             self.statistics.add(fault.rule, fault.text)
-            self.faults.append(fault.known)
-        self.met.update(taken.known)
+            self.compared.new.append(fault.known)
+        self.compared.meet(taken.known)
 
     def _fixed(self, document: Document, given: Apart) -> Iterable[Taken]:
         """What a document gives, after what is fixed in it was written. Where that can't be it is read as it is."""
@@ -150,7 +152,7 @@ class Run:
         if fix is None:
             return held
         # (a file that has several names is written once)
-        path = os.path.realpath(document.path)
+        path = os.path.realpath(document.entry.path)
         is_new, is_whole = path not in self._paths, all(it.fault is None for it in held)
         self._paths.add(path)
         if is_new and is_whole and self._is_written(document, fix, fixing):
@@ -164,22 +166,17 @@ class Run:
             self.counts.shown += fix.texts
             return True
         try:
-            replace(document.path, fix.digest, fix.data, document.folder)
+            replace(document.entry.path, fix.digest, fix.data, document.entry.folder)
         except (OSError, Unwritten) as error:
             why = str(error) if isinstance(error, Unwritten) else "can't be written: " + reason_of(error)
-            self._screen.tell("{}: {}".format(named(document.name), why))
+            self._screen.tell("{}: {}".format(document.name.shown(), why))
             self.counts.unread += 1
             return False
         self.counts.fixed += fix.texts
         return True
 
-    def _warn(self, name: str, warning: Fault) -> None:
-        """Says what is wrong with a comment."""
-        if not self._is_quiet:
-            self._screen.tell(named(name + ("/" + warning.inner if warning.inner else "")) + warning.after())
-
-    def _note(self, name: str, note: str) -> None:
+    def _note(self, name: Name, note: str) -> None:
         """Says what a reader passed over, each once."""
-        if not self._is_quiet and note not in self._noted:
+        if not self._command.is_quiet and note not in self._noted:
             self._noted.add(note)
-            self._screen.tell("{}: {}".format("standard input" if name == "-" else named(name) or "''", note))
+            self._screen.tell("{}: {}".format(name.shown(), note))

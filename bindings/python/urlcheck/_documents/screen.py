@@ -1,8 +1,8 @@
-"""Where a run writes: its report, its words, and at a terminal how far it is."""
+"""The outputs of a run: its report, its words, and at a terminal its progress."""
 
-import sys
-from typing import BinaryIO, Callable, Optional
+from typing import Callable, Optional
 
+from .._fixes.writing import Output
 from .._streams import tell, write
 from .progress import Progress
 
@@ -13,13 +13,13 @@ Paint = Callable[[str], str]
 class Screen:
     """Standard output or the file in its place, and standard error."""
 
-    def __init__(self, file: Optional[BinaryIO], paint: Optional[Paint], progress: Progress) -> None:
+    def __init__(self, file: Optional[Output], paint: Optional[Paint], progress: Progress) -> None:
         self._file = file
         self._paint = paint
         self._progress = progress
 
     def write(self, lines: bytes) -> None:
-        """Writes lines of the report."""
+        """Writes lines of the report. Raises ``Unwritable``."""
         if not lines:
             return
         if self._file is not None:
@@ -27,8 +27,6 @@ class Screen:
             return
         self._progress.hide()
         write(lines, self._paint)
-        if sys.stdout.isatty():
-            sys.stdout.buffer.flush()
 
     def tell(self, line: str) -> None:
         """Says a line on standard error."""

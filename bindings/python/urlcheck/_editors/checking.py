@@ -1,11 +1,11 @@
 """A process that checks the texts which an editor holds, with the limits that files have, and what starts it again if
 it was ended."""
 
+import functools
 import gc
 import os
 import pickle
 import queue
-import re
 import signal
 import subprocess
 import sys
@@ -14,15 +14,18 @@ import time
 from typing import IO, Any, Callable, Dict, Iterator, List, NamedTuple, Optional, Tuple
 
 from .. import MendKind, Profile
-from .._documents.limits import MOST_SECONDS, ended_by, limit_memory, limit_time
+from .._documents.effective import Effective
+from .._documents.limits import MOST_SECONDS, NO_MEMORY, ended_by, limit_memory, limit_time
 from .._documents.started import started
-from .._readers.markdown_links import Inlines
+from .._fixes.fixing import why_left
+from .._readers import markdown_links, rst_links
 from .._readers.reading import LIST, Found, Reading, Unread, found_in
-from .._readers.source import Foreign, Link
-from .._reports.checker import Checker, Verdicts, Wrong
+from .._readers.source import Foreign, Link, Source
+from .._reports.checker import MOST_KEPT, Checker, Verdicts, Wrong
 from .._reports.ignoring import Ignoring
 from .._reports.selected import Selected
 from .editing import LinePlaces
+from .pieces import Pieces, Read, of_markdown, of_rst
 
 Range = Tuple[Tuple[int, int], Tuple[int, int]]
 """From where to where something is: lines and units from 0."""
@@ -34,18 +37,12 @@ PATIENCE = 1.0
 class Asked(NamedTuple):
     """A text, and what it is checked by."""
 
+    name: str
+    """Which document it is."""
     text: str
     kind: str
     encoding: str
-    base: Optional[str] = None
-    profile: Profile = Profile.STANDARD
-    ignored: Tuple["re.Pattern[str]", ...] = ()
-    gfm: bool = False
-    is_empty_taken: bool = False
-    name: str = ""
-    """Which document it is."""
-    selected: Selected = Selected()
-    """The rules that are reported."""
+    counts: Effective
 
 
 class Kept:
@@ -53,18 +50,53 @@ class Kept:
 
     def __init__(self) -> None:
         self._verdicts: Dict[Tuple[Profile, bool, Selected], Verdicts] = {}
-        self._of_inlines: Tuple[str, bool] = ("", False)
-        self._inlines = Inlines()
+        self._fixes: Dict[Tuple[Any, ...], Fix] = {}
+        self._read: Tuple[str, str, bool] = ("", "", False)
+        self._reading = Reading()
 
     def verdicts(self, asked: Asked) -> Verdicts:
         """What is known of links."""
-        return self._verdicts.setdefault((asked.profile, asked.is_empty_taken, asked.selected), {})
+        counts = asked.counts
+        return self._verdicts.setdefault((counts.profile, counts.is_empty_taken, counts.selected), {})
 
-    def inlines(self, asked: Asked) -> Inlines:
-        """What the blocks of the document were read as that was checked last."""
-        if self._of_inlines != (asked.name, asked.gfm):
-            self._of_inlines, self._inlines = (asked.name, asked.gfm), Inlines()
-        return self._inlines
+    def reading(self, asked: Asked) -> Reading:
+        """How a document is read. What the one that was checked last was read as is kept, until another one is."""
+        if self._read != (asked.name, asked.kind, asked.counts.gfm):
+            self._read = asked.name, asked.kind, asked.counts.gfm
+            is_mdx = asked.kind == "mdx"
+            piece = functools.partial(markdown_links.links_of, is_gfm=asked.counts.gfm, is_mdx=is_mdx)
+            whole = functools.partial(piece, inlines=markdown_links.Inlines())
+            markdown: Read = whole
+            if not is_mdx:
+                # (an expression of MDX may have anything in it, empty lines too)
+                markdown = Pieces(of_markdown, piece, whole).read
+            rst = Pieces(of_rst, rst_links.links_of, rst_links.links_of)
+            self._reading = Reading(asked.counts.gfm, markdown, rst.read)
+        return self._reading
+
+
+    def fix(self, asked: Asked, link: Link, wrong: Wrong, checker: Checker, source: Source) -> "Fix":
+        """What may be written in place of a link of a source. What is written for equal links is sought once."""
+        raw = source.text[link.offset : link.place(len(link.text))]
+        key = raw, link.text, link.syntax, link.is_certain, link.base, wrong.mended, asked.counts.base
+        fix = self._fixes.get(key)
+        if fix is None:
+            writing = checker.writing(link, wrong, source)
+            is_wanted = writing is not None and why_left(link.text, wrong, writing, is_unsafe=False) is None
+            fix = Fix(None if writing is None else writing.text, is_wanted)
+            if len(self._fixes) >= MOST_KEPT:
+                self._fixes.clear()
+            self._fixes[key] = fix
+        return fix
+
+
+class Fix(NamedTuple):
+    """What may be written in place of a link."""
+
+    text: Optional[str]
+    """What is to stand there; nothing if no text may."""
+    is_wanted: bool
+    """Whether it may be written unasked."""
 
 
 class Mistake(NamedTuple):
@@ -81,6 +113,8 @@ class Mistake(NamedTuple):
     kind: Optional[MendKind] = None
     named: Optional[str] = None
     """What isn't offered, because something else was likely meant."""
+    is_fixed: bool = False
+    """Whether it may be written unasked, as ``urlcheck-documents --fix`` writes it."""
 
 
 class Remark(NamedTuple):
@@ -110,64 +144,85 @@ class Seen(NamedTuple):
     links: int = 0
 
 
+START = ((0, 0), (0, 0))
+"""The range of what is said of a text as a whole."""
+
+_MOST_SAID = 150
+"""How many code points are said of what failed."""
+
+
+def unread(reason: str) -> Seen:
+    """What is seen in a text that isn't read."""
+    return Seen([], [Remark(START, reason, NOT_READ)])
+
+
+def failed(error: BaseException) -> Seen:
+    """What is seen in a text at which this program failed."""
+    said = " ".join("{}: {}".format(type(error).__name__, error).split())
+    shown = "".join(it if it.isprintable() else "\ufffd" for it in said[:_MOST_SAID])
+    return unread("can't be checked: the program failed: " + shown)
+
+
 def _seen_in(asked: Asked, kept: Kept) -> Seen:
     """What is wrong with a text."""
     seen = Seen([], [])
-    start = ((0, 0), (0, 0))
     links = 0
     try:
-        for found in found_in(asked.text, asked.kind, Reading(asked.gfm, kept.inlines(asked))):
-            settings = asked.is_empty_taken, kept.verdicts(asked), asked.kind == LIST, asked.selected
-            checker = Checker(asked.base, asked.profile, True, *settings)
+        for found in found_in(asked.text, asked.kind, kept.reading(asked)):
+            checker = asked.counts.checker(True, kept.verdicts(asked), asked.kind == LIST)
             places = LinePlaces(found.source.text, asked.encoding)
             links += len(found.links)
             ignoring = Ignoring(found.comments)
-            seen.mistakes.extend(_mistakes_in(asked, found, checker, places, ignoring))
+            seen.mistakes.extend(_mistakes_in(asked, found, checker, (places, kept), ignoring))
             seen.remarks.extend(_remarks_on(asked, found, places, ignoring))
     except (Unread, Foreign) as reason:
-        seen.remarks.append(Remark(start, str(reason), NOT_READ))
+        seen.remarks.append(Remark(START, str(reason), NOT_READ))
     except RecursionError:
-        seen.remarks.append(Remark(start, "is nested too deeply", NOT_READ))
+        seen.remarks.append(Remark(START, "is nested too deeply", NOT_READ))
     return seen._replace(links=links)
 
 
 def _remarks_on(asked: Asked, found: Found, places: LinePlaces, ignoring: Ignoring) -> Iterator[Remark]:
     """What is said about a text, once its links were looked at."""
-    start = ((0, 0), (0, 0))
-    yield from (Remark(start, it, NOTE) for it in found.notes)
-    for it in ignoring.remarks(asked.selected.are_all() and found.broken is None):
+    yield from (Remark(START, it, NOTE) for it in found.notes)
+    for it in ignoring.remarks(asked.counts.selected.are_all() and found.broken is None):
         at = places.position(it.offset)
         yield Remark((at, at), it.message, COMMENT)
+    for lost in found.lost:
+        at = places.position(lost.offset)
+        yield Remark((at, at), "isn't read: " + lost.what, NOT_READ)
     if found.broken is not None:
         at = places.position(found.broken.offset)
         yield Remark((at, at), "can't be read from here on: " + found.broken.reason, NOT_READ)
 
 
 def _mistakes_in(
-    asked: Asked, found: Found, checker: Checker, places: LinePlaces, ignoring: Ignoring
+    asked: Asked, found: Found, checker: Checker, seen: Tuple[LinePlaces, Kept], ignoring: Ignoring
 ) -> Iterator[Mistake]:
     """The links that are wrong, except those that are meant as they are."""
     for link in found.links:
         wrong, is_left_out = ignoring.wrong(checker, link)
-        if wrong is not None and not is_left_out and not any(it.search(link.text) for it in asked.ignored):
-            yield _mistake(link, wrong, checker, places)
+        if wrong is not None and not is_left_out and not asked.counts.leaves_out(link.text):
+            places, kept = seen
+            is_offered = wrong.mended is not None and wrong.mended.is_offered
+            fix = kept.fix(asked, link, wrong, checker, found.source) if is_offered else Fix(None, False)
+            # (a link that a comment is about is left as it is, as by the command)
+            yield _mistake(link, wrong, places, fix._replace(is_wanted=fix.is_wanted and not ignoring.is_about(link)))
 
 
-def _mistake(link: Link, wrong: Wrong, checker: Checker, places: LinePlaces) -> Mistake:
+def _mistake(link: Link, wrong: Wrong, places: LinePlaces, fix: Fix) -> Mistake:
     """A link that is wrong, with its places."""
-    at, end = link.place(wrong.place), _end_of(link)
+    at, end = link.place(wrong.place), _end_of(link) if fix.text is None else link.place(len(link.text))
     whole = places.position(link.offset), places.position(max(end, link.offset))
     region = places.position(at), places.position(max(end, at + 1 if wrong.place < len(link.text) else at))
-    offered = wrong.mended if wrong.mended is not None and wrong.mended.is_offered else None
-    named = wrong.mended.text if wrong.mended is not None and offered is None else None
-    mended = offered.text if offered is not None and checker.may_be_written(link) else None
+    named = wrong.mended.text if wrong.mended is not None and not wrong.mended.is_offered else None
     said = wrong.message if not link.within else "{}, in {}".format(wrong.message, link.within)
     kind = wrong.mended.kind if wrong.mended is not None else None
-    return Mistake(region, whole, wrong.rule, said, mended, kind, named)
+    return Mistake(region, whole, wrong.rule, said, fix.text, kind, named, fix.is_wanted)
 
 
 def _end_of(link: Link) -> int:
-    """Where a link ends in its source, or where it begins if the end isn't known."""
+    """Returns the end of a link in its source, or its beginning if the end isn't known."""
     if link.is_verbatim:
         return link.offset + len(link.text)
     return link.place(len(link.text) - 1) + 1 if link.pieces and link.text else link.offset
@@ -212,13 +267,16 @@ class Checking:
         """Starts the process, so that the first text doesn't wait for it."""
         self._started()
 
+    def is_started(self) -> bool:
+        """Whether there is a process."""
+        return self._process is not None
+
     def _ended(self, why: Optional[str]) -> Seen:
         """What is said about a text whose process was ended."""
         process = self._process
         status = process.wait() if process is not None else 0
         self.end()
-        why = why or ended_by(status)
-        return Seen([], [Remark(((0, 0), (0, 0)), "can't be checked: " + why, NOT_READ)])
+        return unread("can't be checked: " + (why or ended_by(status)))
 
     def end(self) -> None:
         """Ends the process, if there is one."""
@@ -274,7 +332,9 @@ def serve() -> None:
             seen = _seen_in(asked, kept)
         except (MemoryError, SystemError):
             # (if memory is short Python may do anything)
-            os._exit(1)
+            os._exit(NO_MEMORY)
+        except Exception as error:
+            seen = failed(error)
         limit_time(0)
         _send(taken, seen)
         del asked, seen

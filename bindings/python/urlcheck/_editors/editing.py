@@ -87,7 +87,7 @@ class Text:
 
 
 class LinePlaces:
-    """Finds the line and the unit of a place of a text, both from 0. Of the line that it was asked for last it keeps
+    """Finds the line and the unit of a place of a text, both from 0. For the line that it was asked for last it keeps
     how far it has counted."""
 
     def __init__(self, text: str, encoding: str) -> None:

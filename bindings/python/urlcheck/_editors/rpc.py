@@ -11,7 +11,7 @@ MOST_BYTES = 256 * 1024 * 1024
 """How many bytes a message may have."""
 
 _MOST_HEADER = 8 * 1024
-_PARSE_ERROR, _INVALID_REQUEST = -32700, -32600
+_PARSE_ERROR, _INVALID_REQUEST, _INVALID_PARAMS, _INTERNAL_ERROR = -32700, -32600, -32602, -32603
 
 
 class NoMessage(Exception):
@@ -36,7 +36,7 @@ def message_of(file: BinaryIO) -> Optional[bytes]:
             raise NoMessage("a header has no colon")
         if name.strip().lower() == b"content-length":
             if not value.strip().isdigit() or len(value.strip()) > 12:
-                raise NoMessage("a length is no number")
+                raise NoMessage("a length isn't a number")
             length = int(value)
     if length is None:
         raise NoMessage("a message has no length")
@@ -48,8 +48,19 @@ def message_of(file: BinaryIO) -> Optional[bytes]:
     return body
 
 
+def _plain(message: Dict[str, Any]) -> Dict[str, Any]:
+    """A message without what Python says of an error, which has names of files of this machine."""
+    error = message.get("error")
+    if not isinstance(error, dict) or "data" not in error:
+        return message
+    return {**message, "error": {"code": _INTERNAL_ERROR, "message": "this can't be answered"}}
+
+
 class Endpoint(_Endpoint):  # type: ignore[misc]
     """Answers messages, whatever they are."""
+
+    def __init__(self, dispatcher: Any, consumer: Callable[[Dict[str, Any]], None], **more: Any) -> None:
+        super().__init__(dispatcher, lambda message: consumer(_plain(message)), **more)
 
     def take(self, body: bytes) -> None:
         """Takes the body of a message."""
@@ -62,11 +73,11 @@ class Endpoint(_Endpoint):  # type: ignore[misc]
         is_named = is_request and isinstance(message.get("method"), str)
         if not is_request or not (is_named or ("method" not in message and "id" in message)):
             number = message.get("id") if isinstance(message, dict) else None
-            self._refuse(_INVALID_REQUEST, "this is no message of JSON-RPC 2.0", number)
+            self._refuse(_INVALID_REQUEST, "this isn't a message of JSON-RPC 2.0", number)
             return
         if is_named and not isinstance(message.get("params"), (dict, type(None))):
             if "id" in message:
-                self._refuse(-32602, "the parameters are named", message["id"])
+                self._refuse(_INVALID_PARAMS, "the parameters are named", message["id"])
             return
         if message.get("method") == "$/cancelRequest" and "id" not in (message.get("params") or {}):
             return
@@ -74,7 +85,7 @@ class Endpoint(_Endpoint):  # type: ignore[misc]
             self.consume(message)
         except (TypeError, KeyError, ValueError):
             # (an identifier that can't be one)
-            self._refuse(_INVALID_REQUEST, "this is no message of JSON-RPC 2.0")
+            self._refuse(_INVALID_REQUEST, "this isn't a message of JSON-RPC 2.0")
 
     def _refuse(self, code: int, reason: str, number: Any = None) -> None:
         """Sends an error. A message whose identifier isn't known is answered with none, as the protocol wants."""

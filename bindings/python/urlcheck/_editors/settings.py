@@ -16,15 +16,21 @@ class Options(NamedTuple):
     base: Optional[str] = None
     profile: Optional[Profile] = None
     ignored: Tuple["re.Pattern[str]", ...] = ()
-    gfm: bool = False
-    is_empty_taken: bool = False
+    gfm: Optional[bool] = None
+    is_empty_taken: Optional[bool] = None
     severity: int = SEVERITIES["error"]
     wrong: Tuple[str, ...] = ()
     """What is wrong with them, in sentences."""
 
-    def profile_by(self, config: Configuration) -> Profile:
-        """The profile by which a document is checked."""
-        return self.profile or config.profile or Profile.STANDARD
+    def given(self) -> Configuration:
+        """The same, as what goes before the project's configuration."""
+        return Configuration(
+            profile=self.profile,
+            base=self.base,
+            ignored=self.ignored,
+            gfm=self.gfm,
+            is_empty_taken=self.is_empty_taken,
+        )
 
 
 def options_of(given: Any) -> Options:
@@ -36,24 +42,35 @@ def options_of(given: Any) -> Options:
     profile = _chosen(given, "profile", {it.name.lower(): it for it in Profile}, wrong)
     severity = _chosen(given, "severity", SEVERITIES, wrong)
     base = given.get("base")
-    if base is not None and (not isinstance(base, str) or not _is_base(base, profile or Profile.STANDARD)):
-        wrong.append("the base is no valid URL string")
+    # (whether it is valid under the profile that counts is said of each document)
+    if base is not None and (not isinstance(base, str) or not _is_base(base, Profile.PARSER)):
+        wrong.append("the base isn't a valid URL string")
         base = None
     patterns = []
     for text in given.get("ignore") or [] if isinstance(given.get("ignore") or [], list) else [None]:
         try:
             patterns.append(re.compile(text))
         except (re.error, TypeError):
-            wrong.append("no regular expression: {}".format(text))
+            wrong.append("not a regular expression: {}".format(text))
+    gfm, is_empty_taken = _flag(given, "gfm", wrong), _flag(given, "noEmpty", wrong)
     return Options(
-        base,
-        profile,
-        tuple(patterns),
-        bool(given.get("gfm")),
-        bool(given.get("noEmpty")),
-        severity or SEVERITIES["error"],
-        tuple(wrong),
+        base=base,
+        profile=profile,
+        ignored=tuple(patterns),
+        gfm=gfm,
+        is_empty_taken=is_empty_taken,
+        severity=severity or SEVERITIES["error"],
+        wrong=tuple(wrong),
     )
+
+
+def _flag(given: Dict[str, Any], name: str, wrong: "list[str]") -> Optional[bool]:
+    """The value of a setting that is true or false."""
+    value = given.get(name)
+    if value is None or isinstance(value, bool):
+        return value
+    wrong.append("{} is true or false".format(name))
+    return None
 
 
 def _chosen(given: Dict[str, Any], name: str, values: Dict[str, Any], wrong: "list[str]") -> Any:

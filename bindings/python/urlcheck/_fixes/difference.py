@@ -4,6 +4,7 @@ import re
 from typing import Iterator, List, NamedTuple, Sequence
 
 from .._readers.source import Source
+from .._reports.names import Name
 from .edits import Edit, edited
 
 _CONTEXT = 3
@@ -27,15 +28,19 @@ class _Change(NamedTuple):
         return len(self.written) - (self.end - self.first)
 
 
-def difference(name: str, source: Source, edits: Sequence[Edit]) -> str:
-    """What these edits, which are in order, change in the document of that name; empty if they change nothing."""
+def difference(name: Name, source: Source, edits: Sequence[Edit], has_mark: bool = False) -> str:
+    """What these edits, which are in order, change in the document of that name; empty if they change nothing. Its
+    first line begins with a byte order mark if it has one, which no edit counts."""
+    if has_mark:
+        source = Source("\ufeff" + source.text)
+        edits = [Edit(edit.start + 1, edit.end + 1, edit.text) for edit in edits]
     lines = _LINE.findall(source.text)
     groups = _groups(list(_changes(source, lines, edits)))
     added, hunks = 0, ""
     for group in groups:
         hunks += _hunk(lines, group, added)
         added += sum(change.added() for change in group)
-    return "--- {0}\n+++ {0}\n{1}".format(name, hunks) if hunks else ""
+    return "--- {0}\n+++ {0}\n{1}".format(name.in_difference(), hunks) if hunks else ""
 
 
 def _changes(source: Source, lines: List[str], edits: Sequence[Edit]) -> Iterator[_Change]:

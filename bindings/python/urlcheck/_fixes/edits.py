@@ -10,10 +10,12 @@ class Edit(NamedTuple):
     start: int
     end: int
     text: str
+    read: str = ""
+    """What is read there then: another text, if the document has it with escapes."""
 
 
 def in_order(edits: Iterable[Edit]) -> List[Edit]:
-    """The edits in their order. Of equal ones one is kept, and of those that overlap the first."""
+    """The edits in their order. One of equal edits is kept, and the first of several that overlap."""
     kept: List[Edit] = []
     for edit in sorted(set(edits)):
         if not kept or edit.start >= kept[-1].end:

@@ -2,13 +2,15 @@
 gives."""
 
 import bisect
+import codecs
 import hashlib
 import re
 from typing import Callable, Iterable, List, NamedTuple, Optional, Sequence, Tuple
 
-from .. import Mended, MendKind
+from .. import MendKind
 from .._readers.reading import Found
-from .._readers.source import Link
+from .._reports.checker import Writing, Wrong
+from .._reports.names import Name
 from .difference import difference
 from .edits import Edit, edited, encoded, in_order
 
@@ -47,14 +49,32 @@ class Fixed(NamedTuple):
     """How many texts are written."""
 
 
-def is_fixable(text: str, mended: Mended, is_unsafe: bool) -> bool:
-    """Whether a mended text may be written in a document without asking its author: it is offered, and it is the same
-    URL or the same text percent-encoded, unless ``is_unsafe``. For a host that is read as numbers it never may, since
-    these may be read differently than they look."""
-    if mended.kind is MendKind.CHANGED and not is_unsafe:
-        return False
+UNSAFE = "perhaps another URL"
+"""Why a text isn't written that would be if unsafe fixes were."""
+
+IN_BOOK = "in a book"
+CHANGING = "next to a link that would change"
+_NOT_OFFERED = "with nothing offered"
+_TEMPLATE = "a template"
+_NUMBERED = "with a host of numbers"
+_ESCAPED = "with escapes of its document"
+
+
+def why_left(text: str, wrong: Wrong, writing: Optional[Writing], is_unsafe: bool) -> Optional[str]:
+    """Why what may be written in place of a wrong link isn't without asking its author, or nothing if it is: it is
+    offered, and it is the same URL or the same text percent-encoded, of what surely is a link; that, but for the offer,
+    doesn't count if ``is_unsafe``. For a host that is read as numbers it never is, since these may be read differently
+    than they look."""
+    if wrong.mended is None or not wrong.mended.is_offered:
+        # (that it looks like a template is said only in the message)
+        return _TEMPLATE if "; this looks like a template:" in wrong.message else _NOT_OFFERED
     host = _HOST.match(text.translate(_PASSED_OVER))
-    return mended.is_offered and not (host and _NUMBERS.fullmatch(host[1]))
+    if host and _NUMBERS.fullmatch(host[1]):
+        return _NUMBERED
+    if writing is None:
+        return _ESCAPED
+    is_safe = writing.is_certain and wrong.mended.kind is not MendKind.CHANGED
+    return None if is_unsafe or is_safe else UNSAFE
 
 
 def more_texts(edits: Sequence[Edit], others: Sequence[Edit]) -> int:
@@ -67,36 +87,38 @@ def digest_of(data: bytes) -> bytes:
     return hashlib.sha256(data).digest()
 
 
-def are_read_alike(before: Sequence[Link], after: Sequence[Link], edits: Sequence[Edit]) -> bool:
+def are_read_alike(before: Found, after: Found, edits: Sequence[Edit]) -> bool:
     """Whether the links that are read after these edits are those before them, but for the texts that were written."""
-    written = {(edit.start, edit.end): edit.text for edit in edits}
+    written = {edit.start: edit.read for edit in edits}
     ends, shifts = _shifts(edits)
     wanted: List[Tuple[int, str]] = []
-    for link in before:
-        place = link.offset, link.offset + len(link.text)
-        text = written.get(place, link.text) if link.is_verbatim else link.text
+    for link in before.links:
+        slot = link.slot(before.source) if link.offset in written else None
+        text = link.text if slot is None else written[link.offset]
         wanted.append((link.offset + shifts[bisect.bisect_right(ends, link.offset)], text))
-    return sorted(wanted) == sorted((link.offset, link.text) for link in after)
+    return sorted(wanted) == sorted((link.offset, link.text) for link in after.links)
 
 
 def _shifts(edits: Sequence[Edit]) -> Tuple[List[int], List[int]]:
-    """Where each edit ends, and by how much everything after it has moved."""
+    """Returns the end of each edit, and by how much everything after it has moved."""
     shifts = [0]
     for edit in edits:
         shifts.append(shifts[-1] + len(edit.text) - (edit.end - edit.start))
     return [edit.end for edit in edits], shifts
 
 
-def fixed(name: str, data: bytes, found: Found, texts: Iterable[Edit], read: Read) -> Optional[Tuple[Fixed, Found]]:
-    """The document of that name and of these bytes, in which these links were found, after edits, and what is found in
-    it then. There is none without edits, if a reader stopped, or if the links found then aren't those of before with
-    the texts of the edits."""
+def fixed(
+    data: bytes, found: Found, texts: Iterable[Edit], read: Read, name: Optional[Name]
+) -> Optional[Tuple[Fixed, Found]]:
+    """The document of these bytes, in which these links were found, after edits, and what is found in it then. There is
+    none without edits, if a reader stopped, or if the links found then aren't the earlier ones with the texts of the
+    edits. If it has a name, the difference is wanted."""
     edits = in_order(texts)
     if not edits or found.broken is not None:
         return None
     new = encoded(edited(found.source.text, edits), data)
     after = read(new)
-    if after.broken is not None or not are_read_alike(found.links, after.links, edits):
+    if after.broken is not None or not are_read_alike(found, after, edits):
         return None
-    shown = difference(name, found.source, edits).encode("utf-8", "surrogateescape")
-    return Fixed(digest_of(data), new, shown, len(edits)), after
+    shown = "" if name is None else difference(name, found.source, edits, data.startswith(codecs.BOM_UTF8))
+    return Fixed(digest_of(data), new, shown.encode("utf-8", "surrogateescape"), len(edits)), after

@@ -1,43 +1,37 @@
-"""Bare addresses in a text of GitHub's Markdown, as its specification finds them (GFM 0.29, section 6.9), and what
-looks like a link and isn't one for a space in its destination."""
+"""Bare addresses in a text of GitHub's Markdown, as its specification finds them (GFM 0.29, section 6.9)."""
 
 import bisect
 import re
 from typing import Iterator, List, Tuple
 
-from .source import Asks, Link
+from .slots import Syntax
+from .source import Link
 
 _START = re.compile(r"(?:(?<![A-Za-z0-9])(?:https?|ftp)://|(?<![^\s*_~(])www\.(?=[^\s<]))", re.IGNORECASE)
 _DOMAIN = re.compile(r"[\w-]+(?:\.[\w-]+)*")
 _REST = re.compile(r"[^\s<]*")
-_REFERENCE = re.compile(r"&[A-Za-z0-9]+;\Z")
-_SPACED = re.compile(r"\]\((?P<to>[^()<>\s\"'][^()<>\n\"']*?)[ \t]*\)")
-_TITLED = re.compile(r"[^\s]+\Z")
-_TEMPLATE = re.compile(r"\{\{|\{%|\$\{|<%|%s")
+
+_SCHEME = "http://"
+"""What GitHub writes before an address that begins with ``www.``."""
+
+_WITHOUT_SCHEME = Syntax(lambda raw: _SCHEME + raw, lambda text, _: text[len(_SCHEME) :])
 
 
 def links_of(content: str, covered: List[Tuple[int, int]]) -> Iterator[Link]:
-    """The bare addresses of a block's content, and the destinations with a space. What is covered isn't plain text, and
-    an address within a destination isn't reported as well."""
+    """The bare addresses of a block's content. What is covered isn't plain text."""
     places = _merged(covered)
-    spaced = [it for it in _SPACED.finditer(content) if not _TITLED.match(it["to"]) and not _meets(places, *it.span())]
-    for found in spaced:
-        # (a template stands for another text, which perhaps has no space)
-        asks = Asks.REFERENCE if _TEMPLATE.search(found["to"]) else Asks.ANOTHER
-        yield Link(found["to"], found.start("to"), True, asks=asks)
-    places = _merged(covered + [it.span() for it in spaced])
     for found in _START.finditer(content):
         text = content[found.start() : _end(content, found)]
         if text and not _meets(places, found.start(), found.start() + len(text)):
             if found[0][:4].lower() == "www.":
-                # (GitHub writes the scheme before it)
-                yield Link("http://" + text, found.start(), False, pieces=((0, found.start()), (7, found.start())))
+                pieces = (0, found.start()), (len(_SCHEME), found.start())
+                yield Link(_SCHEME + text, found.start(), False, pieces=pieces, syntax=_WITHOUT_SCHEME)
             else:
                 yield Link(text, found.start(), True)
 
 
 def _end(content: str, found: "re.Match[str]") -> int:
-    """Where the address that begins there ends, or its beginning if it isn't one."""
+    """Returns the end of the address that begins there, or its beginning if it isn't one."""
     at = found.start() if found[0][:4].lower() == "www." else found.end()
     domain = _DOMAIN.match(content, at)
     labels = domain[0].split(".") if domain else []
@@ -50,18 +44,22 @@ def _end(content: str, found: "re.Match[str]") -> int:
 def _trimmed(text: str) -> str:
     """An address without the punctuation at its end, without parentheses that close none of its own, and without a
     character reference."""
-    closing = text.count(")") - text.count("(")
-    while text:
-        reference = _REFERENCE.search(text)
-        if reference:
-            text = text[: reference.start()]
-        elif text[-1] in "?!.,:*_~'\"":
-            text = text[:-1]
-        elif text[-1] == ")" and closing > 0:
-            text, closing = text[:-1], closing - 1
+    closing, end = text.count(")") - text.count("("), len(text)
+    while end:
+        last = text[end - 1]
+        if last == ";":
+            begin = text.rfind("&", 0, end)
+            name = text[begin + 1 : end - 1]
+            if begin < 0 or not (name.isascii() and name.isalnum()):
+                break
+            end = begin
+        elif last in "?!.,:*_~'\"":
+            end -= 1
+        elif last == ")" and closing > 0:
+            end, closing = end - 1, closing - 1
         else:
             break
-    return text
+    return text[:end]
 
 
 Places = Tuple[List[int], List[int]]

@@ -27,7 +27,9 @@ def covered(source: Source, links: List[Link], comments: Sequence[Comment]) -> L
     about: Dict[int, List[Comment]] = {}
     for line, comment in _lines_of(source, set(lines), comments):
         about.setdefault(line, []).append(comment)
-    return [link._replace(comments=tuple(about.get(line, ()))) for link, line in zip(links, lines)]
+    # (all links of a line share what is about them)
+    shared = {line: tuple(those) for line, those in about.items()}
+    return [link._replace(comments=shared[line]) if line in shared else link for link, line in zip(links, lines)]
 
 
 def _lines_of(source: Source, linked: Set[int], comments: Sequence[Comment]) -> List[Tuple[int, Comment]]:

@@ -1,65 +1,97 @@
-"""The links of a style sheet: each ``url()`` and the name after ``@import``, by the package ``tinycss2``."""
+"""The links of a style sheet: each ``url()``, the strings of ``image-set()`` and the name after ``@import``, by the
+package ``tinycss2``."""
 
 import re
-from typing import Any, Iterator, List, Tuple
+from itertools import dropwhile
+from typing import Any, Dict, Iterator, List, Match, NamedTuple, Optional
 
 from .comments import comments_of
-from .source import Comment, Link, Source
+from .slots import Syntax, as_before
+from .source import Comment, Contents, Link, Lost, Source, point_of, read
 
 _END = re.compile("\r\n|[\r\n\f]")
 """What ends a line of CSS."""
 
-NEEDED = re.compile(r"url\(|@import", re.IGNORECASE)
+NEEDED = re.compile(r"url\(|@import|image-set\(", re.IGNORECASE)
 """What a style sheet has that has a link."""
 
 MISSING = "styles aren't read, which needs the package tinycss2: pip install tinycss2, or Debian's python3-tinycss2"
 """What is said about HTML whose styles have links, if nothing here can read them."""
 
+_OF_STRINGS = ("url", "src", "image-set", "-webkit-image-set")
+"""The functions whose strings are links."""
 
-def links_of(source: Source) -> Tuple[List[Link], List[Comment]]:
-    """The links of a style sheet, and the comments about them. Raises ``ImportError`` if ``tinycss2`` isn't
-    installed."""
+_ESCAPE = re.compile(r"\\(?:([0-9A-Fa-f]{1,6})(?:\r\n|[ \t\n\r\f])?|\r\n|[\n\r\f]|(.))", re.DOTALL)
+"""What stands for a code point, or for nothing at a line's end."""
+
+_SPACES = re.compile("[ \t\n\r\f]*")
+
+_RAW: Dict[str, "re.Pattern[str]"] = {
+    "": re.compile(r"(?:\\[^\n\r\f]|[^\\\"'() \t\n\r\f])*", re.DOTALL),
+    '"': re.compile(r"(?:\\(?:\r\n|.)|[^\\\"\n\r\f])*", re.DOTALL),
+    "'": re.compile(r"(?:\\(?:\r\n|.)|[^\\'\n\r\f])*", re.DOTALL),
+}
+"""What is written in a url() without quotes, and in a string by its quote."""
+
+_BAD = re.compile(r"(?:\\[^\n\r\f]|[^\\)\n\r\f])*(?=\))")
+"""What is written in a url() that isn't one, in its line."""
+
+
+def links_of(source: Source, is_sheet: bool = True) -> Contents:
+    """What is in a style sheet, or in declarations as the attribute ``style`` has them. Raises ``ImportError`` if
+    ``tinycss2`` isn't installed."""
     import tinycss2
 
-    rules = tinycss2.parse_stylesheet(source.text)
-    return _taken(source, rules, True)
-
-
-def links_of_declarations(source: Source) -> List[Link]:
-    """The links of declarations, as the attribute ``style`` has them. Raises what ``links_of`` raises."""
-    import tinycss2
-
-    return _taken(source, tinycss2.parse_component_value_list(source.text), False)[0]
-
-
-def _taken(source: Source, nodes: List[Any], is_sheet: bool) -> Tuple[List[Link], List[Comment]]:
-    """The links of these nodes and of those within them, and the comments about them."""
     starts = [0] + [it.end() for it in _END.finditer(source.text)]
-    links: List[Link] = []
-    comments: List[Comment] = []
+    nodes = tinycss2.parse_component_value_list(source.text)
+    found = _Found([], [], [])
     for node in _within(nodes):
-        at = min(starts[min(node.source_line, len(starts)) - 1] + node.source_column - 1, len(source.text))
-        if node.type == "comment":
-            comments += comments_of(node.value, at + 2)
-        elif node.type == "url":
-            begin = source.text.find("(", at) + 1
-            links.append(_link(source, node.value, begin))
-        elif node.type == "function" and node.lower_name in ("url", "src"):
-            links += _strings(source, node.arguments, starts)
-        elif node.type == "at-rule" and node.lower_at_keyword == "import" and is_sheet:
-            links += _strings(source, node.prelude, starts)[:1]
-    return links, comments
+        _take(source, node, _place(source, node, starts), starts, found)
+    for number, node in enumerate(nodes) if is_sheet else ():
+        if node.type == "at-keyword" and node.lower_value == "import":
+            behind = nodes[number + 1 : number + 9]
+            after = next(dropwhile(lambda it: it.type in ("whitespace", "comment"), behind), None)
+            if after is not None and after.type == "string":
+                found.links.append(_string(source, _place(source, after, starts)))
+    found.links.sort(key=lambda link: link.offset)
+    return Contents(found.links, found.comments, lost=tuple(found.lost))
 
 
-def _strings(source: Source, nodes: List[Any], starts: List[int]) -> List[Link]:
-    """The links of those nodes that are strings."""
-    return [_link(source, it.value, _after(source, it, starts)) for it in nodes if it.type == "string"]
+class _Found(NamedTuple):
+    """What is found so far."""
+
+    links: List[Link]
+    comments: List[Comment]
+    lost: List[Lost]
 
 
-def _after(source: Source, node: Any, starts: List[int]) -> int:
-    """Where the text of a string begins, after its quote."""
+def _place(source: Source, node: Any, starts: List[int]) -> int:
+    """Where a node begins."""
     line, column = int(node.source_line), int(node.source_column)
-    return min(starts[min(line, len(starts)) - 1] + column, len(source.text))
+    return min(starts[min(line, len(starts)) - 1] + column - 1, len(source.text))
+
+
+def _take(source: Source, node: Any, at: int, starts: List[int], found: _Found) -> None:
+    """Takes the links of a node that begins there."""
+    if node.type == "comment":
+        found.comments.extend(comments_of(node.value, at + 2))
+    elif node.type == "url":
+        found.links.append(_link(source, source.text.find("(", at) + 1, _RAW[""], _URL))
+    elif node.type == "function" and node.lower_name in _OF_STRINGS:
+        strings = [it for it in node.arguments if it.type == "string"]
+        if len(strings) > 1 and node.lower_name in ("url", "src"):
+            # (as a template's quotation marks within others leave it)
+            found.lost.append(Lost(at, "a url() with several strings"))
+        else:
+            found.links.extend(_string(source, _place(source, it, starts)) for it in strings)
+    elif node.type == "error" and node.kind == "bad-url":
+        begin = source.text.find("(", at) + 1
+        if _BAD.match(source.text, begin):
+            found.links.append(_link(source, begin, _BAD, _BAD_URL)._replace(is_certain=False))
+        else:
+            found.lost.append(Lost(at, "a url() that doesn't end in its line"))
+    elif node.type == "error" and node.kind == "bad-string":
+        found.lost.append(Lost(at, "a string that doesn't end in its line"))
 
 
 def _within(nodes: List[Any]) -> Iterator[Any]:
@@ -68,15 +100,59 @@ def _within(nodes: List[Any]) -> Iterator[Any]:
     while waiting:
         node = waiting.pop()
         yield node
-        # (the string of a url() is its own)
-        is_link = node.type == "function" and node.lower_name in ("url", "src")
-        for part in () if is_link else ("arguments", "content", "prelude"):
+        for part in ("arguments", "content"):
             waiting += reversed(getattr(node, part, None) or ())
 
 
-def _link(source: Source, value: str, at: int) -> Link:
-    """A link that is there, after spaces; with escapes its text is another."""
-    while at < len(source.text) and source.text[at] in " \t\n\r\f":
-        at += 1
-    text = value.strip(" \t\n\r\f")
-    return Link(text, at, source.text.startswith(text, at))
+def _string(source: Source, at: int) -> Link:
+    """The link of a string whose quote is there."""
+    return _link(source, at + 1, _RAW[source.text[at]], _STRING)
+
+
+def _link(source: Source, at: int, form: "re.Pattern[str]", syntax: Syntax) -> Link:
+    """A link that is written in this form there, after spaces."""
+    spaces = _SPACES.match(source.text, at)
+    at = spaces.end() if spaces else at
+    raw = form.match(source.text, at)
+    value, written = read(raw[0] if raw else "", at, _ESCAPE, _escaped, syntax)
+    return written.stripped(value)
+
+
+def _escaped(found: Match[str]) -> str:
+    """What an escape stands for."""
+    return point_of(int(found[1], 16)) if found[1] else found[2] or ""
+
+
+def _read(raw: str) -> Optional[str]:
+    """What is read in a string or a url()."""
+    return _ESCAPE.sub(_escaped, raw)
+
+
+def _read_url(raw: str) -> Optional[str]:
+    """What is read in a url() without quotes, if that isn't a bad one."""
+    return _read(raw) if _RAW[""].fullmatch(raw) else None
+
+
+def _write(text: str, raw: str) -> str:
+    """A text as a string has it, between quotes that aren't known."""
+    return as_before(text.replace("\\", "\\\\"), _ESCAPE.sub("", raw), "\"'\n", _escape)
+
+
+def _write_url(text: str, _: str) -> str:
+    """A text as a url() without quotes has it."""
+    return re.sub(r"[\\\"'()\s]", lambda found: _escape(found[0]), text)
+
+
+def _escape(point: str) -> str:
+    """What stands for a code point."""
+    return "\\" + point if point.isprintable() and point.isascii() and point != " " else "\\{:x} ".format(ord(point))
+
+
+_STRING = Syntax(_read, _write)
+"""That of a string, between its quotes."""
+
+_URL = Syntax(_read_url, _write_url)
+"""That of a url() without quotes."""
+
+_BAD_URL = Syntax(_read, _write_url)
+"""That of a url() without quotes that has a space or a quote, so that it isn't one."""

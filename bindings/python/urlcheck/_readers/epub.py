@@ -34,8 +34,8 @@ def documents_of(data: bytes) -> Iterator[Tuple[str, str, bytes]]:
                     raise NoBook("holds more than {} MiB".format(MOST_UNPACKED >> 20))
                 yield entry.filename, kind, held
     except (zipfile.BadZipFile, zipfile.LargeZipFile, EOFError, NotImplementedError, RuntimeError, OSError) as error:
-        raise NoBook("is no book that can be read: {}".format(error)) from None
+        raise NoBook("isn't a book that can be read: {}".format(error)) from None
     except ValueError as error:
         if isinstance(error, NoBook):
             raise
-        raise NoBook("is no book that can be read: {}".format(error)) from None
+        raise NoBook("isn't a book that can be read: {}".format(error)) from None

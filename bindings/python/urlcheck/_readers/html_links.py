@@ -1,17 +1,38 @@
-"""The links of an HTML document: each attribute that the HTML Standard gives a URL. Tags, comments and what is no
-markup are told apart as the Standard's tokenizer does it (section 13.2.5), everywhere as in HTML, also within SVG and
+"""The links of an HTML document: each attribute that the HTML Standard gives a URL. Tags, comments and plain
+text are told apart as the Standard's tokenizer does it (section 13.2.5), everywhere as in HTML, also within SVG and
 MathML."""
 
 import re
 from html.entities import html5
-from typing import Dict, FrozenSet, Iterator, List, Match, Optional, Set, Tuple
+from typing import Callable, Dict, FrozenSet, Iterator, List, Match, Optional, Set, Tuple
 
 from . import css_links
 from .attributes import CANDIDATES, LISTS, NON_EMPTY, URLS
 from .comments import comments_of
-from .source import SPACES, Asks, Comment, Link, NamedBase, Source, Written, base_of, moved, read, words_of
+from .slots import AS_IT_IS, Syntax, as_before
+from .source import (
+    SPACES,
+    Asks,
+    Comment,
+    Contents,
+    Link,
+    Lost,
+    NamedBase,
+    Source,
+    Written,
+    base_of,
+    moved,
+    point_of,
+    read,
+    words_of,
+)
 
-_TAKEN = {*URLS, *LISTS, *CANDIDATES, "style"}
+STYLES = frozenset(
+    "style fill stroke filter clip-path mask marker marker-start marker-mid marker-end cursor".split()
+)
+"""The attributes that have CSS: that of every element, and those of SVG whose value may be a ``url()``."""
+
+_TAKEN = {*URLS, *LISTS, *CANDIDATES, *STYLES}
 _KEPT = {*_TAKEN, "content", "http-equiv"}
 
 # An attribute of a tag: a name, and a value in quotes, in none, or with a quote that nothing closes.
@@ -59,11 +80,11 @@ _BREAK = re.compile("[(," + SPACES + "]")
 _LIKE_DESCRIPTOR = re.compile(r"[-+]?[0-9.]+(?:e[-+]?[0-9]+)?[a-z]{0,2}|[wxh][0-9.]*", re.IGNORECASE)
 
 
-def links_of(source: Source) -> Tuple[List[Link], List[Comment], Tuple[str, ...]]:
-    """The links of an HTML document, the comments about them, and what was passed over."""
+def links_of(source: Source) -> Contents:
+    """What is in an HTML document."""
     reader = _Reader(source)
     reader.read()
-    return reader.links, reader.comments, tuple(reader.notes)
+    return Contents(reader.links, reader.comments, None, tuple(reader.notes), tuple(reader.lost))
 
 
 class _Reader:
@@ -74,6 +95,7 @@ class _Reader:
         self.links: List[Link] = []
         self.comments: List[Comment] = []
         self.notes: Set[str] = set()
+        self.lost: List[Lost] = []
         self._source = source
         self._text = source.text
         self._base: Optional[NamedBase] = None
@@ -148,21 +170,18 @@ class _Reader:
 
     def _take_sheet(self, start: int, end: int) -> None:
         """Takes the links of a style sheet."""
-        if not css_links.NEEDED.search(self._text, start, end):
-            return
-        try:
-            links, _ = css_links.links_of(Source(self._text[start:end]))
-        except ImportError:
-            self.notes.add(css_links.MISSING)
-            return
-        self.links += [moved(it, self._source, lambda place: start + place)._replace(base=self._base) for it in links]
+        self._take_styles(styles_in(self._text[start:end], self._source, lambda place: start + place))
+
+    def _take_styles(self, styles: Contents) -> None:
+        """Takes what is in styles."""
+        self.links += [link._replace(base=self._base) for link in styles.links]
+        self.notes.update(styles.notes)
+        self.lost += styles.lost
 
     def _take(self, tag: str, name: str, value: str, written: Written) -> None:
         """Takes the links of an attribute's value."""
-        if name == "style":
-            links, note = links_of_style(value, written)
-            self.links += [link._replace(base=self._base) for link in links]
-            self.notes |= {note} if note else set()
+        if name in STYLES:
+            self._take_styles(styles_in(value, self._source, written.place, written.syntax, False))
         elif has(URLS, name, tag):
             link = written.stripped(value, None if tag == "base" else self._base)
             if has(NON_EMPTY, name, tag):
@@ -178,7 +197,7 @@ class _Reader:
 
 
 def _end_of_script(text: str, start: int) -> int:
-    """Where a script's text ends that begins there, by the states of the Standard's tokenizer in which it is
+    """Returns the end of the script's text that begins there, by the states of the Standard's tokenizer in which it is
     escaped."""
     is_escaped = is_inner = False
     found = _SCRIPT.search(text, start)
@@ -197,19 +216,19 @@ def _end_of_script(text: str, start: int) -> int:
     return len(text)
 
 
-def links_of_style(value: str, written: Written) -> Tuple[List[Link], Optional[str]]:
-    """The links of an attribute ``style``, and what is said if nothing here can read them."""
-    if not css_links.NEEDED.search(value):
-        return [], None
+def styles_in(
+    text: str, source: Source, place_of: Callable[[int], int], outer: Syntax = AS_IT_IS, is_sheet: bool = True
+) -> Contents:
+    """What is in a style sheet, or in an attribute with styles, that is a part of a source and is written there in a
+    syntax."""
+    if not css_links.NEEDED.search(text):
+        return Contents([])
     try:
-        links = css_links.links_of_declarations(Source(value))
+        found = css_links.links_of(Source(text), is_sheet)
     except ImportError:
-        return [], css_links.MISSING
-    found = []
-    for link in links:
-        placed = written.link(link.text, link.offset)
-        found.append(placed if link.is_verbatim else placed._replace(is_verbatim=False, pieces=()))
-    return found, None
+        return Contents([], notes=(css_links.MISSING,))
+    lost = tuple(it._replace(offset=place_of(it.offset)) for it in found.lost)
+    return Contents([moved(it, source, place_of, outer) for it in found.links], lost=lost)
 
 
 def has(table: Dict[str, FrozenSet[str]], name: str, tag: str) -> bool:
@@ -246,7 +265,21 @@ def _value(found: Match[str]) -> Tuple[str, Written]:
 def unescaped(raw: str, offset: int) -> Tuple[str, Written]:
     """An attribute's value that is there, with its character references read as the HTML Standard reads them in
     attributes: a name that no ``;`` ends stays where ``=``, a letter or a digit follows, as in ``?a=1&lt=2``."""
-    return read(raw, offset, _REFERENCE, _referred) if "&" in raw else (raw, Written(offset, True))
+    if "&" not in raw:
+        return raw, Written(offset, True, (), ATTRIBUTE)
+    return read(raw, offset, _REFERENCE, _referred, ATTRIBUTE)
+
+
+def _in_attribute(text: str, raw: str) -> str:
+    """A text as an attribute has it in place of what was there: with references where that had some, or where it would
+    be read as one."""
+    if any(unescaped(it, 0)[0] != it for it in (raw, text)):
+        text = text.replace("&", "&amp;")
+    return as_before(text, raw, "\"'", lambda point: "&#{};".format(ord(point)))
+
+
+ATTRIBUTE = Syntax(lambda raw: unescaped(raw, 0)[0], _in_attribute)
+"""That of an attribute's value."""
 
 
 def _referred(found: Match[str]) -> str:
@@ -262,13 +295,11 @@ def _referred(found: Match[str]) -> str:
 
 
 def _numbered(number: int) -> str:
-    """The code point of a number: those of C1 are read as windows-1252, and anything that isn't a code point as
+    """The code point of a number: a number of C1 is read as windows-1252, and anything that isn't a code point as
     U+FFFD."""
     if 0x80 <= number < 0xA0:
         return bytes([number]).decode("cp1252", "ignore") or chr(number)
-    if number == 0 or number > 0x10FFFF or 0xD800 <= number < 0xE000:
-        return "\ufffd"
-    return chr(number)
+    return point_of(number)
 
 
 def candidates(value: str) -> Iterator[Tuple[str, int]]:
@@ -293,8 +324,8 @@ def candidates(value: str) -> Iterator[Tuple[str, int]]:
 
 
 def _ends(value: str, at: int) -> Tuple[int, int]:
-    """Where the descriptors end that follow a URL, which ends there, and where the link ends if words of them belong to
-    it."""
+    """Returns two ends: of the descriptors after the URL that ends at ``at``, and of the link if some of those words
+    belong to it."""
     end = start = at
     is_link = True
     while True:

@@ -9,7 +9,8 @@ from typing import Any, Callable, Dict, Iterator, List, Match, Optional, Tuple
 
 from . import html_links, markdown_links
 from .comments import covered
-from .source import Asks, Broken, Comment, Link, Source, Written, moved, read
+from .slots import Syntax
+from .source import Asks, Broken, Comment, Contents, Link, Lost, Source, Written, moved, read, text_of
 
 _ESCAPE = re.compile(r"\\u[dD][89abAB][0-9a-fA-F]{2}\\u[dD][c-fC-F][0-9a-fA-F]{2}|\\u[0-9a-fA-F]{4}|\\.")
 """What stands for a code point in a string of JSON."""
@@ -48,10 +49,10 @@ def _parsed(source: Source) -> Any:
     """The document's value, with each string as a ``Text``. Raises ``Broken``, and ``RecursionError`` if it is nested
     too deeply."""
 
-    # (the decoder of C knows no places, so that of Python reads, with a function for strings that notes them)
+    # (the decoder in C knows no places, so the decoder in Python reads, with a function for strings that notes them)
     def string(text: str, begin: int, strict: bool = True) -> Tuple[Text, int]:
         value, end = _decoding.py_scanstring(text, begin, strict)
-        found = Text(value)
+        found = Text(text_of(value))
         found.at = begin
         return found, end
 
@@ -69,12 +70,25 @@ def _written(source: Source, text: Text) -> Written:
     end = text.at
     while source.text[end : end + 1] not in ('"', ""):
         end += 2 if source.text[end] == "\\" else 1
-    return read(source.text[text.at : end], text.at, _ESCAPE, _escaped)[1]
+    return read(source.text[text.at : end], text.at, _ESCAPE, _escaped, _STRING)[1]
+
+
+def _read_string(raw: str) -> Optional[str]:
+    """What is read in a string between its quotes, if it is one. (A surrogate couldn't be written again.)"""
+    try:
+        text = str(json.loads('"{}"'.format(raw)))
+    except ValueError:
+        return None
+    return text if text_of(text) == text else None
+
+
+_STRING = Syntax(_read_string, lambda text, raw: json.dumps(text, ensure_ascii=raw.isascii())[1:-1])
+"""That of a string, between its quotes."""
 
 
 def _escaped(found: Match[str]) -> str:
     """What an escape stands for."""
-    return str(json.loads('"{}"'.format(found[0])))
+    return text_of(str(json.loads('"{}"'.format(found[0]))))
 
 
 def _place_in(source: Source, texts: List[Text]) -> Callable[[int], int]:
@@ -90,56 +104,59 @@ def _place_in(source: Source, texts: List[Text]) -> Callable[[int], int]:
         number = max(0, bisect.bisect_right(begins, at) - 1)
         if number not in known:
             known[number] = _written(source, texts[number])
-        return known[number].link("", at - begins[number]).offset
+        return known[number].place(at - begins[number])
 
     return place_of
 
 
-def links_of_notebook(source: Source, is_gfm: bool) -> Tuple[List[Link], List[Comment], Optional[Broken]]:
-    """The links of a notebook's cells of Markdown, each with the number of its cell, from 1, and its line there, and
-    with the comments about it; and these comments."""
+def links_of_notebook(source: Source, is_gfm: bool) -> Contents:
+    """What is in a notebook's cells of Markdown: links, each with the number of its cell, from 1, and its line there,
+    and with the comments about it; and these comments."""
     try:
         notebook = _parsed(source)
     except Broken as broken:
-        return [], [], broken
+        return Contents([], (), broken)
     if not isinstance(notebook, dict) or not isinstance(notebook.get("cells"), list):
-        raise NoJson("is no notebook that can be read: it has no cells")
+        raise NoJson("isn't a notebook that can be read: it has no cells")
     links: List[Link] = []
     comments: List[Comment] = []
+    lost: List[Lost] = []
     for number, cell in enumerate(notebook["cells"], 1):
         if isinstance(cell, dict) and cell.get("cell_type") == "markdown":
-            of_cell, about_them = _of_cell(source, number, cell.get("source"), is_gfm)
-            links += of_cell
-            comments += about_them
-    return links, comments, None
+            found = _of_cell(source, number, cell.get("source"), is_gfm)
+            links += found.links
+            comments += found.comments
+            lost += found.lost
+    return Contents(links, comments, lost=tuple(lost))
 
 
-def _of_cell(source: Source, number: int, given: Any, is_gfm: bool) -> Tuple[List[Link], List[Comment]]:
-    """The links of a cell, which is a string or a list of them, and the comments about them."""
+def _of_cell(source: Source, number: int, given: Any, is_gfm: bool) -> Contents:
+    """What is in a cell, which is a string or a list of them."""
     texts = [it for it in (given if isinstance(given, list) else [given]) if isinstance(it, Text)]
-    cell = Source("".join(texts).encode("utf-8", "replace").decode("utf-8"))
+    cell = Source("".join(texts))
     if not cell.text:
-        return [], []
+        return Contents([])
     place_of = _place_in(source, texts)
-    read_links, read_comments, _, _ = markdown_links.links_of(cell, is_gfm)
-    placed = {it: it._replace(offset=place_of(it.offset)) for it in read_comments}
+    found = markdown_links.links_of(cell, is_gfm)
+    placed = {it: it._replace(offset=place_of(it.offset)) for it in found.comments}
     links = []
-    for link in covered(cell, read_links, read_comments):
+    for link in covered(cell, found.links, found.comments):
         where = "cell {}, line {}".format(number, cell.position(link.offset)[0])
         about = tuple(placed[it] for it in link.comments)
-        links.append(moved(link, source, place_of)._replace(within=where, comments=about))
-    return links, list(placed.values())
+        links.append(moved(link, source, place_of, _STRING)._replace(within=where, comments=about))
+    lost = tuple(it._replace(offset=place_of(it.offset)) for it in found.lost)
+    return Contents(links, list(placed.values()), lost=lost)
 
 
-def links_of_feed(source: Source) -> Tuple[List[Link], List[Comment], Optional[Broken]]:
-    """The links of a JSON Feed (1.0 and 1.1), and those of the HTML that it holds."""
+def links_of_feed(source: Source) -> Contents:
+    """What is in a JSON Feed (1.0 and 1.1) and in the HTML that it holds."""
     try:
         feed = _parsed(source)
     except Broken as broken:
-        return [], [], broken
+        return Contents([], (), broken)
     if not isinstance(feed, dict) or not ("items" in feed or "version" in feed):
-        raise NoJson("is no JSON Feed: it has no items and no version")
-    return sorted(_of_feed(source, feed), key=lambda link: link.offset), [], None
+        raise NoJson("isn't a JSON Feed: it has no items and no version")
+    return Contents(sorted(_of_feed(source, feed), key=lambda link: link.offset))
 
 
 def _of_feed(source: Source, feed: Dict[str, Any]) -> Iterator[Link]:
@@ -161,5 +178,5 @@ def _of_feed(source: Source, feed: Dict[str, Any]) -> Iterator[Link]:
                 yield _written(source, member).stripped(member)._replace(asks=_URLS[name])
             elif name == "content_html" and isinstance(member, Text):
                 place_of = _place_in(source, [member])
-                for link in html_links.links_of(Source(member))[0]:
-                    yield moved(link, source, place_of)
+                for link in html_links.links_of(Source(member)).links:
+                    yield moved(link, source, place_of, _STRING)

@@ -10,7 +10,8 @@ KINDS: Dict[str, Tuple[str, ...]] = {
         *("xhtml", "xht", "xml", "rss", "atom", "rdf", "svg", "opml", "opf", "ncx"),
         *("dita", "ditamap", "docbook", "dbk", "pom"),
     ),
-    "markdown": ("md", "markdown", "mkd", "mkdn", "mdown", "mdwn", "mdx", "qmd", "rmd"),
+    "markdown": ("md", "markdown", "mkd", "mkdn", "mdown", "mdwn", "qmd", "rmd"),
+    "mdx": ("mdx",),
     "rst": ("rst", "rest"),
     "notebook": ("ipynb",),
     "epub": ("epub",),
@@ -55,6 +56,7 @@ class Package(NamedTuple):
 
 PACKAGES: Dict[str, Package] = {
     "markdown": Package("Markdown", "markdown_it", "markdown-it-py", "python3-markdown-it"),
+    "mdx": Package("MDX", "markdown_it", "markdown-it-py", "python3-markdown-it"),
     "notebook": Package("a notebook", "markdown_it", "markdown-it-py", "python3-markdown-it"),
     "rst": Package("reStructuredText", "docutils", "docutils", "python3-docutils"),
     "css": Package("CSS", "tinycss2", "tinycss2", "python3-tinycss2"),

@@ -3,6 +3,7 @@
 import re
 from typing import Callable, Dict, Iterator, List, Optional, Set, Tuple
 
+from .slots import Syntax
 from .source import Link, Source, moved
 
 MOST_WRITTEN = 2_000
@@ -34,10 +35,9 @@ class Literals:
         self._sources[path] = source
 
     def find(self, path: str, line: int, text: str, markup: str = "") -> Optional[Tuple[Link, bool]]:
-        """A link of this text where it is in a source: at the first place from that line on that wasn't given yet,
-        otherwise at one before it, otherwise at one that was given; and whether it is a new one. If its reader says in
-        which markup it is written, it is searched for only within that, and then with the spaces that its author wrote
-        within a line."""
+        """Finds this text in the source: the first unused occurrence from the line on, then an earlier unused one, then
+        a used one. Also says whether the occurrence was unused. If its reader says in which markup it is written, it
+        is searched for only within that, and then with the spaces that its author wrote within a line."""
         source = self.source(path)
         if source is None or not text:
             return None
@@ -52,8 +52,8 @@ class Literals:
         return None if given is None else (given, False)
 
     def block(self, path: str, line: int, text: str) -> Optional[Callable[[int], int]]:
-        """What gives the place in a source of a place in these lines, which may be indented there. They are found as a
-        link is, each occurrence once."""
+        """Returns a function from a place in these lines to its place in the source, where they may be indented. Each
+        occurrence is used once, as for a link."""
         source = self.source(path)
         if source is None or not text.strip():
             return None
@@ -79,7 +79,7 @@ Span = Tuple[int, int]
 
 
 def _start(source: Source, line: int) -> int:
-    """Where a line begins, or the first or the last one if there is no such line."""
+    """Returns the beginning of a line, or of the first or last one if there is no such line."""
     return source.offset(min(max(line, 1), source.position(len(source.text))[0]), 0)
 
 
@@ -90,7 +90,7 @@ def _around(text: str, start: int, ways: Callable[[int, int], Iterator[Span]]) -
 
 
 def _spans(text: str, start: int, link: str, markup: str) -> Iterator[Tuple[Span, bool]]:
-    """Where a link is written: within its markup, if that is there, otherwise anywhere; and whether it is within it."""
+    """Finds a link within its markup, if that is there, otherwise anywhere; also says whether it is within the markup."""
     is_there = False
     if markup not in ("", link):
         for begin, end in _around(text, start, lambda *it: _markups(text, markup, *it)):
@@ -106,7 +106,7 @@ def _spans(text: str, start: int, link: str, markup: str) -> Iterator[Tuple[Span
 
 
 def _markups(text: str, markup: str, begin: int, end: int) -> Iterator[Span]:
-    """Where lines of markup are, which may be indented otherwise."""
+    """Finds lines of markup, which may have another indentation."""
     lines = [it.strip() for it in markup.strip().split("\n")]
     # (a tab within a line is read as spaces)
     first = re.compile("[ \t]+".join(map(re.escape, lines[0].split())) if "\t" in text else re.escape(lines[0]))
@@ -123,7 +123,7 @@ _BREAK = re.compile("[ \t]*\r?\n[ \t]*")
 
 
 def _end_of(text: str, at: int, lines: List[str]) -> Optional[int]:
-    """Where lines end that follow there, if they do."""
+    """Returns the end of these lines, if they follow there."""
     for line in lines:
         found = _BREAK.match(text, at)
         if found is None or not text.startswith(line, found.end()):
@@ -133,7 +133,7 @@ def _end_of(text: str, at: int, lines: List[str]) -> Optional[int]:
 
 
 def _within(text: str, link: str, begin: int, end: int) -> Optional[Span]:
-    """Where a link is within its markup: in the angle brackets at its end, or at its end."""
+    """Finds a link within its markup: in the angle brackets at its end, or at its end."""
     end = begin + len(text[begin:end].rstrip())
     if text[max(end - 4, begin) : end].rstrip("_").endswith(">`"):
         begin = text.rfind("<", begin, end) + 1
@@ -146,7 +146,7 @@ def _within(text: str, link: str, begin: int, end: int) -> Optional[Span]:
 
 
 def _places(source: Source, text: str, begin: int) -> Callable[[int], int]:
-    """What gives the place in a source of a place in lines that begin there."""
+    """Returns a function from a place in lines that begin there to its place in the source."""
     lines = Source(text)
     first = lines.position(len(text) - len(text.lstrip()))[0]
     line = source.position(begin)[0] - first
@@ -168,7 +168,7 @@ def _link(source: Source, text: str, begin: int, end: int, is_marked: bool) -> L
     if is_marked and written != text:
         text = re.sub(r"\\(.)", r"\1", _BREAK.sub("", written))
     if written == text:
-        return Link(text, begin, True)
+        return Link(text, begin, True, syntax=_SYNTAX)
     pieces: List[Tuple[int, int]] = []
     place = begin
     for number, point in enumerate(text):
@@ -178,11 +178,19 @@ def _link(source: Source, text: str, begin: int, end: int, is_marked: bool) -> L
         if found != place or not pieces:
             pieces.append((number, found))
         place = found + 1
-    return Link(text, begin, False, None, tuple(pieces))
+    return Link(text, begin, False, None, (*pieces, (len(text), end)), syntax=_SYNTAX)
+
+
+_SPACE = re.compile(r"\\(.)|\s", re.DOTALL)
+"""What docutils takes away in a link: spaces, and a backslash before what then stays."""
+
+_SYNTAX = Syntax(lambda raw: _SPACE.sub(lambda found: found[1] or "", raw), lambda text, _: text)
+"""That of a link as docutils reads it. (A space that it takes away is its author's, who didn't mean the link without
+it, so that none is written there.)"""
 
 
 def _plain(text: str, link: str, begin: int, end: int) -> Iterator[Span]:
-    """Where a link is as it is, and isn't a part of a longer one and no literal."""
+    """Finds a link as it is, which is neither part of a longer one nor a literal."""
     at = text.find(link, begin, end)
     while at >= 0:
         after = at + len(link)
@@ -199,8 +207,16 @@ def _goes_on(point: str) -> bool:
 
 
 def _written(text: str, link: str, begin: int, end: int) -> Iterator[Span]:
-    """Where a link is written with backslashes, or with spaces and line's ends that its reader takes away."""
+    """Finds a link that is written with backslashes, or with spaces and line breaks that its reader removes."""
     if len(link) <= MOST_WRITTEN:
-        inner = r"(?:\s+|\\(?!\\))?".join(map(re.escape, link))
-        for found in re.compile(inner).finditer(text, begin, end):
+        # (nothing optional is next to spaces, which could be shared out in many ways)
+        parts = [_BETWEEN.join(map(re.escape, it)) for it in link.split()]
+        for found in re.compile(_SPACES.join(parts)).finditer(text, begin, end):
             yield found.span()
+
+
+_BETWEEN = r"(?:\s+|\\(?!\\))?"
+"""What may be between two code points of a link."""
+
+_SPACES = r"\\?\s+(?:\\\s+)*"
+"""What stands for spaces of a link."""

@@ -1,4 +1,4 @@
-"""The links of a Markdown document (CommonMark), by the package ``markdown-it-py``, and those of the HTML within it.
+"""The links of a Markdown document (CommonMark), with the package ``markdown-it-py``, and the links of the HTML within it.
 
 That of GitHub has bare addresses too, which are found as its specification says it (GFM 0.29, section 6.9).
 """
@@ -7,17 +7,20 @@ import re
 from types import SimpleNamespace
 from typing import Any, Callable, Dict, List, Optional, Set, Tuple
 
-from . import bare_links, html_links
+from . import bare_links, html_links, mdx, spaced_links
+from .comments import comments_of
+from .destinations import BRACKETED, DESTINATION, ESCAPE, spaced_link, unescaped
 from .front_matter import front_matter_of
-from .source import Broken, Comment, Link, Source
+from .source import Comment, Contents, Link, Lost, Source, read
 
 
 class _Destination(str):
-    """A link's destination, with the text that it was read from, where it began there, and whether it is verbatim."""
+    """A link's destination, with the text that it was read from, where it began there, and how it is written there."""
 
     content: Optional[str] = None
     at = 0
-    is_verbatim = False
+    raw = ""
+    is_bracketed = False
 
 
 class Inlines:
@@ -30,12 +33,16 @@ class Inlines:
         self._references: Set[str] = set()
         self.covered: Dict[str, List[Tuple[int, int]]] = {}
         """The parts of a block's content that aren't plain text, by where they begin and end."""
+        self.labels: Dict[str, List[int]] = {}
+        """Where labels end in a block's content behind which there is a destination with a space."""
+        self._spaced: Tuple[str, Dict[int, spaced_links.Spaced]] = ("", {})
 
     def begin(self, references: Set[str]) -> None:
         """Begins a reading; what the last one didn't have is forgotten."""
         is_same = references == self._references
         self._kept, self._used = (self._used if is_same else {}), {}
         self.covered = {it: self.covered[it] for it in self._kept if it in self.covered}
+        self.labels = {it: self.labels[it] for it in self._kept if it in self.labels}
         self._references = references
 
     def read(self, content: str, read: Callable[[str], List[Any]]) -> List[Any]:
@@ -43,31 +50,46 @@ class Inlines:
         found = self._used.get(content) or self._kept.get(content)
         if found is None:
             self.covered.pop(content, None)
+            self.labels.pop(content, None)
             found = read(content)
         self._used[content] = found
         return found
 
+    def spaced(self, content: str) -> Dict[int, spaced_links.Spaced]:
+        """The destinations with a space behind what may be a label of a block's content."""
+        if self._spaced[0] is not content:
+            self._spaced = content, spaced_links.destinations_in(content)
+        return self._spaced[1]
+
 
 def links_of(
-    source: Source, is_gfm: bool = False, inlines: Optional[Inlines] = None
-) -> Tuple[List[Link], List[Comment], Optional[Broken], Tuple[str, ...]]:
-    """The links of a Markdown document, the comments about them, why its reader stopped, which it doesn't, and what was
-    passed over.
+    source: Source, is_gfm: bool = False, inlines: Optional[Inlines] = None, is_mdx: bool = False
+) -> Contents:
+    """What is in a Markdown document, or in one of MDX.
 
     Its front matter isn't a text. What blocks were read as is kept in ``inlines``, for one choice of ``is_gfm``. Raises
     ``ImportError`` where ``markdown-it-py`` isn't installed.
     """
     front = front_matter_of(source.text)
-    reader = _Reader(source, is_gfm, inlines or Inlines())
+    text = _without(source.text, front[0]) if front else source.text
+    code = mdx.masked(text, front[0] if front else 0) if is_mdx else None
+    reader = _Reader(source, is_gfm, inlines or Inlines(), code)
     environment: Dict[str, Any] = {}
-    tokens = reader.markdown.parse(_without(source.text, front[0]) if front else source.text, environment)
+    tokens = reader.markdown.parse(code.text if code else text, environment)
     reader.inlines.begin(set(environment.get("references", {})))
     for token in tokens:
         reader.take(token, environment)
     reader.take_references(environment)
-    reader.links += front[1] if front else []
+    if code:
+        reader.links += html_links.links_of(Source(code.tags)).links
+        reader.links = [it for it in reader.links if mdx.FILLER not in it.text]
+        reader.comments += code.comments
+        reader.lost += code.lost
+    if front:
+        reader.links += front[1].links
+        reader.lost += front[1].lost
     reader.links.sort(key=lambda link: link.offset)
-    return reader.links, reader.comments, None, tuple(reader.notes)
+    return Contents(reader.links, reader.comments, None, tuple(reader.notes), tuple(reader.lost))
 
 
 def _without(text: str, end: int) -> str:
@@ -78,13 +100,17 @@ def _without(text: str, end: int) -> str:
 class _Reader:
     """Collects the links of the tokens."""
 
-    def __init__(self, source: Source, is_gfm: bool, inlines: Inlines) -> None:
+    def __init__(self, source: Source, is_gfm: bool, inlines: Inlines, code: Optional[mdx.Masked] = None) -> None:
         from markdown_it import MarkdownIt, helpers, rules_block, rules_inline
 
         self.markdown: Any = MarkdownIt("commonmark")
         self.markdown.block.ruler.at("reference", _near(rules_block.reference))
         # (the inside of a block is read here, once for all blocks that are the same)
         self.markdown.core.ruler.disable(["inline"])
+        # (no link depends on what these rules find, which takes time by the square of a block's length)
+        self.markdown.disable(["emphasis", "balance_pairs", "entity"])
+        if code is not None:
+            self.markdown.disable(["code", "html_block", "html_inline", "autolink"])
         self.inlines = inlines
         self._is_gfm = is_gfm
         for name, rule in (
@@ -95,6 +121,8 @@ class _Reader:
             ("image", rules_inline.image),
         ):
             self.markdown.inline.ruler.at(name, _covering(rule, inlines) if is_gfm else rule)
+        self.markdown.inline.ruler.before("link", "label", _noting(helpers.parseLinkLabel, inlines))
+        self.markdown.inline.ruler.before("escape", "long text", _ends_long_text)
         self.markdown.helpers = SimpleNamespace(
             parseLinkLabel=helpers.parseLinkLabel,
             parseLinkTitle=helpers.parseLinkTitle,
@@ -108,9 +136,10 @@ class _Reader:
         self.links: List[Link] = []
         self.comments: List[Comment] = []
         self.notes: Set[str] = set()
+        self.lost: List[Lost] = []
         self._source = source
         # The same as the package reads it, place by place: there a carriage return ends a line too.
-        text = re.sub("\r(?!\n)", "\n", source.text).replace("\0", "\ufffd")
+        text = re.sub("\r(?!\n)", "\n", code.text if code else source.text).replace("\0", "\ufffd")
         self._seen = source if text == source.text else Source(text)
         # What was looked at last: a block's content, and one of its lines with how far it is shifted.
         self._block: Tuple[str, Source] = ("", Source(""))
@@ -134,8 +163,8 @@ class _Reader:
             raw = text[at : result.pos]
             is_bracketed = raw.startswith("<") and raw.endswith(">")
             placed.content = text
-            placed.at = at + is_bracketed
-            placed.is_verbatim = (raw[1:-1] if is_bracketed else raw) == url
+            placed.at, placed.is_bracketed = at + is_bracketed, is_bracketed
+            placed.raw = raw[1:-1] if is_bracketed else raw
         self._last = ("", 0, None)
         return placed
 
@@ -154,8 +183,7 @@ class _Reader:
 
     def _take_inline(self, block: Any, children: List[Any]) -> None:
         """Takes the links of a block's text."""
-        if self._is_gfm:
-            self._take_bare(block.map[0], block.content)
+        self._take_spaced(block.map[0], block.content)
         for token in children:
             if token.type == "html_inline":
                 self._take_html(block.map[0], block.content, token.content, token.meta[_AT])
@@ -166,10 +194,17 @@ class _Reader:
                 elif url.content == block.content:
                     self._take_destination(block.map[0], url)
 
-    def _take_bare(self, line: int, content: str) -> None:
-        """Takes the addresses that are in a block's text without more, and what isn't a link for a space in it."""
-        covered = self.inlines.covered.get(content, [])
-        for link in bare_links.links_of(content, covered):
+    def _take_spaced(self, line: int, content: str) -> None:
+        """Takes what looks like a link in a block's text and has a space, and of GitHub's Markdown the addresses that
+        are there without more."""
+        labels = self.inlines.labels.get(content, [])
+        spaced = [self.inlines.spaced(content)[it] for it in sorted(set(labels))]
+        spaced += spaced_links.definitions_in(content)
+        links = [spaced_link(it) for it in spaced]
+        if self._is_gfm:
+            covered = [(it.begin, it.begin + len(it.text)) for it in spaced]
+            links += bare_links.links_of(content, self.inlines.covered.get(content, []) + covered)
+        for link in links:
             start = self._offset(line, content, link.offset)
             if start is not None:
                 is_verbatim = link.is_verbatim and self._source.text.startswith(link.text, start)
@@ -186,26 +221,36 @@ class _Reader:
         """Takes the links of the definitions ``[name]: link``."""
         definitions = list(environment.get("references", {}).values()) + environment.get("duplicate_refs", [])
         for definition in definitions:
-            self._take_destination(definition["map"][0], definition["href"])
+            line, title = definition["map"][0], definition["title"]
+            # (a definition that leads nowhere is how Markdown has comments: `[//]: # (text)`)
+            start = self._seen.offset(line + 1, 0)
+            comments = comments_of(title, self._source.text.find(title, start)) if definition["href"] == "#" else ()
+            self.comments += comments
+            if not comments:
+                self._take_destination(line, definition["href"])
 
     def _take_destination(self, line: int, url: _Destination) -> None:
-        """Takes a link whose destination is in a block, at its place there, or else at its block's line."""
+        """Takes a link whose destination is in a block, at its place there; otherwise at its block's line."""
         if url.content is None:
             return
         start = self._offset(line, url.content, url.at)
         if start is None:
             self.links.append(Link(str(url), self._seen.offset(line + 1, 0), False))
-        else:
-            is_verbatim = url.is_verbatim and self._source.text.startswith(url, start)
-            self.links.append(Link(str(url), start, is_verbatim))
+            return
+        value, written = read(url.raw, start, ESCAPE, unescaped, BRACKETED if url.is_bracketed else DESTINATION)
+        is_there = value == url and self._source.text.startswith(url.raw, start)
+        self.links.append(written.link(value) if is_there else Link(str(url), start, False))
 
     def _take_html(self, line: int, content: str, html: str, at: int) -> None:
         """Takes the links of HTML that is at a place of a block's content. It is read without what nests the block,
         which may be within a tag of several lines."""
-        links, comments, notes = html_links.links_of(Source(html))
-        self.notes |= set(notes)
-        self.links += [self._moved(link, line, content, at) for link in links]
-        for comment in comments:
+        found = html_links.links_of(Source(html))
+        self.notes.update(found.notes)
+        self.links += [self._moved(link, line, content, at) for link in found.links]
+        for lost in found.lost:
+            start = self._offset(line, content, at + lost.offset)
+            self.lost.append(lost._replace(offset=self._seen.offset(line + 1, 0) if start is None else start))
+        for comment in found.comments:
             start = self._offset(line, content, at + comment.offset)
             if start is not None:
                 self.comments.append(comment._replace(offset=start))
@@ -239,6 +284,18 @@ class _Reader:
         within, written = content.strip(), self._seen.line(line + number).rstrip()
         start = len(written) - len(within) if written.endswith(within) else written.find(within)
         return None if start < 0 else start - (len(content) - len(content.lstrip()))
+
+
+_LONG_TEXT = 8192
+"""From how many code points on a text goes on in another token."""
+
+
+def _ends_long_text(state: Any, silent: bool) -> bool:
+    """A rule that takes nothing, and makes a token of the text so far where it is long: the package copies all of it
+    for each piece that it adds to it, and so takes time by the square of its length."""
+    if not silent and len(state.pending) > _LONG_TEXT:
+        state.pushPending()
+    return False
 
 
 _AHEAD = 4
@@ -284,6 +341,26 @@ def _placing(rule: Callable[[Any, bool], bool]) -> Callable[[Any, bool], bool]:
         return is_found
 
     return placing
+
+
+_WORD = re.compile("[A-Za-z0-9_]")
+"""What is before ``[`` where something is taken out of a list, as in ``handlers[i](event, data)``."""
+
+
+def _noting(label_end: Callable[[Any, int], int], inlines: Inlines) -> Callable[[Any, bool], bool]:
+    """A rule that takes nothing, and notes where labels end behind which there is a destination with a space."""
+
+    def noting(state: Any, silent: bool) -> bool:
+        at = state.pos
+        if silent or state.src[at] != "[" or not inlines.spaced(state.src):
+            return False
+        if not _WORD.match(state.src[at - 1 : at]):
+            end = label_end(state, at)
+            if end in inlines.spaced(state.src):
+                inlines.labels.setdefault(state.src, []).append(end)
+        return False
+
+    return noting
 
 
 def _covering(rule: Callable[[Any, bool], bool], inlines: Inlines) -> Callable[[Any, bool], bool]:

@@ -4,12 +4,12 @@ import contextlib
 import gc
 import os
 import re
-from typing import Iterator, List, NamedTuple, Optional, Sequence, Tuple, Union
+from typing import Callable, Dict, Iterator, List, NamedTuple, Optional, Sequence, Tuple, Union
 
 from . import css_links, epub, html_links, json_links, markdown_links, rst_links, xml_links
 from .comments import covered
 from .kinds import PACKAGES
-from .source import Broken, Comment, Foreign, Link, Source, decoded, encoding_of, without_mark
+from .source import Broken, Comment, Contents, Foreign, Link, Lost, Source, decoded, encoding_of, without_mark
 
 MOST_BYTES = 32 * 1024 * 1024
 """How many bytes a document may have."""
@@ -32,8 +32,12 @@ class Reading(NamedTuple):
 
     gfm: bool = False
     """Whether Markdown is read as GitHub reads it, where a bare address is a link."""
-    inlines: Optional[markdown_links.Inlines] = None
-    """What blocks of Markdown were read as before, for a text that is read again and again."""
+    markdown: Optional[Callable[[Source], Contents]] = None
+    """What reads Markdown, if that is more than its reader: as one that knows how a text was read before."""
+    rst: Callable[[Source], Contents] = rst_links.links_of
+    """What reads reStructuredText."""
+    most: int = MOST_BYTES
+    """How many bytes a document may have."""
 
 
 class Found(NamedTuple):
@@ -49,6 +53,8 @@ class Found(NamedTuple):
     """What the reader passed over."""
     inner: str = ""
     """The name of the document within the one that holds it, after a ``/``."""
+    lost: Tuple[Lost, ...] = ()
+    """The parts of it that couldn't be read."""
 
 
 def found_in(given: Union[bytes, str], kind: str, reading: Reading = Reading()) -> Iterator[Found]:
@@ -56,8 +62,8 @@ def found_in(given: Union[bytes, str], kind: str, reading: Reading = Reading()) 
     each of them. Raises ``Unread`` where it can't be read at all, and ``Foreign`` where its bytes aren't UTF-8. A byte
     order mark at its start isn't a part of its first line; a surrogate of a text is read as ``?``."""
     data = given if isinstance(given, bytes) else given.encode("utf-8", "replace")
-    if len(data) > MOST_BYTES:
-        raise Unread("has more than {} MiB".format(MOST_BYTES >> 20))
+    if len(data) > reading.most:
+        raise Unread("has more than {} MiB".format(reading.most >> 20))
     if data.startswith(_GZIP):
         raise Unread("is compressed: gzip -dc unpacks it, and - reads what that writes")
     try:
@@ -79,6 +85,7 @@ def found_in(given: Union[bytes, str], kind: str, reading: Reading = Reading()) 
 
 _SMALL = {
     "markdown": b"[a](b)\n",
+    "mdx": b"[a](b)\n",
     "notebook": b'{"cells": []}',
     "rst": b"`a <http://h/>`_\n",
     "css": b"a { b: url(c) }",
@@ -103,26 +110,34 @@ def _found(data: bytes, kind: str, reading: Reading) -> Found:
         source = decoded(data)
     except Foreign as foreign:
         raise Foreign(foreign.before, encoding_of(data)) from None
-    if kind == "notebook":
-        return Found(source, *json_links.links_of_notebook(source, reading.gfm))
     found = _read(source, data, kind, reading)
-    return found._replace(links=covered(source, found.links, found.comments))
+    # (each cell of a notebook has its own comments)
+    links = found.links if kind == "notebook" else covered(source, found.links, found.comments)
+    return Found(source, links, found.comments, found.broken, found.notes, lost=found.lost)
 
 
-def _read(source: Source, data: bytes, kind: str, reading: Reading) -> Found:
-    """What is found in a document that is one text. Raises ``ImportError`` if its reader isn't installed."""
+def _read(source: Source, data: bytes, kind: str, reading: Reading) -> Contents:
+    """What is in a document that is one text. Raises ``ImportError`` if its reader isn't installed."""
     if kind == "xml":
-        return Found(source, *xml_links.links_of(source, without_mark(data)))
-    if kind in ("html", "rst"):
-        links, comments, notes = (html_links if kind == "html" else rst_links).links_of(source)
-        return Found(source, links, comments, None, notes)
-    if kind == "css":
-        return Found(source, *css_links.links_of(source))
-    if kind == "json-feed":
-        return Found(source, *json_links.links_of_feed(source))
+        return xml_links.links_of(source, without_mark(data))
+    if kind == "notebook":
+        return json_links.links_of_notebook(source, reading.gfm)
     if kind == LIST:
-        return Found(source, [Link(it.group(), it.start(), True) for it in _LINE.finditer(source.text)], ())
-    return Found(source, *markdown_links.links_of(source, reading.gfm, reading.inlines))
+        return Contents([Link(it.group(), it.start(), True) for it in _LINE.finditer(source.text)])
+    if kind in ("markdown", "mdx"):
+        is_mdx = kind == "mdx"
+        return reading.markdown(source) if reading.markdown else markdown_links.links_of(source, reading.gfm, None, is_mdx)
+    if kind == "rst":
+        return reading.rst(source)
+    return _ALONE[kind](source)
+
+
+_ALONE: Dict[str, Callable[[Source], Contents]] = {
+    "html": html_links.links_of,
+    "css": css_links.links_of,
+    "json-feed": json_links.links_of_feed,
+}
+"""What reads the kinds of which nothing but the text is asked."""
 
 
 def _found_in_archive(data: bytes, reading: Reading) -> Iterator[Found]:

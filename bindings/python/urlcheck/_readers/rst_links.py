@@ -1,5 +1,5 @@
-"""The links of a reStructuredText document, by the package ``docutils`` alone: roles and directives that it doesn't
-know, those of Sphinx among them, are read through."""
+"""The links of a reStructuredText document, by the package ``docutils``: roles and directives that it doesn't
+know, such as Sphinx's, are read through."""
 
 import contextlib
 import importlib
@@ -9,11 +9,11 @@ from typing import Any, Dict, Iterable, Iterator, List, NamedTuple, Optional, Se
 from .comments import comments_of
 from .html_links import links_of as links_of_html
 from .literals import Literals
-from .source import SPACES, Comment, Link, Source
+from .source import SPACES, Comment, Contents, Link, Lost, Source
 
 PASSED_OVER = (
-    "roles and directives that docutils doesn't know are read for their text alone; the extension urlcheck.sphinx "
-    "reads those of Sphinx"
+    "roles and directives that docutils doesn't know are read only for their text; the extension urlcheck.sphinx "
+    "reads Sphinx's own"
 )
 """What is said if there was an unknown role or directive."""
 
@@ -29,6 +29,15 @@ _SETTINGS = {
 }
 """Nothing but the document is read, and nothing is said."""
 
+_LONG = re.compile(r"[^\n]{%d,}" % ((1 << 20) + 1))
+"""A line for which docutils would read nothing of a document."""
+
+_MOST_SAID = 60
+"""How many code points are shown of what docutils says."""
+
+_DROPS = 3
+"""From which level on a message of docutils may be about a block that it doesn't read."""
+
 _TARGET = re.compile("<([A-Za-z][A-Za-z0-9+.-]*:/[^<>]*)>$")
 """What says where an unknown role leads, if that is a URL."""
 
@@ -39,14 +48,14 @@ _CODE = frozenset(
 """The directives that docutils doesn't know whose content isn't reStructuredText."""
 
 
-def links_of(source: Source) -> Tuple[List[Link], List[Comment], Tuple[str, ...]]:
-    """The links of a document, the comments about them, and what was passed over. Raises ``ImportError`` if
-    ``docutils`` isn't installed."""
+def links_of(source: Source) -> Contents:
+    """What is in a document. Raises ``ImportError`` if ``docutils`` isn't installed."""
     core: Any = importlib.import_module("docutils.core")
     nodes: Any = importlib.import_module("docutils.nodes")
     notes: Set[str] = set()
     with _read_through(notes):
-        tree = core.publish_doctree(source.text, "<text>", settings_overrides=_SETTINGS)
+        text = _LONG.sub("", source.text)
+        tree = core.publish_doctree(text, "<text>", settings_overrides=_SETTINGS)
     literals = Literals()
     literals.put("", source)
     links: List[Link] = []
@@ -57,7 +66,28 @@ def links_of(source: Source) -> Tuple[List[Link], List[Comment], Tuple[str, ...]
             found = found_once(literals, "", said.line, said.text, said.markup)
         # (what isn't written, as what :rfc: makes, isn't the author's)
         links += [link for link, is_there in found if is_there]
-    return sorted(links, key=lambda link: link.offset), comments_in(source, tree.findall(nodes.comment)), tuple(notes)
+    links.sort(key=lambda link: link.offset)
+    lost = [Lost(it.start(), "a line of more than a MiB") for it in _LONG.finditer(source.text)]
+    lost += _dropped(source, tree.findall(nodes.system_message))
+    return Contents(links, comments_in(source, tree.findall(nodes.comment)), None, tuple(notes), tuple(sorted(lost)))
+
+
+def _dropped(source: Source, messages: Iterable[Any]) -> Iterator[Lost]:
+    """The blocks that docutils couldn't read, by its messages. One of code has no links."""
+    nodes: Any = importlib.import_module("docutils.nodes")
+    for message in messages:
+        blocks = [it.astext() for it in message.children if isinstance(it, nodes.literal_block)]
+        directive = _DIRECTIVE.match(blocks[0]) if blocks else None
+        is_code = directive is not None and directive[1] in (*_CODE, "code", "math")
+        is_empty = directive is not None and not blocks[0][directive.end() :].strip()
+        if blocks and message.get("level", 0) >= _DROPS and not (is_code or is_empty):
+            line = min(message.get("line", 1), source.position(len(source.text))[0])
+            said = " ".join(message.children[0].astext().split())
+            yield Lost(source.offset(line, 0), said if len(said) <= _MOST_SAID else said[:_MOST_SAID] + "\u2026")
+
+
+_DIRECTIVE = re.compile(r"\.\. (?:\|[^|\n]*\| )?([A-Za-z0-9_.+:-]+)::")
+"""How a block that is a directive begins."""
 
 
 def comments_in(source: Source, nodes: Iterable[Any]) -> List[Comment]:
@@ -98,7 +128,7 @@ def is_link(node: Any) -> bool:
     """Whether a node has a link that is written where the node is. One by a name is written where that is defined."""
     nodes: Any = importlib.import_module("docutils.nodes")
     if isinstance(node, nodes.target):
-        # (that of an embedded URL is its reference's)
+        # (an embedded URL has its reference's place)
         return bool(node.get("refuri")) and not isinstance(node.parent, nodes.TextElement)
     if isinstance(node, nodes.reference):
         return bool(node.get("refuri")) and not node.resolved and node["refuri"] != "mailto:" + node.astext()
@@ -131,7 +161,7 @@ def markup_of(node: Any) -> str:
 def links_of_raw(literals: Literals, path: str, line: int, text: str) -> Iterator[Tuple[Link, bool]]:
     """The links of HTML that a document has from a line on, and whether each is known to be there."""
     place_of = literals.block(path, line, text)
-    for link in links_of_html(Source(text))[0]:
+    for link in links_of_html(Source(text)).links:
         if place_of is not None:
             yield literals.moved(path, link, place_of), True
         else:
@@ -152,7 +182,13 @@ def _line(node: Any) -> int:
     """The line of a node or of what is around it; docutils says none of an inline one."""
     while node is not None and node.line is None:
         node = node.parent
-    line: int = node.line if node is not None else 1
+    if node is None:
+        return 1
+    line: int = node.line
+    # (docutils says of a term the line before the last one of its definition)
+    item = node.parent if node.tagname == "term" else node
+    if item.tagname == "definition_list_item":
+        line += 1 - item.rawsource.count("\n")
     return line
 
 

@@ -5,7 +5,9 @@ import codecs
 import enum
 import re
 import sys
-from typing import Callable, Iterator, List, Match, NamedTuple, Optional, Pattern, Tuple
+from typing import Callable, Iterator, List, Match, NamedTuple, Optional, Pattern, Sequence, Tuple
+
+from .slots import AS_IT_IS, Slot, Syntax
 
 SPACES = " \t\n\f\r"
 """What HTML and XML allow around a URL: ASCII whitespace."""
@@ -60,16 +62,29 @@ class Link(NamedTuple):
     base: Optional[NamedBase] = None
     """What the document says that it is relative to."""
     pieces: "Pieces" = ()
-    """Of a link that isn't verbatim its pieces, if they are known."""
+    """The pieces of a link that isn't verbatim, if they are known."""
     asks: Asks = Asks.REFERENCE
-    """What its format asks of it."""
+    """What its format requires of it."""
     within: str = ""
     """Where it is within the document besides, as a cell of a notebook and its line."""
     comments: Tuple[Comment, ...] = ()
     """The comments that are about it."""
+    syntax: Syntax = AS_IT_IS
+    """How it is written in the source."""
+    is_certain: bool = True
+    """Whether it is surely a link, and not a text that only looks like one."""
+
+    def slot(self, source: "Source") -> Optional[Slot]:
+        """Its place in its source, if another text can be written there: if readers see it in what is
+        written from its beginning to its end."""
+        if not (self.is_verbatim or self.pieces):
+            return None
+        end = self.place(len(self.text))
+        raw = source.text[self.offset : end]
+        return Slot(self.offset, end, raw, self.syntax, self.is_certain) if self.syntax.read(raw) == self.text else None
 
     def place(self, at: int) -> int:
-        """Where a place of the link is in the source, or its beginning if that isn't known."""
+        """Returns the source's place for a place of the link, or the link's beginning if that isn't known."""
         if self.is_verbatim:
             return self.offset + at
         return _place(self.pieces, at) if self.pieces else self.offset
@@ -92,18 +107,24 @@ class Written(NamedTuple):
     offset: int
     is_verbatim: bool
     pieces: Pieces = ()
+    syntax: Syntax = AS_IT_IS
+    """How it is written there."""
+
+    def place(self, at: int) -> int:
+        """Returns the source's place for a place of the value, or the value's beginning if that isn't known."""
+        if self.is_verbatim:
+            return self.offset + at
+        return _place(self.pieces, at) if self.pieces else self.offset
 
     def link(self, text: str, at: int = 0, base: Optional[NamedBase] = None) -> Link:
         """The link that begins at a place of the value."""
-        if self.is_verbatim:
-            return Link(text, self.offset + at, True, base)
-        if not self.pieces:
-            return Link(text, self.offset, False, base)
+        offset = self.place(at)
+        if self.is_verbatim or not self.pieces:
+            return Link(text, offset, self.is_verbatim, base, syntax=self.syntax)
         first = bisect.bisect_right(self.pieces, (at, sys.maxsize))
         last = bisect.bisect_right(self.pieces, (at + len(text), sys.maxsize))
-        offset = _place(self.pieces, at)
         inner = tuple((begin - at, place) for begin, place in self.pieces[first:last])
-        return Link(text, offset, False, base, ((0, offset), *inner))
+        return Link(text, offset, False, base, ((0, offset), *inner), syntax=self.syntax)
 
     def stripped(self, value: str, base: Optional[NamedBase] = None) -> Link:
         """The link of the whole value, without the spaces around it."""
@@ -114,23 +135,24 @@ MOST_MOVED = 4_000
 """How many code points a link may have for its pieces to be kept when it is moved."""
 
 
-def moved(link: Link, source: "Source", place_of: Callable[[int], int]) -> Link:
-    """A link of a text that was read out of a source, with its places there: ``place_of`` gives the source's place for
-    a place of the text."""
+def moved(link: Link, source: "Source", place_of: Callable[[int], int], outer: Syntax = AS_IT_IS) -> Link:
+    """A link of a text that was read out of a source, where it is written in a syntax, with its places there:
+    ``place_of`` gives the source's place for a place of the text."""
+    begins = list(link.pieces) or [(0, link.offset)]
     offset = place_of(link.offset)
+    link = link._replace(offset=offset, syntax=link.syntax.within(outer))
     if link.is_verbatim and source.text.startswith(link.text, offset):
-        return link._replace(offset=offset, base=link.base, pieces=())
-    begins = [(0, link.offset)] if link.is_verbatim or not link.pieces else list(link.pieces)
+        return link
     if not link.is_verbatim and not link.pieces:
-        return link._replace(offset=offset)
+        return link
     pieces: List[Tuple[int, int]] = []
-    ends = [begin for begin, _ in begins[1:]] + [min(len(link.text), MOST_MOVED)]
+    ends = [begin for begin, _ in begins[1:]] + [min(len(link.text), MOST_MOVED) + 1]
     for (begin, place), end in zip(begins, ends):
         for at in range(begin, max(end, begin + 1)):
             found = place_of(place + at - begin)
             if not pieces or found != _place(tuple(pieces[-1:]), at):
                 pieces.append((at, found))
-    return link._replace(offset=offset, is_verbatim=False, pieces=tuple(pieces))
+    return link._replace(is_verbatim=False, pieces=tuple(pieces))
 
 
 MOST_REFERENCES = 10_000
@@ -138,7 +160,7 @@ MOST_REFERENCES = 10_000
 
 
 def read(
-    raw: str, offset: int, reference: "Pattern[str]", text_of: "Callable[[Match[str]], str]"
+    raw: str, offset: int, reference: "Pattern[str]", text_of: "Callable[[Match[str]], str]", syntax: Syntax = AS_IT_IS
 ) -> Tuple[str, Written]:
     """A value as it is in the source, with its references read, and where its code points are."""
     texts: List[str] = []
@@ -153,8 +175,30 @@ def read(
             pieces += (at, offset + found.start()), (length, offset + last)
     value = "".join(texts) + raw[last:]
     if value == raw:
-        return value, Written(offset, True)
-    return value, Written(offset, False, tuple(pieces) if len(pieces) <= most else ())
+        return value, Written(offset, True, (), syntax)
+    return value, Written(offset, False, tuple(pieces) if len(pieces) <= most else (), syntax)
+
+
+def point_of(number: int) -> str:
+    """The code point of a number; U+FFFD if that isn't one, or one of a surrogate."""
+    return chr(number) if 0 < number < 0xD800 or 0xDFFF < number < 0x110000 else "\ufffd"
+
+
+_SURROGATE = re.compile("[\ud800-\udfff]")
+
+
+def text_of(text: str) -> str:
+    """A text with U+FFFD for each surrogate, which no document can have."""
+    return text if text.isascii() else _SURROGATE.sub("\ufffd", text)
+
+
+class Lost(NamedTuple):
+    """A part of a document that its reader can't read, so that links in it aren't found."""
+
+    offset: int
+    """Where it begins in the source, in code points from 0."""
+    what: str
+    """What it is, or why."""
 
 
 class Broken(ValueError):
@@ -164,6 +208,20 @@ class Broken(ValueError):
         super().__init__(offset, reason)
         self.offset = offset
         self.reason = reason
+
+
+class Contents(NamedTuple):
+    """What a reader finds in a text."""
+
+    links: List[Link]
+    comments: Sequence[Comment] = ()
+    """The comments about the links."""
+    broken: Optional[Broken] = None
+    """Why the reader stopped before the text's end, if it did."""
+    notes: Tuple[str, ...] = ()
+    """What the reader passed over."""
+    lost: Tuple[Lost, ...] = ()
+    """The parts that it couldn't read."""
 
 
 class Source:

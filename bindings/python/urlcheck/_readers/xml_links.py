@@ -8,12 +8,15 @@ from xml.parsers import expat
 
 from . import attributes, html_links
 from .comments import comments_of
+from .slots import AS_IT_IS
 from .source import (
     SPACES,
     Asks,
     Broken,
     Comment,
+    Contents,
     Link,
+    Lost,
     NamedBase,
     Pieces,
     Source,
@@ -46,6 +49,7 @@ from .xml_names import (
     XML,
     Name,
 )
+from .xml_texts import ATTRIBUTE, MARKUP, TEXT
 
 MOST_DEPTH = 10_000
 """How many elements may be within one another."""
@@ -71,6 +75,8 @@ class _Taking(NamedTuple):
 
     is_html: bool = False
     """Whether it is HTML, with links in it."""
+    is_style: bool = False
+    """Whether it is a style sheet."""
     is_likely: bool = False
     """Whether it is taken only if no name of the document is known, and it has a scheme: otherwise it may be any
     text."""
@@ -89,9 +95,8 @@ _TARGET = re.compile(r"<\?[^\s?]+")
 _ATTRIBUTE = re.compile(r"\s+(?P<name>[^\s=]+)\s*=\s*(?:\"(?P<double>[^\"]*)\"|'(?P<single>[^']*)')")
 
 
-def links_of(source: Source, data: bytes) -> Tuple[List[Link], List[Comment], Optional[Broken], Tuple[str, ...]]:
-    """The links of an XML document, the comments about them, why the reader stopped before the end, if it did, and what
-    was passed over."""
+def links_of(source: Source, data: bytes) -> Contents:
+    """What is in an XML document, given by its text and its bytes."""
     reader = _Reader(source, data)
     broken = None
     try:
@@ -100,9 +105,9 @@ def links_of(source: Source, data: bytes) -> Tuple[List[Link], List[Comment], Op
         broken = reader.failed(expat.ErrorString(error.code))
     except Broken as stopped:
         broken = stopped
-    if reader.is_known or broken is not None:
-        return reader.links, reader.comments, broken, tuple(reader.notes)
-    return reader.links + reader.likely, reader.comments, broken, (*reader.notes, UNKNOWN)
+    is_likely = not reader.is_known and broken is None
+    links, notes = (reader.likely, (UNKNOWN,)) if is_likely else ([], ())
+    return Contents(reader.links + links, reader.comments, broken, (*reader.notes, *notes), tuple(reader.lost))
 
 
 class _Reader:
@@ -138,6 +143,7 @@ class _Reader:
         # What are likely links, if none is.
         self.likely: List[Link] = []
         self.notes: Set[str] = set()
+        self.lost: List[Lost] = []
         # The text of the element that is being read, if it has links: its pieces with their places.
         self._taking = _Taking()
         self._began = 0
@@ -153,7 +159,7 @@ class _Reader:
         return Broken(self._offset(), reason)
 
     def _offset(self) -> int:
-        """Where what is being read begins in the source, in code points."""
+        """Returns the beginning, in the source, of what is being read, in code points."""
         # (an old parser says -1 of an empty document)
         at = max(0, self.parser.CurrentByteIndex)
         if self._is_ascii:
@@ -213,7 +219,8 @@ class _Reader:
         base = self._bases[-1]
         is_meta = element == (XHTML, "meta")
         is_wanted = is_meta or any(
-            _is_url(element, it) or it == (XML, "base") or it in _STYLES or _is_naming(element, it) for it in names
+            _is_url(element, it) or it == (XML, "base") or _is_style(element, it) or _is_naming(element, it)
+            for it in names
         )
         if not is_wanted and (self.is_known or not any(it[1] in LIKE_LINKS for it in names)):
             return base
@@ -228,10 +235,9 @@ class _Reader:
             if _is_url(element, name) or (_is_naming(element, name) and _NAMING.match(value.lstrip(SPACES))):
                 self.is_known = True
                 self._take(element, name[1], value, written, base)
-            elif name in _STYLES and element[0] in OF_PAGES:
-                links, note = html_links.links_of_style(value, written)
-                self.links += [it._replace(base=self._of_element(element, base)) for it in links]
-                self.notes |= {note} if note else set()
+            elif _is_style(element, name):
+                styles = html_links.styles_in(value, self._source, written.place, written.syntax, False)
+                self._take_styles(styles, self._of_element(element, base))
             elif not self.is_known and name[0] == "" and name[1] in LIKE_LINKS and _SCHEME.match(value.lstrip(SPACES)):
                 self.likely.append(written.stripped(value, base))
             elif is_meta and name == ("", "content") and _is_refresh(names, values):
@@ -265,7 +271,7 @@ class _Reader:
             self._page_base = base_of(link.text)
 
     def _places(self, start: int, values: List[str]) -> List[Written]:
-        """Where the values of the start tag at that place are, but for namespaces."""
+        """Returns the places of the values of the start tag there, except for namespaces."""
         places: List[Written] = []
         name = _NAME.match(self._source.text, start)
         found = name and _ATTRIBUTE.match(self._source.text, name.end())
@@ -294,14 +300,20 @@ class _Reader:
         if not pieces:
             return
         value = "".join(piece for piece, _ in pieces)
-        written = Written(0, False, _places_of(pieces))
+        after = [("", self._offset())] if value else []
+        written = Written(0, False, _places_of(pieces + after), TEXT)
         if self._taking.is_html:
             self._take_html(value, written, base)
             return
+        if self._taking.is_style:
+            styles = html_links.styles_in(value, self._source, written.place, TEXT)
+            self._take_styles(styles, self._page_base if base is None else base)
+            return
         link = written.stripped(value, base)._replace(asks=self._taking.asks)
-        is_verbatim = self._source.text.startswith(link.text, link.offset)
-        if is_verbatim:
-            link = link._replace(is_verbatim=True, pieces=())
+        if self._source.text.startswith(link.text, link.offset):
+            # (in a CDATA section nothing is a reference)
+            is_cdata = MARKUP.search(link.text) is not None
+            link = link._replace(is_verbatim=True, pieces=(), syntax=AS_IT_IS if is_cdata else TEXT)
         if self._taking.is_likely:
             self.likely += [link] * bool(_SCHEME.match(link.text))
         elif self._taking.is_naming:
@@ -313,17 +325,21 @@ class _Reader:
         """Takes the links of HTML that is the text of an element."""
         if "<" not in value:
             return
-        links, _, notes = html_links.links_of(Source(value))
-        self.notes |= set(notes)
-        found = [moved(link, self._source, lambda at: written.link("", at).offset) for link in links]
+        html = html_links.links_of(Source(value))
+        self.notes.update(html.notes)
+        self.lost += [it._replace(offset=written.place(it.offset)) for it in html.lost]
+        found = [moved(link, self._source, written.place, TEXT) for link in html.links]
         self.links += [link._replace(base=link.base or base) for link in found]
+
+    def _take_styles(self, styles: Contents, base: Optional[NamedBase]) -> None:
+        """Takes what is in styles."""
+        self.links += [link._replace(base=base) for link in styles.links]
+        self.notes.update(styles.notes)
+        self.lost += styles.lost
 
 
 _ICONS = {(APPSTREAM, "icon"), (CATALOG, "icon")}
 """The elements whose text is a URL if their ``type`` is ``remote``."""
-
-_STYLES = {("", "style")}
-"""The attributes that have declarations of CSS."""
 
 
 def _taking(element: Name, values: Dict[Name, str]) -> Optional[_Taking]:
@@ -334,6 +350,8 @@ def _taking(element: Name, values: Dict[Name, str]) -> Optional[_Taking]:
         return None
     if element in _ICONS and values.get(("", "type")) != "remote":
         return None
+    if element[1] == "style" and element[0] in OF_PAGES:
+        return _Taking(is_style=True)
     if element[1] == "loc":
         return _Taking(asks=Asks.ABSOLUTE)
     if element in TEXTS:
@@ -346,19 +364,19 @@ def _taking(element: Name, values: Dict[Name, str]) -> Optional[_Taking]:
 
 
 def _places_of(read_pieces: List[Tuple[str, int]]) -> Pieces:
-    """Where a text is that was read in these pieces, each with its place."""
+    """Returns the place of a text that was read in these pieces, each with its place."""
     lengths = accumulate((len(piece) for piece, _ in read_pieces[:-1]), initial=0)
     return tuple(zip(lengths, (place for _, place in read_pieces)))
 
 
 def _written(raw: str, offset: int, value: str) -> Written:
-    """Where an attribute's value is, which is written so."""
+    """Returns the place of an attribute's value that is written so."""
     if raw == value:
-        return Written(offset, True)
+        return Written(offset, True, (), ATTRIBUTE)
     # (each reference stands for a code point, and so does the end of a line)
     text, found = read(raw, offset, _REFERENCE, lambda _: "x")
     pieces = ((0, offset),) if found.is_verbatim else found.pieces
-    return Written(offset, False, pieces if len(text) == len(value) else ())
+    return Written(offset, False, pieces if len(text) == len(value) else (), ATTRIBUTE)
 
 
 def _split(name: str) -> Name:
@@ -368,8 +386,14 @@ def _split(name: str) -> Name:
 
 
 def _is_refresh(names: List[Name], values: List[str]) -> bool:
-    """Whether the attributes are those of a refresh."""
+    """Whether the attributes make a refresh."""
     return any(name == ("", "http-equiv") and value.lower() == "refresh" for name, value in zip(names, values))
+
+
+def _is_style(element: Name, name: Name) -> bool:
+    """Whether an attribute has CSS: `style` on every element of a page, and SVG's attributes."""
+    styles = html_links.STYLES if element[0] == SVG else ("style",)
+    return element[0] in OF_PAGES and name[0] == "" and name[1] in styles
 
 
 def _is_naming(element: Name, name: Name) -> bool:

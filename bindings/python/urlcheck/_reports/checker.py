@@ -1,10 +1,11 @@
 """What is wrong with the links of documents."""
 
 import re
+from dataclasses import replace
 from typing import Dict, FrozenSet, List, NamedTuple, Optional, Protocol, Tuple, Union
 
-from .. import Base, BaseRefused, Fault, Mended, Profile, Refused, Region, check, faults, mend, message, resolve
-from .._readers.source import Asks, Link, NamedBase
+from .. import Base, BaseRefused, Mended, Profile, Refused, Region, Violation, check, mend, message, resolve, violations
+from .._readers.source import Asks, Link, NamedBase, Source
 from .report import Reported
 from .rules import EMPTY, OF_ASKS, OF_FORMATS, address_of
 from .selected import Selected
@@ -21,9 +22,19 @@ MOST_KEPT = 50_000
 _HEAD = re.compile("[^:]*:(?://[^/?#]*)?")
 """The beginning of a URL's text: its scheme and, if it has one, its host."""
 
+_SPACE = re.compile("[ \t]")
+
+_SCHEME = re.compile("[A-Za-z][A-Za-z0-9+.-]*:")
+"""The beginning of a text that is relative to nothing."""
+
+_RELATIVE = re.compile(r"(?:https?|wss?|ftp|file):(?![/\\]{2})", re.IGNORECASE)
+"""The beginning of a text that is relative to a base of its own scheme, and to no other."""
+
 
 class Positions(Protocol):
     """Says where a place of a document is."""
+
+    source: Source
 
     def position(self, offset: int) -> Tuple[int, int]:
         """The line and the column of a place."""
@@ -36,6 +47,21 @@ class Wrong(NamedTuple):
     place: int
     message: str
     mended: Optional[Mended]
+
+
+class Writing(NamedTuple):
+    """What may be written in place of a link in its document."""
+
+    start: int
+    """Where the link is written there, from place to place in code points from 0."""
+    end: int
+    text: str
+    """What is to stand there."""
+    mended: Mended
+    """What is read there then."""
+    is_certain: bool
+    """Whether it is surely a link, and the same one wherever the document is. Otherwise it is written only if that is
+    asked for."""
 
 
 Verdicts = Dict[Tuple[str, Optional[str], Asks, FrozenSet[str]], Optional[Wrong]]
@@ -61,6 +87,7 @@ class Checker:
     ) -> None:
         # (the lines of a list have no base but the caller's)
         self._outer = None if is_of_lists and base is None else Base(base or SOMEWHERE, profile)
+        self._is_base_known = base is not None
         self._profile = profile
         self._has_mended = has_mended
         self._is_empty_taken = is_empty_taken
@@ -86,7 +113,7 @@ class Checker:
 
     def _held(self, text: str, around: Optional[Base]) -> Optional[Base]:
         """A base by the text of its URL. If the path isn't opaque, it is replaced by /: a verdict needs no more. So
-        bases within bases don't grow, and a path that no profile takes, such as that of http://h//a by
+        bases within bases don't grow, and a path that no profile takes, such as in http://h//a by
         http://h/x/..//a, isn't one."""
         head = _HEAD.match(text)
         if head and ("/" in head[0] or text.startswith("/", head.end())):
@@ -96,14 +123,40 @@ class Checker:
         except BaseRefused:
             return around
 
-    @staticmethod
-    def reported(name: str, places: Positions, link: Link, wrong: Wrong, repeat: int) -> Reported:
-        """What is wrong with a link of the document of that name, with its places."""
+    def reported(self, places: Positions, link: Link, wrong: Wrong, repeat: int) -> Reported:
+        """What is wrong with a link, with its places in a document whose name isn't set."""
         line, column = places.position(link.place(wrong.place))
-        region = Region(line, column, line, end_of(places, link, wrong.place))
-        fixed = None if wrong.mended is None else region_of(places, link)
-        said = name, wrong.rule, address_of(wrong.rule), wrong.message, link.within, link.text
-        return Reported(*said, region, wrong.place, wrong.mended, fixed, repeat)
+        writing = self.writing(link, wrong, places.source)
+        return Reported(
+            file="",
+            rule=wrong.rule,
+            address=address_of(wrong.rule),
+            message=wrong.message,
+            within=link.within,
+            text=link.text,
+            region=Region(line, column, line, end_of(places, link, wrong.place)),
+            place=wrong.place,
+            mended=writing and replace(writing.mended, text=writing.text),
+            fixed=writing and Region(*places.position(writing.start), *places.position(writing.end)),
+            repeat=repeat,
+        )
+
+    def writing(self, link: Link, wrong: Wrong, source: Source) -> Optional[Writing]:
+        """What may be written in place of a link of a source, if readers would see the mended text there."""
+        slot = link.slot(source) if wrong.mended is not None else None
+        text = slot.write(wrong.mended.text) if slot is not None and wrong.mended is not None else None
+        if slot is None or text is None or wrong.mended is None:
+            return None
+        return Writing(slot.start, slot.end, text, wrong.mended, slot.is_certain and not self._is_relative(link))
+
+    def _is_relative(self, link: Link) -> bool:
+        """Whether a link with a scheme is relative to a base that isn't known, as ``http:/x`` is."""
+        if self._is_base_known or not _RELATIVE.match(re.sub("[\t\n\r]", "", link.text)):
+            return False
+        named = link.base
+        while named is not None and not _SCHEME.match(named.text):
+            named = named.around
+        return named is None
 
     def wrong(self, link: Link, without: FrozenSet[str] = _NONE) -> Optional[Wrong]:
         """What is wrong with a link, if something is, but for what violates these rules."""
@@ -120,12 +173,14 @@ class Checker:
     def _checked(self, text: str, asks: Asks, base: Optional[Base], selected: Selected) -> Optional[Wrong]:
         """What is wrong with a text by what it has to be. Formats ask more than the URL Standard, and have rules of
         their own."""
-        if asks is Asks.ANOTHER or (asks is Asks.SOME and not text and not self._is_empty_taken):
+        is_text = asks is Asks.ANOTHER and not self._shows_another(text, base)
+        if is_text or (asks is Asks.SOME and not text and not self._is_empty_taken):
             rule = OF_FORMATS[OF_ASKS[asks]]
             if not selected.has(rule.name):
                 return None
-            place = 0 if rule.name == EMPTY else text.find(" ")
-            return Wrong(rule.name, place, rule.sentence, None if rule.name == EMPTY else self._mended(text, base))
+            space = _SPACE.search(text)
+            mended = self._mended(text, base) if space else None
+            return Wrong(rule.name, space.start() if space else 0, rule.sentence, mended)
         if asks is Asks.ABSOLUTE:
             if not text and self._is_empty_taken:
                 return None
@@ -136,17 +191,22 @@ class Checker:
         fault = self._reported(text, base, answer, selected)
         if fault is None:
             return None
-        said = message(text, fault, self._profile, self._wording)
+        said = message(text, fault, self._profile, self._wording, base)
         return Wrong(fault.rule, fault.place, said, self._mended(text, base))
 
     def _reported(
         self, text: str, base: Optional[Base], refused: Refused, selected: Selected
-    ) -> Union[Refused, Fault, None]:
+    ) -> Union[Refused, Violation, None]:
         """The first fault of a refused text whose rule is one that is reported."""
         if selected.has(refused.rule):
             return refused
-        found = faults(text, base, self._profile)
+        found = violations(text, base, self._profile)
         return next((it for it in found if selected.has(it.rule)), None)
+
+    def _shows_another(self, text: str, base: Optional[Base]) -> bool:
+        """Whether a text shows that its author meant something else than what it is mended to, as a template does."""
+        answer = mend(text, base, self._profile)
+        return isinstance(answer, Mended) and not answer.is_offered
 
     def _mended(self, text: str, base: Optional[Base]) -> Optional[Mended]:
         """What to write in place of a refused link, if that is wanted and there is such a text."""
@@ -154,14 +214,6 @@ class Checker:
             return None
         answer = mend(text, base, self._profile)
         return answer if isinstance(answer, Mended) else None
-
-
-    @staticmethod
-    def may_be_written(link: Link) -> bool:
-        """Whether another text may be written unescaped where a link is."""
-        # (without the tab or the line's end, what follows the & might be read as a character reference)
-        return link.is_verbatim and not ("&" in link.text and re.search("[\t\n\r]", link.text))
-
 
 def end_of(places: Positions, link: Link, place: int) -> int:
     """The column after the code point at a place of a link, which is in the line of that place; the column of the place
@@ -171,11 +223,3 @@ def end_of(places: Positions, link: Link, place: int) -> int:
         return column
     last_line, end = places.position(link.place(place + 1))
     return end if last_line == line and end >= column else column + 1
-
-
-def region_of(places: Positions, link: Link) -> Optional[Region]:
-    """Where a link is, if another text may be written there as it is."""
-    if not Checker.may_be_written(link):
-        return None
-    line, column = places.position(link.offset)
-    return Region(line, column, *places.position(link.offset + len(link.text)))

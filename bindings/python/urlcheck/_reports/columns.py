@@ -1,4 +1,4 @@
-"""Where the places of a document are, with columns in a unit, as ``urlcheck lint --columns`` counts."""
+"""Lines and columns of the places in a document, with columns in a unit, as ``urlcheck lint --columns`` counts."""
 
 from typing import List, Tuple
 
@@ -11,7 +11,7 @@ _STEP = 256
 
 
 class Places:
-    """Finds the line and the column of a place in a source, columns in a unit. Of the line that it was asked for last
+    """Finds the line and the column of a place in a source, columns in a unit. For the line that it was asked for last
     it keeps what was counted, so that all places of a line are found in one pass over it."""
 
     def __init__(self, source: Source, unit: str) -> None:

@@ -1,4 +1,4 @@
-"""What comments leave out of what is wrong with the links of a document, and what is said about the comments
+"""What comments leave out of what is wrong with the links of a document, and the warnings about the comments
 themselves."""
 
 import re
@@ -37,16 +37,28 @@ class _Meant(NamedTuple):
     """Whether it names no rules, so that a link isn't looked at."""
 
 
+class _Group:
+    """The comments about the links of a line, or of the file, taken together."""
+
+    def __init__(self, comments: Sequence[Tuple[Comment, _Meant]]) -> None:
+        self.comments = comments
+        self.rules: FrozenSet[str] = frozenset().union(*(meant.rules for _, meant in comments))
+        self.is_of_links = any(meant.is_of_links for _, meant in comments)
+        self.needed: Set[str] = set()
+        """The rules that a link violates."""
+
+
 class Ignoring:
-    """The comments of a document."""
+    """The comments of a document. What they say is put together once for each line and for the file."""
 
     def __init__(self, comments: Sequence[Comment]) -> None:
         self._meant: Dict[Comment, _Meant] = {}
         self._remarks: List[Remark] = []
-        self._needed: Set[Comment] = set()
         for comment in comments:
             self._take(comment)
-        self._of_file = tuple(it for it, meant in self._meant.items() if meant.is_of_file)
+        self._of_file = _Group([it for it in self._meant.items() if it[1].is_of_file])
+        # (by the identity of what all links of a line share, which is kept next to its group)
+        self._of_lines: Dict[int, Tuple[Sequence[Comment], _Group]] = {}
 
     def _take(self, comment: Comment) -> None:
         """Takes what a comment says, or why it isn't understood."""
@@ -61,12 +73,16 @@ class Ignoring:
         except NoRule as no_rule:
             self._remarks.append(Remark(comment.offset, "'{}': {}".format(comment.text, no_rule)))
 
-    def _about(self, link: Link) -> List[Comment]:
-        """The comments about a link that are understood."""
+    def _about(self, link: Link) -> List[_Group]:
+        """The groups of comments about a link, if it has some that are understood."""
         if not self._meant:
             return []
-        own = [it for it in link.comments if it in self._meant and not self._meant[it].is_of_file]
-        return [*own, *self._of_file]
+        about = link.comments
+        if about and id(about) not in self._of_lines:
+            nearer = [(it, self._meant[it]) for it in about if it in self._meant and not self._meant[it].is_of_file]
+            self._of_lines[id(about)] = about, _Group(nearer)
+        groups = [self._of_lines[id(about)][1], self._of_file] if about else [self._of_file]
+        return [it for it in groups if it.comments]
 
     def is_about(self, link: Link) -> bool:
         """Whether a comment is about a link."""
@@ -74,27 +90,28 @@ class Ignoring:
 
     def leaves_out(self, link: Link) -> bool:
         """Whether a comment leaves a link out, whatever is wrong with it."""
-        return any(self._meant[it].is_of_links for it in self._about(link))
+        return any(it.is_of_links for it in self._about(link))
 
     def wrong(self, checker: Checker, link: Link) -> Tuple[Optional[Wrong], bool]:
         """What is wrong with a link but for what comments leave out, and whether they leave out the link."""
         found = checker.wrong(link)
         about = self._about(link)
-        if not about:
-            return found, False
         left, without = found, set()
-        while left is not None and any(left.rule in self._meant[it].rules for it in about):
-            self._needed.update(it for it in about if left.rule in self._meant[it].rules)
+        while left is not None and any(left.rule in it.rules for it in about):
+            for group in about:
+                group.needed.add(left.rule)
             without.add(left.rule)
             left = checker.wrong(link, frozenset(without))
-        return left, self.leaves_out(link) or (found is not None and left is None)
+        return left, any(it.is_of_links for it in about) or (found is not None and left is None)
 
     def remarks(self, is_all: bool) -> Iterator[Remark]:
         """What is said about the comments, after all links were looked at: which ones aren't understood, and if
         everything is reported also which ones aren't needed."""
         yield from self._remarks
+        groups = [self._of_file, *(it for _, it in self._of_lines.values())]
+        needed = {it for group in groups for it, meant in group.comments if meant.rules & group.needed}
         for comment, meant in self._meant.items() if is_all else ():
-            if comment not in self._needed:
+            if comment not in needed:
                 which = "no link of the document" if meant.is_of_file else "no link that it is about"
                 what = "is refused" if meant.is_of_links else "is refused by that"
                 yield Remark(comment.offset, "'{}' isn't needed: {} {}".format(comment.text, which, what))

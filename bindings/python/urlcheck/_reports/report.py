@@ -1,10 +1,8 @@
 """Reports on texts that are refused, as ``urlcheck lint`` writes them: what is written is the library's."""
 
-from collections import Counter
-from typing import Counter as Counts
 from typing import Dict, Iterable, Iterator, NamedTuple, Optional, Tuple, Union
 
-from .. import RULES, BaseRefused, Fault, Mended, MendKind, Profile, Refused, _profile, sentence
+from .. import RULES, AnyBase, AnyProfile, BaseRefused, Mended, MendKind, Refused, Violation, sentence
 from .._library import native
 
 
@@ -63,7 +61,7 @@ class Diagnostic(NamedTuple):
     rule: str
     place: int
     """The wrong place in the text, in code points from 0."""
-    profile: Profile = Profile.STANDARD
+    profile: AnyProfile = None
     """By which the text is checked."""
     mended: Optional[Mended] = None
     """What to write in place of the text; a format that doesn't say it leaves it out."""
@@ -73,15 +71,20 @@ class Diagnostic(NamedTuple):
     end: Optional[int] = None
     """The column at which what is wrong ends; without it the one after the code point at the place, in the line of
     that."""
+    repeat: int = 0
+    """How many diagnostics before it in the file have the same rule, place and text, if the caller counts them: GitLab's
+    fingerprints of equal ones differ by that."""
+    base: AnyBase = None
+    """Against which the text is checked."""
 
 
 class Explanation(NamedTuple):
-    """What a rule asks, and an example under the standard profile."""
+    """What a rule requires, and an example under the standard profile."""
 
     rule: str
     sentence: str
     """What is wrong at the place of a refusal."""
-    asks: str
+    requires: str
     section: str
     """The section of the URL Standard, and what it calls that."""
     url: str
@@ -120,30 +123,31 @@ def _ordered(region: Region) -> None:
 
 def message(
     text: str,
-    found: Union[Refused, Fault, BaseRefused],
-    profile: Profile = Profile.STANDARD,
+    found: Union[Refused, Violation, BaseRefused],
+    profile: AnyProfile = None,
     wording: str = "arguments",
+    base: AnyBase = None,
 ) -> str:
-    """What is wrong with a text, as its refusal or one of its faults says by this profile: a sentence without its end,
-    which names the code point. Of a ``BaseRefused`` the text is the base.
+    """What is wrong with a text, as its refusal or one of its violations says by this profile, alone or against this base:
+    a sentence without its end, which names the code point. Of a ``BaseRefused`` the text is the base.
 
     ``wording`` is one of ``options`` (``--profile wide``), ``arguments`` (``profile='wide'``), ``sql`` and ``none``:
     how the sentence names another profile that accepts the text, if it does. Raises ``ValueError`` for another one and
-    where the place is after the text's end, and what ``check`` raises of a text and a profile.
+    where the place is after the text's end, and what ``check`` raises of a text, a base and a profile.
     """
     if not isinstance(text, str):
         raise TypeError("a text is a str, not {}".format(type(text).__name__))
     words = _named(wording, WORDINGS, "wording")
-    return native.message(text, _profile(profile), words, _NUMBERS[found.rule], _placed(text, found.place))
+    return native.message(text, base, profile, words, _NUMBERS[found.rule], _placed(text, found.place))
 
 
 def explain(rule: str) -> Explanation:
     """What a rule requires, and an example. Raises ``KeyError`` if no rule has the name."""
     number = _NUMBERS[rule]
-    asks, section = native.text(_REQUIRES, number), native.text(_SECTION, number)
+    requires, section = native.text(_REQUIRES, number), native.text(_SECTION, number)
     base, example, mended = (native.text(what, number) for what in (_BASE, _EXAMPLE, _MENDED))
     place = native.example_place(number)
-    return Explanation(rule, sentence(rule), asks, section, address_of(rule), base or None, example, place, mended)
+    return Explanation(rule, sentence(rule), requires, section, address_of(rule), base or None, example, place, mended)
 
 
 def address_of(rule: str) -> str:
@@ -166,12 +170,12 @@ def report(
     is_whole: bool = True,
     wording: str = "arguments",
 ) -> Iterator[str]:
-    """A report on these, as ``urlcheck lint --located`` writes it, text by text: its beginning, what is said of each,
+    """A report on these, as ``urlcheck lint --located`` writes it, text by text: its beginning, the text on each,
     and its end.
 
     ``format`` is one of ``FORMATS``, and ``columns``, one of ``UNITS``, says what the columns count: without it the
     first of them for which the format has a word, code points as a rule. ``is_whole`` is false where a file couldn't be
-    read to its end. ``wording`` is that of ``message``. Raises ``ValueError`` for another name, for a unit for which
+    read to its end. ``wording`` is as in ``message``. Raises ``ValueError`` for another name, for a unit for which
     the format has no word, and at the text on a diagnostic whose place, line, column or region isn't one.
     """
     unit = own_unit(format) if columns is None else columns
@@ -184,14 +188,11 @@ def report(
 def _report_on(
     diagnostics: Iterable[Diagnostic], format: str, unit: str, is_whole: bool, wording: str
 ) -> Iterator[str]:
-    """The pieces of a report. Equal faults of a file are counted, since formats tell them apart by a number."""
+    """The pieces of a report."""
     yield begin(format, unit)
-    seen: Counts[Tuple[str, str, int, str]] = Counter()
     is_first = True
     for it in diagnostics:
-        key = it.file, it.rule, it.place, it.text
-        yield written(format, _reported(it, unit, wording, seen[key]), is_first)
-        seen[key] += 1
+        yield written(format, _reported(it, unit, wording), is_first)
         is_first = False
     yield end(format, is_whole)
 
@@ -250,17 +251,18 @@ class Reported(NamedTuple):
     """How many diagnostics before it in the file have the same rule, place and text."""
 
 
-def _reported(it: Diagnostic, unit: str, wording: str, repeat: int) -> Reported:
+def _reported(it: Diagnostic, unit: str, wording: str) -> Reported:
     """A diagnostic, with what the library says about it. Raises ``ValueError`` if one of its numbers is wrong."""
     _numbered(it.line, it.column, *(() if it.end is None else (it.end,)))
     wrong = it.text[it.place : it.place + 1]
     end = native.column(wrong, UNITS.index(unit), it.column, len(wrong)) if it.end is None else it.end
-    said = message(it.text, Fault(it.rule, it.place), it.profile, wording)
+    said = message(it.text, Violation(it.rule, it.place), it.profile, wording, it.base)
     region = Region(it.line, it.column, it.line, end)
     if it.region is not None:
         _ordered(it.region)
     fixed = None if it.mended is None else it.region
-    return Reported(it.file, it.rule, address_of(it.rule), said, "", it.text, region, it.place, it.mended, fixed, repeat)
+    address = address_of(it.rule)
+    return Reported(it.file, it.rule, address, said, "", it.text, region, it.place, it.mended, fixed, it.repeat)
 
 
 def written(format: str, it: Reported, is_first: bool) -> str:

@@ -1,4 +1,4 @@
-"""What each rule requires, and where to read about it: the rules of the URL Standard, and those of the formats of
+"""What each rule requires, and where to read about it: the rules of the URL Standard, and the rules of the formats of
 documents, which apply only to links in documents."""
 
 from typing import Dict, NamedTuple
@@ -14,8 +14,8 @@ class Rule(NamedTuple):
     name: str
     sentence: str
     """What is wrong at the place of a violation."""
-    asks: str
-    """What it asks, in a sentence."""
+    requires: str
+    """What it requires, in a sentence."""
     url: str
     """Where that is."""
 
@@ -33,7 +33,7 @@ OF_FORMATS: Dict[str, Rule] = {
     ),
     NO_LINK: Rule(
         NO_LINK,
-        "a space ends a link's destination, so that this is text and no link",
+        "Markdown reads this as text, because its address has a space: write %20",
         "A destination of Markdown has no space, unless < and > enclose it: it is percent-encoded as %20.",
         "https://spec.commonmark.org/0.31.2/#link-destination",
     ),
@@ -49,7 +49,7 @@ def rule_of(name: str) -> Rule:
     if name in OF_FORMATS:
         return OF_FORMATS[name]
     explained = explain(name)
-    return Rule(name, explained.sentence, explained.asks, explained.url)
+    return Rule(name, explained.sentence, explained.requires, explained.url)
 
 
 def address_of(name: str) -> str:

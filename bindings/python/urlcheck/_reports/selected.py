@@ -10,8 +10,14 @@ class NoRule(ValueError):
     """A name that isn't a rule's."""
 
     def __init__(self, name: str) -> None:
-        near = difflib.get_close_matches(name, NAMES, 1)
-        super().__init__("no rule is named '{}'{}".format(name, "; the nearest is " + near[0] if near else ""))
+        near = nearest(name, 0.6)
+        super().__init__("no rule is named '{}'{}".format(name, "; the nearest is " + near if near else ""))
+
+
+def nearest(name: str, least: float = 0.8) -> Optional[str]:
+    """The rule whose name is near to another one by at least this much of 1, if one is."""
+    near = difflib.get_close_matches(name.strip().lower(), NAMES, 1, least)
+    return near[0] if near else None
 
 
 class Selected(NamedTuple):
@@ -27,14 +33,10 @@ class Selected(NamedTuple):
         """Whether what violates any rule is reported."""
         return len(self.names) == len(NAMES)
 
-    def among(self, other: "Selected") -> "Selected":
-        """Those of its rules that another one has too."""
-        return Selected(self.names & other.names)
-
 
 def rules_of(words: Iterable[str]) -> FrozenSet[str]:
     """The rules that these words name, each one or several with commas between. Raises ``NoRule``."""
-    names = [name.strip() for word in words for name in word.split(",")]
+    names = [name.strip().lower() for word in words for name in word.split(",")]
     for name in names:
         if name not in NAMES:
             raise NoRule(name)
@@ -42,10 +44,10 @@ def rules_of(words: Iterable[str]) -> FrozenSet[str]:
 
 
 def selected(select: Optional[Iterable[str]], ignored: Iterable[str]) -> Selected:
-    """The rules of the first words, or all, except those of the second. Raises ``NoRule``."""
+    """The rules of the first words, or all, except the rules of the second. Raises ``NoRule``."""
     return Selected((frozenset(NAMES) if select is None else rules_of(select)) - rules_of(ignored))
 
 
 def are_rules(word: str) -> bool:
     """Whether a word names rules, with commas between."""
-    return all(name.strip() in NAMES for name in word.split(","))
+    return all(name.strip().lower() in NAMES for name in word.split(","))
